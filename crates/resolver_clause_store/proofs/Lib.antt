@@ -1,0 +1,14 @@
+pub mod Filtering
+pub mod SetLemmas
+pub mod ConditionLemmas
+pub mod DisjunctLemmas
+pub mod PartialLemmas
+pub mod RequirementLemmas
+pub mod NearLemmas
+pub mod SoftRunLemmas
+pub mod ValidLemmas
+pub mod CacheLemmas
+pub mod TableLemmas
+pub mod VersionSetLemmas
+pub mod UnionLemmas
+pub mod AvailabilityLemmas

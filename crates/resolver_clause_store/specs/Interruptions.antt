@@ -1,0 +1,11 @@
+-- Why a question may be left unanswered.
+use Rattle.std.specs.Prelude.{◌≡◌}
+use Rattle.resolver_clause_store.specs.declared.data.Exhausted.{Exhausted}
+use Rattle.resolver_clause_store.specs.declared.data.Exhausted.TheVariants.{Memory, Ids}
+use Rattle.resolver_clause_store.specs.declared.data.Interrupted.{Interrupted}
+use Rattle.resolver_clause_store.specs.declared.data.Interrupted.TheVariants.{Cancelled, Exhausted as RanOut}
+
+-- a value with which the provider may stop a search, or want of memory
+abbrev pub IsInterruption : {C : Type 0} → (C → Type 0) → Interrupted C → Type 0
+IsInterruption may_cancel (Cancelled value) = may_cancel value
+IsInterruption may_cancel (RanOut e) = e ≡ Memory

@@ -1,0 +1,16 @@
+pub mod Lists
+pub mod Universe
+pub mod Laws
+pub mod Texts
+pub mod Candidates
+pub mod Conditions
+pub mod Valid
+pub mod Reached
+pub mod Near
+pub mod FirstChoice
+pub mod SoftRun
+pub mod Caches
+pub mod Interruptions
+pub mod Filtering
+pub mod TestProvider
+pub mod Disjuncts

@@ -1,0 +1,229 @@
+//! The answers of a provider, each asked for once.
+
+ghost use Rattle.std.specs.Prelude.{◌≡◌, ◌↔◌, IfErr, IsTrue, OnOk, Some};
+ghost use Rattle.resolver_clause_store.specs.Candidates.{matching as matching_in, others, sorted_candidates};
+ghost use Rattle.resolver_clause_store.specs.Interruptions.{IsInterruption};
+ghost use Rattle.resolver_clause_store.specs.Laws.{IsIdentity};
+ghost use Rattle.resolver_clause_store.specs.Universe.{Universe, needs_of, package_of};
+
+use crate::data::{Candidates, Dependencies, Interrupted};
+use crate::hints::covers;
+use crate::ids::VersionSetId;
+use crate::provider::{DependencyProvider, Interner};
+use crate::questions::{fetch_candidates, fetch_dependencies, sorted_favored_first};
+use std::alloc::Global;
+use std::collections::HashMap;
+use std::hash::Hash;
+
+/// Keeps what a provider answered. Whoever needs an answer first asks for it, which may be refused or stop the
+/// search, and then looks it up, which lends it.
+///
+/// Before each question that the provider was not asked yet it is given the chance to stop the search. Whatever
+/// happens, the cache holds true answers alone.
+#[derive(Drop)]
+pub struct Cache<N: Copy + Eq + Hash + Drop, S: Copy + Eq + Hash + Drop> {
+    alloc: Global,
+    packages: HashMap<N, Candidates<S>>,
+    matching: HashMap<VersionSetId, Vec<S>>,
+    non_matching: HashMap<VersionSetId, Vec<S>>,
+    sorted: HashMap<VersionSetId, Vec<S>>,
+    dependencies: HashMap<S, Dependencies>,
+}
+
+impl<N: Copy + Eq + Hash + Drop, S: Copy + Eq + Hash + Drop> Cache<N, S> {
+    ghost use Rattle.resolver_clause_store.specs.Caches.{HasCandidates, HasDependencies, HasMatching, HasNonMatching, HasSorted, IsAvailable, IsTrueCache, KeepsAnswers};
+
+    /// A cache without answers.
+    pub fn new(alloc: Global) -> Self
+        ensures { (u : Universe N S) → IsTrueCache u result }
+    {
+        Cache {
+            alloc,
+            packages: HashMap::new(alloc),
+            matching: HashMap::new(alloc),
+            non_matching: HashMap::new(alloc),
+            sorted: HashMap::new(alloc),
+            dependencies: HashMap::new(alloc),
+        }
+    }
+
+    /// From where it takes its memory.
+    pub(crate) fn allocator(&self) -> Global {
+        self.alloc
+    }
+
+    /// Asks for what a package lists.
+    pub fn ask_candidates<D: DependencyProvider<NameId = N, SolvableId = S>>(
+        &mut self,
+        provider: &D,
+        name: N,
+    ) -> Result<(), Interrupted<D::Cancel>>
+        requires { IsTrueCache (D.universe provider.now) self.old }
+        ensures is_true { IsTrueCache (D.universe provider.now) self.new }
+        ensures keeps { KeepsAnswers self.old self.new }
+        ensures has { OnOk result (HasCandidates self.new name) }
+        ensures refusal { IfErr result (IsInterruption (D.may_cancel provider.now)) }
+    {
+        if self.packages.contains_key(&name) {
+            return Ok(());
+        }
+        let package = fetch_candidates(self.alloc, provider, name)?;
+        self.packages.insert(name, package)?;
+        Ok(())
+    }
+
+    /// What a package lists: nothing, where the provider does not know it.
+    pub fn candidates(&self, name: N) -> &Candidates<S>
+        requires names { IsIdentity N.eq }
+        requires has { HasCandidates self.now name }
+        ensures { (u : Universe N S) → IsTrueCache u self.now → package_of (Some result.now) ≡ u.package_named name }
+    {
+        &self.packages[&name]
+    }
+
+    /// Asks for the listed candidates that a version set takes.
+    pub fn ask_matching<D: DependencyProvider<NameId = N, SolvableId = S>>(
+        &mut self,
+        provider: &D,
+        version_set: VersionSetId,
+    ) -> Result<(), Interrupted<D::Cancel>>
+        requires { IsTrueCache (D.universe provider.now) self.old }
+        ensures is_true { IsTrueCache (D.universe provider.now) self.new }
+        ensures keeps { KeepsAnswers self.old self.new }
+        ensures has { OnOk result (HasMatching self.new version_set) }
+        ensures refusal { IfErr result (IsInterruption (D.may_cancel provider.now)) }
+    {
+        if self.matching.contains_key(&version_set) {
+            return Ok(());
+        }
+        let name = provider.version_set_name(version_set);
+        self.ask_candidates(provider, name)?;
+        let listed = &self.candidates(name).candidates;
+        let taken = provider.filter_candidates(listed, version_set, false)?;
+        self.matching.insert(version_set, taken)?;
+        Ok(())
+    }
+
+    /// The listed candidates of its package that a version set takes.
+    pub fn matching(&self, version_set: VersionSetId) -> &[S]
+        requires { HasMatching self.now version_set }
+        ensures { (u : Universe N S) → IsTrueCache u self.now → result.now ≡ matching_in u version_set }
+    {
+        &self.matching[&version_set]
+    }
+
+    /// Asks for the listed candidates that a version set does not take.
+    pub fn ask_non_matching<D: DependencyProvider<NameId = N, SolvableId = S>>(
+        &mut self,
+        provider: &D,
+        version_set: VersionSetId,
+    ) -> Result<(), Interrupted<D::Cancel>>
+        requires { IsTrueCache (D.universe provider.now) self.old }
+        ensures is_true { IsTrueCache (D.universe provider.now) self.new }
+        ensures keeps { KeepsAnswers self.old self.new }
+        ensures has { OnOk result (HasNonMatching self.new version_set) }
+        ensures refusal { IfErr result (IsInterruption (D.may_cancel provider.now)) }
+    {
+        if self.non_matching.contains_key(&version_set) {
+            return Ok(());
+        }
+        let name = provider.version_set_name(version_set);
+        self.ask_candidates(provider, name)?;
+        let listed = &self.candidates(name).candidates;
+        let left_out = provider.filter_candidates(listed, version_set, true)?;
+        self.non_matching.insert(version_set, left_out)?;
+        Ok(())
+    }
+
+    /// The listed candidates of its package that a version set does not take.
+    pub fn non_matching(&self, version_set: VersionSetId) -> &[S]
+        requires { HasNonMatching self.now version_set }
+        ensures { (u : Universe N S) → IsTrueCache u self.now → result.now ≡ others u version_set }
+    {
+        &self.non_matching[&version_set]
+    }
+
+    /// Asks for the candidates of a version set in the order in which they are to be tried.
+    pub fn ask_sorted<D: DependencyProvider<NameId = N, SolvableId = S>>(
+        &mut self,
+        provider: &D,
+        version_set: VersionSetId,
+    ) -> Result<(), Interrupted<D::Cancel>>
+        requires { IsTrueCache (D.universe provider.now) self.old }
+        ensures is_true { IsTrueCache (D.universe provider.now) self.new }
+        ensures keeps { KeepsAnswers self.old self.new }
+        ensures has { OnOk result (HasSorted self.new version_set) }
+        ensures refusal { IfErr result (IsInterruption (D.may_cancel provider.now)) }
+    {
+        if self.sorted.contains_key(&version_set) {
+            return Ok(());
+        }
+        let name = provider.version_set_name(version_set);
+        self.ask_matching(provider, version_set)?;
+        self.ask_candidates(provider, name)?;
+        let favored = self.candidates(name).favored;
+        let taken = self.matching(version_set);
+        let sorted = sorted_favored_first(self.alloc, provider, taken, favored)?;
+        self.sorted.insert(version_set, sorted)?;
+        Ok(())
+    }
+
+    /// What a version set takes, preferred first, and before all the favored one.
+    pub fn sorted(&self, version_set: VersionSetId) -> &[S]
+        requires { HasSorted self.now version_set }
+        ensures { (u : Universe N S) → IsTrueCache u self.now → result.now ≡ sorted_candidates u version_set }
+    {
+        &self.sorted[&version_set]
+    }
+
+    /// Asks for what a solvable requires and constrains.
+    pub fn ask_dependencies<D: DependencyProvider<NameId = N, SolvableId = S>>(
+        &mut self,
+        provider: &D,
+        solvable: S,
+    ) -> Result<(), Interrupted<D::Cancel>>
+        requires { IsTrueCache (D.universe provider.now) self.old }
+        ensures is_true { IsTrueCache (D.universe provider.now) self.new }
+        ensures keeps { KeepsAnswers self.old self.new }
+        ensures has { OnOk result (HasDependencies self.new solvable) }
+        ensures refusal { IfErr result (IsInterruption (D.may_cancel provider.now)) }
+    {
+        if self.dependencies.contains_key(&solvable) {
+            return Ok(());
+        }
+        let answer = fetch_dependencies(provider, solvable)?;
+        self.dependencies.insert(solvable, answer)?;
+        Ok(())
+    }
+
+    /// What a solvable requires and constrains, or why nobody knows.
+    pub fn dependencies(&self, solvable: S) -> &Dependencies
+        requires solvables { IsIdentity S.eq }
+        requires has { HasDependencies self.now solvable }
+        ensures { (u : Universe N S) → IsTrueCache u self.now → needs_of result.now ≡ u.needs solvable }
+    {
+        &self.dependencies[&solvable]
+    }
+
+    /// Whether the dependencies of a solvable are at hand: asked for already, or hinted to be cheap to ask for.
+    pub fn are_dependencies_available_for<D: DependencyProvider<NameId = N, SolvableId = S>>(
+        &self,
+        provider: &D,
+        solvable: S,
+    ) -> bool
+        requires { IsTrueCache (D.universe provider.now) self.now }
+        ensures { IsTrue result ↔ IsAvailable (D.universe provider.now) self.now solvable }
+    {
+        if self.dependencies.contains_key(&solvable) {
+            return true;
+        }
+        let name = provider.solvable_name(solvable);
+        match self.packages.get(&name) {
+            None => false,
+            Some(package) => covers(&package.hint_dependencies_available, &solvable),
+        }
+    }
+}
+
+#[cfg(test)]
+mod tests;

@@ -1,0 +1,21 @@
+//! Of which candidates the dependencies are cheap to ask for.
+
+ghost use Rattle.std.specs.Prelude.{MatchBool};
+ghost use Rattle.resolver_clause_store.specs.Caches.{Covers};
+ghost use Rattle.resolver_clause_store.specs.Laws.{IsIdentity};
+ghost use Rattle.resolver_clause_store.specs.Universe.{hint_of};
+
+use crate::data::HintDependenciesAvailable;
+use crate::sets::has;
+
+/// Whether a hint says that the dependencies of a solvable are cheap to ask for.
+pub(crate) fn covers<S: Eq>(hint: &HintDependenciesAvailable<S>, solvable: &S) -> bool
+    requires { IsIdentity S.eq }
+    ensures { let covered = Covers (hint_of hint.now) solvable.now in MatchBool result covered (covered → ⊥) }
+{
+    match hint {
+        HintDependenciesAvailable::None => false,
+        HintDependenciesAvailable::All => true,
+        HintDependenciesAvailable::Some(solvables) => has(solvables, solvable),
+    }
+}

@@ -1,0 +1,25 @@
+//! Ids, data types, the traits of a provider, and the cache of its answers.
+#![tactic(auto)]
+
+mod cache;
+mod conditions;
+mod data;
+mod hints;
+mod ids;
+mod provider;
+mod questions;
+mod requirements;
+mod sets;
+#[cfg(test)]
+mod test_provider;
+
+pub use cache::Cache;
+pub use conditions::{a_condition_holds_where_a_disjunct_does, convert_conditions_to_dnf};
+pub use data::{
+    By, Candidates, Condition, ConditionalRequirement, Dependencies, Exhausted,
+    HintDependenciesAvailable, Interrupted, KnownDependencies, LogicalOperator, Requirement,
+};
+pub use ids::{ConditionId, StringId, VersionSetId, VersionSetUnionId};
+pub use provider::{DependencyProvider, Interner};
+pub use requirements::requirement_candidates;
+pub use sets::{has, meets};

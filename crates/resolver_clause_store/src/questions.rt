@@ -1,0 +1,99 @@
+//! Questions to a provider.
+
+ghost use Rattle.std.specs.Prelude.{◌≡◌, IfErr, IfOk, Some};
+ghost use Rattle.resolver_clause_store.specs.Candidates.{favored_first};
+ghost use Rattle.resolver_clause_store.specs.Interruptions.{IsInterruption};
+ghost use Rattle.resolver_clause_store.specs.Lists.{moved_to_front};
+ghost use Rattle.resolver_clause_store.specs.Universe.{needs_of, package_of};
+
+use crate::data::{Candidates, Dependencies, Exhausted, HintDependenciesAvailable, Interrupted};
+use crate::provider::{DependencyProvider, Interner};
+use std::alloc::Global;
+
+/// Gives the provider the chance to stop the search.
+fn check_cancel<D: DependencyProvider>(provider: &D) -> Result<(), Interrupted<D::Cancel>>
+    ensures { IfErr result (IsInterruption (D.may_cancel provider.now)) }
+{
+    match provider.should_cancel_with_value() {
+        Some(value) => Err(Interrupted::Cancelled(value)),
+        None => Ok(()),
+    }
+}
+
+/// A package without candidates, of which nothing is said.
+fn unknown_package<S>(alloc: Global) -> Candidates<S>
+    ensures { package_of (Some result) ≡ package_of None }
+{
+    Candidates {
+        candidates: Vec::new(alloc),
+        favored: None,
+        locked: None,
+        hint_dependencies_available: HintDependenciesAvailable::None,
+        excluded: Vec::new(alloc),
+    }
+}
+
+/// Asks what a package lists.
+pub(crate) fn fetch_candidates<D: DependencyProvider>(
+    alloc: Global,
+    provider: &D,
+    name: D::NameId,
+) -> Result<Candidates<D::SolvableId>, Interrupted<D::Cancel>>
+    ensures value { IfOk result (λ answer. package_of (Some answer) ≡ (D.universe provider.now).package_named name) }
+    ensures refusal { IfErr result (IsInterruption (D.may_cancel provider.now)) }
+{
+    check_cancel(provider)?;
+    match provider.get_candidates(name)? {
+        Some(package) => Ok(package),
+        None => Ok(unknown_package(alloc)),
+    }
+}
+
+/// Asks what a solvable requires and constrains.
+pub(crate) fn fetch_dependencies<D: DependencyProvider>(
+    provider: &D,
+    solvable: D::SolvableId,
+) -> Result<Dependencies, Interrupted<D::Cancel>>
+    ensures value { IfOk result (λ answer. needs_of answer ≡ (D.universe provider.now).needs solvable) }
+    ensures refusal { IfErr result (IsInterruption (D.may_cancel provider.now)) }
+{
+    check_cancel(provider)?;
+    let answer = provider.get_dependencies(solvable)?;
+    Ok(answer)
+}
+
+/// The list with `first` in front, if the list has it.
+fn with_first<S: Copy + Eq + Drop>(alloc: Global, list: &[S], first: S) -> Result<Vec<S>, Exhausted>
+    ensures value { IfOk result (λ moved. moved.items ≡ moved_to_front S.eq first list.now) }
+    ensures memory { IfErr result (λ e. e ≡ Exhausted.Memory) }
+{
+    if !list.contains(&first) {
+        return Ok(Vec::from_slice(alloc, list)?);
+    }
+    let mut moved = Vec::new(alloc);
+    moved.push(first)?;
+    for x in list {
+        if *x != first {
+            moved.push(*x)?;
+        }
+    }
+    Ok(moved)
+}
+
+/// A copy of the candidates, sorted by the provider, and the favored one in front, if they have it.
+pub(crate) fn sorted_favored_first<D: DependencyProvider>(
+    alloc: Global,
+    provider: &D,
+    candidates: &[D::SolvableId],
+    favored: Option<D::SolvableId>,
+) -> Result<Vec<D::SolvableId>, Exhausted>
+    ensures value { let u = D.universe provider.now in IfOk result (λ sorted. sorted.items ≡ favored_first u favored (u.sorted_of candidates.now)) }
+    ensures memory { IfErr result (λ e. e ≡ Exhausted.Memory) }
+{
+    let mut sorted = Vec::from_slice(alloc, candidates)?;
+    provider.sort_candidates(&mut sorted)?;
+    match favored {
+        None => Ok(sorted),
+        Some(first) => with_first(alloc, &sorted, first),
+    }
+}
