@@ -1,0 +1,13 @@
+pub mod ReachedRuleLemmas
+pub mod ReachingLemmas
+pub mod SearchLemmas
+pub mod TrueRuleLemmas
+pub mod TrueEdgeLemmas
+pub mod ReachedPlaceLemmas
+pub mod ListLemmas
+pub mod GraphLemmas
+pub mod ShapeLemmas
+pub mod AlikeLemmas
+pub mod SimplifyLemmas
+pub mod PlaceLemmas
+pub mod MarkLemmas

@@ -1,0 +1,54 @@
+-- A valid set obeys every true rule.
+use Rattle.std.proofs.Common.{◌≡◌, List, [], sym, ◌∙◌, ap, subst, inl, inr, Contains, All, arith, Vec, Global}
+use Rattle.std.specs.Prelude.{Option, Some, None}
+use Rattle.std.proofs.lemmas.List.Elements.{All-contains}
+use Rattle.resolver_clause_store.specs.Lists.{Meets}
+use Rattle.resolver_clause_store.specs.Universe.{Universe, Demands, Needs, unknown}
+use Rattle.resolver_clause_store.specs.Candidates.{requirement_candidates}
+use Rattle.resolver_clause_store.specs.Conditions.{OptionalConditionHolds}
+use Rattle.resolver_clause_store.specs.Valid as valid
+use Rattle.resolver_clause_store.specs.Valid.{IsValid, IsKnown, demands_of}
+use Rattle.resolver_clause_store.specs.declared.ConditionId.{ConditionId}
+use Rattle.resolver_clause_store.specs.declared.ConditionalRequirement.{ConditionalRequirement}
+use Rattle.resolver_clause_store.specs.declared.VersionSetId.{VersionSetId}
+use Rattle.resolver_clause_store.specs.declared.By.{By}
+use Rattle.resolver_clause_store.specs.declared.By.TheVariants.{Root, Solvable}
+use Rattle.resolver_report.specs.declared.rules.Rule.{Rule}
+use Rattle.resolver_report.specs.declared.rules.Rule.TheVariants.{Requires, Constrains, Lock, Excluded, OnePerPackage}
+use Rattle.resolver_report.specs.Rules.{AllMeet, IsPresent, ObeysAlone, Obeys}
+use Rattle.resolver_report.specs.TrueRules.{demands_by, Implies, IsTrueRule}
+
+requires_by : {N S : Type 0} (u : Universe N S) (root : Demands) (set : List S) (by : By S) (r : ConditionalRequirement) → IsPresent by set → Contains (demands_by u root by).requirements r → valid.Requires u root (Contains set) r
+requires_by u root set Root r here asked = inl asked
+requires_by u root set (Solvable s) r here asked = inr (s, here, asked)
+
+constrains_by : {N S : Type 0} (u : Universe N S) (root : Demands) (set : List S) (by : By S) (v : VersionSetId) → IsPresent by set → Contains (demands_by u root by).constraints v → valid.Constrains u root (Contains set) v
+constrains_by u root set Root v here asked = inl asked
+constrains_by u root set (Solvable s) v here asked = inr (s, here, asked)
+
+active_by : {N S : Type 0} (u : Universe N S) (set : List S) (when : List (Vec S Global)) (c : Option ConditionId) → Implies u when c → AllMeet set when → OptionalConditionHolds u (Contains set) c
+active_by u set when None implied meets = tt
+active_by u set when (Some c) implied meets = implied set meets
+
+none_in : {S : Type 0} (s : S) → Contains [] s → ⊥
+none_in s h = absurd (omega (arith, h.1))
+
+not_unknown : (needs : Needs) (reason : _) → IsKnown needs → needs ≡ unknown reason → ⊥
+not_unknown needs reason known e = subst IsKnown e known
+
+obeys_alone : {N S : Type 0} (u : Universe N S) (root : Demands) (set : List S) → IsValid u root set [] → (rule : Rule N S) → IsTrueRule u root rule → ObeysAlone set rule
+obeys_alone {N} {S} u root set ok (Requires by requirement candidates when) (r, asked, same, are, implied) = λ here meets.
+    let met = ok.required r (requires_by u root set by r here asked) (active_by u set _ r.condition implied meets) in
+    let HasMember : List S → Type 0 = λ xs. Meets xs set in
+    subst HasMember (ap (requirement_candidates u) same ∙ sym are) met
+obeys_alone u root set ok (Constrains by v candidate) (asked, other) = λ here inside. ok.constrained v (constrains_by u root set by v here asked) candidate inside other
+obeys_alone u root set ok (Lock locked forbidden) (lock, listed, apart) = λ inside. ok.not_locked_out forbidden inside (λ none. none_in forbidden none) (locked, lock, listed, apart)
+obeys_alone u root set ok (Excluded s reason) h = λ inside.
+    elim h [ inl listed ↦ ok.not_excluded s inside (none_in s) (reason, listed) | inr none ↦ not_unknown _ reason (ok.known_needs s inside) none ]
+obeys_alone u root set ok (OnePerPackage n s) h = tt
+
+pub Obeys-true_rules : {N S : Type 0} (u : Universe N S) (root : Demands) (rules : List (Rule N S)) (set : List S) → All (IsTrueRule u root) rules → IsValid u root set [] → Obeys set rules
+Obeys-true_rules u root rules set true_rules ok = record {
+  each = λ r inside. obeys_alone u root set ok r (All-contains (IsTrueRule u root) rules r true_rules inside);
+  one_each = λ n s t first second in_set in_set'. ok.one_each s t in_set in_set' (All-contains (IsTrueRule u root) rules (OnePerPackage n s) true_rules first ∙ sym (All-contains (IsTrueRule u root) rules (OnePerPackage n t) true_rules second));
+}

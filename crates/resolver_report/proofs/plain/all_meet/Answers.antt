@@ -1,0 +1,10 @@
+use Rattle.std.proofs.Common.{arith}
+use Rattle.resolver_clause_store.specs.Lists.{Meets}
+use Rattle.resolver_clause_store.proofs.SetLemmas.{All-next, All-done}
+use Rattle.resolver_report.proofs.plain.all_meet.Goals as goal
+
+pub loop-list-preserved : goal.loop-list-preserved
+loop-list-preserved g c = All-next (λ list. Meets list.items c.args.set.now) c.args.lists.now c.loop-list.list-index c.list-item.result (omega arith) c.list-item.is c.loop-list.invariant (rw c.deref.ensures.value at c.if-not-meets.ensures)
+
+pub returns : goal.returns
+returns g c = All-done (λ list. Meets list.items c.args.set.now) c.args.lists.now c.loop-list.list-index (omega arith) c.loop-list.invariant

@@ -1,0 +1,17 @@
+pub mod Rules
+pub mod ReachedRules
+pub mod Reaching
+pub mod TrueRules
+pub mod TrueEdges
+pub mod ReachedPlaces
+pub mod Plain
+pub mod Same
+pub mod Shapes
+pub mod Edges
+pub mod Graphs
+pub mod ConflictGraphs
+pub mod Merging
+pub mod Keys
+pub mod Simplified
+pub mod Places
+pub mod LastMarks

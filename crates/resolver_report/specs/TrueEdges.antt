@@ -1,0 +1,69 @@
+-- Which edges of a graph are true of a provider and a problem.
+use Rattle.std.specs.Prelude.{◌≡◌, List, [], Some, All, Contains, slice_get}
+use Rattle.resolver_clause_store.specs.Universe.{Universe, Demands}
+use Rattle.resolver_clause_store.specs.Candidates.{others, requirement_candidates}
+use Rattle.resolver_clause_store.specs.Valid.{demands_of}
+use Rattle.resolver_clause_store.specs.declared.ConditionalRequirement.{ConditionalRequirement}
+use Rattle.resolver_clause_store.specs.declared.Requirement.{Requirement}
+use Rattle.resolver_clause_store.specs.declared.StringId.{StringId}
+use Rattle.resolver_report.specs.declared.parts.ConflictNode.{ConflictNode}
+use Rattle.resolver_report.specs.declared.parts.ConflictNode.TheVariants.{Root, Solvable, UnresolvedDependency, Excluded as Reason}
+use Rattle.resolver_report.specs.declared.parts.ConflictCause.TheVariants.{Locked, Constrains as ByConstraint, ForbidMultipleInstances, Excluded as ByExclusion}
+use Rattle.resolver_report.specs.declared.parts.ConflictEdge.{ConflictEdge}
+use Rattle.resolver_report.specs.declared.parts.ConflictEdge.TheVariants.{Requires as Required, Conflict}
+use Rattle.resolver_report.specs.declared.parts.Edge.{Edge}
+use Rattle.resolver_report.specs.declared.rules.Rule.TheVariants.{Lock, Excluded}
+use Rattle.resolver_report.specs.Shapes.{Shape}
+use Rattle.resolver_report.specs.TrueRules.{IsTrueRule}
+
+-- the node is a solvable of which P holds
+abbrev pub IsSolvableWith : {S : Type 0} → (S → Type 0) → ConflictNode S → Type 0
+IsSolvableWith P Root = ⊥
+IsSolvableWith P (Solvable s) = P s
+IsSolvableWith P UnresolvedDependency = ⊥
+IsSolvableWith P (Reason r) = ⊥
+
+-- the node is a reason of which P holds
+abbrev pub IsReasonWith : {S : Type 0} → (StringId → Type 0) → ConflictNode S → Type 0
+IsReasonWith P Root = ⊥
+IsReasonWith P (Solvable s) = ⊥
+IsReasonWith P UnresolvedDependency = ⊥
+IsReasonWith P (Reason r) = P r
+
+-- the node is the root or a solvable, and P holds of what it asks for
+abbrev pub IsAskerWith : {N S : Type 0} → Universe N S → Demands → (Demands → Type 0) → ConflictNode S → Type 0
+IsAskerWith u root P Root = P root
+IsAskerWith u root P (Solvable s) = P (demands_of (u.needs s))
+IsAskerWith u root P UnresolvedDependency = ⊥
+IsAskerWith u root P (Reason r) = ⊥
+
+-- the requirement is asked for, whatever its condition
+abbrev pub AsksFor : Requirement → Demands → Type 0
+AsksFor requirement d = (r : ConditionalRequirement) × Contains d.requirements r × (r.requirement ≡ requirement)
+
+-- the node is one of the candidates, or the unresolved node where there are none
+abbrev pub IsCandidateNode : {S : Type 0} → List S → ConflictNode S → Type 0
+IsCandidateNode candidates Root = ⊥
+IsCandidateNode candidates (Solvable s) = Contains candidates s
+IsCandidateNode candidates UnresolvedDependency = candidates ≡ []
+IsCandidateNode candidates (Reason r) = ⊥
+
+-- from the first node to the second, the weight says what the provider and the problem say
+abbrev pub IsTrueBetween : {N S : Type 0} → Universe N S → Demands → ConflictNode S → ConflictEdge S → ConflictNode S → Type 0
+IsTrueBetween u root source (Required requirement) target = IsAskerWith u root (AsksFor requirement) source × IsCandidateNode (requirement_candidates u requirement) target
+IsTrueBetween u root source (Conflict (ByConstraint v)) target = IsAskerWith u root (λ d. Contains d.constraints v) source × IsSolvableWith (Contains (others u v)) target
+IsTrueBetween u root source (Conflict (Locked locked)) target = (source ≡ Root) × IsSolvableWith (λ s. IsTrueRule u root (Lock locked s)) target
+IsTrueBetween u root source (Conflict ByExclusion) target = IsSolvableWith (λ s. IsReasonWith (λ r. IsTrueRule u root (Excluded s r)) target) source
+IsTrueBetween u root source (Conflict ForbidMultipleInstances) target = IsSolvableWith (λ s. IsSolvableWith (λ t. u.name s ≡ u.name t) target) source
+
+-- nodes stand at both numbers of the edge, and what it says is true between them
+pub record IsTrueEdge {N S : Type 0} (u : Universe N S) (root : Demands) (g : Shape S) (e : Edge S) : Type 0 where
+  pub source : ConflictNode S
+  pub target : ConflictNode S
+  pub source_stands : slice_get g.nodes e.source.0 ≡ Some source
+  pub target_stands : slice_get g.nodes e.target.0 ≡ Some target
+  pub true_between : IsTrueBetween u root source e.weight target
+
+-- each edge of the graph is true
+abbrev pub AreEdgesTrue : {N S : Type 0} → Universe N S → Demands → Shape S → Type 0
+AreEdgesTrue u root g = All (IsTrueEdge u root g) g.edges

@@ -1,0 +1,33 @@
+-- Which rules are true of a provider and a problem.
+use Rattle.std.specs.Prelude.{◌≡◌, ◌≢◌, ◌⊎◌, List, [], Option, Some, None, Contains, Vec}
+use Rattle.std.proofs.Common.{Global}
+use Rattle.resolver_clause_store.specs.Universe.{Universe, Demands, unknown}
+use Rattle.resolver_clause_store.specs.Candidates.{others, requirement_candidates}
+use Rattle.resolver_clause_store.specs.Conditions.{ConditionHolds}
+use Rattle.resolver_clause_store.specs.Valid.{demands_of}
+use Rattle.resolver_clause_store.specs.declared.ConditionId.{ConditionId}
+use Rattle.resolver_clause_store.specs.declared.ConditionalRequirement.{ConditionalRequirement}
+use Rattle.resolver_report.specs.Rules.{AllMeet}
+use Rattle.resolver_clause_store.specs.declared.By.{By}
+use Rattle.resolver_clause_store.specs.declared.By.TheVariants.{Root, Solvable}
+use Rattle.resolver_report.specs.declared.rules.Rule.{Rule}
+use Rattle.resolver_report.specs.declared.rules.Rule.TheVariants.{Requires, Constrains, Lock, Excluded, OnePerPackage}
+
+-- what the root or a solvable asks for
+abbrev pub demands_by : {N S : Type 0} → Universe N S → Demands → By S → Demands
+demands_by u root Root = root
+demands_by u root (Solvable s) = demands_of (u.needs s)
+
+-- in each set that meets the lists the condition holds; without a condition there are none
+abbrev pub Implies : {N S : Type 0} → Universe N S → List (Vec S Global) → Option ConditionId → Type 0
+Implies u when None = when ≡ []
+Implies {N} {S} u when (Some c) = (set : List S) → AllMeet set when → ConditionHolds u (Contains set) c
+
+-- the rule says what the provider and the problem say
+abbrev pub IsTrueRule : {N S : Type 0} → Universe N S → Demands → Rule N S → Type 0
+IsTrueRule u root (Requires by requirement candidates when) =
+    (r : ConditionalRequirement) × Contains (demands_by u root by).requirements r × (r.requirement ≡ requirement) × (candidates.items ≡ requirement_candidates u requirement) × Implies u when.items r.condition
+IsTrueRule u root (Constrains by version_set candidate) = Contains (demands_by u root by).constraints version_set × Contains (others u version_set) candidate
+IsTrueRule u root (Lock locked forbidden) = ((u.package_named (u.name forbidden)).locked ≡ Some locked) × Contains (u.package_named (u.name forbidden)).listed forbidden × (forbidden ≢ locked)
+IsTrueRule u root (Excluded solvable reason) = Contains (u.package_named (u.name solvable)).excluded (solvable, reason) ⊎ (u.needs solvable ≡ unknown reason)
+IsTrueRule u root (OnePerPackage name instance) = u.name instance ≡ name

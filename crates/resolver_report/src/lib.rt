@@ -1,0 +1,26 @@
+//! Rules that explain a conflict, a plain search over them, and their graph.
+#![tactic(auto)]
+
+mod build;
+mod edges;
+mod graph;
+mod keys;
+mod laws;
+mod links;
+mod parts;
+mod places;
+mod plain;
+mod reached;
+mod rules;
+mod simplify;
+
+pub use build::graph_of;
+pub use edges::{Incoming, Outgoing};
+pub use graph::{ConflictGraph, Graph};
+pub use laws::{kept_rules_stay_refuted, valid_sets_obey_true_rules};
+pub use parts::{ConflictCause, ConflictEdge, ConflictNode, Edge, NodeId};
+pub use plain::find;
+pub use reached::keep_reached;
+pub use resolver_clause_store::By;
+pub use rules::Rule;
+pub use simplify::MergedConflictNode;

@@ -1,0 +1,158 @@
+//! The rules of a list that are about what its requirements reach.
+
+ghost use Rattle.std.specs.Prelude.{◌≡◌, All, Contains, IfErr, IfOk, MatchBool};
+ghost use Rattle.indexmap.specs.IndexSet.{contains, insert_all};
+ghost use Rattle.resolver_clause_store.specs.Laws.{IsIdentity};
+ghost use Rattle.resolver_report.specs.ReachedRules.{IsKept, LeavesJust, LeavesKept};
+ghost use Rattle.resolver_report.specs.Reaching.{IsAbout, IsReachedSet, has_asker, reach, reach_all};
+ghost use Rattle.resolver_report.specs.Rules.{IsPresent, IsRefuted};
+
+use crate::rules::Rule;
+use indexmap::IndexSet;
+use resolver_clause_store::{By, Exhausted};
+use std::alloc::Global;
+use std::hash::Hash;
+
+/// Whether a solvable is in the set.
+fn is_member<S: Eq + Hash>(set: &IndexSet<S>, solvable: &S) -> bool
+    requires { IsIdentity S.eq }
+    ensures value { result ≡ contains S.eq set.now solvable.now }
+    ensures member { MatchBool result (Contains set.now.keys solvable.now) (Contains set.now.keys solvable.now → ⊥) }
+{
+    set.contains(solvable)
+}
+
+/// Whether the root or a solvable is there.
+fn is_present<S: Eq + Hash>(by: &By<S>, set: &IndexSet<S>) -> bool
+    requires { IsIdentity S.eq }
+    ensures value { result ≡ has_asker S.eq set.now.keys by.now }
+    ensures present { MatchBool result (IsPresent by.now set.now.keys) (IsPresent by.now set.now.keys → ⊥) }
+{
+    match by {
+        By::Root => true,
+        By::Solvable(solvable) => is_member(set, solvable),
+    }
+}
+
+/// Adds each solvable that is not there yet.
+fn add_all<S: Copy + Eq + Hash + Drop>(set: &mut IndexSet<S>, more: &[S]) -> Result<(), Exhausted>
+    ensures added { IfOk result (λ _. set.new.keys ≡ insert_all S.eq set.old.keys more.now) }
+    ensures memory { IfErr result (λ e. e ≡ Exhausted.Memory) }
+{
+    for solvable in more {
+        set.insert(*solvable)?;
+    }
+    Ok(())
+}
+
+/// Adds the candidates of a requirement whose asker is there.
+fn reach<N, S: Copy + Eq + Hash + Drop>(
+    rule: &Rule<N, S>,
+    set: &mut IndexSet<S>,
+) -> Result<(), Exhausted>
+    requires { IsIdentity S.eq }
+    ensures added { IfOk result (λ _. set.new.keys ≡ reach S.eq set.old.keys rule.now) }
+    ensures memory { IfErr result (λ e. e ≡ Exhausted.Memory) }
+{
+    match rule {
+        Rule::Requires { by, candidates, .. } => {
+            if !is_present(by, set) {
+                return Ok(());
+            }
+            add_all(set, candidates)?;
+            Ok(())
+        }
+        Rule::Constrains { .. }
+        | Rule::Lock { .. }
+        | Rule::Excluded { .. }
+        | Rule::OnePerPackage { .. } => Ok(()),
+    }
+}
+
+/// One round: adds what each rule in turn reaches from what is there.
+fn reach_all<N, S: Copy + Eq + Hash + Drop>(
+    rules: &[Rule<N, S>],
+    set: &mut IndexSet<S>,
+) -> Result<(), Exhausted>
+    requires { IsIdentity S.eq }
+    ensures added { IfOk result (λ _. set.new.keys ≡ reach_all S.eq set.old.keys rules.now) }
+    ensures memory { IfErr result (λ e. e ≡ Exhausted.Memory) }
+{
+    for rule in rules {
+        reach(rule, set)?;
+    }
+    Ok(())
+}
+
+/// What the rules reach.
+///
+/// This takes rounds over the rules until one adds nothing. Where each solvable's requirements stand behind those that it
+/// is a candidate of, as a reader lists them, the first round adds everything.
+fn reached_by<N, S: Copy + Eq + Hash + Drop>(
+    alloc: Global,
+    rules: &[Rule<N, S>],
+) -> Result<IndexSet<S>, Exhausted>
+    requires { IsIdentity S.eq }
+    ensures reached { IfOk result (λ set. IsReachedSet rules.now set.keys) }
+    ensures memory { IfErr result (λ e. e ≡ Exhausted.Memory) }
+{
+    let mut set = IndexSet::new(alloc);
+    loop {
+        let count = set.len();
+        reach_all(rules, &mut set)?;
+        if set.len() <= count {
+            return Ok(set);
+        }
+    }
+}
+
+/// Whether what the rule is about is in the set.
+fn is_about<N, S: Eq + Hash>(rule: &Rule<N, S>, set: &IndexSet<S>) -> bool
+    requires { IsIdentity S.eq }
+    ensures { MatchBool result (IsAbout set.now.keys rule.now) (IsAbout set.now.keys rule.now → ⊥) }
+{
+    match rule {
+        Rule::Requires { by, .. } => is_present(by, set),
+        Rule::Constrains { by, candidate, .. } => is_present(by, set) && is_member(set, candidate),
+        Rule::Lock { forbidden, .. } => is_member(set, forbidden),
+        Rule::Excluded { solvable, .. } => is_member(set, solvable),
+        Rule::OnePerPackage { instance, .. } => is_member(set, instance),
+    }
+}
+
+/// Drops the rules that are about something that is not in the set.
+fn retain_about<N: Drop, S: Eq + Hash + Drop>(rules: &mut Vec<Rule<N, S>>, set: &IndexSet<S>)
+    requires { IsIdentity S.eq }
+    ensures { LeavesJust (IsAbout set.now.keys) rules.old.items rules.new.items }
+{
+    rules.retain(|rule| is_about(rule, set));
+}
+
+/// The rules that are about what is reached, in their order.
+///
+/// A solvable is reached if it is a candidate of a requirement of the root or of a reached solvable, whatever the
+/// conditions. A rule is left if its asker is the root or reached, and so is the solvable that it forbids or marks. Where
+/// no set obeys the rules, none obeys those that are left; and of the rules that are left each would be left again.
+///
+/// The time is that of a few rounds over the rules: two, where each solvable's requirements stand behind those that it is
+/// a candidate of, and at most one more than solvables are reached.
+///
+/// The error is [`Exhausted::Memory`] alone.
+pub fn keep_reached<N: Drop, S: Copy + Eq + Hash + Drop>(
+    alloc: Global,
+    rules: Vec<Rule<N, S>>,
+) -> Result<Vec<Rule<N, S>>, Exhausted>
+    requires { IsIdentity S.eq }
+    ensures left { IfOk result (λ kept. LeavesKept rules.items kept.items) }
+    ensures again { IfOk result (λ kept. All (IsKept kept.items) kept.items) }
+    ensures refuted { IfOk result (λ kept. IsRefuted rules.items → IsRefuted kept.items) }
+    ensures memory { IfErr result (λ e. e ≡ Exhausted.Memory) }
+{
+    let set = reached_by(alloc, &rules)?;
+    let mut kept = rules;
+    retain_about(&mut kept, &set);
+    Ok(kept)
+}
+
+#[cfg(test)]
+mod tests;

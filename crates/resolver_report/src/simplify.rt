@@ -1,0 +1,141 @@
+//! Which solvables of a graph are told of together.
+
+ghost use Rattle.std.specs.Prelude.{◌≡◌, ◌+◌, ◌<◌, IfOk, IfErr, OnOk, IfSome, IsNone, MatchOption, length, map};
+ghost use Rattle.resolver_clause_store.specs.Laws.{IsIdentity};
+ghost use Rattle.resolver_report.specs.Keys.{key_view};
+ghost use Rattle.resolver_report.specs.Merging.{group_in, solvables_at as solvables_at_places};
+ghost use Rattle.resolver_report.specs.Shapes.{solvable_at as solvable_at_place};
+ghost use Rattle.resolver_report.specs.Simplified.{IsGroupOf, IsMadeAt, IsSimplified, IsSimplifiedBefore};
+
+use crate::graph::{ConflictGraph, Graph};
+use crate::keys::{NodeKey, class_of, keys_of};
+use crate::parts::ConflictNode;
+use resolver_clause_store::{Exhausted, Interner};
+use std::alloc::Global;
+use std::collections::HashMap;
+use std::hash::Hash;
+use std::rc::Rc;
+
+/// Alike solvables, which are told of together.
+#[derive(Debug, Drop)]
+pub struct MergedConflictNode<S> {
+    /// The solvables, in the order of their nodes.
+    pub ids: Vec<S>,
+}
+
+/// The solvable of a node.
+fn solvable_at<S: Copy>(graph: &Graph<S>, n: usize) -> Option<S>
+    ensures { result ≡ solvable_at_place graph.now n }
+{
+    match graph.nodes().get(n) {
+        Some(ConflictNode::Solvable(solvable)) => Some(*solvable),
+        _ => None,
+    }
+}
+
+/// The solvables of nodes, in the order of these.
+fn solvables_at<S: Copy + Drop>(
+    alloc: Global,
+    graph: &Graph<S>,
+    nodes: &[usize],
+) -> Result<Vec<S>, Exhausted>
+    ensures value { IfOk result (λ v. v.items ≡ solvables_at_places graph.now nodes.now) }
+    ensures memory { IfErr result (λ e. e ≡ Exhausted.Memory) }
+{
+    let mut found = Vec::new(alloc);
+    for n in nodes {
+        if let Some(solvable) = solvable_at(graph, *n) {
+            found.push(solvable)?;
+        }
+    }
+    Ok(found)
+}
+
+/// The group to which the solvable of a node is mapped, if it is.
+fn made_at<'a, S: Copy + Eq + Hash + Drop>(
+    graph: &Graph<S>,
+    n: usize,
+    groups: &'a HashMap<S, Rc<MergedConflictNode<S>>>,
+) -> Option<&'a Rc<MergedConflictNode<S>>>
+    ensures { IfSome result (λ group. IsMadeAt S.eq graph.now n groups.now group.now) }
+{
+    let solvable = solvable_at(graph, n)?;
+    groups.get(&solvable)
+}
+
+/// The group of a node whose class has at least two members. Where the first of these has it, that one is shared.
+fn group_of<S: Copy + Eq + Hash + Drop>(
+    alloc: Global,
+    graph: &Graph<S>,
+    keys: &[NodeKey],
+    n: usize,
+    groups: &HashMap<S, Rc<MergedConflictNode<S>>>,
+) -> Result<Option<Rc<MergedConflictNode<S>>>, Exhausted>
+    requires in_range { n < length keys.now }
+    requires before { IsSimplifiedBefore S.eq (map key_view keys.now) graph.now n groups.now }
+    ensures value { IfOk result (λ group. MatchOption group (IsNone (group_in (map key_view keys.now) n)) (IsGroupOf (map key_view keys.now) graph.now n)) }
+    ensures memory { IfErr result (λ e. e ≡ Exhausted.Memory) }
+{
+    let class = class_of(alloc, keys, n)?;
+    let [first, _, ..] = class.as_slice() else {
+        return Ok(None);
+    };
+    if let Some(group) = made_at(graph, *first, groups) {
+        return Ok(Some(group.clone()?));
+    }
+    let ids = solvables_at(alloc, graph, &class)?;
+    Ok(Some(Rc::new(alloc, MergedConflictNode { ids })?))
+}
+
+/// Maps the solvable of the next node to its group, if it has one.
+fn add_group<S: Copy + Eq + Hash + Drop>(
+    alloc: Global,
+    graph: &Graph<S>,
+    keys: &[NodeKey],
+    n: usize,
+    groups: &mut HashMap<S, Rc<MergedConflictNode<S>>>,
+) -> Result<(), Exhausted>
+    requires identity { IsIdentity S.eq }
+    requires in_range { n < length keys.now }
+    requires before { IsSimplifiedBefore S.eq (map key_view keys.now) graph.now n groups.old }
+    ensures after { OnOk result (IsSimplifiedBefore S.eq (map key_view keys.now) graph.now (n + 1) groups.new) }
+    ensures memory { IfErr result (λ e. e ≡ Exhausted.Memory) }
+{
+    let _nodes = graph.nodes();
+    let Some(solvable) = solvable_at(graph, n) else {
+        return Ok(());
+    };
+    let Some(group) = group_of(alloc, graph, keys, n, groups)? else {
+        return Ok(());
+    };
+    groups.insert(solvable, group)?;
+    Ok(())
+}
+
+impl<S: Copy + Eq + Hash + Drop> ConflictGraph<S> {
+    /// The groups of solvables that are told of together, each under every member of it.
+    ///
+    /// Solvables are alike if their packages have one name text, and the edges to them and from them say the same: what
+    /// each requires, or that it requires nothing, and its other end. A group has all that are alike with one another, at
+    /// least two. A solvable of no group is not in the map.
+    ///
+    /// The error is [`Exhausted::Memory`] alone.
+    pub fn simplify<I: Interner<SolvableId = S>>(
+        &self,
+        interner: &I,
+    ) -> Result<HashMap<S, Rc<MergedConflictNode<S>>>, Exhausted>
+        ensures value { IfOk result (λ m. IsSimplified S.eq (I.universe interner.now) self.now.graph m) }
+        ensures memory { IfErr result (λ e. e ≡ Exhausted.Memory) }
+    {
+        let alloc = self.graph.allocator();
+        let keys = keys_of(alloc, interner, &self.graph)?;
+        let mut groups = HashMap::new(alloc);
+        for n in 0..keys.len() {
+            add_group(alloc, &self.graph, &keys, n, &mut groups)?;
+        }
+        Ok(groups)
+    }
+}
+
+#[cfg(test)]
+mod tests;
