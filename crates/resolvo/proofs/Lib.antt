@@ -1,0 +1,6 @@
+pub mod MemberLemmas
+pub mod ReadingLemmas
+pub mod StepLemmas
+pub mod DisjunctRules
+pub mod AnswerLemmas
+pub mod RefusalLemmas

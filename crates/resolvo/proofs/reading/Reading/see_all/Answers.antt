@@ -1,0 +1,18 @@
+use Rattle.std.proofs.Common.{arith, Contains}
+use Rattle.std.specs.Prelude.{⊤}
+use Rattle.resolver_clause_store.proofs.SetLemmas.{All-done}
+use Rattle.resolvo.proofs.ReadingLemmas.{All-grown, Extends-within}
+use Rattle.resolvo.proofs.StepLemmas.{IsStep-trans}
+use Rattle.resolvo.proofs.reading.Reading.see_all.Goals as goal
+
+pub loop-candidate-preserved : goal.loop-candidate-preserved
+loop-candidate-preserved g c =
+    let u = g.D.Interner.universe c.args.provider.now in
+    record {
+      step = IsStep-trans u (λ root. ⊤) _ _ _ c.loop-candidate.invariant.step c.in_ok-see.ensures.step;
+      seen = All-grown (Contains c.loop-candidate.self.seen.keys) (Contains c.see.new.self.seen.keys) c.args.candidates.now c.loop-candidate.candidate-index c.candidate-item.result (λ y h. Extends-within _ _ c.in_ok-see.ensures.step.seen y h) (omega arith) c.candidate-item.is c.loop-candidate.invariant.seen c.in_ok-see.ensures.seen;
+      limit = cc;
+    }
+
+pub returns-clause-seen : goal.returns-clause-seen
+returns-clause-seen g c = All-done (Contains c.loop-candidate.self.seen.keys) c.args.candidates.now c.loop-candidate.candidate-index (omega arith) c.loop-candidate.invariant.seen

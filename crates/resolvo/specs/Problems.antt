@@ -1,0 +1,14 @@
+-- What a problem asks for.
+use Rattle.std.specs.Prelude.{List, [], Option, Some, None, Vec}
+use Rattle.std.proofs.Common.{Global}
+use Rattle.resolver_clause_store.specs.Universe.{Demands}
+use Rattle.resolvo.specs.declared.problem.Problem.{Problem}
+
+-- the items of a list that may be absent
+abbrev pub items_of : {X : Type 0} → Option (Vec X Global) → List X
+items_of None = []
+items_of (Some xs) = xs.items
+
+-- the requirements and constraints of the root
+abbrev pub demands_in : {Id S : Type 0} → Problem Id S → Demands
+demands_in p = record { requirements = items_of p.requirements; constraints = items_of p.constraints }

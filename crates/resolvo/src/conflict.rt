@@ -1,0 +1,44 @@
+//! Why there is no answer.
+
+ghost use Rattle.std.specs.Prelude.{◌≡◌, IfErr, IfOk};
+ghost use Rattle.resolver_report.specs.ConflictGraphs.{shape_of};
+ghost use Rattle.resolver_report.specs.Graphs.{graph_of as graph_of_rules};
+
+use crate::solver::Solver;
+use resolver_clause_store::{DependencyProvider, Exhausted, Interner};
+use resolver_report::{ConflictGraph, Rule, graph_of};
+use std::hash::Hash;
+
+/// Rules that no set of solvables obeys together.
+///
+/// They name no solvable as asker, forbidden or marked that their requirements do not reach from the root on.
+#[derive(Drop)]
+pub struct Conflict<N, S> {
+    pub(crate) rules: Vec<Rule<N, S>>,
+}
+
+impl<N, S> Conflict<N, S> {
+    ghost use Rattle.resolvo.specs.Conflicts.{rules_in};
+
+    /// The rules, each of which the provider and the problem state.
+    pub fn rules(&self) -> &[Rule<N, S>]
+        ensures { result.now ≡ rules_in self.now }
+    {
+        &self.rules
+    }
+}
+
+impl<N: Copy + Eq + Ord + Hash + Drop, S: Copy + Eq + Ord + Hash + Drop> Conflict<N, S> {
+    ghost use Rattle.resolvo.specs.Conflicts.{rules_in};
+
+    /// The graph of the rules. What the solver has done since does not matter, since nothing of it is read.
+    pub fn graph<D: DependencyProvider<NameId = N, SolvableId = S>>(
+        &self,
+        _solver: &Solver<D>,
+    ) -> Result<ConflictGraph<S>, Exhausted>
+        ensures graph { IfOk result (λ graph. shape_of graph ≡ graph_of_rules N.eq S.eq (rules_in self.now)) }
+        ensures memory { IfErr result (λ e. e ≡ Exhausted.Memory) }
+    {
+        graph_of(*self.rules.allocator(), self.rules())
+    }
+}

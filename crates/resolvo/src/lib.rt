@@ -1,0 +1,23 @@
+//! A package solver with explained conflicts.
+#![tactic(auto)]
+
+mod conflict;
+mod problem;
+mod reading;
+mod sets;
+mod solver;
+#[cfg(test)]
+mod test_provider;
+
+pub use conflict::Conflict;
+pub use problem::{EmptySolvables, Problem};
+pub use resolver_clause_store::{
+    Candidates, Condition, ConditionId, ConditionalRequirement, Dependencies, DependencyProvider,
+    Exhausted, HintDependenciesAvailable, Interner, KnownDependencies, LogicalOperator,
+    Requirement, StringId, VersionSetId, VersionSetUnionId,
+};
+pub use resolver_report::{
+    By, ConflictCause, ConflictEdge, ConflictGraph, ConflictNode, Edge, Graph, Incoming,
+    MergedConflictNode, NodeId, Outgoing, Rule,
+};
+pub use solver::{Solver, UnsolvableOrCancelled};
