@@ -1,0 +1,6 @@
+pub mod PackageLemmas
+pub mod InterningLemmas
+pub mod LinesLemmas
+pub mod NumberLemmas
+pub mod ConditionLemmas
+pub mod WordLemmas

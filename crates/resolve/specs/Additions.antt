@@ -1,0 +1,9 @@
+-- What the calls that add to a table leave.
+use Rattle.std.specs.Prelude.{◌≡◌, ℕ, ◌⊎◌, List, Some, slice_get}
+
+-- x stands at the place and nowhere else, what stood in the table stands where it did, and nothing else was added
+pub record IsInterned {X : Type 0} (old new : List X) (x : X) (place : ℕ) : Type 0 where
+  pub stored : slice_get new place ≡ Some x
+  pub alone : (k : ℕ) → slice_get new k ≡ Some x → k ≡ place
+  pub kept : (k : ℕ) (y : X) → slice_get old k ≡ Some y → slice_get new k ≡ Some y
+  pub only : (k : ℕ) (y : X) → slice_get new k ≡ Some y → (slice_get old k ≡ Some y) ⊎ (x ≡ y)

@@ -1,0 +1,14 @@
+pub mod Ranges
+pub mod Conditions
+pub mod Packages
+pub mod Versions
+pub mod Sorting
+pub mod Catalogs
+pub mod CatalogLaws
+pub mod SortingLemmas
+pub mod Additions
+pub mod Lines
+pub mod Words
+pub mod Statements
+pub mod Postfix
+pub mod Faults

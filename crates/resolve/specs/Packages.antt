@@ -1,0 +1,142 @@
+-- What tables of packages and versions say, and what they keep to.
+use Rattle.std.specs.Prelude.{◌≡◌, ◌≢◌, [], ◌∷◌, ◌++◌, ℕ, ◌<◌, ◌≤◌, List, Option, Some, None, slice_get, slice_set, true, false, length, All, AllPairs, IfSome, IsSome, IsNone}
+use Rattle.std.specs.Ordering.{nat_cmp, on, flip_args, then_cmp}
+use Rattle.std.specs.declared.cmp.Ordering.{Ordering}
+use Rattle.resolve.specs.declared.ids.NameId.{NameId}
+use Rattle.resolve.specs.declared.ids.SolvableId.{SolvableId}
+use Rattle.resolve.specs.declared.ids.Version.{Version}
+use Rattle.resolve.specs.declared.catalog.tables.Package.{Package}
+use Rattle.resolve.specs.declared.catalog.tables.Solvable.{Solvable}
+use Rattle.resolver_clause_store.specs.declared.ids.VersionSetId.{VersionSetId}
+use Rattle.resolver_clause_store.specs.declared.ids.StringId.{StringId}
+use Rattle.resolver_clause_store.specs.declared.data.ConditionalRequirement.{ConditionalRequirement}
+
+-- of no version the first package
+abbrev pub name_of : Option Version → NameId
+name_of None = record { 0 = 0 }
+name_of (Some v) = v.name
+
+abbrev pub name_at : List Version → SolvableId → NameId
+name_at versions s = name_of (slice_get versions s.0)
+
+abbrev pub version_of : Option Version → ℕ
+version_of None = 0
+version_of (Some v) = v.number
+
+abbrev pub version_at : List Version → SolvableId → ℕ
+version_at versions s = version_of (slice_get versions s.0)
+
+-- the solvable is declared, as a version of the n-th package
+pub record IsVersionOf (versions : List Version) (n : ℕ) (s : SolvableId) : Type 0 where
+  pub declared : s.0 < length versions
+  pub named : (name_at versions s).0 ≡ n
+
+-- the solvable is not declared, or its package does not stand in the table
+abbrev pub IsWithoutPackage : List Version → List Package → SolvableId → Type 0
+IsWithoutPackage versions packages s = s.0 < length versions → length packages ≤ (name_at versions s).0
+
+-- all that the n-th package names are its versions, and its candidates are listed in the order of declaration
+pub record IsPackageOf (versions : List Version) (n : ℕ) (p : Package) : Type 0 where
+  pub listed : All (IsVersionOf versions n) p.candidates.items
+  pub rising : AllPairs (λ a b. a.0 < b.0) p.candidates.items
+  pub favored : IfSome p.favored (IsVersionOf versions n)
+  pub locked : IfSome p.locked (IsVersionOf versions n)
+  pub excluded : All (λ e. IsVersionOf versions n e.0) p.excluded.items
+
+abbrev pub ArePackagesOf : List Version → List Package → Type 0
+ArePackagesOf versions packages = (n : ℕ) (p : Package) → slice_get packages n ≡ Some p → IsPackageOf versions n p
+
+-- the higher version comes first, and of equal ones that which was declared first
+abbrev pub preference : List Version → SolvableId → SolvableId → Ordering
+preference versions = then_cmp (flip_args (on (version_at versions) nat_cmp)) (on (λ s. s.0) nat_cmp)
+
+-- the candidates of a package, none where there is no such package
+abbrev pub candidates_of : Option Package → List SolvableId
+candidates_of None = []
+candidates_of (Some p) = p.candidates.items
+
+abbrev pub candidates_at : List Package → ℕ → List SolvableId
+candidates_at packages n = candidates_of (slice_get packages n)
+
+-- the version stands last, and is the last candidate of its package; each other package lists what it did
+pub record IsDeclared (versions versions' : List Version) (packages packages' : List Package) (version : Version) : Type 0 where
+  pub last : versions' ≡ versions ++ version ∷ []
+  pub listed : candidates_at packages' version.name.0 ≡ candidates_at packages version.name.0 ++ record { 0 = length versions } ∷ []
+  pub others : (n : ℕ) → n ≢ version.name.0 → slice_get packages' n ≡ slice_get packages n
+
+-- the solvable is now its package's favored one, of which there was none; nothing else changed
+pub record IsFavored (versions : List Version) (packages packages' : List Package) (s : SolvableId) : Type 0 where
+  pub package_before : Package
+  pub stood : slice_get packages (name_at versions s).0 ≡ Some package_before
+  pub free : IsNone package_before.favored
+  pub written : packages' ≡ slice_set packages (name_at versions s).0 (record package_before { favored = Some s })
+
+-- the solvable's package is now locked to it; nothing else changed
+pub record IsLocked (versions : List Version) (packages packages' : List Package) (s : SolvableId) : Type 0 where
+  pub package_before : Package
+  pub stood : slice_get packages (name_at versions s).0 ≡ Some package_before
+  pub free : IsNone package_before.locked
+  pub written : packages' ≡ slice_set packages (name_at versions s).0 (record package_before { locked = Some s })
+
+-- the solvable requires one thing more, and stays what it was otherwise; nothing else changed
+pub record IsRequired (solvables solvables' : List Solvable) (s : SolvableId) (requirement : ConditionalRequirement) : Type 0 where
+  pub before : Solvable
+  pub after : Solvable
+  pub stood : slice_get solvables s.0 ≡ Some before
+  pub written : solvables' ≡ slice_set solvables s.0 after
+  pub requirements : after.requirements.items ≡ before.requirements.items ++ requirement ∷ []
+  pub constraints : after.constraints ≡ before.constraints
+  pub reason : after.unknown ≡ before.unknown
+
+-- the solvable constrains one thing more, and stays what it was otherwise; nothing else changed
+pub record IsConstrained (solvables solvables' : List Solvable) (s : SolvableId) (version_set : VersionSetId) : Type 0 where
+  pub before : Solvable
+  pub after : Solvable
+  pub stood : slice_get solvables s.0 ≡ Some before
+  pub written : solvables' ≡ slice_set solvables s.0 after
+  pub constraints : after.constraints.items ≡ before.constraints.items ++ version_set ∷ []
+  pub requirements : after.requirements ≡ before.requirements
+  pub reason : after.unknown ≡ before.unknown
+
+-- the solvable, which had none, now is unknown for the reason; nothing else changed
+pub record IsMadeUnknown (solvables solvables' : List Solvable) (s : SolvableId) (reason : StringId) : Type 0 where
+  pub before : Solvable
+  pub stood : slice_get solvables s.0 ≡ Some before
+  pub free : IsNone before.unknown
+  pub written : solvables' ≡ slice_set solvables s.0 (record before { unknown = Some reason })
+
+-- the solvable, which was not excluded, now is for the reason, and is the last such one of its package; nothing else changed
+pub record IsExcluded (versions : List Version) (solvables solvables' : List Solvable) (packages packages' : List Package) (s : SolvableId) (reason : StringId) : Type 0 where
+  pub before : Solvable
+  pub stood : slice_get solvables s.0 ≡ Some before
+  pub included : before.is_excluded ≡ false
+  pub marked : solvables' ≡ slice_set solvables s.0 (record before { is_excluded = true })
+  pub package_before : Package
+  pub package_after : Package
+  pub package_stood : slice_get packages (name_at versions s).0 ≡ Some package_before
+  pub written : packages' ≡ slice_set packages (name_at versions s).0 package_after
+  pub excluded : package_after.excluded.items ≡ package_before.excluded.items ++ (s, reason) ∷ []
+  pub candidates : package_after.candidates ≡ package_before.candidates
+  pub favored : package_after.favored ≡ package_before.favored
+  pub locked : package_after.locked ≡ package_before.locked
+
+-- nothing changed, since the package of the solvable has a favored one, or there is none
+pub record IsFavorRefused (versions : List Version) (packages packages' : List Package) (s : SolvableId) : Type 0 where
+  pub kept : packages' ≡ packages
+  pub taken : (p : Package) → s.0 < length versions → slice_get packages (name_at versions s).0 ≡ Some p → IsSome p.favored
+
+-- nothing changed, since the package of the solvable is locked, or there is none
+pub record IsLockRefused (versions : List Version) (packages packages' : List Package) (s : SolvableId) : Type 0 where
+  pub kept : packages' ≡ packages
+  pub taken : (p : Package) → s.0 < length versions → slice_get packages (name_at versions s).0 ≡ Some p → IsSome p.locked
+
+-- nothing changed, since the solvable has a reason, or there is no such solvable
+pub record IsReasonRefused (solvables solvables' : List Solvable) (s : SolvableId) : Type 0 where
+  pub kept : solvables' ≡ solvables
+  pub taken : (t : Solvable) → slice_get solvables s.0 ≡ Some t → IsSome t.unknown
+
+-- nothing changed, since the solvable is excluded, or there is no such solvable or no package of it
+pub record IsExclusionRefused (versions : List Version) (solvables solvables' : List Solvable) (packages packages' : List Package) (s : SolvableId) : Type 0 where
+  pub kept : solvables' ≡ solvables
+  pub kept_packages : packages' ≡ packages
+  pub taken : (t : Solvable) → s.0 < length versions → (name_at versions s).0 < length packages → slice_get solvables s.0 ≡ Some t → t.is_excluded ≡ true

@@ -1,0 +1,64 @@
+-- The texts that a statement is made of.
+use Rattle.std.specs.Prelude.{◌≡◌, ◌≢◌, ℕ, ◌+◌, ◌<◌, ◌≤◌, ◌==◌, ◌||◌, ◌⊎◌, Bool, List, ◌∷◌, ◌++◌, length, slice_index, All, IsTrue, codes}
+use Rattle.std.specs.Fmt.{decimal}
+use Rattle.std.specs.Char.{is_ascii_alphanumeric}
+use Rattle.resolve.specs.declared.words.Spec.{Spec}
+use Rattle.resolve.specs.declared.ids.Range.{Range}
+use Rattle.resolve.specs.declared.ids.Range.TheVariants.{All as EachVersion, Within}
+use Rattle.resolve.specs.declared.words.TheConstants.{VERSION_LIMIT}
+
+-- a letter, a digit, '-', '_' or '.'
+abbrev pub is_name_byte : ℕ → Bool
+is_name_byte b = ((is_ascii_alphanumeric b || (b == 45)) || (b == 95)) || (b == 46)
+
+-- the text is the name of a package
+pub record IsName (text : List ℕ) : Type 0 where
+  pub nonempty : 0 < length text
+  pub plain : All (λ b. IsTrue (is_name_byte b)) text
+  pub not_if : text ≢ codes "if"
+  pub not_and : text ≢ codes "and"
+  pub not_or : text ≢ codes "or"
+
+-- the text begins with '+', or with a '0' that more follows
+abbrev pub HasOddFront : List ℕ → Type 0
+HasOddFront text = (slice_index text 0 ≡ 43) ⊎ ((slice_index text 0 ≡ 48) × (length text ≢ 1))
+
+-- the text does not
+pub record HasPlainFront (text : List ℕ) : Type 0 where
+  pub no_plus : slice_index text 0 ≢ 43
+  pub zero_alone : slice_index text 0 ≡ 48 → length text ≡ 1
+
+-- the text is a version, which is the lower bound, and the upper bound comes next
+abbrev pub StatesOneVersion : List ℕ → ℕ → ℕ → Type 0
+StatesOneVersion text low high = (text ≡ decimal low) × (low < VERSION_LIMIT) × (high ≡ low + 1)
+
+-- the text is the two bounds, with '..' between them
+abbrev pub StatesRange : List ℕ → ℕ → ℕ → Type 0
+StatesRange text low high = (text ≡ decimal low ++ 46 ∷ 46 ∷ decimal high) × (low ≤ VERSION_LIMIT) × (high ≤ VERSION_LIMIT)
+
+-- the text that follows '@' in a spec of these versions
+abbrev pub StatesVersions : List ℕ → Range → Type 0
+StatesVersions text EachVersion = ⊥
+StatesVersions text (Within low high) = StatesOneVersion text low high ⊎ StatesRange text low high
+
+-- both bounds are versions, or the first number that is none
+abbrev pub IsBounded : Range → Type 0
+IsBounded versions = (low high : ℕ) → versions ≡ Within low high → (low ≤ VERSION_LIMIT) × (high ≤ VERSION_LIMIT)
+
+-- the name and the bounds are such as a statement may have
+pub record IsSpec (spec : Spec) : Type 0 where
+  pub name : IsName spec.name.now
+  pub bounds : IsBounded spec.versions
+
+-- the word is a name alone, or has '@' and the versions behind the name
+abbrev pub StatesSpec : List ℕ → List ℕ → Range → Type 0
+StatesSpec word name versions = IsName name
+    × (((versions ≡ EachVersion) × (word ≡ name)) ⊎ ((text : List ℕ) × (word ≡ name ++ 64 ∷ text) × StatesVersions text versions))
+
+-- the word is a name with '=' and a version behind it
+abbrev pub StatesSolvable : List ℕ → List ℕ → ℕ → Type 0
+StatesSolvable word name version = IsName name × (word ≡ name ++ 61 ∷ decimal version) × (version < VERSION_LIMIT)
+
+-- no byte of the text is the byte
+abbrev pub Lacks : ℕ → List ℕ → Type 0
+Lacks byte text = (i : ℕ) → i < length text → slice_index text i ≢ byte

@@ -1,0 +1,198 @@
+//! What was declared, in tables.
+
+ghost use Rattle.std.specs.Prelude.{◌≡◌, ◌<◌, ◌++◌, ◌∷◌, [], IfOk, IfSome, IsTrue, MatchBool, OnOk, length};
+ghost use Rattle.resolve.specs.Additions.{IsInterned};
+ghost use Rattle.resolve.specs.Packages.{version_at, IsConstrained, IsDeclared, IsExcluded, IsExclusionRefused, IsFavorRefused, IsFavored, IsLockRefused, IsLocked, IsMadeUnknown, IsReasonRefused, IsRequired};
+
+mod provider;
+mod tables;
+#[cfg(test)]
+mod tests;
+mod texts;
+
+use crate::ids::{NameId, Range, SolvableId, Version, VersionSet, found_id, id_of};
+use indexmap::IndexSet;
+use resolver_clause_store::{
+    Condition, ConditionId, ConditionalRequirement, Exhausted, LogicalOperator, StringId,
+    VersionSetId, VersionSetUnionId,
+};
+use std::alloc::Global;
+use tables::{ConditionTable, PackageTable};
+
+/// What was declared of packages and their versions.
+///
+/// An id of another catalog does no harm: what is added to it is dropped.
+#[derive(Drop)]
+pub struct Catalog {
+    alloc: Global,
+    names: IndexSet<String>,
+    packages: PackageTable,
+    version_sets: IndexSet<VersionSet>,
+    unions: IndexSet<Vec<VersionSetId>>,
+    conditions: ConditionTable,
+    strings: IndexSet<String>,
+}
+
+impl Catalog {
+    ghost use Rattle.resolve.specs.Catalogs.{IsFound, catalog_universe, conditions_in, names_in, packages_in, solvables_in, strings_in, unions_in, version_sets_in, versions_in};
+
+    /// A catalog in which nothing is declared.
+    pub fn new(alloc: Global) -> Catalog {
+        Catalog {
+            alloc,
+            names: IndexSet::new(alloc),
+            packages: PackageTable::new(alloc),
+            version_sets: IndexSet::new(alloc),
+            unions: IndexSet::new(alloc),
+            conditions: ConditionTable::new(alloc),
+            strings: IndexSet::new(alloc),
+        }
+    }
+
+    /// The package of a name. Equal names share it.
+    pub fn name(&mut self, text: &str) -> Result<NameId, Exhausted>
+        ensures { IfOk result (λ id. IsInterned (names_in self.old) (names_in self.new) text.now id.0) }
+    {
+        let key = String::from_str(self.alloc, text)?;
+        let (place, is_new) = self.names.insert_full(key)?;
+        let name = NameId(id_of(place)?);
+        if !is_new {
+            return Ok(name);
+        }
+        if let Err(refusal) = self.packages.add_package(self.alloc) {
+            self.names.pop();
+            return Err(refusal);
+        }
+        Ok(name)
+    }
+
+    /// The version of the package of that name, if it was declared.
+    pub fn find_solvable(&self, text: &str, number: u32) -> Option<SolvableId>
+        ensures { IfSome result (IsFound self.now text.now number) }
+    {
+        let name = NameId(found_id(self.names.get_index_of(text))?);
+        let version = Version { name, number };
+        let found = found_id(self.packages.versions.get_index_of(&version))?;
+        Some(SolvableId(found))
+    }
+
+    /// The name of a solvable's package, and its version.
+    pub fn label(&self, solvable: SolvableId) -> (&str, u32)
+        ensures name { result.0.now ≡ (catalog_universe self.now).name_text ((catalog_universe self.now).name solvable) }
+        ensures version { result.1 ≡ version_at (versions_in self.now) solvable }
+    {
+        let name = self.packages.name(solvable);
+        let text = match self.names.get_index(name.0 as usize) {
+            None => "",
+            Some(text) => text.as_str(),
+        };
+        (text, self.packages.version(solvable))
+    }
+
+    /// Declares a version of a package, and lists it as the package's last candidate.
+    ///
+    /// False if it was declared before.
+    pub fn declare(&mut self, name: NameId, number: u32) -> Result<bool, Exhausted>
+        ensures { IfOk result (λ is_new. IsTrue is_new → IsDeclared (versions_in self.old) (versions_in self.new) (packages_in self.old) (packages_in self.new) (record { name = name; number = number })) }
+    {
+        self.packages.add_version(self.alloc, name, number)
+    }
+
+    /// The versions of a package that a range takes. Equal ones share an id.
+    pub fn version_set(&mut self, name: NameId, range: Range) -> Result<VersionSetId, Exhausted>
+        ensures { IfOk result (λ id. IsInterned (version_sets_in self.old) (version_sets_in self.new) (record { name = name; range = range }) id.0) }
+    {
+        let (place, _) = self.version_sets.insert_full(VersionSet { name, range })?;
+        Ok(VersionSetId(id_of(place)?))
+    }
+
+    /// The union of version sets in that order. Equal ones share an id.
+    pub fn union(&mut self, members: Vec<VersionSetId>) -> Result<VersionSetUnionId, Exhausted>
+        ensures { IfOk result (λ id. IsInterned (unions_in self.old) (unions_in self.new) members.items id.0) }
+    {
+        let (place, _) = self.unions.insert_full(members)?;
+        Ok(VersionSetUnionId(id_of(place)?))
+    }
+
+    /// A new condition, which holds where a candidate of the version set is chosen.
+    pub fn condition_on(&mut self, version_set: VersionSetId) -> Result<ConditionId, Exhausted>
+        ensures id { IfOk result (λ id. id.0 ≡ length (conditions_in self.old)) }
+        ensures added { OnOk result (conditions_in self.new ≡ conditions_in self.old ++ Condition.Requirement version_set ∷ []) }
+    {
+        self.conditions.add_on(version_set)
+    }
+
+    /// A new condition of two others. Parts that this catalog does not have are refused as `Ids`.
+    pub fn condition_of(
+        &mut self,
+        operator: LogicalOperator,
+        left: ConditionId,
+        right: ConditionId,
+    ) -> Result<ConditionId, Exhausted>
+        ensures id { IfOk result (λ id. id.0 ≡ length (conditions_in self.old)) }
+        ensures added { OnOk result (conditions_in self.new ≡ conditions_in self.old ++ Condition.Binary operator left right ∷ []) }
+    {
+        self.conditions.add_of(operator, left, right)
+    }
+
+    /// The id of a reason. Equal texts share it.
+    pub fn string(&mut self, text: &str) -> Result<StringId, Exhausted>
+        ensures { IfOk result (λ id. IsInterned (strings_in self.old) (strings_in self.new) text.now id.0) }
+    {
+        let key = String::from_str(self.alloc, text)?;
+        let (place, _) = self.strings.insert_full(key)?;
+        Ok(StringId(id_of(place)?))
+    }
+
+    /// Adds to what a solvable requires.
+    pub fn add_requirement(
+        &mut self,
+        solvable: SolvableId,
+        requirement: ConditionalRequirement,
+    ) -> Result<(), Exhausted>
+        ensures { OnOk result (solvable.0 < length (solvables_in self.old) → IsRequired (solvables_in self.old) (solvables_in self.new) solvable requirement) }
+    {
+        self.packages.add_requirement(solvable, requirement)
+    }
+
+    /// Adds to what a solvable constrains.
+    pub fn add_constraint(
+        &mut self,
+        solvable: SolvableId,
+        version_set: VersionSetId,
+    ) -> Result<(), Exhausted>
+        ensures { OnOk result (solvable.0 < length (solvables_in self.old) → IsConstrained (solvables_in self.old) (solvables_in self.new) solvable version_set) }
+    {
+        self.packages.add_constraint(solvable, version_set)
+    }
+
+    /// Says why nobody knows what a solvable needs. False if it has a reason already.
+    ///
+    /// What it requires and constrains is then kept from the solver.
+    pub fn set_unknown(&mut self, solvable: SolvableId, reason: StringId) -> bool
+        ensures { MatchBool result (IsMadeUnknown (solvables_in self.old) (solvables_in self.new) solvable reason) (IsReasonRefused (solvables_in self.old) (solvables_in self.new) solvable) }
+    {
+        self.packages.set_unknown(solvable, reason)
+    }
+
+    /// Favors a solvable. False if its package has a favored one already.
+    pub fn favor(&mut self, solvable: SolvableId) -> bool
+        ensures { MatchBool result (IsFavored (versions_in self.old) (packages_in self.old) (packages_in self.new) solvable) (IsFavorRefused (versions_in self.old) (packages_in self.old) (packages_in self.new) solvable) }
+    {
+        self.packages.favor(solvable)
+    }
+
+    /// Locks the package of a solvable to it. False if the package is locked already.
+    pub fn lock(&mut self, solvable: SolvableId) -> bool
+        ensures { MatchBool result (IsLocked (versions_in self.old) (packages_in self.old) (packages_in self.new) solvable) (IsLockRefused (versions_in self.old) (packages_in self.old) (packages_in self.new) solvable) }
+    {
+        self.packages.lock(solvable)
+    }
+
+    /// Excludes a solvable for a reason. False if it was excluded before.
+    pub fn exclude(&mut self, solvable: SolvableId, reason: StringId) -> Result<bool, Exhausted>
+        ensures { IfOk result (λ is_new. MatchBool is_new (IsExcluded (versions_in self.old) (solvables_in self.old) (solvables_in self.new) (packages_in self.old) (packages_in self.new) solvable reason) (IsExclusionRefused (versions_in self.old) (solvables_in self.old) (solvables_in self.new) (packages_in self.old) (packages_in self.new) solvable)) }
+    {
+        self.packages.exclude(solvable, reason)
+    }
+}

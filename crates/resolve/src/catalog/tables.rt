@@ -1,0 +1,280 @@
+//! Packages with their versions, and conditions.
+
+ghost use Rattle.std.specs.Prelude.{◌≡◌, ◌<◌, ◌++◌, ◌∷◌, [], length, IfOk, IfErr, IfNone, IfSome, IsTrue, MatchBool, OnOk};
+ghost use Rattle.std.proofs.Props.{props};
+ghost use Rattle.resolve.specs.Packages.{ArePackagesOf, IsConstrained, IsDeclared, IsExcluded, IsExclusionRefused, IsFavorRefused, IsFavored, IsLockRefused, IsLocked, IsMadeUnknown, IsReasonRefused, IsRequired, IsVersionOf, IsWithoutPackage, name_at, version_at, preference};
+ghost use Rattle.resolve.specs.Sorting.{sorted_by};
+ghost use Rattle.resolve.specs.Conditions.{ArePartsLower, condition_at};
+
+use crate::ids::{NameId, SolvableId, Version, id_of};
+use indexmap::IndexSet;
+use resolver_clause_store::{
+    Condition, ConditionId, ConditionalRequirement, Exhausted, LogicalOperator, StringId,
+    VersionSetId,
+};
+use std::alloc::Global;
+use std::cmp::Ordering;
+
+/// What a version of a package requires and constrains, and why nobody knows.
+#[derive(Drop)]
+pub struct Solvable {
+    pub requirements: Vec<ConditionalRequirement>,
+    pub constraints: Vec<VersionSetId>,
+    pub unknown: Option<StringId>,
+    pub is_excluded: bool,
+}
+
+/// A package with its versions in the order of declaration.
+#[derive(Drop)]
+pub struct Package {
+    pub candidates: Vec<SolvableId>,
+    pub favored: Option<SolvableId>,
+    pub locked: Option<SolvableId>,
+    pub excluded: Vec<(SolvableId, StringId)>,
+}
+
+/// All packages and all their versions. There is a solvable for each version at its place.
+#[derive(Drop)]
+pub struct PackageTable {
+    pub packages: Vec<Package>,
+    pub versions: IndexSet<Version>,
+    pub solvables: Vec<Solvable>,
+    ghost lawful: { ArePackagesOf versions.keys packages.items } by { Prim.hlevel props },
+}
+
+impl PackageTable {
+    pub fn new(alloc: Global) -> PackageTable {
+        PackageTable {
+            packages: Vec::new(alloc),
+            versions: IndexSet::new(alloc),
+            solvables: Vec::new(alloc),
+        }
+    }
+
+    /// The package of a solvable, or the first one where there is no such solvable.
+    pub fn name(&self, solvable: SolvableId) -> NameId
+        ensures { result ≡ name_at self.now.versions.keys solvable }
+    {
+        match self.versions.get_index(solvable.0 as usize) {
+            None => NameId(0),
+            Some(found) => found.name,
+        }
+    }
+
+    /// The version of a solvable, or 0 where there is no such solvable.
+    pub fn version(&self, solvable: SolvableId) -> u32
+        ensures { result ≡ version_at self.now.versions.keys solvable }
+    {
+        match self.versions.get_index(solvable.0 as usize) {
+            None => 0,
+            Some(found) => found.number,
+        }
+    }
+
+    /// Which of two solvables comes first.
+    pub fn compare(&self, one: SolvableId, other: SolvableId) -> Ordering
+        ensures { result ≡ preference self.now.versions.keys one other }
+    {
+        let by_version = self.version(other).cmp(&self.version(one));
+        by_version.then(one.0.cmp(&other.0))
+    }
+
+    /// Sorts solvables, the higher versions first.
+    pub fn sort(&self, solvables: &mut Vec<SolvableId>)
+        ensures { solvables.new.items ≡ sorted_by (preference self.now.versions.keys) solvables.old.items }
+    {
+        solvables.sort_unstable_by(|one, other| self.compare(*one, *other));
+    }
+
+    /// Adds a package without versions.
+    pub fn add_package(&mut self, alloc: Global) -> Result<(), Exhausted> {
+        self.packages.push(Package {
+            candidates: Vec::new(alloc),
+            favored: None,
+            locked: None,
+            excluded: Vec::new(alloc),
+        })?;
+        Ok(())
+    }
+
+    /// Adds a version of a package, and lists it. False if it stands in the table, or if there is no such package.
+    pub fn add_version(
+        &mut self,
+        alloc: Global,
+        name: NameId,
+        number: u32,
+    ) -> Result<bool, Exhausted>
+        ensures { IfOk result (λ is_new. IsTrue is_new → IsDeclared self.old.versions.keys self.new.versions.keys self.old.packages.items self.new.packages.items (record { name = name; number = number })) }
+    {
+        let version = Version { name, number };
+        let package = name.0 as usize;
+        if package >= self.packages.len() || self.versions.contains(&version) {
+            return Ok(false);
+        }
+        let id = SolvableId(id_of(self.versions.len())?);
+        self.packages[package].candidates.reserve(1)?;
+        self.solvables.push(Solvable {
+            requirements: Vec::new(alloc),
+            constraints: Vec::new(alloc),
+            unknown: None,
+            is_excluded: false,
+        })?;
+        self.versions.insert(version)?;
+        self.packages[package].candidates.push(id)?;
+        Ok(true)
+    }
+
+    pub fn add_requirement(
+        &mut self,
+        solvable: SolvableId,
+        requirement: ConditionalRequirement,
+    ) -> Result<(), Exhausted>
+        ensures { OnOk result (solvable.0 < length self.old.solvables.items → IsRequired self.old.solvables.items self.new.solvables.items solvable requirement) }
+    {
+        let place = solvable.0 as usize;
+        if place >= self.solvables.len() {
+            return Ok(());
+        }
+        self.solvables[place].requirements.push(requirement)?;
+        Ok(())
+    }
+
+    pub fn add_constraint(
+        &mut self,
+        solvable: SolvableId,
+        constraint: VersionSetId,
+    ) -> Result<(), Exhausted>
+        ensures { OnOk result (solvable.0 < length self.old.solvables.items → IsConstrained self.old.solvables.items self.new.solvables.items solvable constraint) }
+    {
+        let place = solvable.0 as usize;
+        if place >= self.solvables.len() {
+            return Ok(());
+        }
+        self.solvables[place].constraints.push(constraint)?;
+        Ok(())
+    }
+
+    /// Gives the reason why nobody knows what a solvable needs. False if it has one, or if there is no such solvable.
+    pub fn set_unknown(&mut self, solvable: SolvableId, reason: StringId) -> bool
+        ensures { MatchBool result (IsMadeUnknown self.old.solvables.items self.new.solvables.items solvable reason) (IsReasonRefused self.old.solvables.items self.new.solvables.items solvable) }
+    {
+        let place = solvable.0 as usize;
+        if place >= self.solvables.len() || self.solvables[place].unknown.is_some() {
+            return false;
+        }
+        self.solvables[place].unknown = Some(reason);
+        true
+    }
+
+    /// Where the package of a solvable stands.
+    fn package_place(&self, solvable: SolvableId) -> Option<usize>
+        ensures within { IfSome result (λ place. place < length self.now.packages.items) }
+        ensures version { IfSome result (λ place. IsVersionOf self.now.versions.keys place solvable) }
+        ensures absent { IfNone result (IsWithoutPackage self.now.versions.keys self.now.packages.items solvable) }
+    {
+        let version = self.versions.get_index(solvable.0 as usize)?;
+        let package = version.name.0 as usize;
+        if package >= self.packages.len() {
+            return None;
+        }
+        Some(package)
+    }
+
+    /// Favors a solvable. False if its package has a favored one.
+    pub fn favor(&mut self, solvable: SolvableId) -> bool
+        ensures { MatchBool result (IsFavored self.old.versions.keys self.old.packages.items self.new.packages.items solvable) (IsFavorRefused self.old.versions.keys self.old.packages.items self.new.packages.items solvable) }
+    {
+        let Some(place) = self.package_place(solvable) else {
+            return false;
+        };
+        if self.packages[place].favored.is_some() {
+            return false;
+        }
+        self.packages[place].favored = Some(solvable);
+        true
+    }
+
+    /// Locks a package to a solvable. False if it is locked.
+    pub fn lock(&mut self, solvable: SolvableId) -> bool
+        ensures { MatchBool result (IsLocked self.old.versions.keys self.old.packages.items self.new.packages.items solvable) (IsLockRefused self.old.versions.keys self.old.packages.items self.new.packages.items solvable) }
+    {
+        let Some(place) = self.package_place(solvable) else {
+            return false;
+        };
+        if self.packages[place].locked.is_some() {
+            return false;
+        }
+        self.packages[place].locked = Some(solvable);
+        true
+    }
+
+    /// Excludes a solvable. False if it is excluded.
+    pub fn exclude(&mut self, solvable: SolvableId, reason: StringId) -> Result<bool, Exhausted>
+        ensures { IfOk result (λ is_new. MatchBool is_new (IsExcluded self.old.versions.keys self.old.solvables.items self.new.solvables.items self.old.packages.items self.new.packages.items solvable reason) (IsExclusionRefused self.old.versions.keys self.old.solvables.items self.new.solvables.items self.old.packages.items self.new.packages.items solvable)) }
+    {
+        let Some(package) = self.package_place(solvable) else {
+            return Ok(false);
+        };
+        let place = solvable.0 as usize;
+        if place >= self.solvables.len() || self.solvables[place].is_excluded {
+            return Ok(false);
+        }
+        self.packages[package].excluded.push((solvable, reason))?;
+        self.solvables[place].is_excluded = true;
+        Ok(true)
+    }
+}
+
+/// All conditions. The parts of one stand before it.
+#[derive(Drop)]
+pub struct ConditionTable {
+    pub conditions: Vec<Condition>,
+    ghost lawful: { ArePartsLower conditions.items } by { Prim.hlevel props },
+}
+
+impl ConditionTable {
+    pub fn new(alloc: Global) -> ConditionTable {
+        ConditionTable {
+            conditions: Vec::new(alloc),
+        }
+    }
+
+    /// A condition, or one on the first version set where there is no such condition.
+    pub fn get(&self, condition: ConditionId) -> Condition
+        ensures { result ≡ condition_at self.now.conditions.items condition }
+    {
+        match self.conditions.get(condition.0 as usize) {
+            None => Condition::Requirement(VersionSetId(0)),
+            Some(found) => *found,
+        }
+    }
+
+    /// Adds a condition that holds where a candidate of a version set is chosen.
+    pub fn add_on(&mut self, version_set: VersionSetId) -> Result<ConditionId, Exhausted>
+        ensures id { IfOk result (λ id. id.0 ≡ length self.old.conditions.items) }
+        ensures added { OnOk result (self.new.conditions.items ≡ self.old.conditions.items ++ Condition.Requirement version_set ∷ []) }
+    {
+        let id = ConditionId(id_of(self.conditions.len())?);
+        self.conditions.push(Condition::Requirement(version_set))?;
+        Ok(id)
+    }
+
+    /// Adds a condition of two that stand in the table. Others are refused as ids out of reach.
+    pub fn add_of(
+        &mut self,
+        operator: LogicalOperator,
+        left: ConditionId,
+        right: ConditionId,
+    ) -> Result<ConditionId, Exhausted>
+        ensures id { IfOk result (λ id. id.0 ≡ length self.old.conditions.items) }
+        ensures added { OnOk result (self.new.conditions.items ≡ self.old.conditions.items ++ Condition.Binary operator left right ∷ []) }
+    {
+        let id = ConditionId(id_of(self.conditions.len())?);
+        if left.0 >= id.0 || right.0 >= id.0 {
+            return Err(Exhausted::Ids);
+        }
+        self.conditions
+            .push(Condition::Binary(operator, left, right))?;
+        Ok(id)
+    }
+}

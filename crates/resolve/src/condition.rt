@@ -1,0 +1,166 @@
+//! Conditions, in postfix order.
+
+ghost use Rattle.std.specs.Prelude.{◌≡◌, ◌+◌, true, false, cond, Some, All, IfOk, IfErr, OnOk};
+ghost use Rattle.std.specs.List.{sum_by};
+ghost use Rattle.resolve.specs.Postfix.{IsPostfix, IsStep, depth_of, waiting_count};
+ghost use Rattle.resolve.specs.Statements.{IsRefusal};
+
+use crate::statement::LineError;
+use crate::words::{Spec, Words, parse_spec};
+use std::alloc::{AllocError, Global};
+
+/// One step of a condition in postfix order: a spec is put aside, and an operator joins the two that were put aside
+/// last.
+#[derive(Clone, Copy, Debug, PartialEq, Eq)]
+pub enum ConditionStep<'a> {
+    Version(Spec<'a>),
+    And,
+    Or,
+}
+
+/// The operators of one pair of parentheses, or of the whole condition, that wait for their right part.
+///
+/// An operator is written out before one that binds no tighter waits, so at most one of each kind does, the `and` to
+/// the right of the `or`.
+#[derive(Clone, Copy, Debug)]
+struct Waiting {
+    or: bool,
+    and: bool,
+}
+
+impl Waiting {
+    const NONE: Waiting = Waiting {
+        or: false,
+        and: false,
+    };
+}
+
+/// A condition that is read from the left.
+#[derive(Debug, Drop)]
+struct Reading<'a> {
+    steps: Vec<ConditionStep<'a>>,
+    waiting: Waiting,
+    /// What waits outside each open parenthesis, the innermost last.
+    outside: Vec<Waiting>,
+    /// Whether a spec or an opening parenthesis comes next.
+    wants_part: bool,
+    ghost balanced: { depth_of steps.items ≡ Some (waiting_count waiting + sum_by waiting_count outside.items + cond wants_part 0 1) },
+    ghost sound: { All IsStep steps.items },
+}
+
+impl<'a> Reading<'a> {
+    fn new(alloc: Global) -> Reading<'a> {
+        Reading {
+            steps: Vec::new(alloc),
+            waiting: Waiting::NONE,
+            outside: Vec::new(alloc),
+            wants_part: true,
+        }
+    }
+
+    /// Writes out an `and` that waits.
+    fn join_and(&mut self) -> Result<(), AllocError>
+        requires { self.old.wants_part ≡ false }
+        ensures part { OnOk result (self.new.wants_part ≡ false) }
+        ensures or { OnOk result (self.new.waiting.or ≡ self.old.waiting.or) }
+        ensures and { OnOk result (self.new.waiting.and ≡ false) }
+        ensures outside { OnOk result (self.new.outside.items ≡ self.old.outside.items) }
+    {
+        if self.waiting.and {
+            self.steps.push(ConditionStep::And)?;
+            self.waiting.and = false;
+        }
+        Ok(())
+    }
+
+    /// Writes out all that waits inside the innermost parentheses.
+    fn join_all(&mut self) -> Result<(), AllocError>
+        requires { self.old.wants_part ≡ false }
+        ensures part { OnOk result (self.new.wants_part ≡ false) }
+        ensures waiting { OnOk result (waiting_count self.new.waiting ≡ 0) }
+        ensures outside { OnOk result (self.new.outside.items ≡ self.old.outside.items) }
+    {
+        self.join_and()?;
+        if self.waiting.or {
+            self.steps.push(ConditionStep::Or)?;
+            self.waiting.or = false;
+        }
+        Ok(())
+    }
+
+    /// Reads a spec or an opening parenthesis.
+    fn read_part(&mut self, word: &'a [u8]) -> Result<(), LineError>
+        requires { self.old.wants_part ≡ true }
+        ensures { IfErr result IsRefusal }
+    {
+        match word {
+            b"(" => {
+                self.outside.push(self.waiting)?;
+                self.waiting = Waiting::NONE;
+            }
+            _ => {
+                let spec = parse_spec(word).ok_or(LineError::Bad)?;
+                self.steps.push(ConditionStep::Version(spec))?;
+                self.wants_part = false;
+            }
+        }
+        Ok(())
+    }
+
+    /// Reads an operator or a closing parenthesis.
+    fn read_operator(&mut self, word: &[u8]) -> Result<(), LineError>
+        requires { self.old.wants_part ≡ false }
+        ensures { IfErr result IsRefusal }
+    {
+        match word {
+            b"and" => {
+                self.join_and()?;
+                self.waiting.and = true;
+                self.wants_part = true;
+            }
+            b"or" => {
+                self.join_all()?;
+                self.waiting.or = true;
+                self.wants_part = true;
+            }
+            b")" => {
+                self.join_all()?;
+                self.waiting = self.outside.pop().ok_or(LineError::Bad)?;
+            }
+            _ => return Err(LineError::Bad),
+        }
+        Ok(())
+    }
+
+    fn finish(mut self) -> Result<Vec<ConditionStep<'a>>, LineError>
+        ensures whole { IfOk result (λ steps. IsPostfix steps.items × All IsStep steps.items) }
+        ensures refused { IfErr result IsRefusal }
+    {
+        if self.wants_part || !self.outside.is_empty() {
+            return Err(LineError::Bad);
+        }
+        self.join_all()?;
+        Ok(self.steps)
+    }
+}
+
+/// Reads the rest of a line as a condition, and gives it in postfix order.
+///
+/// `and` binds tighter than `or`, and both group from the left.
+pub fn parse_condition<'a>(
+    alloc: Global,
+    words: Words<'a>,
+) -> Result<Vec<ConditionStep<'a>>, LineError>
+    ensures whole { IfOk result (λ steps. IsPostfix steps.items × All IsStep steps.items) }
+    ensures refused { IfErr result IsRefusal }
+{
+    let mut reading = Reading::new(alloc);
+    for word in words {
+        if reading.wants_part {
+            reading.read_part(word)?;
+        } else {
+            reading.read_operator(word)?;
+        }
+    }
+    reading.finish()
+}

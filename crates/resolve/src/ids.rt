@@ -1,0 +1,72 @@
+//! Ids of packages and their versions, and sets of versions.
+
+ghost use Rattle.std.specs.Prelude.{◌≡◌, IfOk, IfErr, IfSome, ◌≤◌};
+ghost use Rattle.resolve.specs.Ranges.{range_takes};
+
+use resolver_clause_store::Exhausted;
+
+/// Names a package.
+#[derive(Clone, Copy, Debug, PartialEq, Eq, PartialOrd, Ord, Hash)]
+pub struct NameId(pub u32);
+
+/// Names one version of a package.
+#[derive(Clone, Copy, Debug, PartialEq, Eq, PartialOrd, Ord, Hash)]
+pub struct SolvableId(pub u32);
+
+/// Which versions of a package are taken.
+#[derive(Clone, Copy, Debug, PartialEq, Eq, PartialOrd, Ord, Hash)]
+pub enum Range {
+    /// Every version.
+    All,
+
+    /// The versions from `low` up to but not including `high`, none where `low` is not below `high`.
+    Within { low: u64, high: u64 },
+}
+
+impl Range {
+    /// Whether the range takes a version.
+    pub fn takes(self, version: u32) -> bool
+        ensures { result ≡ range_takes self version }
+    {
+        match self {
+            Range::All => true,
+            Range::Within { low, high } => low <= u64::from(version) && u64::from(version) < high,
+        }
+    }
+}
+
+/// The versions of one package that a range takes.
+#[derive(Clone, Copy, Debug, PartialEq, Eq, PartialOrd, Ord, Hash)]
+pub(crate) struct VersionSet {
+    pub name: NameId,
+    pub range: Range,
+}
+
+/// One version of a package.
+#[derive(Clone, Copy, Debug, PartialEq, Eq, PartialOrd, Ord, Hash)]
+pub(crate) struct Version {
+    pub name: NameId,
+    pub number: u32,
+}
+
+/// The id of a place in a table. Ids end where they would not fit.
+pub(crate) fn id_of(place: usize) -> Result<u32, Exhausted>
+    ensures id { IfOk result (λ id. id ≡ place) }
+    ensures full { IfErr result (λ e. e ≡ Exhausted.Ids) }
+{
+    if place < u32::MAX as usize {
+        Ok(place as u32)
+    } else {
+        Err(Exhausted::Ids)
+    }
+}
+
+/// The id of the place that was found, if any.
+pub(crate) fn found_id(place: Option<usize>) -> Option<u32>
+    ensures { IfSome result (λ id. place ≡ Some id) }
+{
+    match id_of(place?) {
+        Ok(id) => Some(id),
+        Err(_) => None,
+    }
+}

@@ -1,0 +1,20 @@
+//! Reads statements about packages from standard input, and writes which versions to install.
+#![tactic(auto)]
+
+mod catalog;
+mod condition;
+mod ids;
+mod lines;
+mod request;
+mod run;
+mod statement;
+mod words;
+
+pub use run::{fault_text, run};
+use std::io;
+use std::process::ExitCode;
+
+fn main(rt: HostRuntime) -> ExitCode {
+    let status = run(rt.alloc(), rt.reader(), &mut rt.stdout(), &mut rt.stderr());
+    ExitCode::from(status)
+}

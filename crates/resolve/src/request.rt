@@ -1,0 +1,257 @@
+//! What the statements of an input declare and ask for.
+
+ghost use Rattle.std.specs.Prelude.{◌≡◌, IfOk};
+ghost use Rattle.resolver_clause_store.specs.Laws.{HasLawfulIds, HasLawfulPackages};
+ghost use Rattle.resolve.specs.declared.request.InputError.TheVariants.{Exhausted as RanOut};
+ghost use Rattle.resolve.specs.Catalogs.{catalog_universe};
+
+use crate::catalog::Catalog;
+use crate::condition::ConditionStep;
+use crate::lines::Lines;
+use crate::statement::{LineError, Statement, parse_line};
+use crate::words::{SolvableText, Spec};
+use resolver_clause_store::{
+    ConditionId, ConditionalRequirement, Exhausted, LogicalOperator, Requirement, VersionSetId,
+};
+use std::alloc::Global;
+
+/// What was declared, and the problem that was put to it.
+#[derive(Drop)]
+pub struct Request {
+    alloc: Global,
+    pub catalog: Catalog,
+    pub requirements: Vec<ConditionalRequirement>,
+    pub constraints: Vec<VersionSetId>,
+}
+
+/// Why an input gives no request.
+#[derive(Clone, Copy, Debug, PartialEq, Eq)]
+pub enum InputError {
+    /// The first bad statement stands on this line, counted from 1.
+    BadStatement(usize),
+
+    /// Memory or ids ran out.
+    Exhausted(Exhausted),
+}
+
+/// Reads the statements of an input, in order.
+pub fn read_request(alloc: Global, input: &[u8]) -> Result<Request, InputError>
+    ensures ids { IfOk result (λ request. HasLawfulIds (catalog_universe request.catalog)) }
+    ensures packages { IfOk result (λ request. HasLawfulPackages (catalog_universe request.catalog)) }
+{
+    let mut request = Request::new(alloc);
+    for line in Lines::new(input) {
+        request.read_line(line.number, line.bytes)?;
+    }
+    Ok(request)
+}
+
+impl From<Exhausted> for InputError {
+    ghost from_gives = { λ e error. error ≡ RanOut e };
+
+    fn from(e: Exhausted) -> InputError {
+        InputError::Exhausted(e)
+    }
+}
+
+impl Request {
+    fn new(alloc: Global) -> Request {
+        Request {
+            alloc,
+            catalog: Catalog::new(alloc),
+            requirements: Vec::new(alloc),
+            constraints: Vec::new(alloc),
+        }
+    }
+
+    fn read_line(&mut self, number: usize, line: &[u8]) -> Result<(), InputError> {
+        match parse_line(self.alloc, line) {
+            Ok(None) => Ok(()),
+            Ok(Some(statement)) => {
+                if !self.add(statement)? {
+                    return Err(InputError::BadStatement(number));
+                }
+                Ok(())
+            }
+            Err(LineError::Bad) => Err(InputError::BadStatement(number)),
+            Err(LineError::Exhausted(e)) => Err(InputError::Exhausted(e)),
+        }
+    }
+
+    /// Takes in a statement. False if it is a bad one, and then nothing is declared or asked for by it.
+    fn add(&mut self, statement: Statement<'_>) -> Result<bool, Exhausted> {
+        match statement {
+            Statement::Package(solvable) => self.declare(solvable),
+            Statement::Requires {
+                solvable,
+                union,
+                condition,
+            } => self.add_requirement(solvable, &union, &condition),
+            Statement::Constrains { solvable, spec } => self.add_constraint(solvable, spec),
+            Statement::Unknown { solvable, reason } => self.set_unknown(solvable, reason),
+            Statement::Favor(solvable) => Ok(self.favor(solvable)),
+            Statement::Lock(solvable) => Ok(self.lock(solvable)),
+            Statement::Exclude { solvable, reason } => self.exclude(solvable, reason),
+            Statement::Require { union, condition } => self.require(&union, &condition),
+            Statement::Constrain(spec) => self.constrain(spec),
+            Statement::Soft(_) => Ok(false),
+        }
+    }
+
+    fn declare(&mut self, solvable: SolvableText<'_>) -> Result<bool, Exhausted> {
+        let name = self.catalog.name(solvable.name)?;
+        self.catalog.declare(name, solvable.version)
+    }
+
+    fn add_requirement(
+        &mut self,
+        solvable: SolvableText<'_>,
+        union: &[Spec<'_>],
+        condition: &[ConditionStep<'_>],
+    ) -> Result<bool, Exhausted> {
+        let Some(solvable) = self.catalog.find_solvable(solvable.name, solvable.version) else {
+            return Ok(false);
+        };
+        let Some(requirement) = self.requirement(union, condition)? else {
+            return Ok(false);
+        };
+        self.catalog.add_requirement(solvable, requirement)?;
+        Ok(true)
+    }
+
+    fn add_constraint(
+        &mut self,
+        solvable: SolvableText<'_>,
+        spec: Spec<'_>,
+    ) -> Result<bool, Exhausted> {
+        let Some(solvable) = self.catalog.find_solvable(solvable.name, solvable.version) else {
+            return Ok(false);
+        };
+        let version_set = self.version_set(spec)?;
+        self.catalog.add_constraint(solvable, version_set)?;
+        Ok(true)
+    }
+
+    fn set_unknown(&mut self, solvable: SolvableText<'_>, reason: &str) -> Result<bool, Exhausted> {
+        let Some(solvable) = self.catalog.find_solvable(solvable.name, solvable.version) else {
+            return Ok(false);
+        };
+        let reason = self.catalog.string(reason)?;
+        Ok(self.catalog.set_unknown(solvable, reason))
+    }
+
+    fn favor(&mut self, solvable: SolvableText<'_>) -> bool {
+        match self.catalog.find_solvable(solvable.name, solvable.version) {
+            None => false,
+            Some(solvable) => self.catalog.favor(solvable),
+        }
+    }
+
+    fn lock(&mut self, solvable: SolvableText<'_>) -> bool {
+        match self.catalog.find_solvable(solvable.name, solvable.version) {
+            None => false,
+            Some(solvable) => self.catalog.lock(solvable),
+        }
+    }
+
+    fn exclude(&mut self, solvable: SolvableText<'_>, reason: &str) -> Result<bool, Exhausted> {
+        let Some(solvable) = self.catalog.find_solvable(solvable.name, solvable.version) else {
+            return Ok(false);
+        };
+        let reason = self.catalog.string(reason)?;
+        self.catalog.exclude(solvable, reason)
+    }
+
+    fn require(
+        &mut self,
+        union: &[Spec<'_>],
+        condition: &[ConditionStep<'_>],
+    ) -> Result<bool, Exhausted> {
+        let Some(requirement) = self.requirement(union, condition)? else {
+            return Ok(false);
+        };
+        self.requirements.push(requirement)?;
+        Ok(true)
+    }
+
+    fn constrain(&mut self, spec: Spec<'_>) -> Result<bool, Exhausted> {
+        let version_set = self.version_set(spec)?;
+        self.constraints.push(version_set)?;
+        Ok(true)
+    }
+
+    fn version_set(&mut self, spec: Spec<'_>) -> Result<VersionSetId, Exhausted> {
+        let name = self.catalog.name(spec.name)?;
+        self.catalog.version_set(name, spec.versions)
+    }
+
+    /// The requirement of a union and a condition in postfix order; none where that is no condition.
+    fn requirement(
+        &mut self,
+        union: &[Spec<'_>],
+        condition: &[ConditionStep<'_>],
+    ) -> Result<Option<ConditionalRequirement>, Exhausted> {
+        let requirement = self.union(union)?;
+        if condition.is_empty() {
+            return Ok(Some(ConditionalRequirement {
+                condition: None,
+                requirement,
+            }));
+        }
+        let Some(condition) = self.condition(condition)? else {
+            return Ok(None);
+        };
+        Ok(Some(ConditionalRequirement {
+            condition: Some(condition),
+            requirement,
+        }))
+    }
+
+    /// One version set is no union.
+    fn union(&mut self, union: &[Spec<'_>]) -> Result<Requirement, Exhausted> {
+        if let [spec] = union {
+            return Ok(Requirement::Single(self.version_set(*spec)?));
+        }
+        let mut members = Vec::new(self.alloc);
+        for spec in union {
+            members.push(self.version_set(*spec)?)?;
+        }
+        Ok(Requirement::Union(self.catalog.union(members)?))
+    }
+
+    fn condition(&mut self, steps: &[ConditionStep<'_>]) -> Result<Option<ConditionId>, Exhausted> {
+        let mut aside = Vec::new(self.alloc);
+        for step in steps {
+            let Some(condition) = self.condition_step(&mut aside, *step)? else {
+                return Ok(None);
+            };
+            aside.push(condition)?;
+        }
+        Ok(aside.pop())
+    }
+
+    fn condition_step(
+        &mut self,
+        aside: &mut Vec<ConditionId>,
+        step: ConditionStep<'_>,
+    ) -> Result<Option<ConditionId>, Exhausted> {
+        let operator = match step {
+            ConditionStep::Version(spec) => {
+                let version_set = self.version_set(spec)?;
+                return Ok(Some(self.catalog.condition_on(version_set)?));
+            }
+            ConditionStep::And => LogicalOperator::And,
+            ConditionStep::Or => LogicalOperator::Or,
+        };
+        let Some(right) = aside.pop() else {
+            return Ok(None);
+        };
+        let Some(left) = aside.pop() else {
+            return Ok(None);
+        };
+        Ok(Some(self.catalog.condition_of(operator, left, right)?))
+    }
+}
+
+#[cfg(test)]
+mod tests;

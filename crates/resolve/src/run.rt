@@ -1,0 +1,196 @@
+//! From an input to an answer, with the streams of a program.
+
+ghost use Rattle.std.specs.Prelude.{◌≡◌, ◌≢◌, ◌<◌, ◌≤◌, IfErr, OnOk};
+ghost use Rattle.std.specs.Io.KnownBytes.{Appends};
+ghost use Rattle.resolver_clause_store.specs.declared.data.Exhausted.TheVariants.{Memory};
+ghost use Rattle.resolve.specs.declared.run.Fault.TheVariants.{Exhausted as RanOut};
+ghost use Rattle.resolve.specs.Faults.{exhausted_text, fault_of, status_of};
+
+use crate::catalog::Catalog;
+use crate::ids::SolvableId;
+use crate::request::{InputError, read_request};
+use resolver_clause_store::Exhausted;
+use resolvo::{Problem, Solver, UnsolvableOrCancelled};
+use std::alloc::{AllocError, AllocFailed, Global};
+use std::io;
+use std::io::{Read, Write};
+
+/// Why nothing was answered.
+#[derive(Clone, Copy, Debug, PartialEq, Eq)]
+pub(crate) enum Fault {
+    BadStatement(usize),
+    UnreadableInput,
+    UnwritableOutput,
+    Exhausted(Exhausted),
+}
+
+impl From<InputError> for Fault {
+    ghost from_gives = { λ e fault. fault ≡ fault_of e };
+
+    fn from(e: InputError) -> Fault {
+        match e {
+            InputError::BadStatement(line) => Fault::BadStatement(line),
+            InputError::Exhausted(e) => Fault::Exhausted(e),
+        }
+    }
+}
+
+impl From<AllocError> for Fault {
+    ghost from_gives = { λ _ fault. fault ≡ RanOut Memory };
+
+    fn from(_e: AllocError) -> Fault {
+        Fault::Exhausted(Exhausted::Memory)
+    }
+}
+
+impl<T: Drop> From<AllocFailed<T>> for Fault {
+    ghost from_gives = { λ _ fault. fault ≡ RanOut Memory };
+
+    fn from(_e: AllocFailed<T>) -> Fault {
+        Fault::Exhausted(Exhausted::Memory)
+    }
+}
+
+/// What a request came to.
+#[derive(Drop)]
+enum Outcome {
+    /// The text of the answer.
+    Answer(String),
+
+    /// There is no answer.
+    Conflict,
+}
+
+/// What is said of memory or ids that ran out, without a line end.
+pub fn fault_text(e: Exhausted) -> &'static str
+    ensures { result.now ≡ exhausted_text e }
+{
+    match e {
+        Exhausted::Memory => "resolve: out of memory",
+        Exhausted::Ids => "resolve: out of ids",
+    }
+}
+
+/// Reads statements to the input's end, solves the problem that they state, and writes the answer, one `NAME=VERSION`
+/// to a line, by the bytes of the names and then by version. Gives the status with which the program ends.
+///
+/// | Outcome | Output | Errors | Status |
+/// |---|---|---|---|
+/// | an answer | the answer | nothing | 0 |
+/// | a conflict | nothing | nothing | 1 |
+/// | a bad statement | nothing | `resolve: line N: bad statement` | 2 |
+/// | the input cannot be read | nothing | `resolve: cannot read input` | 3 |
+/// | the output cannot be written | open | `resolve: cannot write output` | 3 |
+/// | memory is refused | nothing | `resolve: out of memory` | 4 |
+/// | ids stand at their limit | nothing | `resolve: out of ids` | 4 |
+///
+/// An answer is made whole before the first byte is written. A failed write of an error changes no status.
+pub fn run<R: Read + Drop, O: Write, E: Write>(
+    alloc: Global,
+    input: R,
+    output: &mut O,
+    errors: &mut E,
+) -> u8
+    ensures status { result ≤ 4 }
+    ensures output_kept { result ≢ 0 → result ≢ 3 → output.new ≡ output.old }
+    ensures errors_kept { result < 2 → errors.new ≡ errors.old }
+{
+    match answer(alloc, input) {
+        Ok(Outcome::Conflict) => 1,
+        Ok(Outcome::Answer(text)) => match write_answer(output, &text) {
+            Ok(()) => 0,
+            Err(fault) => report(errors, fault),
+        },
+        Err(fault) => report(errors, fault),
+    }
+}
+
+/// Writes what went wrong, and gives its status.
+fn report<E: Write>(errors: &mut E, fault: Fault) -> u8
+    ensures status { result ≡ status_of fault }
+    ensures least { 2 ≤ result }
+    ensures most { result ≤ 4 }
+{
+    match fault {
+        Fault::BadStatement(line) => {
+            let _ = writeln!(errors, "resolve: line {line}: bad statement");
+            2
+        }
+        Fault::UnreadableInput => {
+            let _ = writeln!(errors, "resolve: cannot read input");
+            3
+        }
+        Fault::UnwritableOutput => {
+            let _ = writeln!(errors, "resolve: cannot write output");
+            3
+        }
+        Fault::Exhausted(e) => {
+            let text = fault_text(e);
+            let _ = writeln!(errors, "{text}");
+            4
+        }
+    }
+}
+
+fn write_answer<O: Write>(output: &mut O, text: &str) -> Result<(), Fault>
+    ensures fault { IfErr result (λ fault. fault ≡ Fault.UnwritableOutput) }
+    ensures written { OnOk result (Appends (O.contents output.old) (O.contents output.new) text.now) }
+{
+    match output.write_all(text.as_bytes()) {
+        Ok(()) => match output.flush() {
+            Ok(()) => Ok(()),
+            Err(_) => Err(Fault::UnwritableOutput),
+        },
+        Err(_) => Err(Fault::UnwritableOutput),
+    }
+}
+
+fn read_input<R: Read + Drop>(alloc: Global, mut input: R) -> Result<Vec<u8>, Fault> {
+    let mut bytes = Vec::new(alloc);
+    match input.read_to_end(&mut bytes) {
+        Ok(_) => Ok(bytes),
+        Err(e) => {
+            if e.kind() == io::ErrorKind::OutOfMemory {
+                return Err(Fault::Exhausted(Exhausted::Memory));
+            }
+            Err(Fault::UnreadableInput)
+        }
+    }
+}
+
+fn answer<R: Read + Drop>(alloc: Global, input: R) -> Result<Outcome, Fault> {
+    let bytes = read_input(alloc, input)?;
+    let request = read_request(alloc, &bytes)?;
+    let problem = Problem::new()
+        .requirements(request.requirements)
+        .constraints(request.constraints);
+    let mut solver = Solver::new(alloc, request.catalog);
+    match solver.solve(problem) {
+        Ok(chosen) => Ok(Outcome::Answer(answer_text(alloc, solver.provider(), &chosen)?)),
+        Err(UnsolvableOrCancelled::Unsolvable(_)) => Ok(Outcome::Conflict),
+        Err(UnsolvableOrCancelled::Exhausted(e)) => Err(Fault::Exhausted(e)),
+        Err(UnsolvableOrCancelled::Cancelled(value)) => match value {},
+    }
+}
+
+/// The chosen solvables, by the bytes of the names and then by version.
+fn answer_text(alloc: Global, catalog: &Catalog, chosen: &[SolvableId]) -> Result<String, Fault> {
+    let mut labels = Vec::new(alloc);
+    for solvable in chosen {
+        labels.push(catalog.label(*solvable))?;
+    }
+    labels.sort_unstable();
+    let mut text = String::new(alloc);
+    for (name, version) in &labels {
+        write_label(&mut text, name, *version)?;
+    }
+    Ok(text)
+}
+
+fn write_label(text: &mut String, name: &str, version: u32) -> Result<(), AllocError> {
+    use std::fmt::Write;
+    writeln!(text, "{name}={version}")
+}
+
+#[cfg(test)]
+mod tests;

@@ -1,0 +1,355 @@
+//! Whole inputs, and what comes of them.
+
+use super::{fault_text, run};
+use resolver_clause_store::Exhausted;
+use std::alloc::Global;
+use std::io;
+use std::io::{Read, Write};
+use std::process::Abort;
+use std::test::Fail;
+
+/// Asserts what the program writes to both streams, and its status.
+fn expect_run(rt: &impl Abort, alloc: Global, input: &str, output: &str, errors: &str, status: u8) {
+    let mut written = Vec::new(alloc);
+    let mut complaints = Vec::new(alloc);
+    let ended = run(alloc, input.as_bytes(), &mut written, &mut complaints);
+    assert_eq!(rt; written.as_slice(), output.as_bytes());
+    assert_eq!(rt; complaints.as_slice(), errors.as_bytes());
+    assert_eq!(rt; ended, status);
+}
+
+fn expect_answer(rt: &impl Abort, alloc: Global, input: &str, output: &str) {
+    expect_run(rt, alloc, input, output, "", 0);
+}
+
+fn expect_conflict(rt: &impl Abort, alloc: Global, input: &str) {
+    expect_run(rt, alloc, input, "", "", 1);
+}
+
+#[test]
+fn an_empty_input_asks_for_nothing(rt: HostRuntime) {
+    expect_answer(&rt, rt.alloc(), "", "");
+}
+
+#[test]
+fn two_packages_and_one_requirement(rt: HostRuntime) {
+    let input =
+        "package asdf=1\npackage efgh=4\npackage dummy=6\nrequires asdf=1 efgh\nrequire asdf\n";
+    expect_answer(&rt, rt.alloc(), input, "asdf=1\nefgh=4\n");
+}
+
+#[test]
+fn a_missing_nested_requirement_falls_back_to_the_older_version(rt: HostRuntime) {
+    let input =
+        "package asdf=4\npackage asdf=3\npackage b=1\nrequires asdf=4 b\nrequires b=1 idontexist\nrequire asdf\n";
+    expect_answer(&rt, rt.alloc(), input, "asdf=3\n");
+}
+
+#[test]
+fn versions_whose_nested_requirements_clash_are_passed_over(rt: HostRuntime) {
+    let input =
+        "package af=3\npackage af=2\npackage af=1\npackage api=3\npackage api=2\npackage api=1\npackage otlp=1\npackage grpc=1\nrequires af=3 api@2..4\nrequires af=3 otlp\nrequires af=2 api@2..4\nrequires af=2 otlp\nrequires api=3 sdk\nrequires otlp=1 grpc\nrequires grpc=1 api@1\nrequire af\n";
+    expect_answer(&rt, rt.alloc(), input, "af=1\n");
+}
+
+#[test]
+fn favored_versions_are_tried_first(rt: HostRuntime) {
+    let packages =
+        "package a=1\npackage a=2\npackage b=1\npackage b=2\npackage c=1\npackage c=2\nfavor a=1\nfavor b=1\nfavor c=1\nrequire a\nrequire b@2\n";
+    expect_answer(&rt, rt.alloc(), packages, "a=1\nb=2\n");
+}
+
+#[test]
+fn favored_versions_give_way_to_what_is_shared(rt: HostRuntime) {
+    let input =
+        "package a=1\npackage a=2\npackage b=1\npackage b=2\npackage c=1\npackage c=2\nrequires a=1 c@1\nrequires b=1 c@1\nrequires b=2 c@2\nfavor a=1\nfavor b=1\nfavor c=1\nrequire a\nrequire b@2\n";
+    expect_answer(&rt, rt.alloc(), input, "a=2\nb=2\nc=2\n");
+}
+
+#[test]
+fn a_union_a_condition_that_does_not_hold_and_an_exclusion(rt: HostRuntime) {
+    let input =
+        "package p=1\npackage c=1\npackage c=2\npackage d=1\nrequires p=1 c | d\nrequires p=1 x if c@2\nexclude c=1 old\nrequire p\n";
+    expect_answer(&rt, rt.alloc(), input, "d=1\np=1\n");
+}
+
+#[test]
+fn two_unions_and_a_constraint(rt: HostRuntime) {
+    let input =
+        "package a=1\npackage b=1\npackage c=1\npackage d=1\npackage e=1\npackage f=1\nrequires c=1 a\nrequires d=1 b\nrequires e=1 a | b\nrequires f=1 b\nconstrains f=1 a@2\nrequire c | d\nrequire e\nrequire f\n";
+    expect_answer(&rt, rt.alloc(), input, "b=1\nd=1\ne=1\nf=1\n");
+}
+
+#[test]
+fn a_constraint_on_its_own_package(rt: HostRuntime) {
+    expect_conflict(
+        &rt,
+        rt.alloc(),
+        "package a=1\nconstrains a=1 a@2..3\nrequire a@1\n",
+    );
+}
+
+#[test]
+fn a_shared_requirement_takes_the_best_version_that_can_be(rt: HostRuntime) {
+    let input =
+        "package x=1\npackage y=1\npackage z=1\npackage z=2\npackage z=3\npackage z=4\npackage z=5\nrequires x=1 z\nrequires y=1 z\nrequires z=5 missing\nrequire x\nrequire y\n";
+    expect_answer(&rt, rt.alloc(), input, "x=1\ny=1\nz=4\n");
+}
+
+#[test]
+fn two_requirers_that_need_different_versions(rt: HostRuntime) {
+    let input =
+        "package p=1\npackage p=2\npackage q=1\npackage q=2\npackage r=1\npackage r=2\nrequires p=1 r@1\nrequires p=2 r@1\nrequires q=1 r@2\nrequires q=2 r@2\nrequire p\nrequire q\n";
+    expect_conflict(&rt, rt.alloc(), input);
+}
+
+#[test]
+fn locked_versions_are_the_only_ones(rt: HostRuntime) {
+    let input = "package asdf=4\npackage asdf=3\nlock asdf=3\nrequire asdf\n";
+    expect_answer(&rt, rt.alloc(), input, "asdf=3\n");
+    let input =
+        "package asdf=4\npackage asdf=3\npackage fgh=1\nrequires asdf=3 fgh\nlock fgh=1\nrequire asdf\n";
+    expect_answer(&rt, rt.alloc(), input, "asdf=4\n");
+}
+
+#[test]
+fn a_version_whose_dependencies_are_unknown_is_passed_over(rt: HostRuntime) {
+    let input = "package api=3\npackage api=2\nunknown api=3 no data\nrequire api\n";
+    expect_answer(&rt, rt.alloc(), input, "api=2\n");
+}
+
+#[test]
+fn packages_may_need_each_other(rt: HostRuntime) {
+    let input =
+        "package a=2\npackage b=5\nrequires a=2 b@0..10\nrequires b=5 a@2..4\nrequire a@0..100\n";
+    expect_answer(&rt, rt.alloc(), input, "a=2\nb=5\n");
+    expect_answer(
+        &rt,
+        rt.alloc(),
+        "package a=1\nrequires a=1 a\nrequire a\n",
+        "a=1\n",
+    );
+}
+
+#[test]
+fn no_candidate_is_left(rt: HostRuntime) {
+    expect_conflict(&rt, rt.alloc(), "require x\n");
+    expect_conflict(
+        &rt,
+        rt.alloc(),
+        "package a=1\nexclude a=1 it is bad\nrequire a\n",
+    );
+    expect_conflict(
+        &rt,
+        rt.alloc(),
+        "package a=1\npackage a=2\nrequires a=1 x\nrequires a=2 x\nrequire a\n",
+    );
+}
+
+#[test]
+fn a_condition_that_holds_asks_for_its_requirement(rt: HostRuntime) {
+    let packages =
+        "package p=1\npackage c=1\npackage e=1\npackage x=1\nrequires p=1 x if c or e\nrequire p\n";
+    expect_answer(&rt, rt.alloc(), packages, "p=1\n");
+    let with_c =
+        "package p=1\npackage c=1\npackage e=1\npackage x=1\nrequires p=1 x if c or e\nrequire p\nrequire c\n";
+    expect_answer(&rt, rt.alloc(), with_c, "c=1\np=1\nx=1\n");
+    let both =
+        "package p=1\npackage c=1\npackage e=1\npackage x=1\nrequires p=1 x if c and ( e or c )\nrequire p\nrequire c\n";
+    expect_answer(&rt, rt.alloc(), both, "c=1\np=1\nx=1\n");
+}
+
+#[test]
+fn a_root_requirement_may_have_a_condition(rt: HostRuntime) {
+    let input = "package a=1\npackage b=1\nrequire b if a\nrequire a\n";
+    expect_answer(&rt, rt.alloc(), input, "a=1\nb=1\n");
+    expect_answer(
+        &rt,
+        rt.alloc(),
+        "package a=1\npackage b=1\nrequire b if a\n",
+        "",
+    );
+}
+
+#[test]
+fn a_root_constraint_forbids_the_other_versions(rt: HostRuntime) {
+    let input = "package a=1\npackage a=2\nconstrain a@1\nrequire a\n";
+    expect_answer(&rt, rt.alloc(), input, "a=1\n");
+}
+
+#[test]
+fn the_greatest_version(rt: HostRuntime) {
+    expect_answer(
+        &rt,
+        rt.alloc(),
+        "package a=4294967295\nrequire a@4294967295\n",
+        "a=4294967295\n",
+    );
+}
+
+#[test]
+fn answers_stand_by_name_and_then_by_version(rt: HostRuntime) {
+    let input = "package b=10\npackage a-b=2\npackage a=3\nrequire b\nrequire a\nrequire a-b\n";
+    expect_answer(&rt, rt.alloc(), input, "a=3\na-b=2\nb=10\n");
+}
+
+#[test]
+fn the_first_bad_statement_is_reported_with_its_line(rt: HostRuntime) {
+    let first = "resolve: line 1: bad statement\n";
+    expect_run(&rt, rt.alloc(), "package a=4294967296", "", first, 2);
+    expect_run(&rt, rt.alloc(), "package a=01", "", first, 2);
+    expect_run(&rt, rt.alloc(), "package a", "", first, 2);
+    expect_run(&rt, rt.alloc(), "requires a=1 b", "", first, 2);
+    expect_run(&rt, rt.alloc(), "require a |", "", first, 2);
+    let fourth = "resolve: line 4: bad statement\n";
+    expect_run(
+        &rt,
+        rt.alloc(),
+        "# note\n\npackage a=1\npackage a=1\n",
+        "",
+        fourth,
+        2,
+    );
+}
+
+#[test]
+fn a_statement_may_not_stand_twice(rt: HostRuntime) {
+    let second = "resolve: line 3: bad statement\n";
+    expect_run(
+        &rt,
+        rt.alloc(),
+        "package a=1\nunknown a=1 x\nunknown a=1 x\n",
+        "",
+        second,
+        2,
+    );
+    expect_run(
+        &rt,
+        rt.alloc(),
+        "package a=1\nexclude a=1 x\nexclude a=1 y\n",
+        "",
+        second,
+        2,
+    );
+    expect_run(
+        &rt,
+        rt.alloc(),
+        "package a=1\nfavor a=1\nfavor a=1\n",
+        "",
+        second,
+        2,
+    );
+    expect_run(
+        &rt,
+        rt.alloc(),
+        "package a=1\nlock a=1\nlock a=1\n",
+        "",
+        second,
+        2,
+    );
+    let fourth = "resolve: line 4: bad statement\n";
+    expect_run(
+        &rt,
+        rt.alloc(),
+        "package a=1\npackage a=2\nlock a=1\nlock a=2\n",
+        "",
+        fourth,
+        2,
+    );
+}
+
+#[test]
+fn what_was_not_declared_may_not_be_spoken_of(rt: HostRuntime) {
+    let second = "resolve: line 2: bad statement\n";
+    expect_run(
+        &rt,
+        rt.alloc(),
+        "package a=1\nconstrains a=2 b\n",
+        "",
+        second,
+        2,
+    );
+    expect_run(
+        &rt,
+        rt.alloc(),
+        "package a=1\nunknown b=1 x\n",
+        "",
+        second,
+        2,
+    );
+    expect_run(&rt, rt.alloc(), "package a=1\nfavor a=2\n", "", second, 2);
+    expect_run(&rt, rt.alloc(), "package a=1\nlock b=1\n", "", second, 2);
+    expect_run(
+        &rt,
+        rt.alloc(),
+        "package a=1\nexclude a=2 x\n",
+        "",
+        second,
+        2,
+    );
+    expect_run(&rt, rt.alloc(), "require a\nsoft a=1\n", "", second, 2);
+}
+
+/// Fails at the first read.
+#[derive(Drop)]
+struct Unreadable;
+
+impl Read for Unreadable {
+    fn read(&mut self, _buf: &mut [u8]) -> io::Result<usize> {
+        Err(io::Error::from(io::ErrorKind::BrokenPipe))
+    }
+}
+
+/// Fails at each write.
+#[derive(Drop)]
+struct Unwritable;
+
+impl Write for Unwritable {
+    fn write(&mut self, _buf: &[u8]) -> io::Result<usize> {
+        Err(io::Error::from(io::ErrorKind::BrokenPipe))
+    }
+
+    fn flush(&mut self) -> io::Result<()> {
+        Ok(())
+    }
+}
+
+#[test]
+fn an_input_that_cannot_be_read(rt: HostRuntime) {
+    let mut written: Vec<u8> = Vec::new(rt.alloc());
+    let mut complaints: Vec<u8> = Vec::new(rt.alloc());
+    let status = run(rt.alloc(), Unreadable, &mut written, &mut complaints);
+    assert_eq!(rt; written.as_slice(), b"".as_slice());
+    assert_eq!(rt;
+        complaints.as_slice(),
+        b"resolve: cannot read input\n".as_slice()
+    );
+    assert_eq!(rt; status, 3);
+}
+
+#[test]
+fn an_output_that_cannot_be_written(rt: HostRuntime) {
+    let mut complaints: Vec<u8> = Vec::new(rt.alloc());
+    let input = b"package a=1\nrequire a\n".as_slice();
+    let status = run(rt.alloc(), input, &mut Unwritable, &mut complaints);
+    assert_eq!(rt;
+        complaints.as_slice(),
+        b"resolve: cannot write output\n".as_slice()
+    );
+    assert_eq!(rt; status, 3);
+}
+
+#[test]
+fn an_error_that_cannot_be_written_changes_no_status(rt: HostRuntime) {
+    let mut written: Vec<u8> = Vec::new(rt.alloc());
+    let input = b"nonsense\n".as_slice();
+    let status = run(rt.alloc(), input, &mut written, &mut Unwritable);
+    assert_eq!(rt; written.as_slice(), b"".as_slice());
+    assert_eq!(rt; status, 2);
+}
+
+#[test]
+fn what_ran_out_has_a_text(rt: HostRuntime) {
+    assert_eq!(rt; fault_text(Exhausted::Memory), "resolve: out of memory");
+    assert_eq!(rt; fault_text(Exhausted::Ids), "resolve: out of ids");
+}

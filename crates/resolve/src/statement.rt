@@ -1,0 +1,241 @@
+//! Statements, one on each line.
+
+ghost use Rattle.std.specs.Prelude.{◌≡◌, ◌==◌, ◌↔◌, None, IfOk, IfErr, IfSome, not};
+ghost use Rattle.std.specs.List.{find};
+ghost use Rattle.resolver_clause_store.specs.declared.data.Exhausted.TheVariants.{Memory};
+ghost use Rattle.resolve.specs.declared.statement.LineError.TheVariants.{Exhausted as RanOut};
+ghost use Rattle.resolve.specs.Statements.{IsAnyCondition, IsRefusal, IsRequirement, IsWellFormed, StatesNothing};
+ghost use Rattle.resolve.specs.Words.{IsName, IsSpec};
+
+use crate::condition::{ConditionStep, parse_condition};
+use crate::words::{SolvableText, Spec, Words, parse_solvable, parse_spec};
+use resolver_clause_store::Exhausted;
+use std::alloc::{AllocError, AllocFailed, Global};
+use std::str;
+
+/// What a line states. A condition stands in postfix order, and is empty where there is none.
+#[derive(Debug, PartialEq, Eq, Drop)]
+pub enum Statement<'a> {
+    /// There is such a solvable, and it is a candidate.
+    Package(SolvableText<'a>),
+
+    /// The solvable needs one of the union, if the condition holds.
+    Requires {
+        solvable: SolvableText<'a>,
+        union: Vec<Spec<'a>>,
+        condition: Vec<ConditionStep<'a>>,
+    },
+
+    /// The solvable allows a package these versions alone.
+    Constrains {
+        solvable: SolvableText<'a>,
+        spec: Spec<'a>,
+    },
+
+    /// Nobody knows what the solvable needs.
+    Unknown {
+        solvable: SolvableText<'a>,
+        reason: &'a str,
+    },
+
+    /// The solvable is the favored one of its package.
+    Favor(SolvableText<'a>),
+
+    /// The solvable is the locked one of its package.
+    Lock(SolvableText<'a>),
+
+    /// The solvable is excluded.
+    Exclude {
+        solvable: SolvableText<'a>,
+        reason: &'a str,
+    },
+
+    /// The problem needs one of the union, if the condition holds.
+    Require {
+        union: Vec<Spec<'a>>,
+        condition: Vec<ConditionStep<'a>>,
+    },
+
+    /// The problem allows a package these versions alone.
+    Constrain(Spec<'a>),
+
+    /// The problem takes the solvable where it can.
+    Soft(SolvableText<'a>),
+}
+
+/// Why a line gives no statement.
+#[derive(Clone, Copy, Debug, PartialEq, Eq)]
+pub enum LineError {
+    /// The line fits no form of statement.
+    Bad,
+
+    /// Memory was refused.
+    Exhausted(Exhausted),
+}
+
+impl From<AllocError> for LineError {
+    ghost from_gives = { λ _ e. e ≡ RanOut Memory };
+
+    fn from(_e: AllocError) -> LineError {
+        LineError::Exhausted(Exhausted::Memory)
+    }
+}
+
+impl<T: Drop> From<AllocFailed<T>> for LineError {
+    ghost from_gives = { λ _ e. e ≡ RanOut Memory };
+
+    fn from(e: AllocFailed<T>) -> LineError {
+        LineError::from(AllocError::from(e))
+    }
+}
+
+/// Reads a line without its end. A line that is empty, has only spaces, or begins with `#` after any spaces states
+/// nothing.
+pub fn parse_line<'a>(alloc: Global, line: &'a [u8]) -> Result<Option<Statement<'a>>, LineError>
+    ensures skipped { (result ≡ Ok None) ↔ StatesNothing line.now }
+    ensures statement { IfOk result (λ statement. IfSome statement IsWellFormed) }
+    ensures refused { IfErr result IsRefusal }
+{
+    match first_byte(line) {
+        None | Some(b'#') => Ok(None),
+        Some(_) => Ok(Some(parse_statement(alloc, Words::new(line))?)),
+    }
+}
+
+/// The first byte other than a space.
+fn first_byte(line: &[u8]) -> Option<u8>
+    ensures { result ≡ find (λ byte. not (byte == 32)) line.now }
+{
+    line.iter().copied().find(|byte| *byte != b' ')
+}
+
+fn parse_statement<'a>(alloc: Global, mut words: Words<'a>) -> Result<Statement<'a>, LineError>
+    ensures statement { IfOk result IsWellFormed }
+    ensures refused { IfErr result IsRefusal }
+{
+    match words.next() {
+        Some(b"require") => parse_require(alloc, words),
+        Some(b"requires") => parse_requires(alloc, words),
+        Some(keyword) => parse_short_statement(keyword, words).ok_or(LineError::Bad),
+        None => Err(LineError::Bad),
+    }
+}
+
+fn parse_require<'a>(alloc: Global, words: Words<'a>) -> Result<Statement<'a>, LineError>
+    ensures statement { IfOk result IsWellFormed }
+    ensures refused { IfErr result IsRefusal }
+{
+    let (union, condition) = parse_requirement(alloc, words)?;
+    Ok(Statement::Require { union, condition })
+}
+
+fn parse_requires<'a>(alloc: Global, mut words: Words<'a>) -> Result<Statement<'a>, LineError>
+    ensures statement { IfOk result IsWellFormed }
+    ensures refused { IfErr result IsRefusal }
+{
+    let solvable = next_solvable(&mut words).ok_or(LineError::Bad)?;
+    let (union, condition) = parse_requirement(alloc, words)?;
+    Ok(Statement::Requires {
+        solvable,
+        union,
+        condition,
+    })
+}
+
+/// Reads what follows the first word of a statement that holds no list.
+fn parse_short_statement<'a>(keyword: &[u8], mut words: Words<'a>) -> Option<Statement<'a>>
+    ensures { IfSome result IsWellFormed }
+{
+    match keyword {
+        b"package" => Some(Statement::Package(last_solvable(words)?)),
+        b"favor" => Some(Statement::Favor(last_solvable(words)?)),
+        b"lock" => Some(Statement::Lock(last_solvable(words)?)),
+        b"soft" => Some(Statement::Soft(last_solvable(words)?)),
+        b"constrain" => Some(Statement::Constrain(last_spec(words)?)),
+        b"constrains" => {
+            let solvable = next_solvable(&mut words)?;
+            let spec = last_spec(words)?;
+            Some(Statement::Constrains { solvable, spec })
+        }
+        b"unknown" => {
+            let solvable = next_solvable(&mut words)?;
+            let reason = parse_reason(words.rest())?;
+            Some(Statement::Unknown { solvable, reason })
+        }
+        b"exclude" => {
+            let solvable = next_solvable(&mut words)?;
+            let reason = parse_reason(words.rest())?;
+            Some(Statement::Exclude { solvable, reason })
+        }
+        _ => None,
+    }
+}
+
+fn next_solvable<'a>(words: &mut Words<'a>) -> Option<SolvableText<'a>>
+    ensures { IfSome result (λ solvable. IsName solvable.name.now) }
+{
+    parse_solvable(words.next()?)
+}
+
+/// Reads the next word as a solvable, if no other follows.
+fn last_solvable(mut words: Words<'_>) -> Option<SolvableText<'_>>
+    ensures { IfSome result (λ solvable. IsName solvable.name.now) }
+{
+    let solvable = next_solvable(&mut words)?;
+    words.next().is_none().then_some(solvable)
+}
+
+/// Reads the next word as a spec, if no other follows.
+fn last_spec(mut words: Words<'_>) -> Option<Spec<'_>>
+    ensures { IfSome result IsSpec }
+{
+    let spec = parse_spec(words.next()?)?;
+    words.next().is_none().then_some(spec)
+}
+
+/// Reads a reason: text that is not empty, without the spaces around it.
+fn parse_reason(bytes: &[u8]) -> Option<&str> {
+    let reason = str::from_utf8(bytes).ok()?.trim_matches(' ');
+    if reason.is_empty() {
+        return None;
+    }
+    Some(reason)
+}
+
+/// Reads the rest of a line as a union and any condition.
+fn parse_requirement<'a>(
+    alloc: Global,
+    mut words: Words<'a>,
+) -> Result<(Vec<Spec<'a>>, Vec<ConditionStep<'a>>), LineError>
+    ensures requirement { IfOk result (λ parts. IsRequirement parts.0.items parts.1.items) }
+    ensures refused { IfErr result IsRefusal }
+{
+    let mut union = Vec::new(alloc);
+    loop {
+        let spec = words.next().and_then(|word| parse_spec(word));
+        union.push(spec.ok_or(LineError::Bad)?)?;
+        match words.next() {
+            Some(b"|") => {}
+            word => return Ok((union, parse_if(alloc, word, words)?)),
+        }
+    }
+}
+
+/// Reads `if` and the condition behind it, unless the line ends.
+fn parse_if<'a>(
+    alloc: Global,
+    word: Option<&[u8]>,
+    words: Words<'a>,
+) -> Result<Vec<ConditionStep<'a>>, LineError>
+    ensures condition { IfOk result (λ steps. IsAnyCondition steps.items) }
+    ensures refused { IfErr result IsRefusal }
+{
+    match word {
+        Some(b"if") => parse_condition(alloc, words),
+        Some(_) => Err(LineError::Bad),
+        None => Ok(Vec::new(alloc)),
+    }
+}
+
+#[cfg(test)]
+mod tests;
