@@ -14,3 +14,5 @@ pub mod Interruptions
 pub mod Filtering
 pub mod TestProvider
 pub mod Disjuncts
+pub mod Variables
+pub mod Formula

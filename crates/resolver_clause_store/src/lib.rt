@@ -2,24 +2,32 @@
 #![tactic(auto)]
 
 mod cache;
+mod clauses;
 mod conditions;
 mod data;
 mod hints;
 mod ids;
+mod index_sets;
+mod literals;
 mod provider;
 mod questions;
 mod requirements;
 mod sets;
 #[cfg(test)]
 mod test_provider;
+mod variables;
 
 pub use cache::Cache;
+pub use clauses::{ClauseKind, Origin};
 pub use conditions::{a_condition_holds_where_a_disjunct_does, convert_conditions_to_dnf};
 pub use data::{
     By, Candidates, Condition, ConditionalRequirement, Dependencies, Exhausted,
     HintDependenciesAvailable, Interrupted, KnownDependencies, LogicalOperator, Requirement,
 };
 pub use ids::{ConditionId, StringId, VersionSetId, VersionSetUnionId};
+pub use index_sets::{append, is_among, place_of};
+pub use literals::{Literal, Variable};
 pub use provider::{DependencyProvider, Interner};
 pub use requirements::requirement_candidates;
 pub use sets::{has, meets};
+pub use variables::Variables;

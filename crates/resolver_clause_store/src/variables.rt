@@ -1,0 +1,92 @@
+//! The variables, and what they stand for.
+
+ghost use Rattle.std.specs.Prelude.{Contains, ◌≡◌, ◌<◌, ◌≤◌, ◌^◌, [], Some, IfErr, IfOk, OnOk, OnErr, length, slice_get};
+ghost use Rattle.resolver_clause_store.specs.Laws.{IsIdentity};
+
+use crate::clauses::Origin;
+use crate::data::Exhausted;
+use crate::index_sets::{append, place_of};
+use crate::literals::Variable;
+use indexmap::IndexSet;
+use std::alloc::Global;
+use std::hash::Hash;
+
+/// What each variable stands for, by its number. No two stand for the same.
+#[derive(Drop)]
+pub struct Variables<N: Copy + Eq + Hash + Drop, S: Copy + Eq + Hash + Drop> {
+    origins: IndexSet<Origin<N, S>>,
+    limit: usize,
+}
+
+impl<N: Copy + Eq + Hash + Drop, S: Copy + Eq + Hash + Drop> Variables<N, S> {
+    ghost use Rattle.resolver_clause_store.specs.Variables.{AreDistinct, IsBounded, Keeps, limit_in, origins_in};
+
+    /// No variables. There may be as many as the limit says, at most 2147483648.
+    pub fn new(alloc: Global, limit: usize) -> Self
+        requires { limit ≤ 2 ^ 31 }
+        ensures bounded { IsBounded result }
+        ensures none { origins_in result ≡ [] }
+        ensures limit { limit_in result ≡ limit }
+    {
+        Variables {
+            origins: IndexSet::new(alloc),
+            limit,
+        }
+    }
+
+    /// How many there are.
+    pub fn len(&self) -> usize
+        ensures { result ≡ length (origins_in self.now) }
+    {
+        self.origins.len()
+    }
+
+    /// What a variable stands for, where there is such a variable.
+    pub fn origin(&self, variable: Variable) -> Option<Origin<N, S>>
+        ensures { result ≡ slice_get (origins_in self.now) variable }
+    {
+        self.origins.get_index(variable.index()).copied()
+    }
+
+    /// The variable that stands for the origin: the one that does already, or a new one.
+    ///
+    /// `Ids` where a new one would be needed and there are as many variables as the limit says. Whatever is refused,
+    /// nothing changes.
+    pub fn intern(&mut self, origin: Origin<N, S>) -> Result<Variable, Exhausted>
+        requires names { IsIdentity N.eq }
+        requires solvables { IsIdentity S.eq }
+        requires bounded { IsBounded self.old }
+        ensures bounded { IsBounded self.new }
+        ensures kept { Keeps (origins_in self.old) (origins_in self.new) }
+        ensures here { IfOk result (λ v. slice_get (origins_in self.new) v ≡ Some origin) }
+        ensures limit { limit_in self.new ≡ limit_in self.old }
+        ensures unchanged { OnErr result (origins_in self.new ≡ origins_in self.old) }
+        ensures ids { IfErr result (λ e. e ≡ Exhausted.Ids → length (origins_in self.old) ≡ limit_in self.old) }
+    {
+        match place_of(&self.origins, &origin) {
+            Some(index) => Ok(Variable::new(index as u32)),
+            None => self.allocate(origin),
+        }
+    }
+
+    /// A new variable.
+    fn allocate(&mut self, origin: Origin<N, S>) -> Result<Variable, Exhausted>
+        requires names { IsIdentity N.eq }
+        requires solvables { IsIdentity S.eq }
+        requires absent { Contains (origins_in self.old) origin → ⊥ }
+        requires bounded { IsBounded self.old }
+        ensures bounded { IsBounded self.new }
+        ensures kept { Keeps (origins_in self.old) (origins_in self.new) }
+        ensures here { IfOk result (λ v. slice_get (origins_in self.new) v ≡ Some origin) }
+        ensures limit { limit_in self.new ≡ limit_in self.old }
+        ensures unchanged { OnErr result (origins_in self.new ≡ origins_in self.old) }
+        ensures ids { IfErr result (λ e. e ≡ Exhausted.Ids → length (origins_in self.old) ≡ limit_in self.old) }
+    {
+        let index = self.origins.len();
+        if index == self.limit {
+            return Err(Exhausted::Ids);
+        }
+        append(&mut self.origins, origin)?;
+        Ok(Variable::new(index as u32))
+    }
+}

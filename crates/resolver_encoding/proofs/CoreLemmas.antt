@@ -1,0 +1,91 @@
+-- What a core's clauses imply fits them.
+use Rattle.std.proofs.Common.{◌≡◌, ℕ, ◌⊎◌, List, Bool, true, false, inl, inr, refl, sym, ap, ◌∙◌, subst, ⊎_elim, Contains, All}
+use Rattle.std.specs.Prelude.{◌&&◌, nat_eq}
+use Rattle.std.proofs.lemmas.Bool.{cases_Bool, both_ways, false≢true, eqb-true}
+use Rattle.std.proofs.lemmas.List.Elements.{All-contains}
+use Rattle.std.proofs.lemmas.Map.Views.{Contains-from_any}
+use Rattle.resolver_clause_store.specs.Laws.{IsIdentity}
+use Rattle.resolver_clause_store.specs.Universe.{Universe, Demands}
+use Rattle.resolver_clause_store.specs.Candidates.{matching, others}
+use Rattle.resolver_clause_store.specs.declared.Requirement.{Requirement}
+use Rattle.resolver_clause_store.specs.declared.Origin.{Origin}
+use Rattle.resolver_clause_store.specs.declared.Origin.TheVariants.{Root, Solvable, Bit, Gate, ConstraintHelper, ConditionHelper}
+use Rattle.resolver_clause_store.specs.declared.ClauseKind.{ClauseKind}
+use Rattle.resolver_clause_store.specs.declared.ClauseKind.TheVariants.{InstallRoot, Requires, AnyOf, Constrains, ForbidMultipleInstances, GateRequires, ConstrainsExcluded, ConstrainsParent, HasBit, Lock, Excluded}
+use Rattle.resolver_encoding.specs.Atoms.{IsHelper, Defines}
+use Rattle.resolver_encoding.specs.Truth.{follows, AreCodes, IsTrueClause, same_requirement}
+use Rattle.resolver_encoding.specs.Core.{same_helper, says_implies, implied_in}
+use Rattle.resolver_encoding.proofs.Lists.{list_any-contains, list_any-witness, true_if}
+use Rattle.resolver_encoding.proofs.Sound.{defines, same_requirement-true, same_requirement-same, and_left, and_right, and_both, nat_same}
+
+module _ {N S : Type 0} (u : Universe N S) (same_name : N → N → Bool) (names : IsIdentity same_name) (same : IsIdentity u.same_solvable) where
+  same_helper-same : (o : Origin N S) → IsHelper o → same_helper same_name o o ≡ true
+  same_helper-same Root h = absurd h
+  same_helper-same (Solvable s) h = absurd h
+  same_helper-same (Bit n i) h = and_both _ _ (names.itself n) (nat_same i)
+  same_helper-same (Gate r) h = same_requirement-same r
+  same_helper-same (ConstraintHelper v) h = nat_same v.0
+  same_helper-same (ConditionHelper v) h = nat_same v.0
+
+  of_one : (A : Type 0) (f : ℕ → A) (v w : ℕ) → nat_eq v w ≡ true → f v ≡ f w
+  of_one A f v w e = ap f (eqb-true v w e)
+
+  same_helper-true : (o p : Origin N S) → same_helper same_name o p ≡ true → o ≡ p
+  same_helper-true (Bit n i) (Bit m j) e =
+    let Of : N → ℕ → Origin N S = λ x k. Bit x k in
+    ap (λ x. Of x i) (names.alone n m (and_left _ _ e)) ∙ ap (Of m) (eqb-true i j (and_right _ _ e))
+  same_helper-true (Gate r) (Gate q) e = let Of : Requirement → Origin N S = λ x. Gate x in ap Of (same_requirement-true r q e)
+  same_helper-true (ConstraintHelper v) (ConstraintHelper w) e = of_one (Origin N S) (λ n. ConstraintHelper (record { 0 = n })) v.0 w.0 e
+  same_helper-true (ConditionHelper v) (ConditionHelper w) e = of_one (Origin N S) (λ n. ConditionHelper (record { 0 = n })) v.0 w.0 e
+  same_helper-true o p e = absurd (false≢true e)
+
+  module _ (codes : N → ℕ → S → Bool) (root : Demands) (kinds : List (ClauseKind N S)) (are_true : All (IsTrueClause u codes root) kinds) where
+    truth : (kind : ClauseKind N S) → Contains kinds kind → IsTrueClause u codes root kind
+    truth kind inside = All-contains (IsTrueClause u codes root) kinds kind are_true inside
+
+    abbrev implies : Origin N S → S → Bool
+    implies o s = implied_in u same_name kinds o s
+
+    moved : (o p : Origin N S) (t s : S) → (same_helper same_name o p && u.same_solvable t s) ≡ true → follows u codes o t ≡ true → follows u codes p s ≡ true
+    moved o p t s e f = sym (ap (λ x. follows u codes x s) (same_helper-true o p (and_left _ _ e))) ∙ sym (ap (follows u codes o) (same.alone t s (and_right _ _ e))) ∙ f
+
+    says-follows : (o : Origin N S) (s : S) (k : ClauseKind N S) → Contains kinds k → says_implies u same_name o s k ≡ true → follows u codes o s ≡ true
+    says-follows o s (AnyOf helper t) inside e = moved helper o t s e (truth (AnyOf helper t) inside).1
+    says-follows o s (ConstrainsExcluded t v) inside e = moved (ConstraintHelper v) o t s e (list_any-contains (u.same_solvable t) (others u v) t (truth (ConstrainsExcluded t v) inside) (same.itself t))
+    says-follows o s (HasBit n t i true) inside e = moved (Bit n i) o t s e (truth (HasBit n t i true) inside).1
+    says-follows o s k inside e = absurd (false≢true e)
+
+    -- what these clauses imply is so
+    pub implied-follows : (o : Origin N S) (s : S) → implies o s ≡ true → follows u codes o s ≡ true
+    implied-follows o s e = let w = list_any-witness (says_implies u same_name o s) kinds e in says-follows o s w.0 w.1 w.2
+
+    coded : (n : N) (s : S) (i : ℕ) (b : Bool) → Contains kinds (HasBit n s i b) → implies (Bit n i) s ≡ b
+    coded n s i true inside = list_any-contains (says_implies u same_name (Bit n i) s) kinds (HasBit n s i true) inside (and_both _ _ (and_both _ _ (names.itself n) (nat_same i)) (same.itself s))
+    coded n s i false inside = ⊎_elim
+      (λ e. absurd (both_ways _ (truth (HasBit n s i false) inside).1 (implied-follows (Bit n i) s e)))
+      (λ e. e)
+      (cases_Bool (implies (Bit n i) s))
+
+    pub defines_core : Defines u implies kinds
+    defines_core = record {
+      defined = λ o s inside. list_any-contains (says_implies u same_name o s) kinds (AnyOf o s) inside (and_both _ _ (same_helper-same o (truth (AnyOf o s) inside).0) (same.itself s));
+      helper = λ o s inside. (truth (AnyOf o s) inside).0;
+      matched = λ v s e. Contains-from_any {K = S} {eq = u.same_solvable} same.alone s (matching u v) (implied-follows (ConditionHelper v) s e);
+      helped = λ v s inside. list_any-contains (says_implies u same_name (ConstraintHelper v) s) kinds (ConstrainsExcluded s v) inside (and_both _ _ (nat_same v.0) (same.itself s));
+      coded = coded;
+      different = λ n s t inside. (truth (ForbidMultipleInstances n s t) inside).2
+    }
+
+    says-gate : (r : Requirement) (s : S) (k : ClauseKind N S) → says_implies u same_name (Gate r) s k ≡ true → k ≡ AnyOf (Gate r) s
+    says-gate r s (AnyOf helper t) e =
+      let Of : Origin N S → S → ClauseKind N S = λ o x. AnyOf o x in
+      ap (λ o. Of o t) (same_helper-true helper (Gate r) (and_left _ _ e)) ∙ ap (Of (Gate r)) (same.alone t s (and_right _ _ e))
+    says-gate r s (ConstrainsExcluded t v) e = absurd (false≢true e)
+    says-gate r s (HasBit n t i true) e = absurd (false≢true e)
+    says-gate r s k e = absurd (false≢true e)
+
+    -- a gate's requirer whose implication is among the clauses
+    pub implied-gate : (r : Requirement) (s : S) → implies (Gate r) s ≡ true → Contains kinds (AnyOf (Gate r) s)
+    implied-gate r s e =
+      let w = list_any-witness (says_implies u same_name (Gate r) s) kinds e in
+      let In : ClauseKind N S → Type 0 = λ k. Contains kinds k in subst In (says-gate r s w.0 w.2) w.1

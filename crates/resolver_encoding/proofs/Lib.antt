@@ -1,0 +1,11 @@
+pub mod Lists
+pub mod Satisfied
+pub mod Sound
+pub mod Extended
+pub mod Answers
+pub mod Closure
+pub mod Reached
+pub mod Reading
+pub mod Spared
+pub mod CoreLemmas
+pub mod CoreRules

@@ -1,0 +1,92 @@
+-- What clauses say of sets of solvables. An atom is what a variable stands for, and whether it is to be true.
+use Rattle.std.specs.Prelude.{ℕ, ◌≡◌, ◌≢◌, Bool, true, false, not, List, [], ◌∷◌, ◌++◌, Contains, map, ⊤}
+use Rattle.std.specs.List.{list_any}
+use Rattle.std.specs.Bool.{beq}
+use Rattle.resolver_clause_store.specs.Universe.{Universe}
+use Rattle.resolver_clause_store.specs.Candidates.{matching, requirement_candidates}
+use Rattle.resolver_clause_store.specs.declared.Requirement.{Requirement}
+use Rattle.resolver_clause_store.specs.declared.VersionSetId.{VersionSetId}
+use Rattle.resolver_clause_store.specs.declared.By.{By}
+use Rattle.resolver_clause_store.specs.declared.By.TheVariants.{Root as ByRoot, Solvable as BySolvable}
+use Rattle.resolver_clause_store.specs.declared.Origin.{Origin}
+use Rattle.resolver_clause_store.specs.declared.Origin.TheVariants.{Root, Solvable, Bit, Gate, ConstraintHelper, ConditionHelper}
+use Rattle.resolver_clause_store.specs.declared.ClauseKind.{ClauseKind}
+use Rattle.resolver_clause_store.specs.declared.ClauseKind.TheVariants.{InstallRoot, Requires, AnyOf, Constrains, ForbidMultipleInstances, GateRequires, ConstrainsExcluded, ConstrainsParent, HasBit, Lock, Excluded}
+use Rattle.resolver_encoding.specs.Statements.{Statement, requires, constrains, lock, excluded, one_per_package}
+
+pub record Atom (N S : Type 0) : Type 0 where
+  pub origin : Origin N S
+  pub positive : Bool
+
+abbrev pub atom : {N S : Type 0} → Origin N S → Bool → Atom N S
+atom o b = record { origin = o; positive = b }
+
+-- the root or a solvable as an origin
+abbrev pub origin_by : {N S : Type 0} → By S → Origin N S
+origin_by ByRoot = Root
+origin_by (BySolvable s) = Solvable s
+
+-- the atoms of a clause, by its kind
+abbrev pub atoms_of : {N S : Type 0} → Universe N S → ClauseKind N S → List (Atom N S)
+atoms_of u InstallRoot = atom Root true ∷ []
+atoms_of u (Requires parent disjunct requirement) = atom (origin_by parent) false ∷ (map (λ v. atom (ConditionHelper v) false) disjunct.items ++ map (λ s. atom (Solvable s) true) (requirement_candidates u requirement))
+atoms_of u (AnyOf helper candidate) = atom helper true ∷ atom (Solvable candidate) false ∷ []
+atoms_of u (Constrains parent version_set candidate) = atom (origin_by parent) false ∷ atom (Solvable candidate) false ∷ []
+atoms_of u (ForbidMultipleInstances name first second) = atom (Solvable first) false ∷ atom (Solvable second) false ∷ []
+atoms_of u (GateRequires requirement) = atom (Gate requirement) false ∷ map (λ s. atom (Solvable s) true) (requirement_candidates u requirement)
+atoms_of u (ConstrainsExcluded candidate version_set) = atom (Solvable candidate) false ∷ atom (ConstraintHelper version_set) true ∷ []
+atoms_of u (ConstrainsParent parent version_set) = atom (origin_by parent) false ∷ atom (ConstraintHelper version_set) false ∷ []
+atoms_of u (HasBit name instance index value) = atom (Solvable instance) false ∷ atom (Bit name index) value ∷ []
+atoms_of u (Lock locked forbidden) = atom Root false ∷ atom (Solvable forbidden) false ∷ []
+atoms_of u (Excluded solvable reason) = atom (Solvable solvable) false ∷ []
+
+-- whether the set has the solvable
+abbrev pub has : {N S : Type 0} → Universe N S → List S → S → Bool
+has u set s = list_any (u.same_solvable s) set
+
+-- what a set makes of an origin, where `implies` says from which solvables a helper follows
+abbrev pub is_on : {N S : Type 0} → Universe N S → (Origin N S → S → Bool) → List S → Origin N S → Bool
+is_on u implies set Root = true
+is_on u implies set (Solvable s) = has u set s
+is_on u implies set (Bit n i) = list_any (implies (Bit n i)) set
+is_on u implies set (Gate r) = list_any (implies (Gate r)) set
+is_on u implies set (ConstraintHelper v) = list_any (implies (ConstraintHelper v)) set
+is_on u implies set (ConditionHelper v) = list_any (implies (ConditionHelper v)) set
+
+-- it stands for neither the root nor a solvable
+abbrev pub IsHelper : {N S : Type 0} → Origin N S → Type 0
+IsHelper Root = ⊥
+IsHelper (Solvable s) = ⊥
+IsHelper (Bit n i) = ⊤
+IsHelper (Gate r) = ⊤
+IsHelper (ConstraintHelper v) = ⊤
+IsHelper (ConditionHelper v) = ⊤
+
+-- whether some atom has the value that it is to have
+abbrev pub is_satisfied : {N S : Type 0} → (Origin N S → Bool) → List (Atom N S) → Bool
+is_satisfied value atoms = list_any (λ a. beq (value a.origin) a.positive) atoms
+
+-- what a list of clauses states
+pub data IsStated {N S : Type 0} (u : Universe N S) (implies : Origin N S → S → Bool) (kinds : List (ClauseKind N S)) : Statement N S → Type 0 where
+  states_requires : (by : By S) (disjunct : _) (requirement : Requirement) → Contains kinds (Requires by disjunct requirement) →
+    IsStated u implies kinds (requires by requirement (requirement_candidates u requirement) (map (matching u) disjunct.items))
+  states_constrains : (by : By S) (v : VersionSetId) (s : S) → Contains kinds (Constrains by v s) → IsStated u implies kinds (constrains by v s)
+  states_first : (n : N) (s t : S) → Contains kinds (ForbidMultipleInstances n s t) → IsStated u implies kinds (one_per_package n s)
+  states_second : (n : N) (s t : S) → Contains kinds (ForbidMultipleInstances n s t) → IsStated u implies kinds (one_per_package n t)
+  -- of a gate: the requirement of each solvable from which it follows
+  states_gated : (s : S) (requirement : Requirement) → Contains kinds (GateRequires requirement) → implies (Gate requirement) s ≡ true →
+    IsStated u implies kinds (requires (BySolvable s) requirement (requirement_candidates u requirement) [])
+  states_helped : (by : By S) (v : VersionSetId) (s : S) → Contains kinds (ConstrainsParent by v) → implies (ConstraintHelper v) s ≡ true → IsStated u implies kinds (constrains by v s)
+  states_coded : (n : N) (s : S) (i : ℕ) (b : Bool) → Contains kinds (HasBit n s i b) → IsStated u implies kinds (one_per_package n s)
+  states_bit : (n : N) (s : S) (i : ℕ) → implies (Bit n i) s ≡ true → IsStated u implies kinds (one_per_package n s)
+  states_lock : (s t : S) → Contains kinds (Lock s t) → IsStated u implies kinds (lock s t)
+  states_excluded : (s : S) (reason : _) → Contains kinds (Excluded s reason) → IsStated u implies kinds (excluded s reason)
+
+-- what the clauses define fits what the helpers follow from
+pub record Defines {N S : Type 0} (u : Universe N S) (implies : Origin N S → S → Bool) (kinds : List (ClauseKind N S)) : Type 0 where
+  pub defined : (o : Origin N S) (s : S) → Contains kinds (AnyOf o s) → implies o s ≡ true
+  pub helper : (o : Origin N S) (s : S) → Contains kinds (AnyOf o s) → IsHelper o
+  pub matched : (v : VersionSetId) (s : S) → implies (ConditionHelper v) s ≡ true → Contains (matching u v) s
+  pub helped : (v : VersionSetId) (s : S) → Contains kinds (ConstrainsExcluded s v) → implies (ConstraintHelper v) s ≡ true
+  pub coded : (n : N) (s : S) (i : ℕ) (b : Bool) → Contains kinds (HasBit n s i b) → implies (Bit n i) s ≡ b
+  pub different : (n : N) (s t : S) → Contains kinds (ForbidMultipleInstances n s t) → s ≢ t

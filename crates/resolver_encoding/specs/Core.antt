@@ -1,0 +1,42 @@
+-- What the clauses of a conflict's core imply by themselves.
+use Rattle.std.specs.Prelude.{Contains, ◌≡◌, ◌≡◌, ℕ, nat_eq, ◌&&◌, Bool, true, false, List, All}
+use Rattle.std.specs.List.{list_any}
+use Rattle.resolver_clause_store.specs.Universe.{Universe, Demands}
+use Rattle.resolver_clause_store.specs.Laws.{IsIdentity}
+use Rattle.resolver_clause_store.specs.declared.Origin.{Origin}
+use Rattle.resolver_clause_store.specs.declared.Origin.TheVariants.{Root, Solvable, Bit, Gate, ConstraintHelper, ConditionHelper}
+use Rattle.resolver_clause_store.specs.declared.ClauseKind.{ClauseKind}
+use Rattle.resolver_clause_store.specs.declared.ClauseKind.TheVariants.{InstallRoot, Requires, AnyOf, Constrains, ForbidMultipleInstances, GateRequires, ConstrainsExcluded, ConstrainsParent, HasBit, Lock, Excluded}
+use Rattle.resolver_report.specs.declared.Rule.{Rule}
+use Rattle.resolver_report.specs.Rules.{IsRefuted}
+use Rattle.resolver_report.specs.TrueRules.{IsTrueRule}
+use Rattle.resolver_encoding.specs.Atoms.{atoms_of, is_satisfied}
+use Rattle.resolver_encoding.specs.Truth.{same_requirement}
+
+-- whether two helpers are the same
+abbrev pub same_helper : {N S : Type 0} → (N → N → Bool) → Origin N S → Origin N S → Bool
+same_helper same_name (Bit n i) (Bit m j) = same_name n m && nat_eq i j
+same_helper same_name (Gate r) (Gate q) = same_requirement r q
+same_helper same_name (ConstraintHelper v) (ConstraintHelper w) = nat_eq v.0 w.0
+same_helper same_name (ConditionHelper v) (ConditionHelper w) = nat_eq v.0 w.0
+same_helper same_name o p = false
+
+-- whether the clause says that the helper follows from the solvable
+abbrev pub says_implies : {N S : Type 0} → Universe N S → (N → N → Bool) → Origin N S → S → ClauseKind N S → Bool
+says_implies u same_name o s (AnyOf helper t) = same_helper same_name helper o && u.same_solvable t s
+says_implies u same_name o s (ConstrainsExcluded t v) = same_helper same_name (ConstraintHelper v) o && u.same_solvable t s
+says_implies u same_name o s (HasBit n t i true) = same_helper same_name (Bit n i) o && u.same_solvable t s
+says_implies u same_name o s k = false
+
+-- from which solvables a helper follows by these clauses
+abbrev pub implied_in : {N S : Type 0} → Universe N S → (N → N → Bool) → List (ClauseKind N S) → Origin N S → S → Bool
+implied_in u same_name kinds o s = list_any (says_implies u same_name o s) kinds
+
+-- the rules are true, and no set obeys them
+pub record IsExplained {N S : Type 0} (u : Universe N S) (root : Demands) (rules : List (Rule N S)) : Type 0 where
+  pub refuted : IsRefuted rules
+  pub each_true : All (IsTrueRule u root) rules
+
+-- no values make all the clauses true
+pub record IsContradictory {N S : Type 0} (u : Universe N S) (kinds : List (ClauseKind N S)) : Type 0 where
+  pub none : (value : Origin N S → Bool) → ((k : ClauseKind N S) → Contains kinds k → is_satisfied value (atoms_of u k) ≡ true) → ⊥

@@ -1,0 +1,83 @@
+-- Which clauses are true of a provider and a problem.
+use Rattle.std.specs.Prelude.{ℕ, nat_eq, is_none, ◌&&◌, ◌≡◌, ◌≢◌, ◌⊎◌, Bool, true, false, List, Some, Contains, All, map, ⊤}
+use Rattle.resolver_clause_store.specs.Laws.{HasLawfulIds, IsIdentity}
+use Rattle.resolver_clause_store.specs.Universe.{Universe, Demands, unknown}
+use Rattle.resolver_clause_store.specs.Candidates.{matching, others}
+use Rattle.std.specs.List.{list_any}
+use Rattle.resolver_clause_store.specs.Valid.{demands_of}
+use Rattle.resolver_clause_store.specs.declared.Requirement.{Requirement}
+use Rattle.resolver_clause_store.specs.declared.Requirement.TheVariants.{Single, Union}
+use Rattle.resolver_clause_store.specs.declared.ConditionalRequirement.{ConditionalRequirement}
+use Rattle.resolver_report.specs.declared.Rule.{Rule}
+use Rattle.resolver_report.specs.TrueRules.{demands_by}
+use Rattle.resolver_clause_store.specs.declared.Origin.{Origin}
+use Rattle.resolver_clause_store.specs.declared.Origin.TheVariants.{Root, Solvable, Bit, Gate, ConstraintHelper, ConditionHelper}
+use Rattle.resolver_clause_store.specs.declared.ClauseKind.{ClauseKind}
+use Rattle.resolver_clause_store.specs.declared.ClauseKind.TheVariants.{InstallRoot, Requires, AnyOf, Constrains, ForbidMultipleInstances, GateRequires, ConstrainsExcluded, ConstrainsParent, HasBit, Lock, Excluded}
+use Rattle.resolver_encoding.specs.Statements.{Statement, statement_of, Implies}
+use Rattle.resolver_encoding.specs.Atoms.{has, IsHelper, IsStated}
+
+-- conditions are well-founded, and solvables that compare equal are one
+pub record HasLawfulSolvables {N S : Type 0} (u : Universe N S) : Type 0 where
+  pub ids : HasLawfulIds u
+  pub same_solvable : IsIdentity u.same_solvable
+
+abbrev pub same_requirement : Requirement → Requirement → Bool
+same_requirement (Single v) (Single w) = nat_eq v.0 w.0
+same_requirement (Single v) (Union w) = false
+same_requirement (Union v) (Single w) = false
+same_requirement (Union v) (Union w) = nat_eq v.0 w.0
+
+-- the requirement stands there without a condition
+abbrev pub is_plain : Requirement → ConditionalRequirement → Bool
+is_plain r q = is_none q.condition && same_requirement q.requirement r
+
+-- from which solvables a helper follows, where `codes` says which bits a solvable has for a name
+abbrev pub follows : {N S : Type 0} → Universe N S → (N → ℕ → S → Bool) → Origin N S → S → Bool
+follows u codes Root s = false
+follows u codes (Solvable t) s = false
+follows u codes (Bit n i) s = codes n i s
+follows u codes (Gate r) s = list_any (is_plain r) (demands_of (u.needs s)).requirements
+follows u codes (ConstraintHelper v) s = has u (others u v) s
+follows u codes (ConditionHelper v) s = has u (matching u v) s
+
+-- where nothing is told apart by bits
+abbrev pub no_codes : {N S : Type 0} → N → ℕ → S → Bool
+no_codes n i s = false
+
+-- a solvable has bits for its own name alone
+pub record AreCodes {N S : Type 0} (u : Universe N S) (codes : N → ℕ → S → Bool) : Type 0 where
+  pub named : (n : N) (i : ℕ) (s : S) → codes n i s ≡ true → u.name s ≡ n
+
+-- the clause says what the provider and the problem say, or defines a helper
+abbrev pub IsTrueClause : {N S : Type 0} → Universe N S → (N → ℕ → S → Bool) → Demands → ClauseKind N S → Type 0
+IsTrueClause u codes root InstallRoot = ⊤
+IsTrueClause u codes root (Requires by disjunct requirement) =
+    (r : ConditionalRequirement) × Contains (demands_by u root by).requirements r × (r.requirement ≡ requirement) × Implies u (map (matching u) disjunct.items) r.condition
+IsTrueClause u codes root (AnyOf helper candidate) = IsHelper helper × (follows u codes helper candidate ≡ true)
+IsTrueClause u codes root (Constrains by version_set candidate) = Contains (demands_by u root by).constraints version_set × Contains (others u version_set) candidate
+IsTrueClause u codes root (ForbidMultipleInstances name s t) = (u.name s ≡ name) × (u.name t ≡ name) × (s ≢ t)
+IsTrueClause u codes root (GateRequires requirement) = ⊤
+IsTrueClause u codes root (ConstrainsExcluded candidate version_set) = Contains (others u version_set) candidate
+IsTrueClause u codes root (ConstrainsParent by version_set) = Contains (demands_by u root by).constraints version_set
+IsTrueClause u codes root (HasBit name instance index value) = (u.name instance ≡ name) × (codes name index instance ≡ value)
+IsTrueClause u codes root (Lock locked forbidden) = ((u.package_named (u.name forbidden)).locked ≡ Some locked) × Contains (u.package_named (u.name forbidden)).listed forbidden × (forbidden ≢ locked)
+IsTrueClause u codes root (Excluded solvable reason) = Contains (u.package_named (u.name solvable)).excluded (solvable, reason) ⊎ (u.needs solvable ≡ unknown reason)
+
+-- no lock and no exclusion says anything of these
+pub record Spares {N S : Type 0} (u : Universe N S) (exempt : List S) (kinds : List (ClauseKind N S)) : Type 0 where
+  pub locks : (s t : S) → Contains kinds (Lock s t) → Contains exempt t → ⊥
+  pub exclusions : (s : S) (reason : _) → Contains kinds (Excluded s reason) → Contains exempt s → u.needs s ≡ unknown reason
+
+-- the rules state all that the clauses state
+abbrev pub AreListed : {N S : Type 0} → Universe N S → (Origin N S → S → Bool) → List (ClauseKind N S) → List (Rule N S) → Type 0
+AreListed {N} {S} u implies kinds rules = (st : Statement N S) → IsStated u implies kinds st → (rule : Rule N S) × Contains rules rule × (statement_of rule ≡ st)
+
+-- each rule states what the clauses state
+abbrev pub AreStated : {N S : Type 0} → Universe N S → (Origin N S → S → Bool) → List (ClauseKind N S) → List (Rule N S) → Type 0
+AreStated {N} {S} u implies kinds rules = (rule : Rule N S) → Contains rules rule → IsStated u implies kinds (statement_of rule)
+
+-- locks and exclusions are made for packages that were asked for, and for none that is exempt
+pub record AreDue {N S : Type 0} (u : Universe N S) (asked : List N) (exempt : List S) (kinds : List (ClauseKind N S)) : Type 0 where
+  pub locks : (s t : S) → Contains kinds (Lock s t) → Contains asked (u.name t) × (Contains exempt t → ⊥)
+  pub exclusions : (s : S) (reason : _) → Contains kinds (Excluded s reason) → (Contains asked (u.name s) × (Contains exempt s → ⊥)) ⊎ (u.needs s ≡ unknown reason)

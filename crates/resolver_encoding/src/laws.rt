@@ -1,0 +1,64 @@
+//! What the clauses say of sets of solvables.
+
+ghost use Rattle.std.specs.Prelude.{All, Bool, List, Vec, length, ℕ, ◌<◌};
+ghost use Rattle.std.specs.declared.alloc.Global.{Global};
+ghost use Rattle.resolver_clause_store.specs.Formula.{MakesTrue, Satisfies};
+ghost use Rattle.resolver_clause_store.specs.Laws.{HasLawfulPackages, IsIdentity};
+ghost use Rattle.resolver_clause_store.specs.Lists.{IsWithin};
+ghost use Rattle.resolver_clause_store.specs.Universe.{Demands, Universe};
+ghost use Rattle.resolver_clause_store.specs.Valid.{IsValid};
+ghost use Rattle.resolver_clause_store.specs.declared.ClauseKind.{ClauseKind};
+ghost use Rattle.resolver_clause_store.specs.declared.Literal.{Literal};
+ghost use Rattle.resolver_clause_store.specs.declared.Origin.{Origin};
+ghost use Rattle.resolver_report.specs.declared.Rule.{Rule};
+ghost use Rattle.resolver_encoding.specs.Atoms.{Atom};
+ghost use Rattle.resolver_encoding.specs.Core.{IsExplained, implied_in};
+ghost use Rattle.resolver_encoding.specs.Read.{IsSettled};
+ghost use Rattle.resolver_encoding.specs.ReadState.{AreSeeds, Deferred, IsRead, NoneFires};
+ghost use Rattle.resolver_encoding.specs.TrailAtoms.{CoversReached, IsAnswerBy, IsChosen, IsTrail, Takes};
+ghost use Rattle.resolver_encoding.specs.Truth.{HasLawfulSolvables, AreCodes, AreListed, AreStated, IsTrueClause, Spares, follows};
+ghost use Rattle.resolver_encoding.specs.Values.{AreEncoded, extension, kinds_at};
+
+/// The extension of an answer makes every true clause true, where no lock and no exclusion speaks of what is exempt.
+///
+/// The extension gives each variable the value that a set stands for: a solvable's is whether it is in the set, and a
+/// helper's whether it follows from a member. The call does nothing: its contract is the law.
+pub fn answers_satisfy_true_clauses<N, S>()
+    ensures { (u : Universe N S) (codes : N → ℕ → S → Bool) (root : Demands) (origins : List (Origin N S)) (table : List (Vec Literal Global)) (kinds : List (ClauseKind N S)) (set exempt : List S) →
+        HasLawfulSolvables u → AreCodes u codes → AreEncoded u origins table kinds → All (IsTrueClause u codes root) kinds →
+        Spares u exempt kinds → IsValid u root set exempt →
+        Satisfies (extension u (follows u codes) origins set) table }
+{}
+
+/// Where no values make some true clauses true together, the rules that these clauses state are true, and no set obeys
+/// them.
+///
+/// The call does nothing: its contract is the law.
+pub fn core_rules_explain<N, S>()
+    ensures { (u : Universe N S) (same_name : N → N → Bool) (codes : N → ℕ → S → Bool) (root : Demands) (origins : List (Origin N S)) (table : List (Vec Literal Global)) (kinds : List (ClauseKind N S)) (numbers : List ℕ) (rules : List (Rule N S)) →
+        HasLawfulSolvables u → IsIdentity same_name → AreCodes u codes → AreEncoded u origins table kinds → All (IsTrueClause u codes root) kinds → All (λ n. n < length kinds) numbers →
+        AreListed u (implied_in u same_name (kinds_at kinds numbers)) (kinds_at kinds numbers) rules → AreStated u (implied_in u same_name (kinds_at kinds numbers)) (kinds_at kinds numbers) rules →
+        ((values : ℕ → Bool) → MakesTrue values table numbers → ⊥) →
+        IsExplained u root rules }
+{}
+
+/// What a trail makes true that leaves nothing to set is an answer, and each of it is there by need.
+///
+/// The call does nothing: its contract is the law.
+pub fn finished_trails_are_answers<N, S>()
+    ensures { (u : Universe N S) (codes : N → ℕ → S → Bool) (root : Demands) (kinds : List (ClauseKind N S)) (trail : List (Atom N S)) (chosen seeds refused exempt : List S) →
+        HasLawfulSolvables u → AreCodes u codes → All (IsTrueClause u codes root) kinds → Spares u exempt kinds →
+        IsTrail u kinds seeds refused trail → IsSettled u kinds (Takes trail) → IsChosen trail chosen → CoversReached u root kinds chosen seeds exempt →
+        IsAnswerBy u root chosen seeds exempt }
+{}
+
+/// The same, where the clauses are those of what was read.
+///
+/// The call does nothing: its contract is the law.
+pub fn read_trails_are_answers<N, S>()
+    ensures { (u : Universe N S) (codes : N → ℕ → S → Bool) (root : Demands) (kinds : List (ClauseKind N S)) (deferred : List (Deferred S)) (read : List S) (asked : List N) (registered exempt : List S) (trail : List (Atom N S)) (chosen seeds refused : List S) →
+        HasLawfulSolvables u → HasLawfulPackages u → AreCodes u codes → All (IsTrueClause u codes root) kinds → Spares u exempt kinds →
+        IsRead u root kinds deferred read asked registered exempt → AreSeeds u seeds chosen asked registered exempt → IsWithin chosen read → NoneFires u deferred chosen →
+        IsTrail u kinds seeds refused trail → IsSettled u kinds (Takes trail) → IsChosen trail chosen →
+        IsAnswerBy u root chosen seeds exempt }
+{}

@@ -1,0 +1,9 @@
+//! Clauses that encode a provider's rules: what they state, and what follows for sets of solvables.
+#![tactic(auto)]
+
+mod laws;
+
+pub use laws::{
+    answers_satisfy_true_clauses, core_rules_explain, finished_trails_are_answers,
+    read_trails_are_answers,
+};
