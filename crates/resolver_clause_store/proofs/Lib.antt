@@ -12,3 +12,4 @@ pub mod TableLemmas
 pub mod VersionSetLemmas
 pub mod UnionLemmas
 pub mod AvailabilityLemmas
+pub mod SlotLemmas

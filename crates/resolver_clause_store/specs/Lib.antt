@@ -14,3 +14,6 @@ pub mod Interruptions
 pub mod Filtering
 pub mod TestProvider
 pub mod Disjuncts
+pub mod Formula
+pub mod Slots
+pub mod TrailView

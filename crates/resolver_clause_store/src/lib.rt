@@ -2,24 +2,30 @@
 #![tactic(auto)]
 
 mod cache;
+mod clauses;
 mod conditions;
 mod data;
 mod hints;
 mod ids;
+mod literals;
 mod provider;
 mod questions;
 mod requirements;
 mod sets;
 #[cfg(test)]
 mod test_provider;
+mod trail;
 
 pub use cache::Cache;
+pub use clauses::{RequirementClause, clause};
 pub use conditions::{a_condition_holds_where_a_disjunct_does, convert_conditions_to_dnf};
 pub use data::{
     By, Candidates, Condition, ConditionalRequirement, Dependencies, Exhausted,
     HintDependenciesAvailable, Interrupted, KnownDependencies, LogicalOperator, Requirement,
 };
 pub use ids::{ConditionId, StringId, VersionSetId, VersionSetUnionId};
+pub use literals::{Literal, Variable};
 pub use provider::{DependencyProvider, Interner};
 pub use requirements::requirement_candidates;
 pub use sets::{has, meets};
+pub use trail::{Addition, Reason, Slot, Trail};

@@ -1,0 +1,26 @@
+//! Clauses by their numbers, and the clauses of requirements.
+
+ghost use Rattle.std.specs.Prelude.{◌<◌, ◌≡◌, length};
+ghost use Rattle.resolver_clause_store.specs.Formula.{clause_at};
+
+use crate::literals::Literal;
+
+/// A clause that states a requirement: the negations of what the requirement depends on, and then its candidates in the
+/// order in which they are tried.
+#[derive(Debug, Drop)]
+pub struct RequirementClause {
+    /// The clause's number.
+    pub number: usize,
+    /// Whether the requirement is one of the root.
+    pub of_root: bool,
+    /// For each version set of the requirement, the place in the clause behind its candidates.
+    pub ends: Vec<usize>,
+}
+
+/// The literals of the clause with this number.
+pub fn clause(table: &[Vec<Literal>], number: usize) -> &[Literal]
+    requires { number < length table.now }
+    ensures { result.now ≡ clause_at table.now number }
+{
+    table[number].as_slice()
+}
