@@ -12,4 +12,5 @@ pub mod TableLemmas
 pub mod VersionSetLemmas
 pub mod UnionLemmas
 pub mod AvailabilityLemmas
+pub mod SlotLemmas
 pub mod MemberLemmas

@@ -14,5 +14,7 @@ pub mod Interruptions
 pub mod Filtering
 pub mod TestProvider
 pub mod Disjuncts
-pub mod Variables
 pub mod Formula
+pub mod Slots
+pub mod TrailView
+pub mod Variables

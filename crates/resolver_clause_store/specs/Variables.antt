@@ -1,6 +1,6 @@
 -- What a table of variables holds.
 use Rattle.std.specs.Prelude.{◌≡◌, ◌≤◌, ◌^◌, ℕ, List, Some, length, slice_get}
-use Rattle.resolver_clause_store.specs.declared.clauses.Origin.{Origin}
+use Rattle.resolver_clause_store.specs.declared.kinds.Origin.{Origin}
 use Rattle.resolver_clause_store.specs.declared.variables.Variables.{Variables}
 
 -- what each variable stands for

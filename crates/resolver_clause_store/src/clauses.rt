@@ -1,84 +1,26 @@
-//! What variables stand for, and what clauses say.
+//! Clauses by their numbers, and the clauses of requirements.
 
-use crate::data::{By, Requirement};
-use crate::ids::{StringId, VersionSetId};
+ghost use Rattle.std.specs.Prelude.{◌<◌, ◌≡◌, length};
+ghost use Rattle.resolver_clause_store.specs.Formula.{clause_at};
 
-/// What a variable stands for.
-#[derive(Clone, Copy, Debug, PartialEq, Eq, PartialOrd, Ord, Hash)]
-pub enum Origin<N, S> {
-    Root,
-    Solvable(S),
-    /// A bit of the code by which the instances of a name are told apart.
-    Bit {
-        name: N,
-        index: u32,
-    },
-    /// Stands for each solvable that asks for the requirement without a condition.
-    Gate(Requirement),
-    /// Stands for each candidate that does not match.
-    ConstraintHelper(VersionSetId),
-    /// Stands for each candidate that matches.
-    ConditionHelper(VersionSetId),
+use crate::literals::Literal;
+
+/// A clause that states a requirement: the negations of what the requirement depends on, and then its candidates in the
+/// order in which they are tried.
+#[derive(Debug, Drop)]
+pub struct RequirementClause {
+    /// The clause's number.
+    pub number: usize,
+    /// Whether the requirement is one of the root.
+    pub of_root: bool,
+    /// For each version set of the requirement, the place in the clause behind its candidates.
+    pub ends: Vec<usize>,
 }
 
-/// What a clause says, in the provider's ids.
-#[derive(Debug, Drop)]
-pub enum ClauseKind<N, S> {
-    /// The root is there.
-    InstallRoot,
-    /// Where the requirer is there, and a candidate of each version set of the disjunct, one of the requirement's
-    /// candidates is.
-    Requires {
-        parent: By<S>,
-        disjunct: Vec<VersionSetId>,
-        requirement: Requirement,
-    },
-    /// The helper follows from the candidate.
-    AnyOf {
-        helper: Origin<N, S>,
-        candidate: S,
-    },
-    /// Not both are there.
-    Constrains {
-        parent: By<S>,
-        version_set: VersionSetId,
-        candidate: S,
-    },
-    /// Not both are there, since they bear one name.
-    ForbidMultipleInstances {
-        name: N,
-        first: S,
-        second: S,
-    },
-    /// The gate of a requirement needs one of its candidates.
-    GateRequires {
-        requirement: Requirement,
-    },
-    /// The helper of a constraint follows from a candidate that does not match.
-    ConstrainsExcluded {
-        candidate: S,
-        version_set: VersionSetId,
-    },
-    /// Who states the constraint excludes its helper.
-    ConstrainsParent {
-        parent: By<S>,
-        version_set: VersionSetId,
-    },
-    /// An instance has, or lacks, a bit in its code.
-    HasBit {
-        name: N,
-        instance: S,
-        index: u32,
-        value: bool,
-    },
-    /// Another solvable of the package is locked.
-    Lock {
-        locked: S,
-        forbidden: S,
-    },
-    /// The package excludes the solvable, or its dependencies are unknown.
-    Excluded {
-        solvable: S,
-        reason: StringId,
-    },
+/// The literals of the clause with this number.
+pub fn clause(table: &[Vec<Literal>], number: usize) -> &[Literal]
+    requires { number < length table.now }
+    ensures { result.now ≡ clause_at table.now number }
+{
+    table[number].as_slice()
 }

@@ -8,6 +8,7 @@ mod data;
 mod hints;
 mod ids;
 mod index_sets;
+mod kinds;
 mod literals;
 mod provider;
 mod questions;
@@ -15,10 +16,11 @@ mod requirements;
 mod sets;
 #[cfg(test)]
 mod test_provider;
+mod trail;
 mod variables;
 
 pub use cache::Cache;
-pub use clauses::{ClauseKind, Origin};
+pub use clauses::{RequirementClause, clause};
 pub use conditions::{a_condition_holds_where_a_disjunct_does, convert_conditions_to_dnf};
 pub use data::{
     By, Candidates, Condition, ConditionalRequirement, Dependencies, Exhausted,
@@ -26,8 +28,10 @@ pub use data::{
 };
 pub use ids::{ConditionId, StringId, VersionSetId, VersionSetUnionId};
 pub use index_sets::{append, is_among, place_of};
+pub use kinds::{ClauseKind, Origin};
 pub use literals::{Literal, Variable};
 pub use provider::{DependencyProvider, Interner};
 pub use requirements::requirement_candidates;
 pub use sets::{has, meets};
+pub use trail::{Addition, Reason, Slot, Trail};
 pub use variables::Variables;

@@ -1,6 +1,6 @@
 //! Variables and literals.
 
-ghost use Rattle.std.specs.Prelude.{ℕ, ◌≡◌};
+ghost use Rattle.std.specs.Prelude.{◌≡◌, ℕ};
 
 use std::marker::Model;
 
@@ -19,13 +19,14 @@ impl Model for Variable {
 }
 
 impl Variable {
+    /// The variable with this number.
     pub fn new(index: u32) -> Self
         ensures { result ≡ index }
     {
         Variable { index }
     }
 
-    /// The number, as a place in a table of variables.
+    /// The variable's number, as an index into a table of the variables.
     pub fn index(self) -> usize
         ensures { result ≡ self }
     {
@@ -37,5 +38,6 @@ impl Variable {
 #[derive(Clone, Copy, Debug, PartialEq, Eq)]
 pub struct Literal {
     pub variable: Variable,
+    /// Whether the literal is the variable itself.
     pub positive: bool,
 }

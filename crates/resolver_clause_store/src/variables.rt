@@ -3,7 +3,7 @@
 ghost use Rattle.std.specs.Prelude.{Contains, ◌≡◌, ◌<◌, ◌≤◌, ◌^◌, [], Some, IfErr, IfOk, OnOk, OnErr, length, slice_get};
 ghost use Rattle.resolver_clause_store.specs.Laws.{IsIdentity};
 
-use crate::clauses::Origin;
+use crate::kinds::Origin;
 use crate::data::Exhausted;
 use crate::index_sets::{append, place_of};
 use crate::literals::Variable;

@@ -1,0 +1,23 @@
+use Rattle.std.proofs.Common.{rules}
+use Rattle.resolver_clause_store.proofs.SlotLemmas.{placed-push, listed-push, rising-push, counted-push}
+use Rattle.resolver_clause_store.proofs.trail.Trail.assign.Goals as goal
+
+pub invariant_of-self : goal.invariant_of-self
+invariant_of-self c = record {
+  placed = rw c.in_err-push.ensures.items c.args.self.now.placed;
+  listed = rw c.in_err-push.ensures.items c.args.self.now.listed;
+  rising = c.args.self.now.rising;
+  counted = c.args.self.now.counted;
+}
+
+pub invariant_of-self-2-clause-placed : goal.invariant_of-self-2-clause-placed
+invariant_of-self-2-clause-placed c = rw (c.index.ensures, c.in_ok-push.ensures.items) (placed-push _ _ _ _ c.args.self.now.placed c.requires.free c.requires.inside (search rules))
+
+pub invariant_of-self-2-clause-listed : goal.invariant_of-self-2-clause-listed
+invariant_of-self-2-clause-listed c = rw (c.index.ensures, c.in_ok-push.ensures.items) (listed-push _ _ _ _ c.args.self.now.listed c.requires.free c.requires.inside (search rules))
+
+pub invariant_of-self-2-clause-rising : goal.invariant_of-self-2-clause-rising
+invariant_of-self-2-clause-rising c = rw c.index.ensures (rising-push _ _ _ _ c.args.self.now.rising c.args.self.now.listed c.requires.inside (search rules) c.requires.top (λ d. (c.requires.begins d).0))
+
+pub invariant_of-self-2-clause-counted : goal.invariant_of-self-2-clause-counted
+invariant_of-self-2-clause-counted c = rw c.index.ensures (counted-push _ _ _ _ c.args.self.now.counted c.requires.inside (search rules) c.requires.bound (λ d. (c.requires.begins d).1))

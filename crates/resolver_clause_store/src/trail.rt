@@ -1,0 +1,235 @@
+//! The variables that have a value, in the order in which they got it.
+
+ghost use Rattle.std.specs.Prelude.{◌<◌, ◌≡◌, ◌≤◌, ℕ, IfOk, MatchBool, None, OnErr, OnOk, Some};
+ghost use Rattle.resolver_clause_store.specs.Slots.{AreCounted, AreRising, IsListed, IsPlaced};
+
+use crate::literals::{Literal, Variable};
+use std::alloc::{AllocError, Global};
+
+/// Why a variable has its value.
+#[derive(Clone, Copy, Debug, PartialEq, Eq)]
+pub enum Reason {
+    /// It was decided for the requirement clause with this number.
+    Decided(usize),
+    /// The clause with this number forced it: the other literals were false before.
+    Forced(usize),
+}
+
+/// The value of a variable, the level and the place of the trail at which it got it, and why.
+#[derive(Clone, Copy, Debug, PartialEq, Eq)]
+pub struct Slot {
+    pub value: bool,
+    pub level: usize,
+    pub place: usize,
+    pub reason: Reason,
+}
+
+/// What adding a literal to a trail did.
+#[derive(Clone, Copy, Debug, PartialEq, Eq)]
+pub enum Addition {
+    /// Its variable had no value, and the literal is true from now on.
+    Added,
+    /// The literal was true.
+    Present,
+    /// The literal is false.
+    Refused,
+}
+
+/// The variables in the order in which they got their values, and a slot for each variable.
+///
+/// Levels count from 0. They never fall from place to place, and a decision begins a level.
+#[derive(Debug, Drop)]
+pub struct Trail {
+    slots: Vec<Option<Slot>>,
+    order: Vec<Variable>,
+    ghost placed: { IsPlaced slots.items order.items },
+    ghost listed: { IsListed slots.items order.items },
+    ghost rising: { AreRising slots.items },
+    ghost counted: { AreCounted slots.items },
+}
+
+impl Trail {
+    ghost use Rattle.std.specs.Prelude.{◌+◌, ◌-◌, true};
+    ghost use Rattle.std.specs.Option.{option_map};
+    ghost use Rattle.resolver_clause_store.specs.Slots.{is_decided};
+    ghost use Rattle.resolver_clause_store.specs.declared.trail.Reason.TheVariants.{Decided, Forced};
+    ghost use Rattle.resolver_clause_store.specs.TrailView.{AdditionIs, Gains, IsAbove, IsCut, IsSame, IsTop, IsUndone, length_of, level_of, literal_value, slot_of, variable_at, variable_count};
+
+    /// A trail of this many variables, none of which has a value.
+    pub fn new(alloc: Global, variables: usize) -> Result<Self, AllocError>
+        ensures size { IfOk result (λ trail. variable_count trail ≡ variables) }
+        ensures none { IfOk result (λ trail. (variable : ℕ) → slot_of trail variable ≡ None) }
+    {
+        let slots = vec![in alloc; None; variables]?;
+        Ok(Trail {
+            slots,
+            order: Vec::new(alloc),
+        })
+    }
+
+    /// How many variables there are, with a value or without.
+    pub fn variable_count(&self) -> usize
+        ensures { result ≡ variable_count self.now }
+    {
+        self.slots.len()
+    }
+
+    /// How many variables have a value.
+    pub fn len(&self) -> usize
+        ensures { result ≡ length_of self.now }
+    {
+        self.order.len()
+    }
+
+    /// Whether no variable has a value.
+    pub fn is_empty(&self) -> bool
+        ensures { MatchBool result (length_of self.now ≡ 0) (0 < length_of self.now) }
+    {
+        self.order.is_empty()
+    }
+
+    /// The slot of a variable, if it has a value.
+    pub fn slot(&self, variable: Variable) -> Option<Slot>
+        requires { variable < variable_count self.now }
+        ensures { result ≡ slot_of self.now variable }
+    {
+        self.slots[variable.index()]
+    }
+
+    /// Whether a literal is true, if its variable has a value.
+    pub fn value(&self, literal: Literal) -> Option<bool>
+        requires { literal.variable < variable_count self.now }
+        ensures { result ≡ literal_value self.now literal }
+    {
+        match self.slot(literal.variable) {
+            Some(slot) => Some(slot.value == literal.positive),
+            None => None,
+        }
+    }
+
+    /// The variable at a place.
+    pub fn variable_at(&self, place: usize) -> Variable
+        requires { place < length_of self.now }
+        ensures value { result ≡ variable_at self.now place }
+        ensures inside { result < variable_count self.now }
+        ensures placed { option_map (λ slot. slot.place) (slot_of self.now result) ≡ Some place }
+    {
+        self.order[place]
+    }
+
+    /// The highest level, which is the one at the last place; 0 where no variable has a value.
+    pub fn level(&self) -> usize
+        ensures value { result ≡ level_of self.now }
+        ensures top { IsTop self.now result }
+        ensures bound { result ≤ length_of self.now }
+    {
+        if self.order.is_empty() {
+            return 0;
+        }
+        let variable = self.variable_at(self.order.len() - 1);
+        match self.slot(variable) {
+            Some(slot) => slot.level,
+            None => 0,
+        }
+    }
+
+    /// Makes a literal true whose variable has no value, at the highest level or above it.
+    pub fn assign(
+        &mut self,
+        literal: Literal,
+        level: usize,
+        reason: Reason,
+    ) -> Result<(), AllocError>
+        requires inside { literal.variable < variable_count self.old }
+        requires free { slot_of self.old literal.variable ≡ None }
+        requires top { IsTop self.old level }
+        requires bound { level ≤ length_of self.old + 1 }
+        requires begins { is_decided reason ≡ true → IsAbove self.old level × (0 < level) }
+        ensures ok { OnOk result (Gains self.old self.new literal level reason) }
+        ensures err { OnErr result (IsSame self.old self.new) }
+    {
+        let place = self.order.len();
+        self.order.push(literal.variable)?;
+        self.slots[literal.variable.index()] = Some(Slot {
+            value: literal.positive,
+            level,
+            place,
+            reason,
+        });
+        Ok(())
+    }
+
+    /// Makes a literal true at the highest level or above it, unless its variable has a value.
+    pub fn try_add_decision(
+        &mut self,
+        literal: Literal,
+        level: usize,
+        reason: Reason,
+    ) -> Result<Addition, AllocError>
+        requires inside { literal.variable < variable_count self.old }
+        requires top { IsTop self.old level }
+        requires bound { level ≤ length_of self.old + 1 }
+        requires begins { is_decided reason ≡ true → IsAbove self.old level × (0 < level) }
+        ensures ok { IfOk result (AdditionIs self.old self.new literal level reason) }
+        ensures err { OnErr result (IsSame self.old self.new) }
+    {
+        match self.slot(literal.variable) {
+            Some(slot) => {
+                if slot.value == literal.positive {
+                    return Ok(Addition::Present);
+                }
+                Ok(Addition::Refused)
+            }
+            None => {
+                self.assign(literal, level, reason)?;
+                Ok(Addition::Added)
+            }
+        }
+    }
+
+    /// Begins a level with a literal whose variable has no value, decided for the requirement clause with this number.
+    pub fn decide(&mut self, literal: Literal, number: usize) -> Result<(), AllocError>
+        requires inside { literal.variable < variable_count self.old }
+        requires free { slot_of self.old literal.variable ≡ None }
+        ensures ok { OnOk result (Gains self.old self.new literal (level_of self.old + 1) (Decided number)) }
+        ensures err { OnErr result (IsSame self.old self.new) }
+    {
+        let level = self.level() + 1;
+        self.assign(literal, level, Reason::Decided(number))?;
+        Ok(())
+    }
+
+    /// Makes a literal true at the highest level whose variable has no value, forced by the clause with this number.
+    pub fn force(&mut self, literal: Literal, number: usize) -> Result<(), AllocError>
+        requires inside { literal.variable < variable_count self.old }
+        requires free { slot_of self.old literal.variable ≡ None }
+        ensures ok { OnOk result (Gains self.old self.new literal (level_of self.old) (Forced number)) }
+        ensures err { OnErr result (IsSame self.old self.new) }
+    {
+        let level = self.level();
+        self.assign(literal, level, Reason::Forced(number))?;
+        Ok(())
+    }
+
+    /// Takes the value at the last place away.
+    pub fn undo_last(&mut self)
+        requires { 0 < length_of self.old }
+        ensures { IsCut self.old self.new (length_of self.old - 1) }
+    {
+        if let Some(variable) = self.order.pop() {
+            self.slots[variable.index()] = None;
+        }
+    }
+
+    /// Takes the values of the levels above this one away.
+    pub fn undo_until(&mut self, level: usize)
+        ensures { IsUndone self.old self.new level }
+    {
+        'places: while self.level() > level {
+            self.undo_last();
+        }
+    }
+}
+
+#[cfg(test)]
+mod tests;
