@@ -6,3 +6,4 @@ pub mod Read
 pub mod ReadState
 pub mod TrailAtoms
 pub mod Core
+pub mod Encodings
