@@ -14,3 +14,5 @@ pub mod UnionLemmas
 pub mod AvailabilityLemmas
 pub mod SlotLemmas
 pub mod MemberLemmas
+pub mod TrailLemmas
+pub mod FormulaLemmas

@@ -18,3 +18,4 @@ pub mod Formula
 pub mod Slots
 pub mod TrailView
 pub mod Variables
+pub mod Outcomes

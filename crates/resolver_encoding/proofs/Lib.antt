@@ -6,6 +6,7 @@ pub mod Answers
 pub mod Closure
 pub mod Reached
 pub mod Reading
+pub mod Bridge
 pub mod Spared
 pub mod CoreLemmas
 pub mod CoreRules

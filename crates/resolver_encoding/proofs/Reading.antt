@@ -89,7 +89,7 @@ module _ {N S : Type 0} (u : Universe N S) (ids : HasLawfulSolvables u) (package
   candidate_matches (Union m) s h = in_order_back (u.union_members m) s (Contains-repeats u.same_solvable (sorted_in_order u (u.union_members m)) s h)
 
   module _ (root : Demands) (kinds : List (ClauseKind N S)) (deferred : List (Deferred S)) (read : List S) (asked : List N) (registered exempt : List S) (state : IsRead u root kinds deferred read asked registered exempt)
-           (chosen seeds : List S) (seeded : AreSeeds u seeds chosen asked registered exempt) (all_read : IsWithin chosen read) (quiet : NoneFires u deferred chosen) where
+           (chosen seeds : List S) (seeded : AreSeeds u seeds chosen asked registered exempt) (all_read : (s : S) → Contains chosen s → Contains registered s → Contains read s) (quiet : NoneFires u deferred chosen) where
     -- an active requirement has its clauses under a disjunct that holds
     has_clause : (part : List S) → IsWithin part chosen → (by : By S) (r : ConditionalRequirement) → IsPresent by read → Contains (demands_by u root by).requirements r → IsActive u (Contains part) r →
       (list : List VersionSetId) × AllMeet part (map (matching u) list) × HasClause kinds by list r.requirement
@@ -123,14 +123,14 @@ module _ {N S : Type 0} (u : Universe N S) (ids : HasLawfulSolvables u) (package
     reached_is s (by_root r listed active candidate inside) =
       let w = of_clause ByRoot r s tt listed active candidate in (w.0, inr w.1)
     reached_is s (by_reached {t = t} r before listed active candidate inside) =
-      let w = of_clause (BySolvable t) r s (all_read t (is_chosen before)) listed active candidate in (w.0, inr w.1)
+      let w = of_clause (BySolvable t) r s (all_read t (is_chosen before) (reached_is t before).0) listed active candidate in (w.0, inr w.1)
 
     free_or_asked : (s : S) → Reached s → (Contains exempt s → ⊥) → Contains asked (u.name s)
     free_or_asked s h free = ⊎_elim (λ e. absurd (free e)) (λ a. a) (reached_is s h).1
 
-    present_read : (part : List S) → IsWithin part chosen → (by : By S) → IsPresent by part → IsPresent by read
-    present_read part within ByRoot h = tt
-    present_read part within (BySolvable s) h = all_read s (within s h)
+    present_read : (part : List S) → IsWithin part chosen → ((s : S) → Contains part s → Reached s) → (by : By S) → IsPresent by part → IsPresent by read
+    present_read part within reached ByRoot h = tt
+    present_read part within reached (BySolvable s) h = all_read s (within s h) (reached_is s (reached s h)).0
 
     is_made : (part : List S) (by : By S) (r : Requirement) (list : List VersionSetId) → AllMeet part (map (matching u) list) → HasClause kinds by list r → IsMade u kinds part by r
     is_made part by r list meets (has_direct disjunct is clause) =
@@ -141,11 +141,11 @@ module _ {N S : Type 0} (u : Universe N S) (ids : HasLawfulSolvables u) (package
     covers_reached part within reached = record {
       installs = state.installs;
       requirements = λ by r present asks active.
-        let w = has_clause part within by r (present_read part within by present) asks active in is_made part by r.requirement w.0 w.1 w.2;
+        let w = has_clause part within by r (present_read part within reached by present) asks active in is_made part by r.requirement w.0 w.1 w.2;
       helpers = state.helpers;
-      constraints = λ by v s present asks other inside. state.constraints by v s (present_read part within by present) asks other;
+      constraints = λ by v s present asks other inside. state.constraints by v s (present_read part within reached by present) asks other;
       instances = λ s t first second name differ. state.instances s t (reached_is s (reached s first)).0 (reached_is t (reached t second)).0 name differ;
       locks = λ s inside free out. (out.0, state.locks s out.0 (free_or_asked s (reached s inside) free) free out.1 out.2 out.3);
       exclusions = λ s reason inside free listed. state.exclusions s reason (free_or_asked s (reached s inside) free) free listed;
-      unknowns = λ s reason inside e. state.unknowns s reason (all_read s (within s inside)) e
+      unknowns = λ s reason inside e. state.unknowns s reason (all_read s (within s inside) (reached_is s (reached s inside)).0) e
     }

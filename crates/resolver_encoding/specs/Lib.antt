@@ -7,3 +7,4 @@ pub mod ReadState
 pub mod TrailAtoms
 pub mod Core
 pub mod Encodings
+pub mod Trails

@@ -1,10 +1,17 @@
 //! What the clauses say of sets of solvables.
 
-ghost use Rattle.std.specs.Prelude.{All, Bool, List, Vec, length, ℕ, ◌<◌};
+ghost use Rattle.std.specs.Prelude.{All, Bool, Contains, List, Vec, length, map, ℕ, ◌<◌, ◌≡◌, []};
 ghost use Rattle.std.specs.declared.alloc.Global.{Global};
 ghost use Rattle.resolver_clause_store.specs.Formula.{MakesTrue, Satisfies};
+ghost use Rattle.resolver_clause_store.specs.Lists.{HasNoRepeats};
+ghost use Rattle.resolver_clause_store.specs.Outcomes.{IsFinished};
+ghost use Rattle.resolver_clause_store.specs.TrailView.{length_of, variable_count};
+ghost use Rattle.resolver_clause_store.specs.Variables.{AreDistinct};
+ghost use Rattle.resolver_clause_store.specs.declared.RequirementClause.{RequirementClause};
+ghost use Rattle.resolver_clause_store.specs.declared.Trail.{Trail};
+ghost use Rattle.resolver_encoding.specs.Encodings.{IsAllRead, Notes};
+ghost use Rattle.resolver_encoding.specs.Trails.{solvables_before};
 ghost use Rattle.resolver_clause_store.specs.Laws.{HasLawfulPackages, IsIdentity};
-ghost use Rattle.resolver_clause_store.specs.Lists.{IsWithin};
 ghost use Rattle.resolver_clause_store.specs.Universe.{Demands, Universe};
 ghost use Rattle.resolver_clause_store.specs.Valid.{IsValid};
 ghost use Rattle.resolver_clause_store.specs.declared.ClauseKind.{ClauseKind};
@@ -52,13 +59,26 @@ pub fn finished_trails_are_answers<N, S>()
         IsAnswerBy u root chosen seeds exempt }
 {}
 
-/// The same, where the clauses are those of what was read.
+/// The same, where the clauses are those of what was read, and each chosen solvable that a clause asks for was read.
 ///
 /// The call does nothing: its contract is the law.
 pub fn read_trails_are_answers<N, S>()
     ensures { (u : Universe N S) (codes : N → ℕ → S → Bool) (root : Demands) (kinds : List (ClauseKind N S)) (deferred : List (Deferred S)) (read : List S) (asked : List N) (registered exempt : List S) (trail : List (Atom N S)) (chosen seeds refused : List S) →
         HasLawfulSolvables u → HasLawfulPackages u → AreCodes u codes → All (IsTrueClause u codes root) kinds → Spares u exempt kinds →
-        IsRead u root kinds deferred read asked registered exempt → AreSeeds u seeds chosen asked registered exempt → IsWithin chosen read → NoneFires u deferred chosen →
+        IsRead u root kinds deferred read asked registered exempt → AreSeeds u seeds chosen asked registered exempt → ((s : S) → Contains chosen s → Contains registered s → Contains read s) → NoneFires u deferred chosen →
         IsTrail u kinds seeds refused trail → IsSettled u kinds (Takes trail) → IsChosen trail chosen →
         IsAnswerBy u root chosen seeds exempt }
+{}
+
+/// A search that is finished over all that was read has an answer: the solvables that its trail makes true, each there by
+/// need and none twice.
+///
+/// The call does nothing: its contract is the law.
+pub fn finished_searches_are_answers<N, S>()
+    ensures answer { (u : Universe N S) (root : Demands) (notes : Notes N S) (requirements : List RequirementClause) (trail : Trail) →
+        HasLawfulSolvables u → HasLawfulPackages u → IsAllRead u root notes → notes.exempt ≡ [] →
+        map (λ r. r.number) requirements ≡ notes.requirements → variable_count trail ≡ length notes.origins → IsFinished notes.table requirements trail →
+        IsAnswerBy u root (solvables_before notes.origins trail (length_of trail)) [] [] }
+    ensures once { (origins : List (Origin N S)) (trail : Trail) → AreDistinct origins → variable_count trail ≡ length origins →
+        HasNoRepeats (solvables_before origins trail (length_of trail)) }
 {}

@@ -1,0 +1,41 @@
+-- A trail of variables as a trail of what they stand for.
+use Rattle.std.specs.Prelude.{ℕ, zero, suc, ◌≡◌, Bool, true, false, List, [], ◌∷◌, ◌++◌, slice_index_or, map}
+use Rattle.std.specs.Option.{option_map_or}
+use Rattle.resolver_clause_store.specs.TrailView.{slot_of, variable_at}
+use Rattle.resolver_clause_store.specs.declared.Literal.{Literal}
+use Rattle.resolver_clause_store.specs.declared.Origin.{Origin}
+use Rattle.resolver_clause_store.specs.declared.Origin.TheVariants.{Root, Solvable, Bit, Gate, ConstraintHelper, ConditionHelper}
+use Rattle.resolver_clause_store.specs.declared.Slot.{Slot}
+use Rattle.resolver_clause_store.specs.declared.Trail.{Trail}
+use Rattle.resolver_encoding.specs.Atoms.{Atom, atom}
+
+-- what a variable stands for
+abbrev pub origin_at : {N S : Type 0} → List (Origin N S) → ℕ → Origin N S
+origin_at origins variable = slice_index_or origins variable Root
+
+-- the value of a variable, and false where it has none
+abbrev pub value_of : Trail → ℕ → Bool
+value_of trail variable = option_map_or (λ (slot : Slot). slot.value) (slot_of trail variable) false
+
+-- what the entry at a place says
+abbrev pub entry_at : {N S : Type 0} → List (Origin N S) → Trail → ℕ → Atom N S
+entry_at origins trail place = atom (origin_at origins (variable_at trail place)) (value_of trail (variable_at trail place))
+
+-- what the entries at the first places say, the last one first
+abbrev pub atoms_before : {N S : Type 0} → List (Origin N S) → Trail → ℕ → List (Atom N S)
+atoms_before origins trail zero = []
+atoms_before origins trail (suc place) = entry_at origins trail place ∷ atoms_before origins trail place
+
+-- what the literals of a clause stand for
+abbrev pub atoms_by : {N S : Type 0} → List (Origin N S) → List Literal → List (Atom N S)
+atoms_by origins literals = map (λ (l : Literal). atom (origin_at origins l.variable) l.positive) literals
+
+-- the solvable, where it is one that is true
+abbrev pub solvable_if : {N S : Type 0} → Origin N S → Bool → List S
+solvable_if (Solvable s) true = s ∷ []
+solvable_if o b = []
+
+-- the solvables that the first places make true, in the order of the trail
+abbrev pub solvables_before : {N S : Type 0} → List (Origin N S) → Trail → ℕ → List S
+solvables_before origins trail zero = []
+solvables_before origins trail (suc place) = solvables_before origins trail place ++ solvable_if (origin_at origins (variable_at trail place)) (value_of trail (variable_at trail place))
