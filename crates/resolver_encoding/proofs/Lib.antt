@@ -10,3 +10,4 @@ pub mod Bridge
 pub mod Spared
 pub mod CoreLemmas
 pub mod CoreRules
+pub mod StatedLemmas

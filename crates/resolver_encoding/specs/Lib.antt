@@ -8,3 +8,4 @@ pub mod TrailAtoms
 pub mod Core
 pub mod Encodings
 pub mod Trails
+pub mod Stated

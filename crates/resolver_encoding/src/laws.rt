@@ -4,12 +4,12 @@ ghost use Rattle.std.specs.Prelude.{All, Bool, Contains, List, Vec, length, map,
 ghost use Rattle.std.specs.declared.alloc.Global.{Global};
 ghost use Rattle.resolver_clause_store.specs.Formula.{MakesTrue, Satisfies};
 ghost use Rattle.resolver_clause_store.specs.Lists.{HasNoRepeats};
-ghost use Rattle.resolver_clause_store.specs.Outcomes.{IsFinished};
+ghost use Rattle.resolver_clause_store.specs.Outcomes.{IsCore, IsFinished};
 ghost use Rattle.resolver_clause_store.specs.TrailView.{length_of, variable_count};
 ghost use Rattle.resolver_clause_store.specs.Variables.{AreDistinct};
 ghost use Rattle.resolver_clause_store.specs.declared.RequirementClause.{RequirementClause};
 ghost use Rattle.resolver_clause_store.specs.declared.Trail.{Trail};
-ghost use Rattle.resolver_encoding.specs.Encodings.{IsAllRead, Notes};
+ghost use Rattle.resolver_encoding.specs.Encodings.{IsAllRead, IsEncoding, Notes};
 ghost use Rattle.resolver_encoding.specs.Trails.{solvables_before};
 ghost use Rattle.resolver_clause_store.specs.Laws.{HasLawfulPackages, IsIdentity};
 ghost use Rattle.resolver_clause_store.specs.Universe.{Demands, Universe};
@@ -22,6 +22,8 @@ ghost use Rattle.resolver_encoding.specs.Atoms.{Atom};
 ghost use Rattle.resolver_encoding.specs.Core.{IsExplained, implied_in};
 ghost use Rattle.resolver_encoding.specs.Read.{IsSettled};
 ghost use Rattle.resolver_encoding.specs.ReadState.{AreSeeds, Deferred, IsRead, NoneFires};
+ghost use Rattle.resolver_encoding.specs.Stated.{stated_by_all};
+ghost use Rattle.resolver_encoding.specs.Statements.{statement_of};
 ghost use Rattle.resolver_encoding.specs.TrailAtoms.{CoversReached, IsAnswerBy, IsChosen, IsTrail, Takes};
 ghost use Rattle.resolver_encoding.specs.Truth.{HasLawfulSolvables, AreCodes, AreListed, AreStated, IsTrueClause, Spares, follows};
 ghost use Rattle.resolver_encoding.specs.Values.{AreEncoded, extension, kinds_at};
@@ -81,4 +83,15 @@ pub fn finished_searches_are_answers<N, S>()
         IsAnswerBy u root (solvables_before notes.origins trail (length_of trail)) [] [] }
     ensures once { (origins : List (Origin N S)) (trail : Trail) → AreDistinct origins → variable_count trail ≡ length origins →
         HasNoRepeats (solvables_before origins trail (length_of trail)) }
+{}
+
+/// The rules that the clauses of a core state, where the clauses are those of an encoding: they are true, and no set obeys
+/// them.
+///
+/// The call does nothing: its contract is the law.
+pub fn cores_of_encodings_explain<N, S>()
+    ensures { (u : Universe N S) (same_name : N → N → Bool) (root : Demands) (notes : Notes N S) (numbers : List ℕ) (rules : List (Rule N S)) →
+        HasLawfulSolvables u → IsIdentity same_name → IsEncoding u root notes → IsCore notes.table numbers →
+        map statement_of rules ≡ stated_by_all u (kinds_at notes.kinds numbers) →
+        IsExplained u root rules }
 {}

@@ -4,7 +4,7 @@
 mod laws;
 
 pub use laws::{
-    answers_satisfy_true_clauses, core_rules_explain, finished_searches_are_answers,
+    answers_satisfy_true_clauses, core_rules_explain, cores_of_encodings_explain, finished_searches_are_answers,
     finished_trails_are_answers,
     read_trails_are_answers,
 };
