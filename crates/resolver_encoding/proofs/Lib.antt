@@ -11,3 +11,4 @@ pub mod Spared
 pub mod CoreLemmas
 pub mod CoreRules
 pub mod StatedLemmas
+pub mod TrailLemmas

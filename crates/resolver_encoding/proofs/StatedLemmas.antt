@@ -1,5 +1,6 @@
 -- Rules that are what the clauses of a core state.
-use Rattle.std.proofs.Common.{◌≡◌, ◌⊎◌, ℕ, List, [], ◌∷◌, ◌++◌, Bool, true, false, inl, inr, refl, sym, ap, ◌∙◌, subst, ⊎_elim, Contains, All, length, get_or, ◌<◌}
+use Rattle.std.proofs.Common.{◌≡◌, ◌⊎◌, ℕ, List, [], ◌∷◌, ◌++◌, Bool, true, false, inl, inr, refl, sym, ap, ◌∙◌, subst, ⊎_elim, Contains, All, length, get_or, ◌<◌, ◌+◌, take, append-nil, append_assoc}
+use Rattle.std.proofs.lemmas.List.{take_more, map-append}
 use Rattle.std.specs.Prelude.{map}
 use Rattle.std.proofs.lemmas.Bool.{false≢true}
 use Rattle.std.proofs.lemmas.List.Elements.{All-contains, Contains-append_cases, Contains-append_left, Contains-append_right, All-map}
@@ -88,6 +89,10 @@ module _ {N S : Type 0} (u : Universe N S) where
           let w = all_back kinds (statement_of rule) (subst Has are (Contains-map statement_of rules rule inside)) in
           kind_states w.0 w.1 (statement_of rule) w.2
 
+stated_append : {N S : Type 0} (u : Universe N S) (kinds : List (ClauseKind N S)) (kind : ClauseKind N S) → stated_by_all u (kinds ++ kind ∷ []) ≡ stated_by_all u kinds ++ stated_by u kind
+stated_append u [] kind = append-nil (stated_by u kind)
+stated_append u (k ∷ ks) kind = ap (λ xs. stated_by u k ++ xs) (stated_append u ks kind) ∙ sym (append_assoc (stated_by u k) (stated_by_all u ks) (stated_by u kind))
+
 -- the rules that the clauses of a core state
 pub direct_core_explained : {N S : Type 0} (u : Universe N S) (same_name : N → N → Bool) (root : Demands) (notes : Notes N S) (numbers : List ℕ) (rules : List (Rule N S)) →
   HasLawfulSolvables u → IsIdentity same_name → IsEncoding u root notes → IsCore notes.table numbers → map statement_of rules ≡ stated_by_all u (kinds_at notes.kinds numbers) → IsExplained u root rules
@@ -101,3 +106,12 @@ direct_core_explained {N} {S} u same_name root notes numbers rules lawful names 
     core_explained u same_name no_codes root kinds rules lawful names (record { named = λ n i s e. absurd (false≢true e) }) are_true
       (listed u implies kinds direct no_bits rules are) (stated u implies kinds direct no_bits rules are)
       (core_contradicts u notes.origins notes.table notes.kinds numbers encoding.encoded within core.refuted)
+
+-- one more clause of a core
+pub stated_next : {N S : Type 0} (u : Universe N S) (kinds : List (ClauseKind N S)) (numbers : List ℕ) (i : ℕ) (n : ℕ) (kind : ClauseKind N S) (so_far next : List (Statement N S)) → i < length numbers → n ≡ get_or numbers i n → kind ≡ slice_index_or kinds n InstallRoot →
+  so_far ≡ stated_by_all u (kinds_at kinds (take i numbers)) → next ≡ so_far ++ stated_by u kind → next ≡ stated_by_all u (kinds_at kinds (take (i + 1) numbers))
+stated_next {N} {S} u kinds numbers i n kind so_far next below is kind_is before added =
+    let At : ℕ → ClauseKind N S = λ m. slice_index_or kinds m InstallRoot in
+    let more : take (i + 1) numbers ≡ take i numbers ++ n ∷ [] = take_more numbers i n below ∙ ap (λ m. take i numbers ++ m ∷ []) (sym is) in
+    added ∙ ap (λ xs. xs ++ stated_by u kind) before ∙ ap (λ k. stated_by_all u (kinds_at kinds (take i numbers)) ++ stated_by u k) kind_is
+      ∙ sym (ap (stated_by_all u) (ap (kinds_at kinds) more ∙ map-append At (take i numbers) (n ∷ [])) ∙ stated_append u (kinds_at kinds (take i numbers)) (At n))

@@ -1,5 +1,5 @@
 -- A trail of variables as a trail of what they stand for.
-use Rattle.std.specs.Prelude.{ℕ, zero, suc, ◌≡◌, Bool, true, false, List, [], ◌∷◌, ◌++◌, slice_index_or, map}
+use Rattle.std.specs.Prelude.{ℕ, zero, suc, ◌≡◌, Bool, true, false, List, [], ◌∷◌, ◌++◌, slice_index_or, map, Option, Some, None}
 use Rattle.std.specs.Option.{option_map_or}
 use Rattle.resolver_clause_store.specs.TrailView.{slot_of, variable_at}
 use Rattle.resolver_clause_store.specs.declared.Literal.{Literal}
@@ -34,6 +34,11 @@ atoms_by origins literals = map (λ (l : Literal). atom (origin_at origins l.var
 abbrev pub solvable_if : {N S : Type 0} → Origin N S → Bool → List S
 solvable_if (Solvable s) true = s ∷ []
 solvable_if o b = []
+
+-- the solvable, where it is one
+abbrev pub solvable_found : {N S : Type 0} → Option (Origin N S) → Option S
+solvable_found (Some (Solvable s)) = Some s
+solvable_found o = None
 
 -- the solvables that the first places make true, in the order of the trail
 abbrev pub solvables_before : {N S : Type 0} → List (Origin N S) → Trail → ℕ → List S

@@ -1,8 +1,12 @@
 //! Clauses that encode a provider's rules: what they state, and what follows for sets of solvables.
 #![tactic(auto)]
 
+mod chosen;
+mod explain;
 mod laws;
 
+pub use chosen::chosen_solvables;
+pub use explain::rules_of_clauses;
 pub use laws::{
     answers_satisfy_true_clauses, core_rules_explain, cores_of_encodings_explain, finished_searches_are_answers,
     finished_trails_are_answers,
