@@ -1,4 +1,5 @@
 pub mod ReachedRuleLemmas
+pub mod AskedLemmas
 pub mod ReachingLemmas
 pub mod SearchLemmas
 pub mod TrueRuleLemmas

@@ -1,5 +1,6 @@
 pub mod Rules
 pub mod ReachedRules
+pub mod Asked
 pub mod Reaching
 pub mod TrueRules
 pub mod TrueEdges

@@ -1,6 +1,7 @@
 //! Rules that explain a conflict, a plain search over them, and their graph.
 #![tactic(auto)]
 
+mod askers;
 mod build;
 mod edges;
 mod graph;
