@@ -9,6 +9,8 @@ pub mod ListLemmas
 pub mod GraphLemmas
 pub mod ShapeLemmas
 pub mod AlikeLemmas
+pub mod OrderedLemmas
+pub mod KeyLemmas
 pub mod SimplifyLemmas
 pub mod PlaceLemmas
 pub mod MarkLemmas

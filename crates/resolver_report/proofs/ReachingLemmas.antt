@@ -17,7 +17,8 @@ use Rattle.resolver_clause_store.specs.declared.Requirement.{Requirement}
 use Rattle.resolver_clause_store.specs.declared.By.TheVariants.{Root, Solvable}
 use Rattle.resolver_report.specs.declared.rules.Rule.{Rule}
 use Rattle.resolver_report.specs.declared.rules.Rule.TheVariants.{Requires, Constrains, Lock, Excluded, OnePerPackage}
-use Rattle.resolver_report.specs.Asked.{asked_in, items_if, root_asked_in}
+use Rattle.resolver_report.specs.Asked.{asked_in, root_asked_in}
+use Rattle.resolver_report.specs.Listed.{items_if}
 use Rattle.resolver_report.specs.ReachedRules.{IsReachedBy, by_root, by_reached, IsAskerReached, IsKept, LeavesJust}
 use Rattle.resolver_report.specs.Reaching.{IsAbout, IsReachedSet}
 use Rattle.resolver_report.specs.Rules.{IsPresent}

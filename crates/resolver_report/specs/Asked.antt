@@ -1,19 +1,12 @@
 -- What the requirements of each asker list.
-use Rattle.std.specs.Prelude.{◌≡◌, Bool, if◌then◌else◌, List, [], Option, Some, None, Vec}
-use Rattle.std.proofs.Common.{Global}
+use Rattle.std.specs.Prelude.{◌≡◌, Bool, List, []}
 use Rattle.std.specs.List.{flat_map}
 use Rattle.std.specs.HashMap.{get}
 use Rattle.resolver_clause_store.specs.declared.By.TheVariants.{Root, Solvable}
 use Rattle.resolver_report.specs.declared.askers.Asked.{Asked}
+use Rattle.resolver_report.specs.Listed.{items_at, items_if}
 use Rattle.resolver_report.specs.declared.rules.Rule.{Rule}
 use Rattle.resolver_report.specs.declared.rules.Rule.TheVariants.{Requires, Constrains, Lock, Excluded, OnePerPackage}
-
-abbrev pub items_if : {X : Type 0} → Bool → List X → List X
-items_if b xs = if b then xs else []
-
-abbrev pub items_at : {X : Type 0} → Option (Vec X Global) → List X
-items_at None = []
-items_at (Some v) = v.items
 
 -- the candidates of a requirement of the root
 abbrev pub root_asked_in : {N S : Type 0} → Rule N S → List S

@@ -2,8 +2,10 @@
 
 ghost use Rattle.std.specs.Prelude.{◌≡◌, ◌++◌, IfOk, IfErr, OnOk};
 ghost use Rattle.std.specs.HashMap.{get};
-ghost use Rattle.resolver_report.specs.Asked.{HasAsked, asked_in, items_at, items_if, root_asked_in};
+ghost use Rattle.resolver_report.specs.Asked.{HasAsked, asked_in, root_asked_in};
+ghost use Rattle.resolver_report.specs.Listed.{items_at};
 
+use crate::listed::extend_at;
 use crate::rules::Rule;
 use resolver_clause_store::{By, Exhausted};
 use std::alloc::Global;
@@ -15,28 +17,6 @@ use std::hash::Hash;
 pub struct Asked<S: Eq + Hash> {
     pub(crate) by_root: Vec<S>,
     pub(crate) by_solvable: HashMap<S, Vec<S>>,
-}
-
-/// Adds solvables to the list of a key.
-fn extend_at<S: Copy + Eq + Hash + Drop>(
-    alloc: Global,
-    lists: &mut HashMap<S, Vec<S>>,
-    key: S,
-    more: &[S],
-) -> Result<(), Exhausted>
-    ensures added { OnOk result ((s : S) → items_at (get S.eq lists.new s) ≡ items_at (get S.eq lists.old s) ++ items_if (S.eq key s) more.now) }
-    ensures memory { IfErr result (λ e. e ≡ Exhausted.Memory) }
-{
-    match lists.get_mut(&key) {
-        Some(list) => {
-            list.extend_from_slice(more)?;
-            Ok(())
-        }
-        None => {
-            lists.insert(key, Vec::from_slice(alloc, more)?)?;
-            Ok(())
-        }
-    }
 }
 
 /// Adds what a rule asks for, if it does.

@@ -3,11 +3,13 @@
 
 mod askers;
 mod build;
+mod classes;
 mod edges;
 mod graph;
 mod keys;
 mod laws;
 mod links;
+mod listed;
 mod parts;
 mod places;
 mod plain;

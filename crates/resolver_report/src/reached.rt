@@ -5,7 +5,7 @@ ghost use Rattle.std.specs.HashMap.{get};
 ghost use Rattle.indexmap.specs.IndexSet.{insert_all};
 ghost use Rattle.resolver_clause_store.specs.Laws.{IsIdentity};
 ghost use Rattle.resolver_report.specs.ReachedRules.{IsKept, LeavesJust, LeavesKept};
-ghost use Rattle.resolver_report.specs.Asked.{items_at};
+ghost use Rattle.resolver_report.specs.Listed.{items_at};
 ghost use Rattle.resolver_report.specs.Reaching.{IsAbout, IsReachedSet};
 ghost use Rattle.resolver_report.specs.Rules.{IsPresent, IsRefuted};
 

@@ -1,7 +1,8 @@
 use Rattle.std.proofs.Common.{◌≡◌, take}
 use Rattle.std.specs.HashMap.{get}
 use Rattle.std.specs.List.{flat_map}
-use Rattle.resolver_report.specs.Asked.{asked_in, items_at, root_asked_in}
+use Rattle.resolver_report.specs.Asked.{asked_in, root_asked_in}
+use Rattle.resolver_report.specs.Listed.{items_at}
 use Rattle.resolver_report.proofs.askers.asked_of.Given as goal
 
 abbrev pub invariant-loop-rule : goal.invariant-loop-rule
