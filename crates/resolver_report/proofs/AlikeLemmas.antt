@@ -11,19 +11,19 @@ use Rattle.resolver_report.specs.declared.parts.Side.{Side}
 use Rattle.resolver_report.specs.Same.{same_requirement}
 use Rattle.resolver_report.specs.Merging.{same_required, same_side, has_count, same_counts, same_texts, Key, are_alike, are_alike_if_there, class_in, first_of_two}
 
-and_left : (a b : Bool) → (a && b) ≡ true → a ≡ true
+pub and_left : (a b : Bool) → (a && b) ≡ true → a ≡ true
 and_left true b e = refl
 and_left false b e = absurd (false≢true e)
 
-and_right : (a b : Bool) → (a && b) ≡ true → b ≡ true
+pub and_right : (a b : Bool) → (a && b) ≡ true → b ≡ true
 and_right true b e = e
 and_right false b e = absurd (false≢true e)
 
-both_true : (a b : Bool) → a ≡ true → b ≡ true → (a && b) ≡ true
+pub both_true : (a b : Bool) → a ≡ true → b ≡ true → (a && b) ≡ true
 both_true true b e f = f
 both_true false b e f = absurd (false≢true e)
 
-same_bool : (a b : Bool) → (a ≡ true → b ≡ true) → (b ≡ true → a ≡ true) → a ≡ b
+pub same_bool : (a b : Bool) → (a ≡ true → b ≡ true) → (b ≡ true → a ≡ true) → a ≡ b
 same_bool true b f g = sym (f refl)
 same_bool false true f g = g refl
 same_bool false false f g = refl
@@ -31,7 +31,7 @@ same_bool false false f g = refl
 same_numbers : (m n : ℕ) → (m == n) ≡ true → m ≡ n
 same_numbers m n e = search (rules, e)
 
-itself_number : (m : ℕ) → (m == m) ≡ true
+pub itself_number : (m : ℕ) → (m == m) ≡ true
 itself_number m = search rules
 
 requirement_alone : (r q : Requirement) → same_requirement r q ≡ true → r ≡ q
@@ -46,7 +46,7 @@ required_alone None None e = refl
 required_alone (Some r) None e = absurd (false≢true e)
 required_alone None (Some q) e = absurd (false≢true e)
 
-side_alone : (a b : Side) → same_side a b ≡ true → a ≡ b
+pub side_alone : (a b : Side) → same_side a b ≡ true → a ≡ b
 side_alone a b e =
     let required : a.required ≡ b.required = required_alone a.required b.required (and_left (same_required a.required b.required) (a.other.0 == b.other.0) e) in
     let other : a.other.0 ≡ b.other.0 = same_numbers a.other.0 b.other.0 (and_right (same_required a.required b.required) (a.other.0 == b.other.0) e) in
@@ -64,7 +64,7 @@ module _ {X : Type 0} (same : X → X → Bool) (alone : (a b : X) → same a b 
       at_test false e (inl k) = inl (omega (arith, k))
       at_test false e (inr k) = inr k
 
-  counts_agree : same_counts same xs ys ≡ true → (x : X) → count_by (same x) xs ≡ count_by (same x) ys
+  pub counts_agree : same_counts same xs ys ≡ true → (x : X) → count_by (same x) xs ≡ count_by (same x) ys
   counts_agree h x =
       let here = counted x xs (and_left (list_all (has_count same xs ys) xs) (list_all (has_count same xs ys) ys) h) in
       let there = counted x ys (and_right (list_all (has_count same xs ys) xs) (list_all (has_count same xs ys) ys) h) in
@@ -79,7 +79,7 @@ module _ {X : Type 0} (same : X → X → Bool) (alone : (a b : X) → same a b 
   all_agree agree [] = refl
   all_agree agree (z ∷ zs) = both_true (has_count same xs ys z) (list_all (has_count same xs ys) zs) (ap (λ n. n == count_by (same z) ys) (agree z) ∙ itself_number (count_by (same z) ys)) (all_agree agree zs)
 
-  agree_counts : ((x : X) → count_by (same x) xs ≡ count_by (same x) ys) → same_counts same xs ys ≡ true
+  pub agree_counts : ((x : X) → count_by (same x) xs ≡ count_by (same x) ys) → same_counts same xs ys ≡ true
   agree_counts agree = both_true (list_all (has_count same xs ys) xs) (list_all (has_count same xs ys) ys) (all_agree agree xs) (all_agree agree ys)
 
 -- lists with the same counts have the same counts as a third
@@ -89,7 +89,7 @@ counts_alike same alone xs ys zs h =
     (λ k. agree_counts same alone ys zs (λ x. sym (counts_agree same alone xs ys h x) ∙ counts_agree same alone xs zs k x))
     (λ k. agree_counts same alone xs zs (λ x. counts_agree same alone xs ys h x ∙ counts_agree same alone ys zs k x))
 
-texts_pointwise : (a b : List ℕ) → pointwise nat_eq a b ≡ true → a ≡ b
+pub texts_pointwise : (a b : List ℕ) → pointwise nat_eq a b ≡ true → a ≡ b
 texts_pointwise [] [] e = refl
 texts_pointwise [] (y ∷ ys) e = absurd (false≢true e)
 texts_pointwise (x ∷ xs) [] e = absurd (false≢true e)

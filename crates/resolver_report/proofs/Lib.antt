@@ -1,4 +1,5 @@
 pub mod ReachedRuleLemmas
+pub mod AskedLemmas
 pub mod ReachingLemmas
 pub mod SearchLemmas
 pub mod TrueRuleLemmas
@@ -8,6 +9,8 @@ pub mod ListLemmas
 pub mod GraphLemmas
 pub mod ShapeLemmas
 pub mod AlikeLemmas
+pub mod OrderedLemmas
+pub mod KeyLemmas
 pub mod SimplifyLemmas
 pub mod PlaceLemmas
 pub mod MarkLemmas

@@ -20,21 +20,28 @@ use Rattle.resolver_report.specs.declared.parts.Link.{Link}
 use Rattle.resolver_report.specs.declared.rules.Rule.{Rule}
 use Rattle.resolver_report.specs.declared.rules.Rule.TheVariants.{Requires, Constrains, Lock, Excluded, OnePerPackage}
 use Rattle.resolver_report.specs.Same.{same_node}
-use Rattle.resolver_report.specs.Graphs.{node_by, mentioned, mentions, first_mentions, requirement_link, requirement_links, links_of, links_after, links, is_entered, place_in, edge_in, graph_with, graph_of}
+use Rattle.resolver_report.specs.Graphs.{node_by, mentioned, mentions, first_mentions, requirement_link, requirement_links, marked_last, mark_links, links_of, links_after, links, is_entered, place_in, edge_in, graph_with, graph_of}
 use Rattle.resolver_report.specs.ReachedRules.{IsReachedBy, by_root, by_reached, IsAskerReached, IsKept}
-use Rattle.resolver_report.specs.ReachedPlaces.{IsReachedPlace, at_root, by_edge, AreNodesReached}
+use Rattle.resolver_report.specs.ReachedPlaces.{IsWalkedTo, at_root, by_requirement, IsReachedPlace, by_walk, by_edge, AreNodesReached}
+use Rattle.resolver_report.specs.Shapes.{as_solvable, ConflictShape}
+use Rattle.resolver_report.proofs.TrueEdgeLemmas.{stands}
 use Rattle.resolver_report.proofs.GraphLemmas.{same_node_is_identity, has-without_repeats, without_repeats_once}
-use Rattle.resolver_report.proofs.ShapeLemmas.{at_other, at_one, swapped_once, AllByRecursion-append, Has, HasEnds, links_ends, without_unresolved}
+use Rattle.resolver_report.proofs.ShapeLemmas.{at_other, at_one, swapped_once, AllByRecursion-append, Has, EndsIn, first_ends, without_unresolved, without_ends}
 
 mapped : {X Y : Type 0} (f : X → Y) (xs : List X) (x : X) → Contains xs x → Contains (map f xs) (f x)
 mapped f [] x h = absurd (omega (arith, h.1))
 mapped f (y ∷ ys) x (zero, below, is) = (zero, omega arith, ap f is)
 mapped f (y ∷ ys) x (suc k, below, is) = Contains-append_right (f y ∷ []) (map f ys) (f x) (mapped f ys x (k, omega (arith, below), is))
 
--- a path of links leads from the root to the node
+-- links that require lead from the root to the node, over solvables alone
+pub data IsWalkedNode {S : Type 0} (ls : List (Link S)) : ConflictNode S → Type 0 where
+  from_root : IsWalkedNode ls Root
+  by_required : (source : ConflictNode S) (r : Requirement) (s : S) → Contains ls (requirement_link source r (Solvable s)) → IsWalkedNode ls source → IsWalkedNode ls (Solvable s)
+
+-- so, or it is no solvable, and a link leads to it from such a node
 pub data IsReachedNode {S : Type 0} (ls : List (Link S)) : ConflictNode S → Type 0 where
-  from_root : IsReachedNode ls Root
-  by_link : (l : Link S) → Contains ls l → IsReachedNode ls l.source → IsReachedNode ls l.target
+  by_nodes : {n : ConflictNode S} → IsWalkedNode ls n → IsReachedNode ls n
+  by_link : (l : Link S) → Contains ls l → as_solvable (Some l.target) ≡ None → IsWalkedNode ls l.source → IsReachedNode ls l.target
 
 requirement_link_in : {S : Type 0} (source : ConflictNode S) (r : Requirement) (cs : List S) (s : S) → Contains cs s → Contains (requirement_links source r cs) (requirement_link source r (Solvable s))
 requirement_link_in source r [] s h = absurd (omega (arith, h.1))
@@ -53,31 +60,34 @@ module _ {N S : Type 0} (same_name : N → N → Bool) where
     abbrev Reached : ConflictNode S → Type 0
     Reached n = IsReachedNode (links same_name rules) n
 
-    candidate_node : (by : By S) (requirement : Requirement) (candidates : Vec S Global) (when : Vec (Vec S Global) Global) (s : S) → Contains rules (Requires by requirement candidates when) → Contains candidates.items s → Reached (node_by by) → Reached (Solvable s)
+    abbrev Walked : ConflictNode S → Type 0
+    Walked n = IsWalkedNode (links same_name rules) n
+
+    candidate_node : (by : By S) (requirement : Requirement) (candidates : Vec S Global) (when : Vec (Vec S Global) Global) (s : S) → Contains rules (Requires by requirement candidates when) → Contains candidates.items s → Walked (node_by by) → Walked (Solvable s)
     candidate_node by requirement candidates when s listed inside asker =
-        by_link (requirement_link (node_by by) requirement (Solvable s))
+        by_required (node_by by) requirement s
         (link_in [] rules (Requires by requirement candidates when) (requirement_link (node_by by) requirement (Solvable s)) listed (λ before. requirement_link_in (node_by by) requirement candidates.items s inside)) asker
 
-    reached_node : (s : S) → IsReachedBy rules s → Reached (Solvable s)
+    reached_node : (s : S) → IsReachedBy rules s → Walked (Solvable s)
     reached_node s (by_root {requirement = requirement} {candidates = candidates} {when = when} listed inside) = candidate_node ByRoot requirement candidates when s listed inside from_root
     reached_node s (by_reached {t = t} {requirement = requirement} {candidates = candidates} {when = when} r listed inside) = candidate_node (BySolvable t) requirement candidates when s listed inside (reached_node t r)
 
-    asker_node : (by : By S) → IsAskerReached rules by → Reached (node_by by)
+    asker_node : (by : By S) → IsAskerReached rules by → Walked (node_by by)
     asker_node ByRoot h = from_root
     asker_node (BySolvable s) h = reached_node s h
 
-    solvable_nodes : (cs : List S) → ((s : S) → Contains cs s → Reached (Solvable s)) → AllByRecursion Reached (map Solvable cs)
+    solvable_nodes : (cs : List S) → ((s : S) → Contains cs s → Walked (Solvable s)) → AllByRecursion Reached (map Solvable cs)
     solvable_nodes [] f = tt
-    solvable_nodes (c ∷ cs) f = (f c (zero, omega arith, refl), solvable_nodes cs (λ s h. f s (Contains-append_right (c ∷ []) cs s h)))
+    solvable_nodes (c ∷ cs) f = (by_nodes (f c (zero, omega arith, refl)), solvable_nodes cs (λ s h. f s (Contains-append_right (c ∷ []) cs s h)))
 
     mentioned_nodes : (rule : Rule N S) → Contains rules rule → IsKept rules rule → AllByRecursion Reached (mentioned rule)
-    mentioned_nodes (Requires by requirement candidates when) listed h = (asker_node by h, solvable_nodes candidates.items (λ s inside. candidate_node by requirement candidates when s listed inside (asker_node by h)))
-    mentioned_nodes (Constrains by version_set candidate) listed (asker, h) = (asker_node by asker, (reached_node candidate h, tt))
-    mentioned_nodes (Lock locked forbidden) listed h = (reached_node forbidden h, tt)
+    mentioned_nodes (Requires by requirement candidates when) listed h = (by_nodes (asker_node by h), solvable_nodes candidates.items (λ s inside. candidate_node by requirement candidates when s listed inside (asker_node by h)))
+    mentioned_nodes (Constrains by version_set candidate) listed (asker, h) = (by_nodes (asker_node by asker), (by_nodes (reached_node candidate h), tt))
+    mentioned_nodes (Lock locked forbidden) listed h = (by_nodes (reached_node forbidden h), tt)
     mentioned_nodes (Excluded solvable reason) listed h =
         let l : Link S = record { source = Solvable solvable; target = Reason reason; weight = Conflict ByExclusion } in
-        (reached_node solvable h, (by_link l (link_in [] rules (Excluded solvable reason) l listed (λ before. (zero, omega arith, refl))) (reached_node solvable h), tt))
-    mentioned_nodes (OnePerPackage name instance) listed h = (reached_node instance h, tt)
+        (by_nodes (reached_node solvable h), (by_link l (link_in [] rules (Excluded solvable reason) l listed (λ before. (zero, omega arith, refl))) refl (reached_node solvable h), tt))
+    mentioned_nodes (OnePerPackage name instance) listed h = (by_nodes (reached_node instance h), tt)
 
     all_mentioned : (rs : List (Rule N S)) → ((r : Rule N S) → Contains rs r → Contains rules r) → All (IsKept rules) rs → AllByRecursion Reached (flat_map mentioned rs)
     all_mentioned [] up h = tt
@@ -94,7 +104,7 @@ module _ {N S : Type 0} (same_name : N → N → Bool) where
     reached_all (x ∷ xs) h = (inl h.0, reached_all xs h.1)
 
     mentions_reached : All (IsKept rules) rules → AllByRecursion ReachedOrUnresolved (mentions rules)
-    mentions_reached h = (inl from_root, (inr refl, reached_all (flat_map mentioned rules) (all_mentioned rules (λ r inside. inside) h)))
+    mentions_reached h = (inl (by_nodes from_root), (inr refl, reached_all (flat_map mentioned rules) (all_mentioned rules (λ r inside. inside) h)))
 
     module _ (same : S → S → Bool) (identity : IsIdentity same) where
       itself : (n : ConflictNode S) → same_node same n n ≡ true
@@ -116,15 +126,33 @@ module _ {N S : Type 0} (same_name : N → N → Bool) where
           apart j h true e = absurd (once j k Root h below ((same_node_is_identity same identity).alone (get_or ms j Root) (get_or ms k Root) e))
           apart j h false e = e
 
-      place_reached : (ms : List (ConflictNode S)) (ls : List (Link S)) (unresolved : Option ℕ) → place_in same ms Root ≡ 0 → {n : ConflictNode S} → IsReachedNode ls n → IsReachedPlace (graph_with same ms ls unresolved) (place_in same ms n)
-      place_reached ms ls unresolved root from_root = subst (IsReachedPlace (graph_with same ms ls unresolved)) (sym root) at_root
-      place_reached ms ls unresolved root (by_link l inside r) = by_edge (edge_in same ms l) (mapped (edge_in same ms) ls l inside) (place_reached ms ls unresolved root r)
+      -- Of nodes that have both ends of each link.
+      module _ (ms : List (ConflictNode S)) (unresolved : Option ℕ) (ends : AllByRecursion (EndsIn same identity ms) (links same_name rules)) where
+        abbrev graph : ConflictShape S
+        graph = graph_with same ms (links same_name rules) unresolved
 
-      places_reached : (ms : List (ConflictNode S)) (unresolved : Option ℕ) → HasNoRepeats ms → 0 < length ms → get_or ms 0 Root ≡ Root → ((k : ℕ) → k < length ms → Reached (get_or ms k Root)) → AreNodesReached (graph_with same ms (links same_name rules) unresolved)
-      places_reached ms unresolved once some first all k below =
-          let Placed : ConflictNode S → Type 0 = λ n. place_in same ms n ≡ 0 in
-          let root : place_in same ms Root ≡ 0 = subst Placed first (place_is ms once 0 some) in
-          subst (IsReachedPlace (graph_with same ms (links same_name rules) unresolved)) (place_is ms once k below) (place_reached ms (links same_name rules) unresolved root (all k below))
+        ends_of : (l : Link S) → Contains (links same_name rules) l → EndsIn same identity ms l
+        ends_of l inside = All-contains (EndsIn same identity ms) (links same_name rules) l (All-from_recursion (EndsIn same identity ms) (links same_name rules) ends) inside
+
+        edge_inside : (l : Link S) → Contains (links same_name rules) l → Contains graph.shape.edges (edge_in same ms l)
+        edge_inside l inside = mapped (edge_in same ms) (links same_name rules) l inside
+
+        place_walked : place_in same ms Root ≡ 0 → {n : ConflictNode S} → Walked n → IsWalkedTo graph (place_in same ms n)
+        place_walked root from_root = subst (IsWalkedTo graph) (sym root) at_root
+        place_walked root (by_required source r s inside walked) =
+            let l : Link S = requirement_link source r (Solvable s) in
+            by_requirement (edge_in same ms l) r s (edge_inside l inside) refl (ap as_solvable (stands same identity ms (Solvable s) (ends_of l inside).1)) (place_walked root walked)
+
+        place_reached : place_in same ms Root ≡ 0 → {n : ConflictNode S} → Reached n → IsReachedPlace graph (place_in same ms n)
+        place_reached root (by_nodes walked) = by_walk (place_walked root walked)
+        place_reached root (by_link l inside other walked) =
+            by_edge (edge_in same ms l) (edge_inside l inside) (ap as_solvable (stands same identity ms l.target (ends_of l inside).1) ∙ other) (place_walked root walked)
+
+        places_reached : HasNoRepeats ms → 0 < length ms → get_or ms 0 Root ≡ Root → ((k : ℕ) → k < length ms → Reached (get_or ms k Root)) → AreNodesReached graph
+        places_reached once some first all k below =
+            let Placed : ConflictNode S → Type 0 = λ n. place_in same ms n ≡ 0 in
+            let root : place_in same ms Root ≡ 0 = subst Placed first (place_is ms once 0 some) in
+            subst (IsReachedPlace graph) (place_is ms once k below) (place_reached root (all k below))
 
       module _ (kept : All (IsKept rules) rules) where
         abbrev firsts : List (ConflictNode S)
@@ -147,15 +175,40 @@ module _ {N S : Type 0} (same_name : N → N → Bool) where
             at_test true e k rest = (x, (zero, omega arith, refl), (same_node_is_identity same identity).alone x.target UnresolvedDependency e)
             at_test false e k rest = let found = rest k in (found.0, Contains-append_right (x ∷ []) xs found.0 found.1, found.2)
 
-        source_reached : (l : Link S) → Contains (links same_name rules) l → Reached l.source
-        source_reached l inside =
-            let ends : HasEnds same identity (mentions rules) l = All-contains (HasEnds same identity (mentions rules)) (links same_name rules) l (All-from_recursion (HasEnds same identity (mentions rules)) (links same_name rules) (links_ends same identity same_name rules)) inside in
-            elim (all_has ReachedOrUnresolved (mentions rules) l.source (mentions_reached kept) ends.0) [ inl h ↦ h | inr e ↦ absurd (ends.2 e) ]
+        -- what is linked to the unresolved node is walked to
+        abbrev IsFromWalked : Link S → Type 0
+        IsFromWalked l = l.target ≡ UnresolvedDependency → Walked l.source
+
+        required_from : (source : ConflictNode S) (r : Requirement) (cs : List S) → Walked source → AllByRecursion IsFromWalked (map (λ d. requirement_link source r (Solvable d)) cs)
+        required_from source r [] walked = tt
+        required_from source r (c ∷ cs) walked = ((λ e. walked), required_from source r cs walked)
+
+        requirement_from : (source : ConflictNode S) (r : Requirement) (cs : List S) → Walked source → AllByRecursion IsFromWalked (requirement_links source r cs)
+        requirement_from source r [] walked = ((λ e. walked), tt)
+        requirement_from source r (c ∷ cs) walked = required_from source r (c ∷ cs) walked
+
+        mark_from : (o : Option S) (s : S) → AllByRecursion IsFromWalked (mark_links o s)
+        mark_from None s = tt
+        mark_from (Some t) s = ((λ e. absurd cc), tt)
+
+        links_of_from : (earlier : List (Rule N S)) (rule : Rule N S) → IsKept rules rule → AllByRecursion IsFromWalked (links_of same_name earlier rule)
+        links_of_from earlier (Requires by requirement candidates when) h = requirement_from (node_by by) requirement candidates.items (asker_node by h)
+        links_of_from earlier (Constrains by version_set candidate) h = ((λ e. absurd cc), tt)
+        links_of_from earlier (Lock locked forbidden) h = ((λ e. absurd cc), tt)
+        links_of_from earlier (Excluded solvable reason) h = ((λ e. absurd cc), tt)
+        links_of_from earlier (OnePerPackage name instance) h = mark_from (marked_last same_name name earlier) instance
+
+        links_from : (earlier rs : List (Rule N S)) → All (IsKept rules) rs → AllByRecursion IsFromWalked (links_after same_name earlier rs)
+        links_from earlier [] h = tt
+        links_from earlier (r ∷ rs) h =
+            AllByRecursion-append IsFromWalked (links_of same_name earlier r) (links_after same_name (r ∷ earlier) rs)
+            (links_of_from earlier r (All-head (IsKept rules) r rs h)) (links_from (r ∷ earlier) rs (All-tail (IsKept rules) r rs h))
 
         unresolved_reached : is_entered same (links same_name rules) ≡ true → Reached UnresolvedDependency
         unresolved_reached h =
             let found = entering (links same_name rules) h in
-            subst (IsReachedNode (links same_name rules)) found.2 (by_link found.0 found.1 (source_reached found.0 found.1))
+            let walked : Walked found.0.source = All-contains IsFromWalked (links same_name rules) found.0 (All-from_recursion IsFromWalked (links same_name rules) (links_from [] rules kept)) found.1 found.2 in
+            subst (IsReachedNode (links same_name rules)) found.2 (by_link found.0 found.1 (ap (λ n. as_solvable (Some n)) found.2) walked)
 
         entered_node : is_entered same (links same_name rules) ≡ true → (k : ℕ) → k < length firsts → Reached (get_or firsts k Root)
         entered_node h k below = elim (first_node k below) [ inl r ↦ r | inr e ↦ subst (IsReachedNode (links same_name rules)) (sym e) (unresolved_reached h) ]
@@ -183,13 +236,13 @@ module _ {N S : Type 0} (same_name : N → N → Bool) where
         left_root : (h : 0 < length left) → get_or left 0 Root ≡ Root
         left_root h = at_other firsts Root (omega arith) 0 Root (left_below 0 h) (omega arith)
 
-        left_places : 0 < length left → AreNodesReached (graph_with same left (links same_name rules) None)
-        left_places some = places_reached left None (swapped_once firsts Root (omega arith) firsts_once) some (left_root some) (λ k h. left_node k (left_below k h))
+        left_places : is_entered same (links same_name rules) ≡ false → 0 < length left → AreNodesReached (graph_with same left (links same_name rules) None)
+        left_places e some = places_reached left None (without_ends same identity same_name rules e) (swapped_once firsts Root (omega arith) firsts_once) some (left_root some) (λ k h. left_node k (left_below k h))
 
         pub graph_of_kept_rules : AreNodesReached (graph_of same_name same rules)
         graph_of_kept_rules = at_entered (is_entered same (links same_name rules)) refl
           where
             at_entered : (b : Bool) → is_entered same (links same_name rules) ≡ b →
                 AreNodesReached (cond b (graph_with same firsts (links same_name rules) (Some 1)) (graph_with same left (links same_name rules) None))
-            at_entered true e = places_reached firsts (Some 1) firsts_once (omega arith) refl (entered_node e)
-            at_entered false e = λ k below. left_places (omega (arith, below)) k below
+            at_entered true e = places_reached firsts (Some 1) (first_ends same identity same_name rules) firsts_once (omega arith) refl (entered_node e)
+            at_entered false e = λ k below. left_places e (omega (arith, below)) k below

@@ -1,12 +1,13 @@
--- Why the rounds end, and with just what is reached.
-use Rattle.std.proofs.Common.{◌≡◌, zero, suc, ◌+◌, ◌<◌, ◌≤◌, Bool, true, false, List, [], ◌∷◌, ◌++◌, length, append_assoc, length-append, refl, sym, ◌∙◌, ap, subst, true≢false, inl, inr, arith, Contains, MatchBool, Vec, Global}
+-- Why following what is reached ends, and with just what is reached.
+use Rattle.std.proofs.Common.{◌≡◌, ◌⊎◌, ℕ, zero, suc, ◌+◌, ◌-◌, ◌<◌, ◌≤◌, Bool, true, false, List, [], ◌∷◌, ◌++◌, length, append_assoc, length-append, refl, sym, ◌∙◌, ap, subst, true≢false, inl, inr, arith, Contains, MatchBool, Vec, Global}
 use Rattle.std.specs.Cmp.{IsEquivalence}
-use Rattle.std.specs.List.{list_any, items_where_true}
+use Rattle.std.specs.List.{flat_map, list_any, items_where_true}
 use Rattle.std.specs.List.Retain.{IsFiltered, ReturnsInTurn}
-use Rattle.std.specs.Prelude.{if◌then◌else◌}
+use Rattle.std.specs.Prelude.{if◌then◌else◌, Some, slice_get}
 use Rattle.std.proofs.lemmas.List.{append-nil}
-use Rattle.std.proofs.lemmas.List.Elements.{All-cons, All-nil, All-weaker, Contains-append_left, Contains-append_right, Contains-push_cases}
+use Rattle.std.proofs.lemmas.List.Elements.{All-cons, All-nil, Contains-append_left, Contains-append_right, Contains-push_cases, All-weaker}
 use Rattle.std.proofs.lemmas.Map.Views.{list_any-from_Contains, Contains-from_any}
+use Rattle.std.proofs.lemmas.Option.{get_or_from_slice_get, slice_get-get_or, slice_get_within}
 use Rattle.indexmap.proofs.CallerLemmas.{Contains-insert_key}
 use Rattle.indexmap.specs.IndexSet.{insert_all, insert_key}
 use Rattle.resolver_clause_store.specs.Laws.{IsIdentity}
@@ -16,10 +17,13 @@ use Rattle.resolver_clause_store.specs.declared.Requirement.{Requirement}
 use Rattle.resolver_clause_store.specs.declared.By.TheVariants.{Root, Solvable}
 use Rattle.resolver_report.specs.declared.rules.Rule.{Rule}
 use Rattle.resolver_report.specs.declared.rules.Rule.TheVariants.{Requires, Constrains, Lock, Excluded, OnePerPackage}
+use Rattle.resolver_report.specs.Asked.{asked_in, root_asked_in}
+use Rattle.resolver_report.specs.Listed.{items_if}
 use Rattle.resolver_report.specs.ReachedRules.{IsReachedBy, by_root, by_reached, IsAskerReached, IsKept, LeavesJust}
-use Rattle.resolver_report.specs.Reaching.{IsAbout, IsReachedSet, has_asker, reach, reach_all}
+use Rattle.resolver_report.specs.Reaching.{IsAbout, IsReachedSet}
 use Rattle.resolver_report.specs.Rules.{IsPresent}
-use Rattle.resolver_report.proofs.SearchLemmas.{all_candidates, candidates_in, count_outside, count_outside-lt, list_any-outside}
+use Rattle.resolver_report.proofs.AskedLemmas.{gathered, gathered_from, slice_get-append_left, cases_lt_suc}
+use Rattle.resolver_report.proofs.SearchLemmas.{all_candidates, candidates_in, Contains-all_candidates, count_outside, count_outside-lt, list_any-outside}
 
 none_in : {X : Type 0} (x : X) → Contains [] x → ⊥
 none_in x h = absurd (omega (arith, h.1))
@@ -29,12 +33,6 @@ head_in x xs = (zero, omega arith, refl)
 
 tail_in : {X : Type 0} (x : X) (xs : List X) (y : X) → Contains xs y → Contains (x ∷ xs) y
 tail_in x xs y h = Contains-append_right (x ∷ []) xs y h
-
--- what was put behind a list, and put behind that, was nothing, where the list is as it was
-front_same : {X : Type 0} (old middle new more last : List X) → middle ≡ old ++ more → new ≡ middle ++ last → new ≡ old → middle ≡ old
-front_same old middle new [] last first second back = first ∙ append-nil old
-front_same old middle new (x ∷ more) last first second back =
-    absurd (omega (arith, simp length-append at (ap length first), simp length-append at (ap length second), ap length back))
 
 module _ {S : Type 0} (same : S → S → Bool) where
   -- solvables of one list were added at the end, each of which was not there
@@ -54,24 +52,16 @@ module _ {S : Type 0} (same : S → S → Bool) where
     counts = omega (arith, first.counts, second.counts);
   }
 
-  Growth-if : (all old new : List S) (b : Bool) → IsGrowth same all old new → IsGrowth same all old (if b then new else old)
-  Growth-if all old new true h = h
-  Growth-if all old new false h = Growth-none all old
-
   Contains-grown : (all old new : List S) → IsGrowth same all old new → IsWithin old new
   Contains-grown all old new h s inside =
       let Has : List S → Type 0 = λ list. Contains list s in
       subst Has (sym h.is) (Contains-append_left old h.more s inside)
 
-  pub stopped : (all old new : List S) → IsGrowth same all old new → length new ≤ length old → new ≡ old
-  stopped all old new h short = by h.more h.is
-    where
-      by : (more : List S) → new ≡ old ++ more → new ≡ old
-      by [] is = is ∙ append-nil old
-      by (x ∷ more) is = absurd (omega (arith, short, simp length-append at (ap length is)))
-
-  pub falls : (all old new : List S) → IsGrowth same all old new → length old < length new → count_outside same new all < count_outside same old all
-  falls all old new h longer = omega (arith, h.counts, longer)
+-- what is there is reached; what the root asks for is there, and what each of the first members asks for
+pub record IsUnderway {N S : Type 0} (same : S → S → Bool) (rules : List (Rule N S)) (set : List S) (next : ℕ) : Type 0 where
+  pub sound : (s : S) → Contains set s → IsReachedBy rules s
+  pub first : IsWithin (flat_map root_asked_in rules) set
+  pub followed : (k : ℕ) (u : S) → k < next → slice_get set k ≡ Some u → IsWithin (flat_map (asked_in same u) rules) set
 
 module _ {S : Type 0} (same : S → S → Bool) (identity : IsIdentity same) (laws : IsEquivalence same) where
   -- the search finds just the members
@@ -113,90 +103,121 @@ module _ {S : Type 0} (same : S → S → Bool) (identity : IsIdentity same) (la
     all_sound old [] h here = h
     all_sound old (c ∷ cs) h here = all_sound (insert_key same old c) cs (key_sound old c h (here c (head_in c cs))) (λ s inside. here s (tail_in c cs s inside))
 
-  module _ {N : Type 0} where
-    Growth-rule : (all old : List S) (rule : Rule N S) → IsWithin (candidates_in rule) all → IsGrowth same all old (reach same old rule)
-    Growth-rule all old (Requires by requirement candidates when) within = Growth-if same all old (insert_all same old candidates.items) (has_asker same old by) (Growth-all all old candidates.items within)
-    Growth-rule all old (Constrains by version_set candidate) within = Growth-none same all old
-    Growth-rule all old (Lock locked forbidden) within = Growth-none same all old
-    Growth-rule all old (Excluded solvable reason) within = Growth-none same all old
-    Growth-rule all old (OnePerPackage name instance) within = Growth-none same all old
+  -- Of the candidates of requirements.
+  module _ {N : Type 0} (rules : List (Rule N S)) where
+    root_reached_in : (rule : Rule N S) → Contains rules rule → (s : S) → Contains (root_asked_in rule) s → IsReachedBy rules s
+    root_reached_in (Requires Root requirement candidates when) listed s inside = by_root listed inside
+    root_reached_in (Requires (Solvable t) requirement candidates when) listed s inside = absurd (none_in s inside)
+    root_reached_in (Constrains by version_set candidate) listed s inside = absurd (none_in s inside)
+    root_reached_in (Lock locked forbidden) listed s inside = absurd (none_in s inside)
+    root_reached_in (Excluded solvable reason) listed s inside = absurd (none_in s inside)
+    root_reached_in (OnePerPackage name instance) listed s inside = absurd (none_in s inside)
 
-    Growth-rules : (all old : List S) (rules : List (Rule N S)) → IsWithin (all_candidates rules) all → IsGrowth same all old (reach_all same old rules)
-    Growth-rules all old [] within = Growth-none same all old
-    Growth-rules all old (r ∷ rules) within =
-        Growth-trans same all old (reach same old r) (reach_all same (reach same old r) rules) (Growth-rule all old r (λ s h. within s (Contains-append_left (candidates_in r) (all_candidates rules) s h)))
-        (Growth-rules all (reach same old r) rules (λ s h. within s (Contains-append_right (candidates_in r) (all_candidates rules) s h)))
+    root_reached : (s : S) → Contains (flat_map root_asked_in rules) s → IsReachedBy rules s
+    root_reached s inside = let found = gathered_from root_asked_in rules s inside in root_reached_in found.0 found.1 s found.2
 
-    pub Growth-round : (rules : List (Rule N S)) (old : List S) → IsGrowth same (all_candidates rules) old (reach_all same old rules)
-    Growth-round rules old = Growth-rules (all_candidates rules) old rules (λ s h. h)
+    from_items_if : (t u s : S) (cs : List S) (b : Bool) → same t u ≡ b → Contains (items_if b cs) s → (t ≡ u) × Contains cs s
+    from_items_if t u s cs true e inside = (identity.alone t u e, inside)
+    from_items_if t u s cs false e inside = absurd (none_in s inside)
 
-    module _ (rules : List (Rule N S)) where
-      abbrev pub AllReached : List S → Type 0
-      AllReached set = (s : S) → Contains set s → IsReachedBy rules s
+    asked_reached_in : (u : S) → IsReachedBy rules u → (rule : Rule N S) → Contains rules rule → (s : S) → Contains (asked_in same u rule) s → IsReachedBy rules s
+    asked_reached_in u r (Requires Root requirement candidates when) listed s inside = absurd (none_in s inside)
+    asked_reached_in u r (Requires (Solvable t) requirement candidates when) listed s inside =
+        let told = from_items_if t u s candidates.items (same t u) refl inside in
+        by_reached (subst (IsReachedBy rules) (sym told.0) r) listed told.1
+    asked_reached_in u r (Constrains by version_set candidate) listed s inside = absurd (none_in s inside)
+    asked_reached_in u r (Lock locked forbidden) listed s inside = absurd (none_in s inside)
+    asked_reached_in u r (Excluded solvable reason) listed s inside = absurd (none_in s inside)
+    asked_reached_in u r (OnePerPackage name instance) listed s inside = absurd (none_in s inside)
 
-      asker_sound : (old : List S) (by : By S) → AllReached old → true ≡ has_asker same old by → IsAskerReached rules by
-      asker_sound old Root h e = tt
-      asker_sound old (Solvable t) h e = h t (Contains-from_any identity.alone t old (sym e))
+    asked_reached : (u : S) → IsReachedBy rules u → (s : S) → Contains (flat_map (asked_in same u) rules) s → IsReachedBy rules s
+    asked_reached u r s inside = let found = gathered_from (asked_in same u) rules s inside in asked_reached_in u r found.0 found.1 s found.2
 
-      candidate_sound : (by : By S) (requirement : Requirement) (candidates : Vec S Global) (when : Vec (Vec S Global) Global) → Contains rules (Requires by requirement candidates when) → IsAskerReached rules by → (s : S) → Contains candidates.items s → IsReachedBy rules s
-      candidate_sound Root requirement candidates when listed here s inside = by_root listed inside
-      candidate_sound (Solvable t) requirement candidates when listed here s inside = by_reached here listed inside
+    asked_candidate : (u : S) (rule : Rule N S) (s : S) → Contains (asked_in same u rule) s → Contains (candidates_in rule) s
+    asked_candidate u (Requires Root requirement candidates when) s inside = absurd (none_in s inside)
+    asked_candidate u (Requires (Solvable t) requirement candidates when) s inside = (from_items_if t u s candidates.items (same t u) refl inside).1
+    asked_candidate u (Constrains by version_set candidate) s inside = absurd (none_in s inside)
+    asked_candidate u (Lock locked forbidden) s inside = absurd (none_in s inside)
+    asked_candidate u (Excluded solvable reason) s inside = absurd (none_in s inside)
+    asked_candidate u (OnePerPackage name instance) s inside = absurd (none_in s inside)
 
-      rule_sound : (old : List S) (rule : Rule N S) → Contains rules rule → AllReached old → AllReached (reach same old rule)
-      rule_sound old (Requires by requirement candidates when) listed h = turn (has_asker same old by) refl
+    asked_within : (u : S) → IsWithin (flat_map (asked_in same u) rules) (all_candidates rules)
+    asked_within u s inside =
+        let found = gathered_from (asked_in same u) rules s inside in
+        Contains-all_candidates rules found.0 s found.1 (asked_candidate u found.0 s found.2)
+
+    asked_itself : (u : S) (requirement : Requirement) (candidates : Vec S Global) (when : Vec (Vec S Global) Global) (s : S) → Contains candidates.items s → Contains (asked_in {N = N} same u (Requires (Solvable u) requirement candidates when)) s
+    asked_itself u requirement candidates when s inside =
+        let Asked : Bool → Type 0 = λ b. Contains (items_if b candidates.items) s in
+        subst Asked (sym (identity.itself u)) inside
+
+    pub underway_first : (old new first : List S) → old ≡ [] → first ≡ flat_map root_asked_in rules → new ≡ insert_all same old first → IsUnderway same rules new 0
+    underway_first old new first none are told =
+        let whole : new ≡ insert_all same [] (flat_map root_asked_in rules) = told ∙ (λ i. insert_all same (none i) (are i)) in
+        let Underway : List S → Type 0 = λ set. IsUnderway same rules set 0 in
+        subst Underway (sym whole) (record {
+          sound = all_sound (IsReachedBy rules) [] (flat_map root_asked_in rules) (λ s inside. absurd (none_in s inside)) root_reached;
+          first = Contains-insert_all [] (flat_map root_asked_in rules);
+          followed = λ k u below. absurd (omega (arith, below));
+        })
+
+    module _ (old new : List S) (next : ℕ) (u : S) (at_next : slice_get old next ≡ Some u) (told : new ≡ insert_all same old (flat_map (asked_in same u) rules)) where
+      asked : List S
+      asked = flat_map (asked_in same u) rules
+
+      growth : IsGrowth same (all_candidates rules) old new
+      growth = let Grown : List S → Type 0 = λ set. IsGrowth same (all_candidates rules) old set in subst Grown (sym told) (Growth-all (all_candidates rules) old (flat_map (asked_in same u) rules) (asked_within u))
+
+      within_new : IsWithin old new
+      within_new = Contains-grown same (all_candidates rules) old new growth
+
+      there : Contains old u
+      there = (next, slice_get_within old next u at_next, get_or_from_slice_get old next u u at_next)
+
+      before : (k : ℕ) → k < next + 1 → slice_get new k ≡ slice_get old k
+      before k below =
+          let short : k < length old = omega (arith, below, slice_get_within old next u at_next) in
+          ap (λ set. slice_get set k) growth.is ∙ slice_get-append_left old growth.more k short
+
+      pub underway_next : IsUnderway same rules old next → IsUnderway same rules new (next + 1)
+      underway_next h = record {
+        sound = sound;
+        first = λ s inside. within_new s (h.first s inside);
+        followed = followed;
+      }
         where
-          turn : (b : Bool) → b ≡ has_asker same old by → AllReached (if b then insert_all same old candidates.items else old)
-          turn true e = all_sound (IsReachedBy rules) old candidates.items h (candidate_sound by requirement candidates when listed (asker_sound old by h e))
-          turn false e = h
-      rule_sound old (Constrains by version_set candidate) listed h = h
-      rule_sound old (Lock locked forbidden) listed h = h
-      rule_sound old (Excluded solvable reason) listed h = h
-      rule_sound old (OnePerPackage name instance) listed h = h
+          sound : (s : S) → Contains new s → IsReachedBy rules s
+          sound s inside =
+              let Has : List S → Type 0 = λ set. Contains set s in
+              all_sound (IsReachedBy rules) old (flat_map (asked_in same u) rules) h.sound (asked_reached u (h.sound u there)) s (subst Has told inside)
 
-      rules_sound : (old : List S) (read : List (Rule N S)) → IsWithin read rules → AllReached old → AllReached (reach_all same old read)
-      rules_sound old [] within h = h
-      rules_sound old (r ∷ read) within h = rules_sound (reach same old r) read (λ rule inside. within rule (tail_in r read rule inside)) (rule_sound old r (within r (head_in r read)) h)
+          at_place : (k : ℕ) (v : S) → slice_get old k ≡ Some v → (k < next) ⊎ (k ≡ next) → IsWithin (flat_map (asked_in same v) rules) new
+          at_place k v e (inl below) = λ s inside. within_new s (h.followed k v below e s inside)
+          at_place k v e (inr is) =
+              let one : Some v ≡ Some u = sym e ∙ ap (slice_get old) is ∙ at_next in
+              let same_one : v ≡ u = cc in
+              let Within : S → Type 0 = λ w. IsWithin (flat_map (asked_in same w) rules) new in
+              let Has : List S → Type 0 = λ set. IsWithin (flat_map (asked_in same u) rules) set in
+              subst Within (sym same_one) (subst Has (sym told) (Contains-insert_all old (flat_map (asked_in same u) rules)))
 
-      pub AllReached-round : (old new : List S) → new ≡ reach_all same old rules → AllReached old → AllReached new
-      AllReached-round old new round h = subst AllReached (sym round) (rules_sound old rules (λ rule inside. inside) h)
+          followed : (k : ℕ) (v : S) → k < next + 1 → slice_get new k ≡ Some v → IsWithin (flat_map (asked_in same v) rules) new
+          followed k v below e = at_place k v (sym (before k below) ∙ e) (cases_lt_suc k next below)
 
-    -- a round that adds nothing adds nothing at any rule
-    first_same : (old : List S) (r : Rule N S) (rules : List (Rule N S)) → reach_all same (reach same old r) rules ≡ old → reach same old r ≡ old
-    first_same old r rules back =
-        let first = Growth-rule (candidates_in r) old r (λ s h. h) in
-        let rest = Growth-round rules (reach same old r) in
-        front_same old (reach same old r) (reach_all same (reach same old r) rules) first.more rest.more first.is rest.is back
+      -- the measure of the steps
+      pub falls_next : (count_outside same new (all_candidates rules) + length new) - (next + 1) < (count_outside same old (all_candidates rules) + length old) - next
+      falls_next = omega (arith, growth.counts, slice_get_within old next u at_next)
 
-    same_at : (old : List S) (rules : List (Rule N S)) → reach_all same old rules ≡ old → (rule : Rule N S) → Contains rules rule → reach same old rule ≡ old
-    same_at old [] back rule listed = absurd (none_in rule listed)
-    same_at old (r ∷ rules) back rule (zero, below, is) =
-        let Stays : Rule N S → Type 0 = λ x. reach same old x ≡ old in
-        subst Stays is (first_same old r rules back)
-    same_at old (r ∷ rules) back rule (suc k, below, is) =
-        same_at old rules (ap (λ set. reach_all same set rules) (sym (first_same old r rules back)) ∙ back) rule (k, omega (arith, below), is)
-
-    complete : (rules : List (Rule N S)) (set : List S) → reach_all same set rules ≡ set → (s : S) → IsReachedBy rules s → Contains set s
-    complete rules set back s (by_root {requirement = requirement} {candidates = candidates} {when = when} listed inside) =
-        let Has : List S → Type 0 = λ list. Contains list s in
-        subst Has (same_at set rules back (Requires Root requirement candidates when) listed) (Contains-insert_all set candidates.items s inside)
-    complete rules set back s (by_reached {t = t} {requirement = requirement} {candidates = candidates} {when = when} r listed inside) =
-        let Has : List S → Type 0 = λ list. Contains list s in
-        let there : list_any (same t) set ≡ true = list_any-from_Contains laws t set (complete rules set back t r) in
-        let round : (if list_any (same t) set then insert_all same set candidates.items else set) ≡ set = same_at set rules back (Requires (Solvable t) requirement candidates when) listed in
-        subst Has (sym (ap (λ b. if b then insert_all same set candidates.items else set) there) ∙ round) (Contains-insert_all set candidates.items s inside)
-
-    pub IsReachedSet-round : (rules : List (Rule N S)) (old new : List S) → new ≡ reach_all same old rules → length new ≤ length old → ((s : S) → Contains old s → IsReachedBy rules s) → IsReachedSet rules new
-    IsReachedSet-round rules old new round short h =
-        let Grown : List S → Type 0 = λ set. IsGrowth same (all_candidates rules) old set in
-        let stays : new ≡ old = stopped same (all_candidates rules) old new (subst Grown (sym round) (Growth-round rules old)) short in
-        let back : reach_all same new rules ≡ new = ap (λ set. reach_all same set rules) stays ∙ sym round in
-        record { sound = AllReached-round rules old new round h; complete = complete rules new back }
-
-    -- the measure of the rounds
-    pub falls_round : (rules : List (Rule N S)) (old new : List S) → new ≡ reach_all same old rules → length old < length new → count_outside same new (all_candidates rules) < count_outside same old (all_candidates rules)
-    falls_round rules old new round longer =
-        let Grown : List S → Type 0 = λ set. IsGrowth same (all_candidates rules) old set in
-        falls same (all_candidates rules) old new (subst Grown (sym round) (Growth-round rules old)) longer
+    -- a set whose members were all followed is all that is reached
+    pub underway_done : (set : List S) (next : ℕ) → length set ≤ next → IsUnderway same rules set next → IsReachedSet rules set
+    underway_done set next end h = record { sound = h.sound; complete = complete }
+      where
+        complete : (s : S) → IsReachedBy rules s → Contains set s
+        complete s (by_root {requirement = requirement} {candidates = candidates} {when = when} listed inside) =
+            h.first s (gathered root_asked_in rules (Requires Root requirement candidates when) s listed inside)
+        complete s (by_reached {t = t} {requirement = requirement} {candidates = candidates} {when = when} r listed inside) =
+            let at = complete t r in
+            h.followed at.0 t (omega (arith, at.1, end)) (slice_get-get_or set at.0 t at.1 ∙ ap Some at.2) s
+            (gathered (asked_in same t) rules (Requires (Solvable t) requirement candidates when) s listed (asked_itself t requirement candidates when s inside))
 
 -- what `retain` leaves, where each call tells whether P holds, and leaves the closure as it was
 module _ {X F : Type 0} (R : F → X → Bool → F → Type 0) (P : X → Type 0) (f : F) (h : (x : X) (b : Bool) (f' : F) → R f x b f' → MatchBool b (P x) (P x → ⊥) × (f' ≡ f)) where

@@ -91,7 +91,7 @@ found test n alone (x ∷ xs) h = at_test (test x) refl h (found test n alone xs
 
 module _ {S : Type 0} (same : S → S → Bool) (identity : IsIdentity same) where
   -- at the place of a node that is there it stands
-  stands : (ms : List (ConflictNode S)) (n : ConflictNode S) → Has same identity ms n → slice_get ms (place_in same ms n) ≡ Some n
+  pub stands : (ms : List (ConflictNode S)) (n : ConflictNode S) → Has same identity ms n → slice_get ms (place_in same ms n) ≡ Some n
   stands ms n h = sym (find_at (λ m. same_node same m n) ms) ∙ found (λ m. same_node same m n) n (λ m e. (same_node_is_identity same identity).alone m n e) ms h
 
   module _ {N : Type 0} (u : Universe N S) (root : Demands) where

@@ -1,5 +1,7 @@
 pub mod Rules
 pub mod ReachedRules
+pub mod Listed
+pub mod Asked
 pub mod Reaching
 pub mod TrueRules
 pub mod TrueEdges
@@ -12,6 +14,7 @@ pub mod Graphs
 pub mod ConflictGraphs
 pub mod Merging
 pub mod Keys
+pub mod Classes
 pub mod Simplified
 pub mod Places
 pub mod LastMarks

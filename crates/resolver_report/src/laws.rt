@@ -43,9 +43,10 @@ pub fn graphs_of_true_rules_are_true<N, S>()
         IsIdentity same_name → IsIdentity same → All (IsTrueRule u root) rules → AreEdgesTrue u root (graph_of same_name same rules).shape }
 {}
 
-/// In the graph of rules that are all about what is reached, edges lead from the root to each node.
+/// In the graph of rules that are all about what is reached, each node is reached from the root.
 ///
-/// So no node stands apart: not the unresolved node, and no reason. The call does nothing: its contract is the law.
+/// Edges that require lead from the root to each solvable, over solvables alone. To each other node, the unresolved node or
+/// a reason, an edge leads from the root or from such a solvable. The call does nothing: its contract is the law.
 pub fn graphs_of_kept_rules_are_reached<N, S>()
     ensures { (same_name : N → N → Bool) (same : S → S → Bool) (rules : List (Rule N S)) →
         IsIdentity same → All (IsKept rules) rules → AreNodesReached (graph_of same_name same rules) }

@@ -1,12 +1,15 @@
 //! Rules that explain a conflict, a plain search over them, and their graph.
 #![tactic(auto)]
 
+mod askers;
 mod build;
+mod classes;
 mod edges;
 mod graph;
 mod keys;
 mod laws;
 mod links;
+mod listed;
 mod parts;
 mod places;
 mod plain;
@@ -17,7 +20,10 @@ mod simplify;
 pub use build::graph_of;
 pub use edges::{Incoming, Outgoing};
 pub use graph::{ConflictGraph, Graph};
-pub use laws::{kept_rules_stay_refuted, valid_sets_obey_true_rules};
+pub use laws::{
+    graphs_of_kept_rules_are_reached, graphs_of_true_rules_are_true, kept_rules_stay_refuted,
+    valid_sets_obey_true_rules,
+};
 pub use parts::{ConflictCause, ConflictEdge, ConflictNode, Edge, NodeId};
 pub use plain::find;
 pub use reached::keep_reached;

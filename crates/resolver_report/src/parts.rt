@@ -48,7 +48,7 @@ pub struct Link<S> {
 }
 
 /// What an edge requires, if it does, and its other end.
-#[derive(Clone, Copy, Debug, PartialEq, Eq)]
+#[derive(Clone, Copy, Debug, PartialEq, Eq, PartialOrd, Ord, Hash)]
 pub struct Side {
     pub required: Option<Requirement>,
     pub other: NodeId,

@@ -1,12 +1,15 @@
 //! The rules of a list that are about what its requirements reach.
 
 ghost use Rattle.std.specs.Prelude.{◌≡◌, All, Contains, IfErr, IfOk, MatchBool};
-ghost use Rattle.indexmap.specs.IndexSet.{contains, insert_all};
+ghost use Rattle.std.specs.HashMap.{get};
+ghost use Rattle.indexmap.specs.IndexSet.{insert_all};
 ghost use Rattle.resolver_clause_store.specs.Laws.{IsIdentity};
 ghost use Rattle.resolver_report.specs.ReachedRules.{IsKept, LeavesJust, LeavesKept};
-ghost use Rattle.resolver_report.specs.Reaching.{IsAbout, IsReachedSet, has_asker, reach, reach_all};
+ghost use Rattle.resolver_report.specs.Listed.{items_at};
+ghost use Rattle.resolver_report.specs.Reaching.{IsAbout, IsReachedSet};
 ghost use Rattle.resolver_report.specs.Rules.{IsPresent, IsRefuted};
 
+use crate::askers::{Asked, asked_of};
 use crate::rules::Rule;
 use indexmap::IndexSet;
 use resolver_clause_store::{By, Exhausted};
@@ -16,8 +19,7 @@ use std::hash::Hash;
 /// Whether a solvable is in the set.
 fn is_member<S: Eq + Hash>(set: &IndexSet<S>, solvable: &S) -> bool
     requires { IsIdentity S.eq }
-    ensures value { result ≡ contains S.eq set.now solvable.now }
-    ensures member { MatchBool result (Contains set.now.keys solvable.now) (Contains set.now.keys solvable.now → ⊥) }
+    ensures { MatchBool result (Contains set.now.keys solvable.now) (Contains set.now.keys solvable.now → ⊥) }
 {
     set.contains(solvable)
 }
@@ -25,8 +27,7 @@ fn is_member<S: Eq + Hash>(set: &IndexSet<S>, solvable: &S) -> bool
 /// Whether the root or a solvable is there.
 fn is_present<S: Eq + Hash>(by: &By<S>, set: &IndexSet<S>) -> bool
     requires { IsIdentity S.eq }
-    ensures value { result ≡ has_asker S.eq set.now.keys by.now }
-    ensures present { MatchBool result (IsPresent by.now set.now.keys) (IsPresent by.now set.now.keys → ⊥) }
+    ensures { MatchBool result (IsPresent by.now set.now.keys) (IsPresent by.now set.now.keys → ⊥) }
 {
     match by {
         By::Root => true,
@@ -45,49 +46,25 @@ fn add_all<S: Copy + Eq + Hash + Drop>(set: &mut IndexSet<S>, more: &[S]) -> Res
     Ok(())
 }
 
-/// Adds the candidates of a requirement whose asker is there.
-fn reach<N, S: Copy + Eq + Hash + Drop>(
-    rule: &Rule<N, S>,
+/// Adds what a solvable asks for.
+fn add_asked_by<S: Copy + Eq + Hash + Drop>(
     set: &mut IndexSet<S>,
+    asked: &Asked<S>,
+    solvable: S,
 ) -> Result<(), Exhausted>
-    requires { IsIdentity S.eq }
-    ensures added { IfOk result (λ _. set.new.keys ≡ reach S.eq set.old.keys rule.now) }
+    ensures added { IfOk result (λ _. set.new.keys ≡ insert_all S.eq set.old.keys (items_at (get S.eq asked.now.by_solvable solvable))) }
     ensures memory { IfErr result (λ e. e ≡ Exhausted.Memory) }
 {
-    match rule {
-        Rule::Requires { by, candidates, .. } => {
-            if !is_present(by, set) {
-                return Ok(());
-            }
-            add_all(set, candidates)?;
+    match asked.by_solvable.get(&solvable) {
+        Some(more) => {
+            add_all(set, more)?;
             Ok(())
         }
-        Rule::Constrains { .. }
-        | Rule::Lock { .. }
-        | Rule::Excluded { .. }
-        | Rule::OnePerPackage { .. } => Ok(()),
+        None => Ok(()),
     }
 }
 
-/// One round: adds what each rule in turn reaches from what is there.
-fn reach_all<N, S: Copy + Eq + Hash + Drop>(
-    rules: &[Rule<N, S>],
-    set: &mut IndexSet<S>,
-) -> Result<(), Exhausted>
-    requires { IsIdentity S.eq }
-    ensures added { IfOk result (λ _. set.new.keys ≡ reach_all S.eq set.old.keys rules.now) }
-    ensures memory { IfErr result (λ e. e ≡ Exhausted.Memory) }
-{
-    for rule in rules {
-        reach(rule, set)?;
-    }
-    Ok(())
-}
-
-/// What the rules reach.
-///
-/// This takes rounds over the rules until one adds nothing. Where each solvable's requirements stand behind those that it
-/// is a candidate of, as a reader lists them, the first round adds everything.
+/// What the rules reach: what the root asks for, then what each of these asks for, one after another.
 fn reached_by<N, S: Copy + Eq + Hash + Drop>(
     alloc: Global,
     rules: &[Rule<N, S>],
@@ -96,14 +73,16 @@ fn reached_by<N, S: Copy + Eq + Hash + Drop>(
     ensures reached { IfOk result (λ set. IsReachedSet rules.now set.keys) }
     ensures memory { IfErr result (λ e. e ≡ Exhausted.Memory) }
 {
+    let asked = asked_of(alloc, rules)?;
     let mut set = IndexSet::new(alloc);
-    loop {
-        let count = set.len();
-        reach_all(rules, &mut set)?;
-        if set.len() <= count {
-            return Ok(set);
-        }
+    add_all(&mut set, &asked.by_root)?;
+    let mut next = 0;
+    while next < set.len() {
+        let solvable = set[next];
+        add_asked_by(&mut set, &asked, solvable)?;
+        next += 1;
     }
+    Ok(set)
 }
 
 /// Whether what the rule is about is in the set.
@@ -134,8 +113,7 @@ fn retain_about<N: Drop, S: Eq + Hash + Drop>(rules: &mut Vec<Rule<N, S>>, set: 
 /// conditions. A rule is left if its asker is the root or reached, and so is the solvable that it forbids or marks. Where
 /// no set obeys the rules, none obeys those that are left; and of the rules that are left each would be left again.
 ///
-/// The time is that of a few rounds over the rules: two, where each solvable's requirements stand behind those that it is
-/// a candidate of, and at most one more than solvables are reached.
+/// The time grows with the rules and the candidates that they list.
 ///
 /// The error is [`Exhausted::Memory`] alone.
 pub fn keep_reached<N: Drop, S: Copy + Eq + Hash + Drop>(

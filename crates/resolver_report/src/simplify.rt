@@ -1,14 +1,14 @@
 //! Which solvables of a graph are told of together.
 
-ghost use Rattle.std.specs.Prelude.{◌≡◌, ◌+◌, ◌<◌, IfOk, IfErr, OnOk, IfSome, IsNone, MatchOption, length, map};
+ghost use Rattle.std.specs.Prelude.{◌≡◌, ◌+◌, List, IfOk, IfErr, OnOk, IfSome, IsNone, MatchOption};
 ghost use Rattle.resolver_clause_store.specs.Laws.{IsIdentity};
-ghost use Rattle.resolver_report.specs.Keys.{key_view};
-ghost use Rattle.resolver_report.specs.Merging.{group_in, solvables_at as solvables_at_places};
+ghost use Rattle.resolver_report.specs.Merging.{Key, class_in, group_in, solvables_at as solvables_at_places};
 ghost use Rattle.resolver_report.specs.Shapes.{solvable_at as solvable_at_place};
 ghost use Rattle.resolver_report.specs.Simplified.{IsGroupOf, IsMadeAt, IsSimplified, IsSimplifiedBefore};
 
+use crate::classes::{class_at, classes_of};
 use crate::graph::{ConflictGraph, Graph};
-use crate::keys::{NodeKey, class_of, keys_of};
+use crate::keys::keys_of;
 use crate::parts::ConflictNode;
 use resolver_clause_store::{Exhausted, Interner};
 use std::alloc::Global;
@@ -67,23 +67,20 @@ fn made_at<'a, S: Copy + Eq + Hash + Drop>(
 fn group_of<S: Copy + Eq + Hash + Drop>(
     alloc: Global,
     graph: &Graph<S>,
-    keys: &[NodeKey],
-    n: usize,
+    class: &[usize],
+    _n: usize,
     groups: &HashMap<S, Rc<MergedConflictNode<S>>>,
 ) -> Result<Option<Rc<MergedConflictNode<S>>>, Exhausted>
-    requires in_range { n < length keys.now }
-    requires before { IsSimplifiedBefore S.eq (map key_view keys.now) graph.now n groups.now }
-    ensures value { IfOk result (λ group. MatchOption group (IsNone (group_in (map key_view keys.now) n)) (IsGroupOf (map key_view keys.now) graph.now n)) }
+    ensures value { IfOk result (λ group. (ks : List Key) → class.now ≡ class_in ks _n → IsSimplifiedBefore S.eq ks graph.now _n groups.now → MatchOption group (IsNone (group_in ks _n)) (IsGroupOf ks graph.now _n)) }
     ensures memory { IfErr result (λ e. e ≡ Exhausted.Memory) }
 {
-    let class = class_of(alloc, keys, n)?;
-    let [first, _, ..] = class.as_slice() else {
+    let [first, _, ..] = class else {
         return Ok(None);
     };
     if let Some(group) = made_at(graph, *first, groups) {
         return Ok(Some(group.clone()?));
     }
-    let ids = solvables_at(alloc, graph, &class)?;
+    let ids = solvables_at(alloc, graph, class)?;
     Ok(Some(Rc::new(alloc, MergedConflictNode { ids })?))
 }
 
@@ -91,21 +88,19 @@ fn group_of<S: Copy + Eq + Hash + Drop>(
 fn add_group<S: Copy + Eq + Hash + Drop>(
     alloc: Global,
     graph: &Graph<S>,
-    keys: &[NodeKey],
+    class: &[usize],
     n: usize,
     groups: &mut HashMap<S, Rc<MergedConflictNode<S>>>,
 ) -> Result<(), Exhausted>
     requires identity { IsIdentity S.eq }
-    requires in_range { n < length keys.now }
-    requires before { IsSimplifiedBefore S.eq (map key_view keys.now) graph.now n groups.old }
-    ensures after { OnOk result (IsSimplifiedBefore S.eq (map key_view keys.now) graph.now (n + 1) groups.new) }
+    ensures after { OnOk result ((ks : List Key) → class.now ≡ class_in ks n → IsSimplifiedBefore S.eq ks graph.now n groups.old → IsSimplifiedBefore S.eq ks graph.now (n + 1) groups.new) }
     ensures memory { IfErr result (λ e. e ≡ Exhausted.Memory) }
 {
     let _nodes = graph.nodes();
     let Some(solvable) = solvable_at(graph, n) else {
         return Ok(());
     };
-    let Some(group) = group_of(alloc, graph, keys, n, groups)? else {
+    let Some(group) = group_of(alloc, graph, class, n, groups)? else {
         return Ok(());
     };
     groups.insert(solvable, group)?;
@@ -129,9 +124,11 @@ impl<S: Copy + Eq + Hash + Drop> ConflictGraph<S> {
     {
         let alloc = self.graph.allocator();
         let keys = keys_of(alloc, interner, &self.graph)?;
+        let classes = classes_of(alloc, &keys)?;
         let mut groups = HashMap::new(alloc);
         for n in 0..keys.len() {
-            add_group(alloc, &self.graph, &keys, n, &mut groups)?;
+            let class = class_at(&keys, &classes, n);
+            add_group(alloc, &self.graph, class, n, &mut groups)?;
         }
         Ok(groups)
     }

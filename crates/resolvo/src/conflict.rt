@@ -1,12 +1,19 @@
 //! Why there is no answer.
 
-ghost use Rattle.std.specs.Prelude.{◌≡◌, IfErr, IfOk};
+ghost use Rattle.std.specs.Prelude.{◌≡◌, All, IfErr, IfOk};
+ghost use Rattle.resolver_clause_store.specs.Universe.{Demands, Universe};
 ghost use Rattle.resolver_report.specs.ConflictGraphs.{shape_of};
 ghost use Rattle.resolver_report.specs.Graphs.{graph_of as graph_of_rules};
+ghost use Rattle.resolver_report.specs.ReachedPlaces.{AreNodesReached};
+ghost use Rattle.resolver_report.specs.ReachedRules.{IsKept};
+ghost use Rattle.resolver_report.specs.TrueEdges.{AreEdgesTrue};
+ghost use Rattle.resolver_report.specs.TrueRules.{IsTrueRule};
 
 use crate::solver::Solver;
 use resolver_clause_store::{DependencyProvider, Exhausted, Interner};
-use resolver_report::{ConflictGraph, Rule, graph_of};
+use resolver_report::{
+    ConflictGraph, Rule, graph_of, graphs_of_kept_rules_are_reached, graphs_of_true_rules_are_true,
+};
 use std::hash::Hash;
 
 /// Rules that no set of solvables obeys together.
@@ -32,13 +39,21 @@ impl<N: Copy + Eq + Ord + Hash + Drop, S: Copy + Eq + Ord + Hash + Drop> Conflic
     ghost use Rattle.resolvo.specs.Conflicts.{rules_in};
 
     /// The graph of the rules. What the solver has done since does not matter, since nothing of it is read.
+    ///
+    /// `solve` answers rules that are true and about what they reach. Of such rules each edge is true, and each node is
+    /// reached from the root.
     pub fn graph<D: DependencyProvider<NameId = N, SolvableId = S>>(
         &self,
         _solver: &Solver<D>,
     ) -> Result<ConflictGraph<S>, Exhausted>
         ensures graph { IfOk result (λ graph. shape_of graph ≡ graph_of_rules N.eq S.eq (rules_in self.now)) }
+        ensures true_edges { IfOk result (λ graph. (u : Universe N S) (root : Demands) → All (IsTrueRule u root) (rules_in self.now) → AreEdgesTrue u root (shape_of graph).shape) }
+        ensures reached_nodes { IfOk result (λ graph. All (IsKept (rules_in self.now)) (rules_in self.now) → AreNodesReached (shape_of graph)) }
         ensures memory { IfErr result (λ e. e ≡ Exhausted.Memory) }
     {
-        graph_of(*self.rules.allocator(), self.rules())
+        graphs_of_true_rules_are_true::<N, S>();
+        graphs_of_kept_rules_are_reached::<N, S>();
+        let graph = graph_of(*self.rules.allocator(), self.rules())?;
+        Ok(graph)
     }
 }

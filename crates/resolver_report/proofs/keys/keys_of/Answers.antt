@@ -1,7 +1,10 @@
-use Rattle.std.proofs.Common.{arith}
-use Rattle.std.proofs.lemmas.Grind.{common_steps}
-use Rattle.resolver_report.proofs.ListLemmas.{map-range-next}
+use Rattle.std.proofs.Common.{◌≡◌, ap, arith, length}
+use Rattle.resolver_report.proofs.KeyLemmas.{keys_told}
+use Rattle.resolver_report.specs.contracts.parts.SideOrd.TheImpl.{cmp-value}
 use Rattle.resolver_report.proofs.keys.keys_of.Goals as goal
 
-pub loop-n-preserved : goal.loop-n-preserved
-loop-n-preserved g c = grind (arith, common_steps, map-range-next)
+pub returns-clause-value : goal.returns-clause-value
+returns-clause-value g c =
+    let size : length c.nodes-n-end.result.now ≡ length c.args.graph.now.nodes = ap length c.nodes-n-end.ensures.value in
+    let long : length c.loop-n.found.items ≡ length c.args.graph.now.nodes = omega (arith, c.loop-n.invariant.long, size) in
+    keys_told cmp-value.it (g.I.Interner.universe c.args.interner.now) c.args.graph.now c.loop-n.found.items long (λ n lt. c.loop-n.invariant.each n (omega (arith, c.loop-n.invariant.long, long, lt)))

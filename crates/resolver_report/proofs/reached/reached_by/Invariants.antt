@@ -1,12 +1,11 @@
-use Rattle.std.proofs.Common.{Contains}
-use Rattle.resolver_report.specs.ReachedRules.{IsReachedBy}
+use Rattle.std.proofs.Common.{◌+◌, ◌-◌, length}
+use Rattle.resolver_report.proofs.ReachingLemmas.{IsUnderway}
 use Rattle.resolver_report.proofs.SearchLemmas.{all_candidates, count_outside}
 use Rattle.resolver_report.proofs.reached.reached_by.Given as goal
 
--- what is there is reached
-abbrev pub invariant-loop-set : goal.invariant-loop-set
-invariant-loop-set g l = (s : g.row.S.Denot) → Contains l.set.keys s → IsReachedBy l.rules s
+abbrev pub invariant-loop-next : goal.invariant-loop-next
+invariant-loop-next g l = IsUnderway g.S.PartialEq.eq l.rules l.set.keys l.next
 
--- how many of the rules' candidates are outside the set
-abbrev pub decreases-loop-set : goal.decreases-loop-set
-decreases-loop-set g l = count_outside g.S.PartialEq.eq l.set.keys (all_candidates l.rules)
+-- how many of the rules' candidates are outside the set, and how many members are still to be followed
+abbrev pub decreases-loop-next : goal.decreases-loop-next
+decreases-loop-next g l = (count_outside g.S.PartialEq.eq l.set.keys (all_candidates l.rules) + length l.set.keys) - l.next

@@ -1,0 +1,74 @@
+//! What the requirements of each asker list.
+
+ghost use Rattle.std.specs.Prelude.{◌≡◌, ◌++◌, IfOk, IfErr, OnOk};
+ghost use Rattle.std.specs.HashMap.{get};
+ghost use Rattle.resolver_report.specs.Asked.{HasAsked, asked_in, root_asked_in};
+ghost use Rattle.resolver_report.specs.Listed.{items_at};
+
+use crate::listed::extend_at;
+use crate::rules::Rule;
+use resolver_clause_store::{By, Exhausted};
+use std::alloc::Global;
+use std::collections::HashMap;
+use std::hash::Hash;
+
+/// The candidates of all requirements of the root, and of those of each solvable that has some.
+#[derive(Drop)]
+pub struct Asked<S: Eq + Hash> {
+    pub(crate) by_root: Vec<S>,
+    pub(crate) by_solvable: HashMap<S, Vec<S>>,
+}
+
+/// Adds what a rule asks for, if it does.
+fn add_asked<N, S: Copy + Eq + Hash + Drop>(
+    alloc: Global,
+    by_root: &mut Vec<S>,
+    by_solvable: &mut HashMap<S, Vec<S>>,
+    rule: &Rule<N, S>,
+) -> Result<(), Exhausted>
+    ensures root { OnOk result (by_root.new.items ≡ by_root.old.items ++ root_asked_in rule.now) }
+    ensures solvables { OnOk result ((s : S) → items_at (get S.eq by_solvable.new s) ≡ items_at (get S.eq by_solvable.old s) ++ asked_in S.eq s rule.now) }
+    ensures memory { IfErr result (λ e. e ≡ Exhausted.Memory) }
+{
+    match rule {
+        Rule::Requires {
+            by: By::Root,
+            candidates,
+            ..
+        } => {
+            by_root.extend_from_slice(candidates)?;
+            Ok(())
+        }
+        Rule::Requires {
+            by: By::Solvable(solvable),
+            candidates,
+            ..
+        } => {
+            extend_at(alloc, by_solvable, *solvable, candidates)?;
+            Ok(())
+        }
+        Rule::Constrains { .. }
+        | Rule::Lock { .. }
+        | Rule::Excluded { .. }
+        | Rule::OnePerPackage { .. } => Ok(()),
+    }
+}
+
+/// What the requirements of each asker list.
+pub fn asked_of<N, S: Copy + Eq + Hash + Drop>(
+    alloc: Global,
+    rules: &[Rule<N, S>],
+) -> Result<Asked<S>, Exhausted>
+    ensures value { IfOk result (HasAsked S.eq rules.now) }
+    ensures memory { IfErr result (λ e. e ≡ Exhausted.Memory) }
+{
+    let mut by_root = Vec::new(alloc);
+    let mut by_solvable = HashMap::new(alloc);
+    for rule in rules {
+        add_asked(alloc, &mut by_root, &mut by_solvable, rule)?;
+    }
+    Ok(Asked {
+        by_root,
+        by_solvable,
+    })
+}

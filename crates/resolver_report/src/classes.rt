@@ -1,0 +1,91 @@
+//! Which nodes are alike, by their keys.
+
+ghost use Rattle.std.specs.Prelude.{◌≡◌, ◌<◌, ◌++◌, ◌∷◌, [], List, Some, IfOk, IfErr, OnOk, length};
+ghost use Rattle.std.specs.HashMap.{get};
+ghost use Rattle.resolver_report.specs.Listed.{items_at, items_if};
+ghost use Rattle.resolver_report.specs.Classes.{HasClasses, has_key};
+ghost use Rattle.resolver_report.specs.Keys.{AreKeysOf, key_view, same_key};
+ghost use Rattle.resolver_report.specs.Merging.{Key, class_in};
+
+use crate::keys::NodeKey;
+use crate::listed::extend_at;
+use crate::parts::Side;
+use resolver_clause_store::Exhausted;
+use std::alloc::Global;
+use std::collections::HashMap;
+
+/// Whether two keys are the same.
+fn is_same_key(a: &NodeKey, b: &NodeKey) -> bool
+    ensures { result ≡ same_key a.now b.now }
+{
+    a == b
+}
+
+/// Another key that says the same.
+fn copy_of(alloc: Global, key: &NodeKey) -> Result<NodeKey, Exhausted>
+    ensures value { IfOk result (λ k. key_view k ≡ key_view key.now) }
+    ensures memory { IfErr result (λ e. e ≡ Exhausted.Memory) }
+{
+    let name = key.name.clone()?;
+    let sides_in = Vec::from_slice(alloc, &key.sides_in)?;
+    let sides_out = Vec::from_slice(alloc, &key.sides_out)?;
+    Ok(NodeKey {
+        name,
+        sides_in,
+        sides_out,
+    })
+}
+
+/// Adds a node to the class of its key, if it has one.
+fn add_member(
+    alloc: Global,
+    classes: &mut HashMap<NodeKey, Vec<usize>>,
+    key: &Option<NodeKey>,
+    n: usize,
+) -> Result<(), Exhausted>
+    ensures added { OnOk result ((q : NodeKey) → items_at (get ⟦<NodeKey as PartialEq>⟧.eq classes.new q) ≡ items_at (get ⟦<NodeKey as PartialEq>⟧.eq classes.old q) ++ items_if (has_key q (Some key.now)) (n ∷ [])) }
+    ensures memory { IfErr result (λ e. e ≡ Exhausted.Memory) }
+{
+    match key {
+        Some(key) => {
+            let key = copy_of(alloc, key)?;
+            extend_at(alloc, classes, key, &[n])?;
+            Ok(())
+        }
+        None => Ok(()),
+    }
+}
+
+/// The nodes of each key, in their order.
+pub fn classes_of(
+    alloc: Global,
+    keys: &[Option<NodeKey>],
+) -> Result<HashMap<NodeKey, Vec<usize>>, Exhausted>
+    ensures value { IfOk result (HasClasses ⟦<NodeKey as PartialEq>⟧.eq keys.now) }
+    ensures memory { IfErr result (λ e. e ≡ Exhausted.Memory) }
+{
+    let mut classes = HashMap::new(alloc);
+    for n in 0..keys.len() {
+        add_member(alloc, &mut classes, &keys[n], n)?;
+    }
+    Ok(classes)
+}
+
+/// The nodes that are alike with this one, in their order.
+pub fn class_at<'a>(
+    keys: &[Option<NodeKey>],
+    classes: &'a HashMap<NodeKey, Vec<usize>>,
+    n: usize,
+) -> &'a [usize]
+    requires in_range { n < length keys.now }
+    requires classes { HasClasses ⟦<NodeKey as PartialEq>⟧.eq keys.now classes.now }
+    ensures { (ks : List Key) → AreKeysOf ⟦<Side as Ord>⟧.cmp ks keys.now → result.now ≡ class_in ks n }
+{
+    match &keys[n] {
+        Some(key) => match classes.get(key) {
+            Some(class) => class,
+            None => &[],
+        },
+        None => &[],
+    }
+}
