@@ -3,21 +3,31 @@
 
 mod build;
 mod edges;
+mod findings;
 mod graph;
+mod indenter;
 mod keys;
 mod laws;
 mod links;
+mod marks;
+mod message;
 mod parts;
 mod places;
 mod plain;
 mod reached;
 mod rules;
+mod runs;
 mod simplify;
+mod story;
+mod texts;
+mod tree;
+mod verdict;
 
 pub use build::graph_of;
 pub use edges::{Incoming, Outgoing};
 pub use graph::{ConflictGraph, Graph};
 pub use laws::{kept_rules_stay_refuted, valid_sets_obey_true_rules};
+pub use message::DisplayUnsat;
 pub use parts::{ConflictCause, ConflictEdge, ConflictNode, Edge, NodeId};
 pub use plain::find;
 pub use reached::keep_reached;
