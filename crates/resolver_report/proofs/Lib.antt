@@ -14,3 +14,12 @@ pub mod KeyLemmas
 pub mod SimplifyLemmas
 pub mod PlaceLemmas
 pub mod MarkLemmas
+pub mod RunLemmas
+pub mod TextLemmas
+pub mod ConflictLemmas
+pub mod GroupLemmas
+pub mod StoryLemmas
+pub mod TreeLemmas
+pub mod CandidateLemmas
+pub mod LeastLemmas
+pub mod MessageExamples

@@ -18,3 +18,16 @@ pub mod Classes
 pub mod Simplified
 pub mod Places
 pub mod LastMarks
+pub mod Causes
+pub mod Runs
+pub mod EdgeRuns
+pub mod Marks
+pub mod Forests
+pub mod Messages
+pub mod Verdicts
+pub mod Stories
+pub mod Tellings
+pub mod Displays
+pub mod Picks
+pub mod Indents
+pub mod ConflictTexts

@@ -5,17 +5,26 @@ mod askers;
 mod build;
 mod classes;
 mod edges;
+mod findings;
 mod graph;
+mod indenter;
 mod keys;
 mod laws;
 mod links;
 mod listed;
+mod marks;
+mod message;
 mod parts;
 mod places;
 mod plain;
 mod reached;
 mod rules;
+mod runs;
 mod simplify;
+mod story;
+mod texts;
+mod tree;
+mod verdict;
 
 pub use build::graph_of;
 pub use edges::{Incoming, Outgoing};
@@ -24,6 +33,7 @@ pub use laws::{
     graphs_of_kept_rules_are_reached, graphs_of_true_rules_are_true, kept_rules_stay_refuted,
     valid_sets_obey_true_rules,
 };
+pub use message::DisplayUnsat;
 pub use parts::{ConflictCause, ConflictEdge, ConflictNode, Edge, NodeId};
 pub use plain::find;
 pub use reached::keep_reached;

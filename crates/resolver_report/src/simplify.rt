@@ -24,7 +24,7 @@ pub struct MergedConflictNode<S> {
 }
 
 /// The solvable of a node.
-fn solvable_at<S: Copy>(graph: &Graph<S>, n: usize) -> Option<S>
+pub fn solvable_at<S: Copy>(graph: &Graph<S>, n: usize) -> Option<S>
     ensures { result ≡ solvable_at_place graph.now n }
 {
     match graph.nodes().get(n) {

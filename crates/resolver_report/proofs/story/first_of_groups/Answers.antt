@@ -1,0 +1,10 @@
+use Rattle.std.proofs.Common.{◌∙◌, arith, get_or}
+use Rattle.std.proofs.lemmas.List.{get_or_default}
+use Rattle.resolver_report.specs.declared.parts.NodeId.{NodeId}
+use Rattle.resolver_report.proofs.StoryLemmas.{first_of_groups_next}
+use Rattle.resolver_report.proofs.story.first_of_groups.Goals as goal
+
+pub loop-n-preserved : goal.loop-n-preserved
+loop-n-preserved c =
+    let n : NodeId = get_or c.args.nodes.now c.loop-n.n-index (record { 0 = 0 }) in
+    c.in_ok-add_node.ensures.ok ∙ first_of_groups_next c.args.groups.now c.args.nodes.now c.loop-n.n-index n c.loop-n.found.items (omega arith) (get_or_default c.args.nodes.now c.loop-n.n-index (record { 0 = 0 }) n (omega arith)) c.loop-n.invariant

@@ -1,0 +1,35 @@
+-- What an edge says of its two ends.
+use Rattle.std.specs.Prelude.{ℕ, Bool, true, false, List, Option, Some, None}
+use Rattle.std.specs.List.{list_any}
+use Rattle.resolver_clause_store.specs.declared.VersionSetId.{VersionSetId}
+use Rattle.resolver_report.specs.declared.parts.ConflictCause.TheVariants.{Locked, Constrains, ForbidMultipleInstances, Excluded}
+use Rattle.resolver_report.specs.declared.parts.ConflictEdge.{ConflictEdge}
+use Rattle.resolver_report.specs.declared.parts.ConflictEdge.TheVariants.{Requires, Conflict}
+use Rattle.resolver_report.specs.declared.parts.Edge.{Edge}
+
+abbrev pub is_conflict : {S : Type 0} → ConflictEdge S → Bool
+is_conflict (Requires r) = false
+is_conflict (Conflict c) = true
+
+abbrev pub is_exclusion : {S : Type 0} → ConflictEdge S → Bool
+is_exclusion (Conflict Excluded) = true
+is_exclusion w = false
+
+abbrev pub is_second_instance : {S : Type 0} → ConflictEdge S → Bool
+is_second_instance (Conflict ForbidMultipleInstances) = true
+is_second_instance w = false
+
+-- the version set of a constraint
+abbrev pub constraint : {S : Type 0} → ConflictEdge S → Option VersionSetId
+constraint (Conflict (Constrains v)) = Some v
+constraint w = None
+
+-- some edge is of the kind
+abbrev pub has_conflict : {S : Type 0} → List (Edge S) → Bool
+has_conflict es = list_any (λ e. is_conflict e.weight) es
+
+abbrev pub has_exclusion : {S : Type 0} → List (Edge S) → Bool
+has_exclusion es = list_any (λ e. is_exclusion e.weight) es
+
+abbrev pub has_second_instance : {S : Type 0} → List (Edge S) → Bool
+has_second_instance es = list_any (λ e. is_second_instance e.weight) es

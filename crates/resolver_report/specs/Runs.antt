@@ -1,0 +1,28 @@
+-- Neighbouring edges that require one thing.
+use Rattle.std.specs.Prelude.{if◌then◌else◌, List, [], ◌∷◌}
+use Rattle.resolver_clause_store.specs.declared.Requirement.{Requirement}
+use Rattle.resolver_report.specs.declared.parts.NodeId.{NodeId}
+use Rattle.resolver_report.specs.declared.parts.ConflictEdge.{ConflictEdge}
+use Rattle.resolver_report.specs.declared.parts.ConflictEdge.TheVariants.{Requires, Conflict}
+use Rattle.resolver_report.specs.declared.parts.Edge.{Edge}
+use Rattle.resolver_report.specs.Same.{same_requirement}
+
+-- neighbouring edges with one requirement, and where they lead
+pub record Run : Type 0 where
+  pub requirement : Requirement
+  pub targets : List NodeId
+
+abbrev pub joined : Requirement → NodeId → List Run → List Run
+joined r n [] = record { requirement = r; targets = n ∷ [] } ∷ []
+joined r n (run ∷ runs) = if same_requirement r run.requirement
+    then record { requirement = r; targets = n ∷ run.targets } ∷ runs
+    else record { requirement = r; targets = n ∷ [] } ∷ run ∷ runs
+
+abbrev pub with_edge : {S : Type 0} → ConflictEdge S → NodeId → List Run → List Run
+with_edge (Requires r) n runs = joined r n runs
+with_edge (Conflict c) n runs = runs
+
+-- the runs of the edges that require something
+abbrev pub runs_of : {S : Type 0} → List (Edge S) → List Run
+runs_of [] = []
+runs_of (e ∷ es) = with_edge e.weight e.target (runs_of es)

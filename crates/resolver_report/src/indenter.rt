@@ -1,0 +1,150 @@
+//! What stands in front of a line.
+
+ghost use Rattle.std.specs.Prelude.{◌≡◌, ◌+◌, ◌-◌, ◌<◌, ◌==◌, ◌++◌, ◌∷◌, [], IfOk, IfErr, OnOk, length, map, string_bytes};
+ghost use Rattle.resolver_report.specs.Forests.{branch_mark, indent, indent_from, stem_mark};
+ghost use Rattle.resolver_report.specs.Indents.{is_last_child, levels_in};
+
+use resolver_clause_store::Exhausted;
+use std::alloc::Global;
+
+/// Whether more lines stand beside a line, after it.
+#[derive(Clone, Copy, Debug, PartialEq, Eq)]
+pub enum ChildOrder {
+    HasRemainingSiblings,
+    Last,
+}
+
+/// The levels of a line, from the top.
+#[derive(Drop)]
+pub struct Indenter {
+    levels: Vec<ChildOrder>,
+    top_level_indent: bool,
+}
+
+impl ChildOrder {
+    /// The order of the child at this place among so many.
+    pub fn at(place: usize, count: usize) -> ChildOrder
+        requires { place < count }
+        ensures { is_last_child result ≡ (count - (place + 1) == 0) }
+    {
+        if count - (place + 1) == 0 {
+            ChildOrder::Last
+        } else {
+            ChildOrder::HasRemainingSiblings
+        }
+    }
+
+    /// The order of the child before these.
+    pub fn before<T>(rest: &[T]) -> ChildOrder
+        ensures { is_last_child result ≡ (length rest.now == 0) }
+    {
+        if rest.is_empty() {
+            ChildOrder::Last
+        } else {
+            ChildOrder::HasRemainingSiblings
+        }
+    }
+}
+
+/// Writes what the deepest level says.
+pub fn write_branch(order: ChildOrder, out: &mut String) -> Result<(), Exhausted>
+    ensures ok { OnOk result (string_bytes out.new ≡ string_bytes out.old ++ branch_mark (is_last_child order)) }
+    ensures memory { IfErr result (λ e. e ≡ Exhausted.Memory) }
+{
+    match order {
+        ChildOrder::Last => {
+            out.push_str("└─ ")?;
+            Ok(())
+        }
+        ChildOrder::HasRemainingSiblings => {
+            out.push_str("├─ ")?;
+            Ok(())
+        }
+    }
+}
+
+/// Writes what a level above the deepest one says.
+fn write_stem(order: ChildOrder, out: &mut String) -> Result<(), Exhausted>
+    ensures ok { OnOk result (string_bytes out.new ≡ string_bytes out.old ++ stem_mark (is_last_child order)) }
+    ensures memory { IfErr result (λ e. e ≡ Exhausted.Memory) }
+{
+    match order {
+        ChildOrder::Last => {
+            out.push_str("   ")?;
+            Ok(())
+        }
+        ChildOrder::HasRemainingSiblings => {
+            out.push_str("│  ")?;
+            Ok(())
+        }
+    }
+}
+
+/// Writes what one of the levels says, given those below it.
+fn write_level(order: ChildOrder, below: &[ChildOrder], out: &mut String) -> Result<(), Exhausted>
+    ensures ok { OnOk result (string_bytes out.new ++ indent (map is_last_child below.now) ≡ string_bytes out.old ++ indent (is_last_child order ∷ map is_last_child below.now)) }
+    ensures memory { IfErr result (λ e. e ≡ Exhausted.Memory) }
+{
+    if below.is_empty() {
+        write_branch(order, out)?;
+        return Ok(());
+    }
+    write_stem(order, out)?;
+    Ok(())
+}
+
+/// Writes the indent of a line at these levels.
+fn write_levels(levels: &[ChildOrder], out: &mut String) -> Result<(), Exhausted>
+    ensures ok { OnOk result (string_bytes out.new ≡ string_bytes out.old ++ indent (map is_last_child levels.now)) }
+    ensures memory { IfErr result (λ e. e ≡ Exhausted.Memory) }
+{
+    let mut rest = levels;
+    while let [order, below @ ..] = rest {
+        write_level(*order, below, out)?;
+        rest = below;
+    }
+    Ok(())
+}
+
+impl Indenter {
+    /// No level yet. Without top level indent the first level writes nothing.
+    pub fn new(alloc: Global, top_level_indent: bool) -> Indenter
+        ensures levels { levels_in result ≡ [] }
+        ensures top { result.top_level_indent ≡ top_level_indent }
+    {
+        Indenter {
+            levels: Vec::new(alloc),
+            top_level_indent,
+        }
+    }
+
+    /// The levels of what stands one level deeper.
+    pub fn deeper(&self, order: ChildOrder) -> Result<Indenter, Exhausted>
+        ensures levels { IfOk result (λ deeper. levels_in deeper ≡ levels_in self.now ++ is_last_child order ∷ []) }
+        ensures top { IfOk result (λ deeper. deeper.top_level_indent ≡ self.now.top_level_indent) }
+        ensures memory { IfErr result (λ e. e ≡ Exhausted.Memory) }
+    {
+        let mut levels = Vec::from_slice(*self.levels.allocator(), &self.levels)?;
+        levels.push(order)?;
+        Ok(Indenter {
+            levels,
+            top_level_indent: self.top_level_indent,
+        })
+    }
+
+    /// Writes the indent of a line at these levels.
+    pub fn write(&self, out: &mut String) -> Result<(), Exhausted>
+        ensures ok { OnOk result (string_bytes out.new ≡ string_bytes out.old ++ indent_from self.now.top_level_indent (levels_in self.now)) }
+        ensures memory { IfErr result (λ e. e ≡ Exhausted.Memory) }
+    {
+        if self.top_level_indent {
+            write_levels(&self.levels, out)?;
+            return Ok(());
+        }
+        let [_, below @ ..] = self.levels.as_slice() else {
+            return Ok(());
+        };
+        write_levels(below, out)?;
+        Ok(())
+    }
+}

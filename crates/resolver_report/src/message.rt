@@ -1,0 +1,168 @@
+//! The message of a graph.
+
+ghost use Rattle.std.specs.Prelude.{◌≡◌, ◌++◌, ◌∷◌, [], true, Some, IfOk, IfErr, OnOk, codes, filter, string_bytes};
+ghost use Rattle.resolver_report.specs.ConflictGraphs.{shape_of};
+ghost use Rattle.resolver_report.specs.Messages.{conflict_part, conflict_text, message, missing_part, tree};
+ghost use Rattle.resolver_report.specs.Forests.{text_of};
+ghost use Rattle.resolver_report.specs.Picks.{has_mark};
+ghost use Rattle.resolver_report.specs.Tellings.{IsStory, graph_in, keys_in, marks_in};
+
+use crate::findings::findings_of;
+use crate::graph::ConflictGraph;
+use crate::marks::{is_marked, missing};
+use crate::parts::Edge;
+use crate::runs::outgoing;
+use crate::story::node_stories;
+use crate::texts::write_conflicts;
+use crate::tree::{Story, tell_edges, write_end};
+use resolver_clause_store::{Exhausted, Interner};
+use std::alloc::Global;
+use std::fmt;
+
+/// The edges whose target is marked, or the others, in their order.
+fn edges_by_mark<S: Copy + Drop>(
+    alloc: Global,
+    edges: &[Edge<S>],
+    marks: &[bool],
+    wanted: bool,
+) -> Result<Vec<Edge<S>>, Exhausted>
+    ensures value { IfOk result (λ v. v.items ≡ filter (has_mark marks.now wanted) edges.now) }
+    ensures memory { IfErr result (λ e. e ≡ Exhausted.Memory) }
+{
+    let mut found = Vec::new(alloc);
+    for edge in edges {
+        if is_marked(marks, edge.target) == wanted {
+            found.push(*edge)?;
+        }
+    }
+    Ok(found)
+}
+
+/// What a message of the graph is written from.
+fn story_of<'i, I: Interner>(
+    interner: &'i I,
+    graph: &'i ConflictGraph<I::SolvableId>,
+) -> Result<Story<'i, I>, Exhausted>
+    ensures story { IfOk result (λ story. IsStory I.universe story I.SolvableId.eq) }
+    ensures interner { IfOk result (λ story. story.interner.now ≡ interner.now) }
+    ensures graph { IfOk result (λ story. story.findings.graph.now ≡ graph.now) }
+    ensures memory { IfErr result (λ e. e ≡ Exhausted.Memory) }
+{
+    let alloc = graph.graph.allocator();
+    let groups = graph.simplify(interner)?;
+    let findings = findings_of(alloc, interner, graph, &groups)?;
+    let nodes = node_stories(alloc, &findings)?;
+    Ok(Story {
+        interner,
+        findings,
+        groups,
+        nodes,
+    })
+}
+
+/// Writes what cannot be had at all.
+fn write_missing_part<I: Interner>(
+    story: &Story<'_, I>,
+    edges: &[Edge<I::SolvableId>],
+    out: &mut String,
+) -> Result<(), Exhausted>
+    requires { IsStory I.universe story.now I.SolvableId.eq }
+    ensures ok { OnOk result (string_bytes out.new ≡ string_bytes out.old ++ missing_part (I.universe story.now.interner.now) (graph_in I.universe story.now) (keys_in I.universe story.now) (marks_in I.universe story.now) edges.now) }
+    ensures memory { IfErr result (λ e. e ≡ Exhausted.Memory) }
+{
+    let [_, ..] = edges else {
+        return Ok(());
+    };
+    tell_edges(story, edges, false, out)?;
+    Ok(())
+}
+
+/// Writes a tree of what does not go together, and what the root itself forbids.
+fn write_incompatible<I: Interner>(
+    story: &Story<'_, I>,
+    root_edges: &[Edge<I::SolvableId>],
+    edges: &[Edge<I::SolvableId>],
+    out: &mut String,
+) -> Result<(), Exhausted>
+    requires { IsStory I.universe story.now I.SolvableId.eq }
+    ensures ok { OnOk result (string_bytes out.new ≡ string_bytes out.old ++ (codes "The following packages are incompatible" ++ 10 ∷ [] ++ text_of true [] (tree (I.universe story.now.interner.now) (graph_in I.universe story.now) (keys_in I.universe story.now) (marks_in I.universe story.now) edges.now) ++ conflict_text (I.universe story.now.interner.now) root_edges.now)) }
+    ensures memory { IfErr result (λ e. e ≡ Exhausted.Memory) }
+{
+    write_end("The following packages are incompatible", out)?;
+    tell_edges(story, edges, true, out)?;
+    write_conflicts(story.interner, root_edges, out)?;
+    Ok(())
+}
+
+/// Writes what does not go together, and what the root itself forbids.
+fn write_conflict_part<I: Interner>(
+    story: &Story<'_, I>,
+    root_edges: &[Edge<I::SolvableId>],
+    edges: &[Edge<I::SolvableId>],
+    out: &mut String,
+) -> Result<(), Exhausted>
+    requires { IsStory I.universe story.now I.SolvableId.eq }
+    ensures ok { OnOk result (string_bytes out.new ≡ string_bytes out.old ++ conflict_part (I.universe story.now.interner.now) (graph_in I.universe story.now) (keys_in I.universe story.now) (marks_in I.universe story.now) root_edges.now edges.now) }
+    ensures memory { IfErr result (λ e. e ≡ Exhausted.Memory) }
+{
+    let [_, ..] = edges else {
+        return Ok(());
+    };
+    write_incompatible(story, root_edges, edges, out)?;
+    Ok(())
+}
+
+/// The text of a graph's message.
+fn message_text<I: Interner>(
+    interner: &I,
+    graph: &ConflictGraph<I::SolvableId>,
+) -> Result<String, Exhausted>
+    ensures value { IfOk result (λ s. string_bytes s ≡ message (I.universe interner.now) (shape_of graph.now)) }
+    ensures memory { IfErr result (λ e. e ≡ Exhausted.Memory) }
+{
+    let alloc = graph.graph.allocator();
+    let missing = missing(alloc, graph)?;
+    let root_edges = outgoing(alloc, &graph.graph, graph.root_node)?;
+    let lost = edges_by_mark(alloc, &root_edges, &missing, true)?;
+    let left = edges_by_mark(alloc, &root_edges, &missing, false)?;
+    let story = story_of(interner, graph)?;
+    let mut text = String::new(alloc);
+    write_missing_part(&story, &lost, &mut text)?;
+    write_conflict_part(&story, &root_edges, &left, &mut text)?;
+    Ok(text)
+}
+
+/// The message of a conflict's graph: which packages are missing or do not go together, as a tree of lines.
+///
+/// It is written by its `Display`. All of it is made before the first byte is written. An error comes only from the
+/// formatter, or where memory is refused.
+#[derive(Drop)]
+pub struct DisplayUnsat<'i, I: Interner> {
+    graph: ConflictGraph<I::SolvableId>,
+    interner: &'i I,
+}
+
+impl<'i, I: Interner> DisplayUnsat<'i, I> {
+    ghost use Rattle.resolver_report.specs.Displays.{displayed_graph, interner_in};
+
+    /// The message of a graph, with the texts of this interner.
+    pub fn new(graph: ConflictGraph<I::SolvableId>, interner: &'i I) -> Self
+        ensures graph { displayed_graph result ≡ shape_of graph }
+        ensures interner { interner_in result ≡ interner.now }
+    {
+        DisplayUnsat { graph, interner }
+    }
+}
+
+impl<'i, I: Interner> fmt::Display for DisplayUnsat<'i, I> {
+    ghost use Rattle.resolver_report.specs.Displays.{displayed};
+
+    ghost output = { λ d. Some (displayed I.universe d) };
+
+    fn fmt<W: fmt::Write>(&self, f: &mut fmt::Formatter<W>) -> fmt::Result {
+        let Ok(text) = message_text(self.interner, &self.graph) else {
+            return Err(fmt::Error);
+        };
+        f.write_str(text.as_str())
+    }
+}
