@@ -5,6 +5,7 @@ use Rattle.resolver_clause_store.specs.Lists.{IsWithin}
 use Rattle.resolver_clause_store.specs.Universe.{Universe, Package, Demands, Needs, known, unknown}
 use Rattle.resolver_clause_store.specs.Candidates.{matching, others, requirement_candidates}
 use Rattle.resolver_clause_store.specs.Disjuncts.{IsDisjunctive}
+use Rattle.resolver_clause_store.specs.Near.{AreCounted, IsWithinReach}
 use Rattle.resolver_clause_store.specs.declared.ConditionId.{ConditionId}
 use Rattle.resolver_clause_store.specs.declared.VersionSetId.{VersionSetId}
 use Rattle.resolver_clause_store.specs.declared.StringId.{StringId}
@@ -87,8 +88,10 @@ IsCovered u seen asked (Lock locked forbidden) = ⊤
 IsCovered u seen asked (Excluded solvable reason) = ⊤
 IsCovered u seen asked (OnePerPackage name instance) = ⊤
 
--- the rules are true, and say of each candidate, each solvable to be read and each asked package what they must
+-- the rules are true, and say of each candidate, each solvable to be read and each asked package what they must; and the
+-- solvables to be read are within reach
 pub record IsReading {N S : Type 0} (u : Universe N S) (root : Demands) (notes : Notes N S) : Type 0 where
+  pub counted : AreCounted u root notes.seen
   pub each_true : All (IsTrueRule u root) notes.rules
   pub covered : All (IsCovered u notes.seen notes.asked) notes.rules
   pub marked : All (λ s. Contains notes.rules (OnePerPackage (u.name s) s)) notes.seen
@@ -124,9 +127,28 @@ AsksFor u by r root = Contains (demands_by u root by).requirements r
 abbrev pub AsksWithin : {N S : Type 0} → Universe N S → By S → VersionSetId → Demands → Type 0
 AsksWithin u by v root = Contains (demands_by u root by).constraints v
 
+-- the root, or a solvable within reach
+abbrev pub IsAsker : {N S : Type 0} → Universe N S → Demands → By S → Type 0
+IsAsker u root Root = ⊤
+IsAsker u root (Solvable s) = IsWithinReach u root s
+
+-- the root, or the solvable within reach, asks for the requirement; for this and for nothing else
+pub record Requests {N S : Type 0} (u : Universe N S) (by : By S) (r : ConditionalRequirement) (root : Demands) : Type 0 where
+  pub asker : IsAsker u root by
+  pub asks : AsksFor u by r root
+
+pub record RequestsAll {N S : Type 0} (u : Universe N S) (by : By S) (demands : Demands) (root : Demands) : Type 0 where
+  pub asker : IsAsker u root by
+  pub asks : demands_by u root by ≡ demands
+
 -- the root and each solvable that was noted count as a variable each, and they are as many as there may be
-abbrev pub IsFull : {N S : Type 0} → Notes N S → Type 0
-IsFull notes = 1 + length notes.seen ≡ notes.limit
+pub record IsFull {N S : Type 0} (u : Universe N S) (root : Demands) (notes : Notes N S) : Type 0 where
+  pub counted : AreCounted u root notes.seen
+  pub full : 1 + length notes.seen ≡ notes.limit
+
+-- where the premise holds of the root and the old notes are right, the new ones are full
+abbrev pub Fills : {N S : Type 0} → Universe N S → (Demands → Type 0) → Notes N S → Notes N S → Type 0
+Fills u Premise old new = (root : Demands) → Premise root → IsReading u root old → IsFull u root new
 
 -- nothing was read yet
 pub record IsUnread {N S : Type 0} (notes : Notes N S) : Type 0 where

@@ -4,11 +4,11 @@ ghost use Rattle.std.specs.Prelude.{◌≡◌, ◌≢◌, ◌+◌, ◌<◌, [], 
 ghost use Rattle.resolver_clause_store.specs.Caches.{IsTrueCache, KeepsAnswers};
 ghost use Rattle.resolver_clause_store.specs.Candidates.{matching, others, requirement_candidates as candidates_of, version_sets};
 ghost use Rattle.resolver_clause_store.specs.Interruptions.{IsInterruption};
+ghost use Rattle.resolver_clause_store.specs.Near.{IsWithinReach};
 ghost use Rattle.resolver_clause_store.specs.Universe.{Demands};
 ghost use Rattle.resolver_clause_store.specs.declared.By.TheVariants.{Root, Solvable};
-ghost use Rattle.resolver_report.specs.TrueRules.{demands_by};
 ghost use Rattle.resolver_report.specs.declared.Rule.TheVariants.{Lock as LockRule, Excluded as ExcludedRule, Constrains as ConstrainsRule};
-ghost use Rattle.resolvo.specs.Reading.{AreDemandsRead, AreDisjuncts, AreNeedsRead, AsksFor, AsksWithin, HasRule, IsConstraintRead, IsDisjunctOf, IsForbidden, IsFull, IsLockRead, IsNoted, IsRead, IsRequirementRead, IsStep, IsUnread};
+ghost use Rattle.resolvo.specs.Reading.{AreDemandsRead, AreDisjuncts, AreNeedsRead, AsksFor, AsksWithin, Fills, HasRule, IsConstraintRead, IsDisjunctOf, IsForbidden, IsFull, IsLockRead, IsNoted, IsRead, IsRequirementRead, IsStep, IsUnread, Requests, RequestsAll};
 ghost use Rattle.resolvo.specs.Refusals.{IsShortage, IsStop};
 
 use crate::sets::{append, is_among};
@@ -63,10 +63,10 @@ impl<N: Copy + Eq + Hash + Drop, S: Copy + Eq + Hash + Drop> Reading<N, S> {
         provider: &D,
         solvable: S,
     ) -> Result<(), Exhausted>
-        ensures step { OnOk result (IsStep (D.universe provider.now) (λ root. ⊤) (notes_in self.old) (notes_in self.new)) }
+        ensures step { OnOk result (IsStep (D.universe provider.now) (λ root. IsWithinReach (D.universe provider.now) root solvable) (notes_in self.old) (notes_in self.new)) }
         ensures seen { OnOk result (Contains (notes_in self.new).seen solvable) }
         ensures limit { (notes_in self.new).limit ≡ (notes_in self.old).limit }
-        ensures refusal { IfErr result (IsShortage (IsFull (notes_in self.new))) }
+        ensures refusal { IfErr result (IsShortage (Fills (D.universe provider.now) (λ root. IsWithinReach (D.universe provider.now) root solvable) (notes_in self.old) (notes_in self.new))) }
     {
         if is_among(&self.seen, &solvable) {
             return Ok(());
@@ -88,10 +88,10 @@ impl<N: Copy + Eq + Hash + Drop, S: Copy + Eq + Hash + Drop> Reading<N, S> {
         provider: &D,
         candidates: &[S],
     ) -> Result<(), Exhausted>
-        ensures step { OnOk result (IsStep (D.universe provider.now) (λ root. ⊤) (notes_in self.old) (notes_in self.new)) }
+        ensures step { OnOk result (IsStep (D.universe provider.now) (λ root. All (IsWithinReach (D.universe provider.now) root) candidates.now) (notes_in self.old) (notes_in self.new)) }
         ensures seen { OnOk result (All (Contains (notes_in self.new).seen) candidates.now) }
         ensures limit { (notes_in self.new).limit ≡ (notes_in self.old).limit }
-        ensures refusal { IfErr result (IsShortage (IsFull (notes_in self.new))) }
+        ensures refusal { IfErr result (IsShortage (Fills (D.universe provider.now) (λ root. All (IsWithinReach (D.universe provider.now) root) candidates.now) (notes_in self.old) (notes_in self.new))) }
     {
         for candidate in candidates {
             self.see(provider, *candidate)?;
@@ -112,7 +112,7 @@ impl<N: Copy + Eq + Hash + Drop, S: Copy + Eq + Hash + Drop> Reading<N, S> {
         ensures forbidden { OnOk result (candidate ≢ locked → Contains (notes_in self.new).rules (LockRule locked candidate)) }
         ensures asked { (notes_in self.new).asked ≡ (notes_in self.old).asked }
         ensures limit { (notes_in self.new).limit ≡ (notes_in self.old).limit }
-        ensures refusal { IfErr result (IsShortage (IsFull (notes_in self.new))) }
+        ensures memory { IfErr result (λ e. e ≡ Exhausted.Memory) }
     {
         if candidate == locked {
             return Ok(());
@@ -138,7 +138,7 @@ impl<N: Copy + Eq + Hash + Drop, S: Copy + Eq + Hash + Drop> Reading<N, S> {
         ensures read { OnOk result (IsLockRead (D.universe provider.now) (notes_in self.new).rules locked listed.now) }
         ensures asked { (notes_in self.new).asked ≡ (notes_in self.old).asked }
         ensures limit { (notes_in self.new).limit ≡ (notes_in self.old).limit }
-        ensures refusal { IfErr result (IsShortage (IsFull (notes_in self.new))) }
+        ensures memory { IfErr result (λ e. e ≡ Exhausted.Memory) }
     {
         let Some(locked) = locked else {
             return Ok(());
@@ -161,7 +161,7 @@ impl<N: Copy + Eq + Hash + Drop, S: Copy + Eq + Hash + Drop> Reading<N, S> {
         ensures forbidden { OnOk result (Contains (notes_in self.new).rules (ExcludedRule solvable reason)) }
         ensures asked { (notes_in self.new).asked ≡ (notes_in self.old).asked }
         ensures limit { (notes_in self.new).limit ≡ (notes_in self.old).limit }
-        ensures refusal { IfErr result (IsShortage (IsFull (notes_in self.new))) }
+        ensures memory { IfErr result (λ e. e ≡ Exhausted.Memory) }
     {
         self.push(Rule::Excluded { solvable, reason })?;
         Ok(())
@@ -179,7 +179,7 @@ impl<N: Copy + Eq + Hash + Drop, S: Copy + Eq + Hash + Drop> Reading<N, S> {
         ensures read { OnOk result (All (λ e. Contains (notes_in self.new).rules (ExcludedRule e.0 e.1)) excluded.now) }
         ensures asked { (notes_in self.new).asked ≡ (notes_in self.old).asked }
         ensures limit { (notes_in self.new).limit ≡ (notes_in self.old).limit }
-        ensures refusal { IfErr result (IsShortage (IsFull (notes_in self.new))) }
+        ensures memory { IfErr result (λ e. e ≡ Exhausted.Memory) }
     {
         for (solvable, reason) in excluded {
             self.forbid(provider, *solvable, *reason)?;
@@ -199,7 +199,7 @@ impl<N: Copy + Eq + Hash + Drop, S: Copy + Eq + Hash + Drop> Reading<N, S> {
         ensures step { OnOk result (IsStep (D.universe provider.now) (λ root. ⊤) (notes_in self.old) (notes_in self.new)) }
         ensures asked { OnOk result (Contains (notes_in self.new).asked name) }
         ensures limit { (notes_in self.new).limit ≡ (notes_in self.old).limit }
-        ensures refusal { IfErr result (IsStop (D.may_cancel provider.now) (IsFull (notes_in self.new))) }
+        ensures refusal { IfErr result (IsInterruption (D.may_cancel provider.now)) }
     {
         if is_among(&self.asked, &name) {
             return Ok(());
@@ -224,7 +224,7 @@ impl<N: Copy + Eq + Hash + Drop, S: Copy + Eq + Hash + Drop> Reading<N, S> {
         ensures step { OnOk result (IsStep (D.universe provider.now) (λ root. ⊤) (notes_in self.old) (notes_in self.new)) }
         ensures asked { OnOk result (All (λ v. Contains (notes_in self.new).asked ((D.universe provider.now).version_set_name v)) named.now) }
         ensures limit { (notes_in self.new).limit ≡ (notes_in self.old).limit }
-        ensures refusal { IfErr result (IsStop (D.may_cancel provider.now) (IsFull (notes_in self.new))) }
+        ensures refusal { IfErr result (IsInterruption (D.may_cancel provider.now)) }
     {
         for version_set in named {
             self.ask(provider, cache, provider.version_set_name(*version_set))?;
@@ -244,7 +244,7 @@ impl<N: Copy + Eq + Hash + Drop, S: Copy + Eq + Hash + Drop> Reading<N, S> {
         ensures step { OnOk result (IsStep (D.universe provider.now) (λ root. ⊤) (notes_in self.old) (notes_in self.new)) }
         ensures asked { OnOk result (All (λ v. Contains (notes_in self.new).asked ((D.universe provider.now).version_set_name v)) (version_sets (D.universe provider.now) requirement)) }
         ensures limit { (notes_in self.new).limit ≡ (notes_in self.old).limit }
-        ensures refusal { IfErr result (IsStop (D.may_cancel provider.now) (IsFull (notes_in self.new))) }
+        ensures refusal { IfErr result (IsInterruption (D.may_cancel provider.now)) }
     {
         match requirement {
             Requirement::Single(version_set) => {
@@ -276,7 +276,7 @@ impl<N: Copy + Eq + Hash + Drop, S: Copy + Eq + Hash + Drop> Reading<N, S> {
         ensures step { OnOk result (IsStep (D.universe provider.now) (AsksFor (D.universe provider.now) by requirement) (notes_in self.old) (notes_in self.new)) }
         ensures rule { OnOk result (HasRule (D.universe provider.now) (notes_in self.new).rules by requirement.requirement disjunct.now) }
         ensures limit { (notes_in self.new).limit ≡ (notes_in self.old).limit }
-        ensures refusal { IfErr result (IsStop (D.may_cancel provider.now) (IsFull (notes_in self.new))) }
+        ensures refusal { IfErr result (IsInterruption (D.may_cancel provider.now)) }
     {
         let when = matching_lists(self.alloc, provider, cache, disjunct)?;
         let candidates = Vec::from_slice(self.alloc, candidates)?;
@@ -307,7 +307,7 @@ impl<N: Copy + Eq + Hash + Drop, S: Copy + Eq + Hash + Drop> Reading<N, S> {
         ensures step { OnOk result (IsStep (D.universe provider.now) (AsksFor (D.universe provider.now) by requirement) (notes_in self.old) (notes_in self.new)) }
         ensures read { OnOk result (IsRequirementRead (D.universe provider.now) (notes_in self.new).rules by requirement) }
         ensures limit { (notes_in self.new).limit ≡ (notes_in self.old).limit }
-        ensures refusal { IfErr result (IsStop (D.may_cancel provider.now) (IsFull (notes_in self.new))) }
+        ensures refusal { IfErr result (IsInterruption (D.may_cancel provider.now)) }
     {
         for disjunct in disjuncts {
             self.read_disjunct(provider, cache, by, requirement, candidates, disjunct)?;
@@ -325,10 +325,10 @@ impl<N: Copy + Eq + Hash + Drop, S: Copy + Eq + Hash + Drop> Reading<N, S> {
     ) -> Result<(), Interrupted<D::Cancel>>
         requires is_true { IsTrueCache (D.universe provider.now) cache.old }
         ensures is_true { IsTrueCache (D.universe provider.now) cache.new }
-        ensures step { OnOk result (IsStep (D.universe provider.now) (AsksFor (D.universe provider.now) by requirement) (notes_in self.old) (notes_in self.new)) }
+        ensures step { OnOk result (IsStep (D.universe provider.now) (Requests (D.universe provider.now) by requirement) (notes_in self.old) (notes_in self.new)) }
         ensures read { OnOk result (IsRequirementRead (D.universe provider.now) (notes_in self.new).rules by requirement) }
         ensures limit { (notes_in self.new).limit ≡ (notes_in self.old).limit }
-        ensures refusal { IfErr result (IsStop (D.may_cancel provider.now) (IsFull (notes_in self.new))) }
+        ensures refusal { IfErr result (IsStop (D.may_cancel provider.now) (Fills (D.universe provider.now) (Requests (D.universe provider.now) by requirement) (notes_in self.old) (notes_in self.new))) }
     {
         self.ask_named(provider, cache, requirement.requirement)?;
         let candidates = requirement_candidates(cache, provider, requirement.requirement)?;
@@ -350,7 +350,7 @@ impl<N: Copy + Eq + Hash + Drop, S: Copy + Eq + Hash + Drop> Reading<N, S> {
         ensures step { OnOk result (IsStep (D.universe provider.now) (AsksWithin (D.universe provider.now) by version_set) (notes_in self.old) (notes_in self.new)) }
         ensures read { OnOk result (IsConstraintRead (D.universe provider.now) (notes_in self.new).rules by version_set) }
         ensures limit { (notes_in self.new).limit ≡ (notes_in self.old).limit }
-        ensures refusal { IfErr result (IsShortage (IsFull (notes_in self.new))) }
+        ensures memory { IfErr result (λ e. e ≡ Exhausted.Memory) }
     {
         for candidate in forbidden {
             self.push(Rule::Constrains {
@@ -375,7 +375,7 @@ impl<N: Copy + Eq + Hash + Drop, S: Copy + Eq + Hash + Drop> Reading<N, S> {
         ensures step { OnOk result (IsStep (D.universe provider.now) (AsksWithin (D.universe provider.now) by version_set) (notes_in self.old) (notes_in self.new)) }
         ensures read { OnOk result (IsConstraintRead (D.universe provider.now) (notes_in self.new).rules by version_set) }
         ensures limit { (notes_in self.new).limit ≡ (notes_in self.old).limit }
-        ensures refusal { IfErr result (IsStop (D.may_cancel provider.now) (IsFull (notes_in self.new))) }
+        ensures refusal { IfErr result (IsInterruption (D.may_cancel provider.now)) }
     {
         self.ask(provider, cache, provider.version_set_name(version_set))?;
         cache.ask_non_matching(provider, version_set)?;
@@ -393,10 +393,10 @@ impl<N: Copy + Eq + Hash + Drop, S: Copy + Eq + Hash + Drop> Reading<N, S> {
     ) -> Result<(), Interrupted<D::Cancel>>
         requires is_true { IsTrueCache (D.universe provider.now) cache.old }
         ensures is_true { IsTrueCache (D.universe provider.now) cache.new }
-        ensures step { OnOk result (IsStep (D.universe provider.now) (λ root. All (λ r. AsksFor (D.universe provider.now) by r root) requirements.now) (notes_in self.old) (notes_in self.new)) }
+        ensures step { OnOk result (IsStep (D.universe provider.now) (λ root. All (λ r. Requests (D.universe provider.now) by r root) requirements.now) (notes_in self.old) (notes_in self.new)) }
         ensures read { OnOk result (All (IsRequirementRead (D.universe provider.now) (notes_in self.new).rules by) requirements.now) }
         ensures limit { (notes_in self.new).limit ≡ (notes_in self.old).limit }
-        ensures refusal { IfErr result (IsStop (D.may_cancel provider.now) (IsFull (notes_in self.new))) }
+        ensures refusal { IfErr result (IsStop (D.may_cancel provider.now) (Fills (D.universe provider.now) (λ root. All (λ r. Requests (D.universe provider.now) by r root) requirements.now) (notes_in self.old) (notes_in self.new))) }
     {
         for requirement in requirements {
             self.read_requirement(provider, cache, by, *requirement)?;
@@ -417,7 +417,7 @@ impl<N: Copy + Eq + Hash + Drop, S: Copy + Eq + Hash + Drop> Reading<N, S> {
         ensures step { OnOk result (IsStep (D.universe provider.now) (λ root. All (λ v. AsksWithin (D.universe provider.now) by v root) constraints.now) (notes_in self.old) (notes_in self.new)) }
         ensures read { OnOk result (All (IsConstraintRead (D.universe provider.now) (notes_in self.new).rules by) constraints.now) }
         ensures limit { (notes_in self.new).limit ≡ (notes_in self.old).limit }
-        ensures refusal { IfErr result (IsStop (D.may_cancel provider.now) (IsFull (notes_in self.new))) }
+        ensures refusal { IfErr result (IsInterruption (D.may_cancel provider.now)) }
     {
         for version_set in constraints {
             self.read_constraint(provider, cache, by, *version_set)?;
@@ -436,10 +436,10 @@ impl<N: Copy + Eq + Hash + Drop, S: Copy + Eq + Hash + Drop> Reading<N, S> {
     ) -> Result<(), Interrupted<D::Cancel>>
         requires is_true { IsTrueCache (D.universe provider.now) cache.old }
         ensures is_true { IsTrueCache (D.universe provider.now) cache.new }
-        ensures step { OnOk result (IsStep (D.universe provider.now) (λ root. demands_by (D.universe provider.now) root by ≡ record { requirements = requirements.now; constraints = constraints.now }) (notes_in self.old) (notes_in self.new)) }
+        ensures step { OnOk result (IsStep (D.universe provider.now) (RequestsAll (D.universe provider.now) by (record { requirements = requirements.now; constraints = constraints.now })) (notes_in self.old) (notes_in self.new)) }
         ensures read { OnOk result (AreDemandsRead (D.universe provider.now) (notes_in self.new).rules by (record { requirements = requirements.now; constraints = constraints.now })) }
         ensures limit { (notes_in self.new).limit ≡ (notes_in self.old).limit }
-        ensures refusal { IfErr result (IsStop (D.may_cancel provider.now) (IsFull (notes_in self.new))) }
+        ensures refusal { IfErr result (IsStop (D.may_cancel provider.now) (Fills (D.universe provider.now) (RequestsAll (D.universe provider.now) by (record { requirements = requirements.now; constraints = constraints.now })) (notes_in self.old) (notes_in self.new))) }
     {
         self.read_requirements(provider, cache, by, requirements)?;
         self.read_constraints(provider, cache, by, constraints)?;
@@ -455,10 +455,10 @@ impl<N: Copy + Eq + Hash + Drop, S: Copy + Eq + Hash + Drop> Reading<N, S> {
     ) -> Result<(), Interrupted<D::Cancel>>
         requires is_true { IsTrueCache (D.universe provider.now) cache.old }
         ensures is_true { IsTrueCache (D.universe provider.now) cache.new }
-        ensures step { OnOk result (IsStep (D.universe provider.now) (λ root. ⊤) (notes_in self.old) (notes_in self.new)) }
+        ensures step { OnOk result (IsStep (D.universe provider.now) (λ root. IsWithinReach (D.universe provider.now) root solvable) (notes_in self.old) (notes_in self.new)) }
         ensures read { OnOk result (AreNeedsRead (D.universe provider.now) (notes_in self.new).rules solvable ((D.universe provider.now).needs solvable)) }
         ensures limit { (notes_in self.new).limit ≡ (notes_in self.old).limit }
-        ensures refusal { IfErr result (IsStop (D.may_cancel provider.now) (IsFull (notes_in self.new))) }
+        ensures refusal { IfErr result (IsStop (D.may_cancel provider.now) (Fills (D.universe provider.now) (λ root. IsWithinReach (D.universe provider.now) root solvable) (notes_in self.old) (notes_in self.new))) }
     {
         cache.ask_dependencies(provider, solvable)?;
         match cache.dependencies(solvable) {
@@ -490,7 +490,7 @@ impl<N: Copy + Eq + Hash + Drop, S: Copy + Eq + Hash + Drop> Reading<N, S> {
         ensures is_true { IsTrueCache (D.universe provider.now) cache.new }
         ensures read { OnOk result (IsRead (D.universe provider.now) (record { requirements = requirements.now; constraints = constraints.now }) (notes_in self.new)) }
         ensures limit { (notes_in self.new).limit ≡ (notes_in self.old).limit }
-        ensures refusal { IfErr result (IsStop (D.may_cancel provider.now) (IsFull (notes_in self.new))) }
+        ensures refusal { IfErr result (IsStop (D.may_cancel provider.now) (IsFull (D.universe provider.now) (record { requirements = requirements.now; constraints = constraints.now }) (notes_in self.new))) }
     {
         self.read_demands(provider, cache, By::Root, requirements, constraints)?;
         let mut next = 0;

@@ -107,7 +107,7 @@ impl<D: DependencyProvider> Solver<D> {
         ensures provider { provider_in self.new ≡ provider_in self.old }
         ensures limit { variable_limit_in self.new ≡ variable_limit_in self.old }
         ensures answer { IfOk result (λ chosen. IsPlainAnswer (D.universe (provider_in self.old)) (demands_in problem) chosen.items) }
-        ensures refusal { IfErr result (IsRefusal (D.universe (provider_in self.old)) (D.may_cancel (provider_in self.old)) (demands_in problem) (IsAtLimit self.new)) }
+        ensures refusal { IfErr result (IsRefusal (D.universe (provider_in self.old)) (D.may_cancel (provider_in self.old)) (demands_in problem) (IsAtLimit (D.universe (provider_in self.old)) (demands_in problem) self.new)) }
         ensures counted { IfErr result (IsCounted (D.universe (provider_in self.old)) (demands_in problem) (clause_count_in self.new)) }
         ensures counted_answer { IfOk result (λ _. CountsReading (D.universe (provider_in self.old)) (demands_in problem) (clause_count_in self.new)) }
     {
