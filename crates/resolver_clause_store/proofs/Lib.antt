@@ -13,3 +13,5 @@ pub mod VersionSetLemmas
 pub mod UnionLemmas
 pub mod AvailabilityLemmas
 pub mod SlotLemmas
+pub mod FormulaLemmas
+pub mod TrailLemmas

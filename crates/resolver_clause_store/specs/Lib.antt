@@ -17,3 +17,4 @@ pub mod Disjuncts
 pub mod Formula
 pub mod Slots
 pub mod TrailView
+pub mod Outcomes

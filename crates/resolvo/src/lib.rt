@@ -1,8 +1,12 @@
 //! A package solver with explained conflicts.
 #![tactic(auto)]
 
+mod analyze;
 mod conflict;
+mod contradiction;
+mod decide;
 mod problem;
+mod propagate;
 mod reading;
 mod sets;
 mod solver;
