@@ -12,3 +12,4 @@ pub mod ResolutionLemmas
 pub mod NegationLemmas
 pub mod LevelLemmas
 pub mod CoreLemmas
+pub mod ClauseSearchLemmas

@@ -12,3 +12,4 @@ pub mod Propagation
 pub mod Decisions
 pub mod Resolvents
 pub mod Derivations
+pub mod ClauseSearches

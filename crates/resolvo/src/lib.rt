@@ -2,6 +2,7 @@
 #![tactic(auto)]
 
 mod analyze;
+mod clause_search;
 mod conflict;
 mod contradiction;
 mod decide;
