@@ -5,3 +5,12 @@ pub mod StepLemmas
 pub mod DisjunctRules
 pub mod AnswerLemmas
 pub mod RefusalLemmas
+pub mod SeenLemmas
+pub mod JustifiedLemmas
+pub mod DecisionLemmas
+pub mod MarkLemmas
+pub mod ResolutionLemmas
+pub mod NegationLemmas
+pub mod LevelLemmas
+pub mod CoreLemmas
+pub mod ClauseSearchLemmas

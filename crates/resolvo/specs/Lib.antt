@@ -8,3 +8,8 @@ pub mod Refusals
 pub mod Counts
 pub mod Solvers
 pub mod TestProvider
+pub mod Propagation
+pub mod Decisions
+pub mod Resolvents
+pub mod Derivations
+pub mod ClauseSearches

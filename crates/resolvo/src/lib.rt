@@ -1,8 +1,13 @@
 //! A package solver with explained conflicts.
 #![tactic(auto)]
 
+mod analyze;
+mod clause_search;
 mod conflict;
+mod contradiction;
+mod decide;
 mod problem;
+mod propagate;
 mod reading;
 mod sets;
 mod solver;

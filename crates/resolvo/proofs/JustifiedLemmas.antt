@@ -1,0 +1,147 @@
+-- The reasons stay right when a literal is set.
+use Rattle.std.proofs.Common.{◌≡◌, ◌≢◌, ℕ, ◌+◌, ◌<◌, ◌≤◌, ◌⊎◌, List, [], ◌∷◌, ◌++◌, length, get_or, Option, Some, None, Bool, true, false, arith, rules, inl, inr, refl, sym, ap, ◌∙◌, subst, ⊎_elim}
+use Rattle.std.specs.Prelude.{Vec}
+use Rattle.std.specs.List.{All, Any, Contains}
+use Rattle.std.specs.declared.alloc.Global.{Global}
+use Rattle.std.proofs.lemmas.Bool.{both_ways, false≢true}
+use Rattle.std.proofs.lemmas.List.Elements.{All-contains, All-weaker}
+use Rattle.std.proofs.lemmas.Option.{same_Some, none-some}
+use Rattle.resolver_clause_store.specs.declared.Literal.{Literal}
+use Rattle.resolver_clause_store.specs.declared.RequirementClause.{RequirementClause}
+use Rattle.resolver_clause_store.specs.declared.Slot.{Slot}
+use Rattle.resolver_clause_store.specs.declared.Reason.{Reason}
+use Rattle.resolver_clause_store.specs.declared.Reason.TheVariants.{Decided, Forced}
+use Rattle.resolver_clause_store.specs.declared.Trail.{Trail}
+use Rattle.resolver_clause_store.specs.Formula.{clause_at}
+use Rattle.resolver_clause_store.specs.Slots.{is_decided}
+use Rattle.resolver_clause_store.specs.TrailView.{slot_of, length_of, literal_value, Gains, IsSame}
+use Rattle.resolver_clause_store.specs.Outcomes.{IsFalsified, IsSatisfied, IsFalseBefore, IsForcing, IsChosen, IsPropagated}
+use Rattle.resolver_clause_store.proofs.TrailLemmas.{Keeps, keeps-gains, false_before-kept, forcing-kept, false-before, gains-cases}
+use Rattle.resolvo.specs.Propagation.{IsUnit, IsOpen, IsSettled, IsJustified, AreChosen, Extends}
+
+pub forcing-unit : (old new : Trail) (literal : Literal) (clause : List Literal) → Keeps old new → IsUnit old literal clause → IsForcing new (length_of old) literal clause
+forcing-unit old new literal clause keeps unit = λ k d below. ⊎_elim (λ e. inl e) (λ e. inr (false_before-kept old new _ _ keeps (false-before old _ e))) (unit k d below)
+
+forced-is : (n m : ℕ) → Forced n ≡ Forced m → n ≡ m
+forced-is n m e = cc
+
+forced-decided : (n m : ℕ) → Forced n ≡ Decided m → ⊥
+forced-decided n m e = absurd cc
+
+decided-is : (n m : ℕ) → Decided n ≡ Decided m → n ≡ m
+decided-is n m e = cc
+
+-- the reason of the slot that a gain makes
+reason-made : (slot made : Slot) (reason : Reason) → slot ≡ made → slot.reason ≡ reason → made.reason ≡ reason
+reason-made slot made reason e is = sym (ap (λ (s : Slot). s.reason) e) ∙ is
+
+pub justified-gains : (table : List (Vec Literal Global)) (old new : Trail) (literal : Literal) (level number : ℕ) → IsJustified table old → Gains old new literal level (Forced number) → slot_of old literal.variable ≡ None → number < length table → IsUnit old literal (clause_at table number) → IsJustified table new
+justified-gains table old new literal level number justified gains free inside unit =
+    let keeps = keeps-gains old new literal level _ gains free in
+    record {
+      within = λ v s n at reason. ⊎_elim
+          (λ w. subst (λ m. m < length table) (forced-is number n (reason-made s _ _ w.1 reason)) inside)
+          (λ w. justified.within v s n w reason)
+          (gains-cases old new literal level _ gains v s at);
+      forced = λ v s n at reason. ⊎_elim
+          (λ w.
+          let same : number ≡ n = forced-is number n (reason-made s _ _ w.1 reason) in
+          let f : IsForcing new (length_of old) literal (clause_at table n) = subst (λ m. IsForcing new (length_of old) literal (clause_at table m)) same (forcing-unit old new literal _ keeps unit) in
+          let g : IsForcing new s.place literal (clause_at table n) = subst (λ p. IsForcing new p literal (clause_at table n)) (sym (ap (λ (slot : Slot). slot.place) w.1)) f in
+          let value : s.value ≡ literal.positive = ap (λ (slot : Slot). slot.value) w.1 in
+          let l : literal ≡ record { variable = v; positive = s.value } = rw (w.0, value) in
+          subst (λ k. IsForcing new s.place k (clause_at table n)) l g)
+          (λ w. forcing-kept old new _ _ _ keeps (justified.forced v s n w reason))
+          (gains-cases old new literal level _ gains v s at);
+    }
+
+-- a decision is forced by no clause
+pub justified-decides : (table : List (Vec Literal Global)) (old new : Trail) (literal : Literal) (level number : ℕ) → IsJustified table old → Gains old new literal level (Decided number) → slot_of old literal.variable ≡ None → IsJustified table new
+justified-decides table old new literal level number justified gains free =
+    let keeps = keeps-gains old new literal level _ gains free in
+    record {
+      within = λ v s n at reason. ⊎_elim
+          (λ w. absurd (forced-decided n number (sym (reason-made s _ _ w.1 reason))))
+          (λ w. justified.within v s n w reason)
+          (gains-cases old new literal level _ gains v s at);
+      forced = λ v s n at reason. ⊎_elim
+          (λ w. absurd (forced-decided n number (sym (reason-made s _ _ w.1 reason))))
+          (λ w. forcing-kept old new _ _ _ keeps (justified.forced v s n w reason))
+          (gains-cases old new literal level _ gains v s at);
+    }
+
+same-slots : (old new : Trail) → IsSame old new → (v : ℕ) → slot_of new v ≡ slot_of old v
+same-slots old new same = λ v. ap (λ slots. get_or slots v None) same.slots
+
+-- nothing changes where the slots stay
+pub justified-same : (table : List (Vec Literal Global)) (old new : Trail) → IsJustified table old → IsSame old new → IsJustified table new
+justified-same table old new justified same =
+    let back = same-slots old new same in
+    let keeps : Keeps old new = record { kept = λ v s at. back v ∙ at } in
+    record {
+      within = λ v s n at reason. justified.within v s n (sym (back v) ∙ at) reason;
+      forced = λ v s n at reason. forcing-kept old new _ _ _ keeps (justified.forced v s n (sym (back v) ∙ at) reason);
+    }
+
+pub extends-none : (trail : Trail) → Extends trail trail
+extends-none trail = record { kept = λ v s at. at; only = λ v s at. inl at }
+
+pub extends-same : (old new : Trail) → IsSame old new → Extends old new
+extends-same old new same = let back = same-slots old new same in record { kept = λ v s at. back v ∙ at; only = λ v s at. inl (sym (back v) ∙ at) }
+
+pub extends-gains : (old new : Trail) (literal : Literal) (level number : ℕ) → Gains old new literal level (Forced number) → slot_of old literal.variable ≡ None → Extends old new
+extends-gains old new literal level number gains free = record {
+  kept = (keeps-gains old new literal level _ gains free).kept;
+  only = λ v s at. ⊎_elim (λ w. inr (ap (λ (slot : Slot). is_decided slot.reason) w.1)) (λ w. inl w) (gains-cases old new literal level _ gains v s at);
+}
+
+pub extends-trans : (old mid new : Trail) → Extends old mid → Extends mid new → Extends old new
+extends-trans old mid new first second = record {
+  kept = λ v s at. second.kept v s (first.kept v s at);
+  only = λ v s at. ⊎_elim (λ w. first.only v s w) (λ w. inr w) (second.only v s at);
+}
+
+-- what is decided stays so where a trail is extended
+pub chosen-kept : (table : List (Vec Literal Global)) (requirements : List RequirementClause) (old new : Trail) (variable number : ℕ) (slot : Slot) → Keeps old new → IsChosen table requirements old variable slot number → IsChosen table requirements new variable slot number
+chosen-kept table requirements old new variable number slot keeps c = record {
+  requirement = c.requirement;
+  listed = c.listed;
+  number_is = c.number_is;
+  value = c.value;
+  before = c.before;
+  after = c.after;
+  clause = c.clause;
+  false_before = λ k d below. false_before-kept old new _ _ keeps (c.false_before k d below);
+}
+
+pub chosen-extends : (table : List (Vec Literal Global)) (requirements : List RequirementClause) (old new : Trail) → AreChosen table requirements old → Extends old new → AreChosen table requirements new
+chosen-extends table requirements old new chosen extends = record {
+  each = λ v s n at reason. ⊎_elim
+      (λ was. chosen-kept table requirements old new v n s (record { kept = extends.kept }) (chosen.each v s n was reason))
+      (λ forced. absurd (both_ways _ forced (ap is_decided reason)))
+      (extends.only v s at);
+}
+
+-- a settled clause is propagated
+value-apart : (o : Option Bool) → o ≡ Some true → o ≡ Some false → ⊥
+value-apart o t f = absurd (false≢true (same_Some _ _ (sym f ∙ t)))
+
+none-false : (o : Option Bool) → o ≡ None → o ≡ Some false → ⊥
+none-false o n f = none-some _ (sym n ∙ f)
+
+pub propagated : (trail : Trail) (clause : List Literal) → IsSettled trail clause → IsPropagated trail clause
+propagated trail clause settled = ⊎_elim
+    (λ (yes : IsSatisfied trail clause).
+    let there : Contains clause yes.1 = (yes.0, yes.2, yes.3) in
+    record {
+      not_false = λ all. value-apart _ yes.4 (All-contains (λ literal. literal_value trail literal ≡ Some false) clause yes.1 all there);
+      last = λ literal inside others. ⊎_elim (λ e. ap (λ l. literal_value trail l) (sym e) ∙ yes.4) (λ f. absurd (value-apart _ yes.4 f)) (others yes.1 there);
+    })
+    (λ (free : IsOpen trail clause). record {
+      not_false = λ all. none-false _ free.first_open (All-contains (λ literal. literal_value trail literal ≡ Some false) clause free.first all free.has_first);
+      last = λ literal inside others. ⊎_elim
+          (λ first. ⊎_elim (λ second. absurd (free.differ (first ∙ sym second))) (λ f. absurd (none-false _ free.second_open f)) (others free.second free.has_second))
+          (λ f. absurd (none-false _ free.first_open f))
+          (others free.first free.has_first);
+    })
+    settled

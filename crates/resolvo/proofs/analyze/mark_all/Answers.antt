@@ -1,0 +1,6 @@
+use Rattle.std.proofs.Common.{rules, arith}
+use Rattle.resolvo.proofs.MarkLemmas.{marks-more, marks-none}
+use Rattle.resolvo.proofs.analyze.mark_all.Goals as goal
+
+pub literals-preserved : goal.literals-preserved
+literals-preserved c = rw (c.index.ensures, c.literal-item.is) (marks-more _ _ _ _ c.literal-item.result c.literals.invariant c.literals-test.true (search rules))

@@ -1,0 +1,6 @@
+use Rattle.std.proofs.Common.{take}
+use Rattle.resolvo.specs.Resolvents.{MarksAlso}
+use Rattle.resolvo.proofs.analyze.mark_all.Given as goal
+
+abbrev pub invariant-literals : goal.invariant-literals
+invariant-literals l = MarksAlso l.initial.marks.items l.marks.items (take l.literal-index l.clause)

@@ -1,0 +1,27 @@
+use Rattle.std.proofs.Common.{rules, arith, ◌≡◌, ◌-◌, ap, sym, ◌∙◌, true}
+use Rattle.resolver_clause_store.specs.Slots.{is_decided}
+use Rattle.resolver_clause_store.specs.TrailView.{slot_of}
+use Rattle.resolver_clause_store.specs.declared.Slot.{Slot}
+use Rattle.resolvo.specs.Resolvents.{is_marked}
+use Rattle.resolvo.proofs.MarkLemmas.{marked-read}
+use Rattle.resolvo.proofs.LevelLemmas.{levelled-skip, single-found, never-decided}
+use Rattle.resolver_clause_store.proofs.SlotLemmas.{placed-slot}
+use Rattle.resolvo.proofs.analyze.resolve_level.Goals as goal
+
+pub returns-then-is_single-clause-single : goal.returns-then-is_single-clause-single
+returns-then-is_single-clause-single c = λ some. single-found _ _ c.places.place (c.places.place - 1) c.places.invariant.2 (omega arith) c.if-is_single.ensures.1 some
+
+never : (c : goal.In-Decided) → ⊥
+never c =
+    let at = sym c.slot.ensures ∙ c.in-Some.is in
+    let marked : is_marked c.places.resolvent.marks.items c.variable_at-variable.result ≡ true = marked-read c.places.resolvent.marks.items c.variable_at-variable.result _ _ (omega (arith, c.variable_at-variable.ensures.inside, c.places.invariant.1.size)) (rw c.index.ensures at c.index-in-places.ensures) c.if-index.true in
+    never-decided _ c.places.resolvent c.places.place (c.places.place - 1) c.variable_at-variable.result c.in-Some.slot c.places.invariant.2 (omega arith) marked at (placed-slot _ _ _ c.variable_at-variable.ensures.placed at) c.if-is_single.ensures (ap is_decided c.in-Decided.is)
+
+pub returns-in-Decided-clause-single : goal.returns-in-Decided-clause-single
+returns-in-Decided-clause-single c = λ some. absurd (never c)
+
+pub returns-in-Decided-clause-none : goal.returns-in-Decided-clause-none
+returns-in-Decided-clause-none c = λ none. absurd (never c)
+
+pub places-preserved : goal.places-preserved
+places-preserved c = (omega arith, c.places.invariant.1, levelled-skip _ _ c.places.place _ c.variable_at-variable.result c.places.invariant.2 (omega arith) c.variable_at-variable.ensures.value (search rules))

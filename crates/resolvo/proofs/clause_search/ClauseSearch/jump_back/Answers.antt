@@ -1,0 +1,39 @@
+use Rattle.std.proofs.Common.{rules, arith, ◌∙◌, ◌≡◌, ◌<◌, ◌++◌, ◌∷◌, [], length, sym, subst, length-append}
+use Rattle.resolver_clause_store.specs.Formula.{AreBelow, IsBelow, clause_at}
+use Rattle.resolver_clause_store.specs.TrailView.{variable_count}
+use Rattle.resolver_clause_store.proofs.FormulaLemmas.{clause_at-last}
+use Rattle.resolvo.specs.Propagation.{IsJustified, AreChosen, IsUnit}
+use Rattle.resolvo.proofs.JustifiedLemmas.{justified-gains, extends-gains, chosen-extends}
+use Rattle.resolvo.proofs.ClauseSearchLemmas.{asserted-free, asserted-unit, below-push, chosen-given, chosen-grows, chosen-undone, derived-push, false-below, grows-push, justified-grows, justified-undone}
+use Rattle.resolvo.proofs.clause_search.ClauseSearch.jump_back.Goals as goal
+
+pub returns-clause-consistent : goal.returns-clause-consistent
+returns-clause-consistent c =
+    let it = c.requires.consistent in
+    let learnt = c.requires.learnt in
+    let table = c.args.self.now.table.items in
+    let longer = table ++ c.args.learnt.literals ∷ [] in
+    let items : c.push.new.self.items ≡ longer = c.in_ok-push.ensures.items in
+    let here : c.len-number.result ≡ length table = search rules in
+    let last : clause_at longer c.len-number.result ≡ c.args.learnt.literals.items = rw here (clause_at-last table c.args.learnt.literals) in
+    let free = asserted-free _ c.undo_until.new.self _ _ _ learnt.asserting c.undo_until.ensures in
+    let unit = asserted-unit _ c.undo_until.new.self _ _ _ learnt.asserting c.undo_until.ensures in
+    let size : variable_count c.force.new.self ≡ variable_count c.args.self.now.trail = c.in_ok-force.ensures.ok.size ∙ c.undo_until.ensures.size in
+    let grows = grows-push table c.args.learnt.literals in
+    let justified = justified-grows table longer c.undo_until.new.self grows (justified-undone _ _ _ _ it.justified c.undo_until.ensures) in
+    let chosen = chosen-grows table longer _ c.undo_until.new.self grows (chosen-given _ _ _ _ it.derived it.inside) (chosen-undone _ _ _ _ _ it.chosen c.undo_until.ensures) in
+    record {
+      below = rw (items, size) (below-push _ table _ it.below (false-below c.args.self.now.trail _ learnt.falsified));
+      derived = rw (items, c.in_ok-push-2.ensures.items) (derived-push _ _ _ _ _ it.derived learnt.within learnt.follows);
+      justified = rw items (justified-gains longer _ _ _ _ _ justified c.in_ok-force.ensures.ok free (rw here (simp length-append (omega arith))) (rw last unit));
+      chosen = rw items (chosen-extends longer _ _ _ chosen (extends-gains _ _ _ _ _ c.in_ok-force.ensures.ok free));
+      inside = it.inside;
+    }
+
+pub returns-clause-jump : goal.returns-clause-jump
+returns-clause-jump c =
+    let here : c.len-number.result ≡ length c.args.self.now.table.items = search rules in
+    record { middle = c.undo_until.new.self; undone = c.undo_until.ensures; gains = rw here at c.in_ok-force.ensures.ok }
+
+pub returns-clause-stored : goal.returns-clause-stored
+returns-clause-stored c = rw c.in_ok-push.ensures.items (clause_at-last c.args.self.now.table.items c.args.learnt.literals)

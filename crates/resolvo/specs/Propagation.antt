@@ -1,0 +1,84 @@
+-- Clauses under a trail, and what propagation does to it.
+use Rattle.std.specs.Prelude.{◌≡◌, ◌≢◌, ℕ, ◌<◌, ◌≤◌, ◌⊎◌, false, Option, Some, None, List, length, Vec, All, Contains, slice_index_or}
+use Rattle.std.specs.declared.alloc.Global.{Global}
+use Rattle.resolver_clause_store.specs.declared.Literal.{Literal}
+use Rattle.resolver_clause_store.specs.declared.RequirementClause.{RequirementClause}
+use Rattle.resolver_clause_store.specs.declared.Slot.{Slot}
+use Rattle.resolver_clause_store.specs.declared.Reason.TheVariants.{Decided, Forced}
+use Rattle.resolver_clause_store.specs.declared.Trail.{Trail}
+use Rattle.resolver_clause_store.specs.Formula.{clause_at}
+use Rattle.resolver_clause_store.specs.Slots.{is_decided}
+use Rattle.resolver_clause_store.specs.TrailView.{slot_of, open_count, literal_value}
+use Rattle.resolver_clause_store.specs.Outcomes.{IsFalsified, IsSatisfied, IsForcing, IsChosen}
+use Rattle.resolvo.specs.declared.propagate.State.{State}
+use Rattle.resolvo.specs.declared.propagate.State.TheVariants.{Satisfied, Falsified, Unit, Open}
+use Rattle.resolvo.specs.declared.propagate.Effect.{Effect}
+use Rattle.resolvo.specs.declared.propagate.Effect.TheVariants.{Nothing, Assigned, Conflict}
+use Rattle.resolvo.specs.declared.propagate.Pass.{Pass}
+use Rattle.resolvo.specs.declared.propagate.Pass.TheVariants.{Quiet, Changed, Conflict as Fails}
+
+-- two different literals of the clause have no value
+pub record IsOpen (trail : Trail) (clause : List Literal) : Type 0 where
+  pub first : Literal
+  pub second : Literal
+  pub has_first : Contains clause first
+  pub has_second : Contains clause second
+  pub differ : first ≢ second
+  pub first_open : literal_value trail first ≡ None
+  pub second_open : literal_value trail second ≡ None
+
+-- each literal but this one is false
+abbrev pub IsUnit : Trail → Literal → List Literal → Type 0
+IsUnit trail literal clause =
+    All (λ other. (other ≡ literal) ⊎ (literal_value trail other ≡ Some false)) clause
+
+-- what the clause is under the trail
+abbrev pub StateIs : Trail → List Literal → State → Type 0
+StateIs trail clause Satisfied = IsSatisfied trail clause
+StateIs trail clause Falsified = IsFalsified trail clause
+StateIs trail clause (Unit literal) = (literal_value trail literal ≡ None) × Contains clause literal × IsUnit trail literal clause
+StateIs trail clause Open = IsOpen trail clause
+
+-- what is known after some literals of the clause, where the one at this place was the only one with no value
+abbrev pub HasSeen : Trail → List Literal → ℕ → Option ℕ → Type 0
+HasSeen trail clause count None = (k : ℕ) (d : Literal) → k < count → literal_value trail (slice_index_or clause k d) ≡ Some false
+HasSeen trail clause count (Some place) =
+    (place < count) × ((d : Literal) → literal_value trail (slice_index_or clause place d) ≡ None) × ((k : ℕ) (d : Literal) → k < count → (slice_index_or clause k d ≡ slice_index_or clause place d) ⊎ (literal_value trail (slice_index_or clause k d) ≡ Some false))
+
+-- each variable that a clause forced was forced by it
+pub record IsJustified (table : List (Vec Literal Global)) (trail : Trail) : Type 0 where
+  pub within : (variable : ℕ) (slot : Slot) (number : ℕ) → slot_of trail variable ≡ Some slot → slot.reason ≡ Forced number → number < length table
+  pub forced : (variable : ℕ) (slot : Slot) (number : ℕ) → slot_of trail variable ≡ Some slot → slot.reason ≡ Forced number → IsForcing trail slot.place (record { variable = variable; positive = slot.value }) (clause_at table number)
+
+-- each variable that was decided was decided for a requirement
+pub record AreChosen (table : List (Vec Literal Global)) (requirements : List RequirementClause) (trail : Trail) : Type 0 where
+  pub each : (variable : ℕ) (slot : Slot) (number : ℕ) → slot_of trail variable ≡ Some slot → slot.reason ≡ Decided number → IsChosen table requirements trail variable slot number
+
+-- the values stay, and no other variable was decided
+pub record Extends (old new : Trail) : Type 0 where
+  pub kept : (variable : ℕ) (slot : Slot) → slot_of old variable ≡ Some slot → slot_of new variable ≡ Some slot
+  pub only : (variable : ℕ) (slot : Slot) → slot_of new variable ≡ Some slot → (slot_of old variable ≡ Some slot) ⊎ (is_decided slot.reason ≡ false)
+
+-- no clause is false, and none has a last literal to set
+abbrev pub IsSettled : Trail → List Literal → Type 0
+IsSettled trail clause = IsSatisfied trail clause ⊎ IsOpen trail clause
+
+-- what a look at one clause did
+abbrev pub EffectIs : Trail → Trail → List Literal → Effect → Type 0
+EffectIs old new clause Nothing = (new ≡ old) × IsSettled new clause
+EffectIs old new clause Assigned = open_count new < open_count old
+EffectIs old new clause Conflict = (new ≡ old) × IsFalsified new clause
+
+-- the clause with this number is false
+abbrev pub IsConflict : Trail → List (Vec Literal Global) → ℕ → Type 0
+IsConflict trail table number = (number < length table) × IsFalsified trail (clause_at table number)
+
+-- each clause is true or has two literals with no value
+abbrev pub AllSettled : Trail → List (Vec Literal Global) → Type 0
+AllSettled trail table = (number : ℕ) → number < length table → IsSettled trail (clause_at table number)
+
+-- what a look at every clause did
+abbrev pub PassIs : Trail → Trail → List (Vec Literal Global) → Pass → Type 0
+PassIs old new table Quiet = AllSettled new table
+PassIs old new table Changed = open_count new < open_count old
+PassIs old new table (Fails number) = IsConflict new table number

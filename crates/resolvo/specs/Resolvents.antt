@@ -1,0 +1,123 @@
+-- Marked variables that contradict clauses.
+use Rattle.std.specs.Prelude.{◌≡◌, ◌≢◌, ℕ, ◌<◌, ◌≤◌, ◌⊎◌, Bool, true, false, not, Contains, Some, List, [], length, Vec, All, Any, slice_index_or}
+use Rattle.std.specs.Bool.{beq}
+use Rattle.std.specs.Option.{option_map_or}
+use Rattle.std.specs.declared.alloc.Global.{Global}
+use Rattle.resolver_clause_store.specs.declared.Literal.{Literal}
+use Rattle.resolver_clause_store.specs.declared.Slot.{Slot}
+use Rattle.resolver_clause_store.specs.declared.Reason.TheVariants.{Forced}
+use Rattle.resolver_clause_store.specs.declared.Trail.{Trail}
+use Rattle.resolver_clause_store.specs.Formula.{MakesTrue, FollowsFrom}
+use Rattle.resolver_clause_store.specs.Outcomes.{IsFalsified}
+use Rattle.resolver_clause_store.specs.TrailView.{slot_of, variable_count}
+use Rattle.resolvo.specs.declared.analyze.Resolvent.{Resolvent}
+use Rattle.resolvo.specs.declared.analyze.Learnt.{Learnt}
+use Rattle.resolvo.specs.declared.analyze.Lesson.{Lesson}
+use Rattle.resolvo.specs.declared.analyze.Lesson.TheVariants.{Contradiction, Clause}
+
+-- whether a number is marked
+abbrev pub is_marked : List Bool → ℕ → Bool
+is_marked marks number = slice_index_or marks number false
+
+-- the variables of the clause are marked beside the old ones, and no others
+pub record MarksAlso (old new : List Bool) (clause : List Literal) : Type 0 where
+  pub size : length new ≡ length old
+  pub kept : (variable : ℕ) → is_marked old variable ≡ true → is_marked new variable ≡ true
+  pub all : All (λ (literal : Literal). is_marked new literal.variable ≡ true) clause
+  pub only : (variable : ℕ) → is_marked old variable ≡ false → All (λ (literal : Literal). literal.variable ≢ variable) clause → is_marked new variable ≡ false
+
+-- the values are those of the trail at the marked variables
+abbrev pub AgreesOn : (ℕ → Bool) → Trail → List Bool → Type 0
+AgreesOn values trail marks =
+    (variable : ℕ) (slot : Slot) → is_marked marks variable ≡ true → slot_of trail variable ≡ Some slot → values variable ≡ slot.value
+
+-- the trail's values at the marked variables contradict the causes
+pub record Refutes (table : List (Vec Literal Global)) (trail : Trail) (marks : List Bool) (causes : List ℕ) : Type 0 where
+  pub apart : (values : ℕ → Bool) → MakesTrue values table causes → AgreesOn values trail marks → ⊥
+
+-- the marks contradict the causes, which are clauses of the table
+pub record IsResolvent (table : List (Vec Literal Global)) (trail : Trail) (resolvent : Resolvent) : Type 0 where
+  pub size : length resolvent.marks.items ≡ variable_count trail
+  pub within : All (λ number. number < length table) resolvent.causes.items
+  pub refutes : Refutes table trail resolvent.marks.items resolvent.causes.items
+
+-- no level of a marked variable is higher than this one, and of those at this level none stands at a lower place than
+-- `lowest`
+pub record AreAtMost (trail : Trail) (marks : List Bool) (level lowest : ℕ) : Type 0 where
+  pub top : (variable : ℕ) (slot : Slot) → is_marked marks variable ≡ true → slot_of trail variable ≡ Some slot → slot.level ≤ level
+  pub least : (variable : ℕ) (slot : Slot) → is_marked marks variable ≡ true → slot_of trail variable ≡ Some slot → slot.level ≡ level → lowest ≤ slot.place
+
+-- the level of a variable, if it has a value, and else 0
+abbrev pub level_in : Trail → ℕ → ℕ
+level_in trail variable = option_map_or (λ (slot : Slot). slot.level) (slot_of trail variable) 0
+
+-- the variable has a value of this level, and stands at this place
+pub record StandsAt (trail : Trail) (level place variable : ℕ) : Type 0 where
+  pub slot : Slot
+  pub is : slot_of trail variable ≡ Some slot
+  pub level_is : slot.level ≡ level
+  pub place_is : slot.place ≡ place
+
+-- a marked variable of this level stands at this place
+pub record HasMark (trail : Trail) (marks : List Bool) (level place : ℕ) : Type 0 where
+  pub variable : ℕ
+  pub marked : is_marked marks variable ≡ true
+  pub stands : StandsAt trail level place variable
+
+-- each marked variable stands before this place
+pub record AllBefore (trail : Trail) (marks : List Bool) (place : ℕ) : Type 0 where
+  pub before : (variable : ℕ) (slot : Slot) → is_marked marks variable ≡ true → slot_of trail variable ≡ Some slot → slot.place < place
+
+-- one marked variable is of this level, and the others are of lower ones
+pub record IsSingle (trail : Trail) (marks : List Bool) (level variable : ℕ) : Type 0 where
+  pub slot : Slot
+  pub is : slot_of trail variable ≡ Some slot
+  pub marked : is_marked marks variable ≡ true
+  pub level_is : slot.level ≡ level
+  pub others : (other : ℕ) (t : Slot) → is_marked marks other ≡ true → slot_of trail other ≡ Some t → other ≢ variable → t.level < level
+
+-- how the levels and places of the marked variables lie: all stand before this place
+pub record IsLevelled (trail : Trail) (resolvent : Resolvent) (place : ℕ) : Type 0 where
+  pub at_most : AreAtMost trail resolvent.marks.items resolvent.level resolvent.lowest
+  pub before : AllBefore trail resolvent.marks.items place
+  pub mark : 0 < resolvent.level → HasMark trail resolvent.marks.items resolvent.level resolvent.lowest
+
+-- the clause with this number forced the variable
+pub record IsReason (trail : Trail) (variable number : ℕ) : Type 0 where
+  pub slot : Slot
+  pub is : slot_of trail variable ≡ Some slot
+  pub reason : slot.reason ≡ Forced number
+
+-- the literals are false under the trail, and there is one for each marked variable that has a value
+pub record Negates (trail : Trail) (marks : List Bool) (literals : List Literal) : Type 0 where
+  pub falsified : IsFalsified trail literals
+  pub only : All (λ (literal : Literal). is_marked marks literal.variable ≡ true) literals
+  pub each : (variable : ℕ) (slot : Slot) → is_marked marks variable ≡ true → slot_of trail variable ≡ Some slot → Contains literals (record { variable = variable; positive = not slot.value })
+
+-- the literal is false, and is so at this level or a lower one
+pub record IsFalseAt (trail : Trail) (level : ℕ) (literal : Literal) : Type 0 where
+  pub slot : Slot
+  pub is : slot_of trail literal.variable ≡ Some slot
+  pub false_there : beq slot.value literal.positive ≡ false
+  pub low : slot.level ≤ level
+
+-- one literal of the clause is of a level above `jump`, which is the highest level of the others, or 0
+pub record IsAsserting (trail : Trail) (jump : ℕ) (literal : Literal) (literals : List Literal) : Type 0 where
+  pub contains : Contains literals literal
+  pub slot : Slot
+  pub is : slot_of trail literal.variable ≡ Some slot
+  pub above : jump < slot.level
+  pub others : All (λ (other : Literal). (other ≡ literal) ⊎ IsFalseAt trail jump other) literals
+  pub reached : (jump ≡ 0) ⊎ Any (λ (other : Literal). (other ≢ literal) × (level_in trail other.variable ≡ jump)) literals
+
+-- the clause follows from its causes and is false under the trail, and one literal alone is of its highest level
+pub record IsLearnt (table : List (Vec Literal Global)) (trail : Trail) (learnt : Learnt) : Type 0 where
+  pub within : All (λ number. number < length table) learnt.causes.items
+  pub follows : FollowsFrom table learnt.causes.items learnt.literals.items
+  pub falsified : IsFalsified trail learnt.literals.items
+  pub asserting : IsAsserting trail learnt.jump learnt.literal learnt.literals.items
+
+-- clauses of the table that contradict each other, or a clause that follows from some
+abbrev pub LessonIs : List (Vec Literal Global) → Trail → Lesson → Type 0
+LessonIs table trail (Contradiction causes) = All (λ number. number < length table) causes.items × FollowsFrom table causes.items []
+LessonIs table trail (Clause learnt) = IsLearnt table trail learnt

@@ -1,0 +1,151 @@
+//! The requirement that is decided next.
+
+ghost use Rattle.std.specs.Prelude.{◌<◌, ◌≡◌, ◌⊎◌, All, IfNone, IfSome, MatchOption, None, length};
+ghost use Rattle.resolver_clause_store.specs.declared.RequirementClause.{RequirementClause};
+ghost use Rattle.resolver_clause_store.specs.Formula.{AreBelow, IsBelow, clause_at};
+ghost use Rattle.resolver_clause_store.specs.Outcomes.{IsMet};
+ghost use Rattle.resolver_clause_store.specs.TrailView.{variable_count};
+ghost use Rattle.resolvo.specs.Decisions.{IsChoice, IsChoiceOf, IsFirst};
+ghost use Rattle.resolvo.specs.Propagation.{AllSettled, IsSettled};
+
+use resolver_clause_store::{Literal, RequirementClause, Trail, clause};
+
+/// A candidate of a requirement that has none yet.
+#[derive(Clone, Copy, Debug, PartialEq, Eq)]
+pub struct Choice {
+    /// The number of the requirement's clause.
+    pub number: usize,
+    /// The place of the candidate in the clause.
+    pub place: usize,
+    /// Whether the requirement is one of the root.
+    of_root: bool,
+    /// How many candidates of the same version set have no value.
+    count: usize,
+}
+
+/// The place of the first candidate with no value, where no literal of the clause is true and none that it depends on has
+/// no value.
+pub fn first_candidate(trail: &Trail, clause: &[Literal]) -> Option<usize>
+    requires below { IsBelow (variable_count trail.now) clause.now }
+    requires settled { IsSettled trail.now clause.now }
+    ensures { MatchOption result (IsMet trail.now clause.now) (IsFirst trail.now clause.now) }
+{
+    let mut first: Option<usize> = None;
+    'literals: for place in 0..clause.len() {
+        match trail.value(clause[place]) {
+            Some(true) => return None,
+            Some(false) => (),
+            None => {
+                if !clause[place].positive {
+                    return None;
+                }
+                if first.is_none() {
+                    first = Some(place);
+                }
+            }
+        }
+    }
+    first
+}
+
+/// The place behind the candidates of the version set whose candidate stands at this place, or the clause's end.
+fn end_of(requirement: &RequirementClause, place: usize, length: usize) -> usize {
+    'ends: for end in &requirement.ends {
+        if place < *end {
+            return *end;
+        }
+    }
+    length
+}
+
+/// How many literals have no value, from a place on up to another.
+fn open_between(trail: &Trail, clause: &[Literal], from: usize, to: usize) -> usize
+    requires { IsBelow (variable_count trail.now) clause.now }
+{
+    let mut count = 0;
+    'literals: for place in from..to.min(clause.len()) {
+        if trail.value(clause[place]).is_none() {
+            count += 1;
+        }
+    }
+    count
+}
+
+/// The candidate that is next for a requirement, if none of its candidates is true and all that it depends on is.
+pub fn choice_of(
+    trail: &Trail,
+    table: &[Vec<Literal>],
+    requirement: &RequirementClause,
+) -> Option<Choice>
+    requires below { AreBelow (variable_count trail.now) table.now }
+    requires settled { AllSettled trail.now table.now }
+    requires inside { requirement.now.number < length table.now }
+    ensures { MatchOption result (IsMet trail.now (clause_at table.now requirement.now.number)) (IsChoiceOf trail.now table.now requirement.now) }
+{
+    let literals = clause(table, requirement.number);
+    match first_candidate(trail, literals) {
+        Some(place) => {
+            let end = end_of(requirement, place, literals.len());
+            Some(Choice {
+                number: requirement.number,
+                place,
+                of_root: requirement.of_root,
+                count: open_between(trail, literals, place, end),
+            })
+        }
+        None => None,
+    }
+}
+
+/// Whether the second choice comes before the first: those of the root come first, then those with fewer candidates, then
+/// those of a lower number.
+fn is_before(next: &Choice, best: &Choice) -> bool {
+    if next.of_root != best.of_root {
+        return next.of_root;
+    }
+    if next.count != best.count {
+        return next.count < best.count;
+    }
+    next.number < best.number
+}
+
+/// The better of two choices, if there is one.
+fn better(best: Option<Choice>, next: Option<Choice>) -> Option<Choice>
+    ensures either { (result ≡ best) ⊎ (result ≡ next) }
+    ensures none { result ≡ None → (best ≡ None) × (next ≡ None) }
+{
+    match (best, next) {
+        (Some(old), Some(new)) => {
+            if is_before(&new, &old) {
+                return next;
+            }
+            best
+        }
+        (Some(_), None) => best,
+        (None, _) => next,
+    }
+}
+
+/// The requirement that is decided next, with its candidate, or none where each requirement has a candidate or depends on
+/// what is not true.
+///
+/// Requirements of the root come first, then those with fewer candidates left in the first version set that has one, and
+/// then those with the lower number. The candidate is the first that is left.
+pub fn decide(
+    trail: &Trail,
+    table: &[Vec<Literal>],
+    requirements: &[RequirementClause],
+) -> Option<Choice>
+    requires below { AreBelow (variable_count trail.now) table.now }
+    requires settled { AllSettled trail.now table.now }
+    requires inside { All (λ (requirement : RequirementClause). requirement.number < length table.now) requirements.now }
+    ensures none { IfNone result (All (λ (requirement : RequirementClause). IsMet trail.now (clause_at table.now requirement.number)) requirements.now) }
+    ensures some { IfSome result (IsChoice trail.now table.now requirements.now) }
+{
+    let mut best = None;
+    'requirements: for requirement in requirements {
+        let next = choice_of(trail, table, requirement);
+        best = better(best, next);
+    }
+    best
+}
