@@ -14,3 +14,4 @@ pub mod UnionLemmas
 pub mod AvailabilityLemmas
 pub mod SlotLemmas
 pub mod MemberLemmas
+pub mod PlaceLemmas

@@ -6,4 +6,7 @@ pub mod Read
 pub mod ReadState
 pub mod TrailAtoms
 pub mod Core
+pub mod Groups
+pub mod Refusals
 pub mod Encodings
+pub mod Notes

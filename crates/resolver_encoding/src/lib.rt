@@ -1,8 +1,12 @@
 //! Clauses that encode a provider's rules: what they state, and what follows for sets of solvables.
 #![tactic(auto)]
 
+mod encoding;
+mod groups;
 mod laws;
+mod literals;
 
+pub use encoding::Encoding;
 pub use laws::{
     answers_satisfy_true_clauses, core_rules_explain, finished_trails_are_answers,
     read_trails_are_answers,
