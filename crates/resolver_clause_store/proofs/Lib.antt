@@ -16,3 +16,4 @@ pub mod SlotLemmas
 pub mod MemberLemmas
 pub mod TrailLemmas
 pub mod FormulaLemmas
+pub mod PlaceLemmas

@@ -23,3 +23,8 @@ pub record AreDistinct {X : Type 0} (xs : List X) : Type 0 where
 -- each place keeps what stands there
 pub record Keeps {X : Type 0} (old new : List X) : Type 0 where
   pub kept : (k : ℕ) (x : X) → slice_get old k ≡ Some x → slice_get new k ≡ Some x
+
+-- there are as many as there may be, no two alike
+pub record IsFull {N S : Type 0} (v : Variables N S) : Type 0 where
+  pub count : length (origins_in v) ≡ limit_in v
+  pub distinct : AreDistinct (origins_in v)

@@ -19,7 +19,7 @@ pub struct Variables<N: Copy + Eq + Hash + Drop, S: Copy + Eq + Hash + Drop> {
 }
 
 impl<N: Copy + Eq + Hash + Drop, S: Copy + Eq + Hash + Drop> Variables<N, S> {
-    ghost use Rattle.resolver_clause_store.specs.Variables.{AreDistinct, IsBounded, Keeps, limit_in, origins_in};
+    ghost use Rattle.resolver_clause_store.specs.Variables.{AreDistinct, IsBounded, IsFull, Keeps, limit_in, origins_in};
 
     /// No variables. There may be as many as the limit says, at most 2147483648.
     pub fn new(alloc: Global, limit: usize) -> Self
@@ -60,8 +60,9 @@ impl<N: Copy + Eq + Hash + Drop, S: Copy + Eq + Hash + Drop> Variables<N, S> {
         ensures kept { Keeps (origins_in self.old) (origins_in self.new) }
         ensures here { IfOk result (λ v. slice_get (origins_in self.new) v ≡ Some origin) }
         ensures limit { limit_in self.new ≡ limit_in self.old }
+        ensures distinct { AreDistinct (origins_in self.old) → AreDistinct (origins_in self.new) }
         ensures unchanged { OnErr result (origins_in self.new ≡ origins_in self.old) }
-        ensures ids { IfErr result (λ e. e ≡ Exhausted.Ids → length (origins_in self.old) ≡ limit_in self.old) }
+        ensures ids { IfErr result (λ e. e ≡ Exhausted.Ids → IsFull self.new) }
     {
         match place_of(&self.origins, &origin) {
             Some(index) => Ok(Variable::new(index as u32)),
@@ -79,8 +80,9 @@ impl<N: Copy + Eq + Hash + Drop, S: Copy + Eq + Hash + Drop> Variables<N, S> {
         ensures kept { Keeps (origins_in self.old) (origins_in self.new) }
         ensures here { IfOk result (λ v. slice_get (origins_in self.new) v ≡ Some origin) }
         ensures limit { limit_in self.new ≡ limit_in self.old }
+        ensures distinct { AreDistinct (origins_in self.old) → AreDistinct (origins_in self.new) }
         ensures unchanged { OnErr result (origins_in self.new ≡ origins_in self.old) }
-        ensures ids { IfErr result (λ e. e ≡ Exhausted.Ids → length (origins_in self.old) ≡ limit_in self.old) }
+        ensures ids { IfErr result (λ e. e ≡ Exhausted.Ids → IsFull self.new) }
     {
         let index = self.origins.len();
         if index == self.limit {

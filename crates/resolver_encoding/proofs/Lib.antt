@@ -1,4 +1,7 @@
 pub mod Lists
+pub mod GroupLemmas
+pub mod ClauseLemmas
+pub mod EncodingLemmas
 pub mod Satisfied
 pub mod Sound
 pub mod Extended
@@ -12,3 +15,4 @@ pub mod CoreLemmas
 pub mod CoreRules
 pub mod StatedLemmas
 pub mod TrailLemmas
+pub mod EncodedLemmas

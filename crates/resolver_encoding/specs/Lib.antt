@@ -6,6 +6,9 @@ pub mod Read
 pub mod ReadState
 pub mod TrailAtoms
 pub mod Core
+pub mod Groups
+pub mod Refusals
 pub mod Encodings
 pub mod Trails
 pub mod Stated
+pub mod Notes

@@ -2,13 +2,18 @@
 #![tactic(auto)]
 
 mod chosen;
+mod encoding;
 mod explain;
+mod groups;
 mod laws;
+mod literals;
+mod parts;
 
 pub use chosen::chosen_solvables;
+pub use encoding::Encoding;
 pub use explain::rules_of_clauses;
 pub use laws::{
-    answers_satisfy_true_clauses, core_rules_explain, cores_of_encodings_explain, finished_searches_are_answers,
-    finished_trails_are_answers,
-    read_trails_are_answers,
+    answers_satisfy_true_clauses, core_rules_explain, cores_of_encodings_explain,
+    finished_searches_are_answers, finished_trails_are_answers, read_trails_are_answers,
 };
+pub use parts::Parts;

@@ -1,0 +1,55 @@
+-- What an encoding's clauses are for a search.
+use Rattle.std.proofs.Common.{◌≡◌, ℕ, zero, suc, ◌<◌, ◌≤◌, List, [], ◌∷◌, length, get_or, Option, Some, None, arith, refl, sym, ap, ◌∙◌, subst, ⊎_elim, Contains, All, Vec, Global}
+use Rattle.std.specs.Prelude.{map, slice_get}
+use Rattle.std.specs.Option.{option_map_or}
+use Rattle.std.proofs.lemmas.Bool.{cases_lt}
+use Rattle.std.proofs.lemmas.Option.{slice_get-get_or}
+use Rattle.std.proofs.lemmas.List.Elements.{Contains-get_or}
+use Rattle.resolver_clause_store.specs.Formula.{AreBelow, IsBelow, clause_at}
+use Rattle.resolver_clause_store.specs.Universe.{Universe, Demands}
+use Rattle.resolver_clause_store.specs.declared.ClauseKind.{ClauseKind}
+use Rattle.resolver_clause_store.specs.declared.ClauseKind.TheVariants.{InstallRoot}
+use Rattle.resolver_clause_store.specs.declared.Literal.{Literal}
+use Rattle.resolver_clause_store.specs.declared.RequirementClause.{RequirementClause}
+use Rattle.resolver_encoding.specs.Encodings.{IsEncoding, Notes}
+use Rattle.resolver_encoding.proofs.Lists.{Contains-map, none_in}
+use Rattle.resolver_encoding.proofs.Bridge.{Contains-slice}
+
+slice_past : {X : Type 0} (xs : List X) (n : ℕ) (x : X) → length xs ≤ n → slice_get xs n ≡ Some x → ⊥
+slice_past [] n x h e = absurd cc
+slice_past (y ∷ ys) zero x h e = absurd (omega arith)
+slice_past (y ∷ ys) (suc n) x h e = slice_past ys n x (omega arith) e
+
+slice_none : {X : Type 0} (xs : List X) (n : ℕ) → length xs ≤ n → slice_get xs n ≡ None
+slice_none [] n h = refl
+slice_none (y ∷ ys) zero h = absurd (omega arith)
+slice_none (y ∷ ys) (suc n) h = slice_none ys n (omega arith)
+
+slice_below : {X : Type 0} (xs : List X) (n : ℕ) (x : X) → slice_get xs n ≡ Some x → n < length xs
+slice_below xs n x e = ⊎_elim (λ (less : n < length xs). less) (λ (more : length xs ≤ n). absurd (slice_past xs n x more e)) (cases_lt n (length xs))
+
+module _ {N S : Type 0} (u : Universe N S) (root : Demands) (notes : Notes N S) (encoding : IsEncoding u root notes) where
+  -- each variable of each clause stands for something
+  pub encoded_below : AreBelow (length notes.origins) notes.table
+  encoded_below number = ⊎_elim
+      (λ (less : number < length notes.kinds). λ k d below.
+        let kind : ClauseKind N S = get_or notes.kinds number InstallRoot in
+        let are = (encoding.encoded.each number kind (slice_get-get_or notes.kinds number InstallRoot less)).atoms in
+        let l : Literal = get_or (clause_at notes.table number) k d in
+        let a = are.each_literal l (Contains-get_or (clause_at notes.table number) k d below) in
+        slice_below notes.origins l.variable a.0.origin a.2.origin)
+      (λ (more : length notes.kinds ≤ number).
+        let none : clause_at notes.table number ≡ [] = ap (λ o. option_map_or (λ (c : Vec Literal Global). c.items) o []) (slice_none notes.table number (omega (arith, more, encoding.encoded.count))) in
+        let Below : List Literal → Type 0 = λ c. IsBelow (length notes.origins) c in
+        subst Below (sym none) (λ k d below. absurd (omega arith)))
+      (cases_lt number (length notes.kinds))
+
+  -- each clause that asks for candidates is in the table
+  pub requirements_inside : (requirements : List RequirementClause) → map (λ (r : RequirementClause). r.number) requirements ≡ notes.requirements → All (λ (r : RequirementClause). r.number < length notes.table) requirements
+  requirements_inside requirements numbers = λ k d below.
+      let r : RequirementClause = get_or requirements k d in
+      let Has : List ℕ → Type 0 = λ ns. Contains ns r.number in
+      let listed : Contains notes.requirements r.number = subst Has numbers (Contains-map (λ (q : RequirementClause). q.number) requirements r (Contains-get_or requirements k d below)) in
+      let ask = encoding.ask r.number listed in
+      let inside = slice_below notes.kinds r.number ask.0 ask.1 in
+      omega (arith, inside, encoding.encoded.count)

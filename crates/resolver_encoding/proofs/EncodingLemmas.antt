@@ -1,0 +1,301 @@
+-- Steps of an encoding: one after another, one more clause, one more solvable, package or helper.
+use Rattle.std.proofs.Common.{◌≡◌, ◌≢◌, ℕ, ◌+◌, ◌<◌, List, [], ◌∷◌, ◌++◌, length, length-append, refl, sym, ap, ◌∙◌, subst, ⊎_elim, inl, inr, arith, append_assoc, append-nil, Contains, All, Vec, Global, ◌⊎◌}
+use Rattle.std.specs.Prelude.{Option, Some, None, ⊤, slice_get}
+use Rattle.std.specs.Option.{option_map_or}
+use Rattle.std.specs.List.{AllZip}
+use Rattle.std.proofs.lemmas.List.Elements.{All-push, Contains-append_left, Contains-push, Contains-push_cases}
+use Rattle.std.proofs.lemmas.Option.{slice_get-get_or, slice_get_within}
+use Rattle.resolver_clause_store.specs.Formula.{clause_at}
+use Rattle.resolver_clause_store.specs.Lists.{IsWithin}
+use Rattle.resolver_clause_store.specs.Universe.{Universe, Demands, unknown}
+use Rattle.resolver_clause_store.specs.Candidates.{matching, requirement_candidates, version_sets}
+use Rattle.resolver_clause_store.specs.Variables.{AreDistinct, Keeps}
+use Rattle.resolver_clause_store.specs.declared.By.{By}
+use Rattle.resolver_clause_store.specs.declared.ClauseKind.{ClauseKind}
+use Rattle.resolver_clause_store.specs.declared.ClauseKind.TheVariants.{InstallRoot, Requires, AnyOf, GateRequires, Constrains, ForbidMultipleInstances, ConstrainsExcluded, ConstrainsParent, HasBit, Lock, Excluded}
+use Rattle.resolver_clause_store.specs.declared.Literal.{Literal}
+use Rattle.resolver_clause_store.specs.declared.Origin.{Origin}
+use Rattle.resolver_clause_store.specs.declared.Origin.TheVariants.{Root, Solvable, ConditionHelper}
+use Rattle.resolver_clause_store.specs.declared.Requirement.{Requirement}
+use Rattle.resolver_clause_store.specs.declared.StringId.{StringId}
+use Rattle.resolver_clause_store.specs.declared.VersionSetId.{VersionSetId}
+use Rattle.resolver_clause_store.proofs.PlaceLemmas.{Keeps-same, Keeps-trans, place_cases, place_in, place_last, place_left, place_of_member}
+use Rattle.resolver_encoding.specs.Atoms.{Atom, atoms_of}
+use Rattle.resolver_encoding.specs.Encodings.{AddsClause, AddsRequirement, AsksForCandidates, Extends, Grows, IsDirect, IsEncoding, IsEncodingWhile, IsStep, IsStepWhile, KeepsLimits, Notes}
+use Rattle.resolver_encoding.specs.Groups.{AddsNamed, IsNamed}
+use Rattle.resolver_encoding.specs.Read.{AreApart, apart_direct, apart_turned, apart_coded}
+use Rattle.resolver_encoding.specs.Truth.{AreDue, IsTrueClause, no_codes}
+use Rattle.resolver_encoding.specs.Values.{AreEncoded, AreInOrder, IsAtom, IsClauseOf}
+use Rattle.resolver_encoding.proofs.ClauseLemmas.{AllZip-keeps, AreAtoms-keeps, AreAtoms-zip}
+
+pub IsWithin-same : {X : Type 0} (xs : List X) → IsWithin xs xs
+IsWithin-same xs x h = h
+
+pub IsWithin-trans : {X : Type 0} (xs ys zs : List X) → IsWithin xs ys → IsWithin ys zs → IsWithin xs zs
+IsWithin-trans xs ys zs one other x h = other x (one x h)
+
+pub IsWithin-push : {X : Type 0} (xs : List X) (x : X) → IsWithin xs (xs ++ x ∷ [])
+IsWithin-push xs x y h = Contains-append_left xs (x ∷ []) y h
+
+pub Extends-same : {X : Type 0} (xs : List X) → Extends xs xs
+Extends-same xs = record { more = []; is = sym (append-nil xs) }
+
+pub Extends-push : {X : Type 0} (xs : List X) (x : X) → Extends xs (xs ++ x ∷ [])
+Extends-push xs x = record { more = x ∷ []; is = refl }
+
+pub Extends-trans : {X : Type 0} (xs ys zs : List X) → Extends xs ys → Extends ys zs → Extends xs zs
+Extends-trans xs ys zs one other = record { more = one.more ++ other.more; is = other.is ∙ ap (λ list. list ++ other.more) one.is ∙ append_assoc xs one.more other.more }
+
+pub Extends-within : {X : Type 0} (xs ys : List X) → Extends xs ys → IsWithin xs ys
+Extends-within {X} xs ys more x h =
+    let Has : List X → Type 0 = λ list. Contains list x in
+    subst Has (sym more.is) (Contains-append_left xs more.more x h)
+
+pub KeepsLimits-same : {N S : Type 0} (notes : Notes N S) → KeepsLimits notes notes
+KeepsLimits-same notes = record { variables = refl; clauses = refl }
+
+pub KeepsLimits-trans : {N S : Type 0} (one two three : Notes N S) → KeepsLimits one two → KeepsLimits two three → KeepsLimits one three
+KeepsLimits-trans one two three first second = record { variables = second.variables ∙ first.variables; clauses = second.clauses ∙ first.clauses }
+
+-- a clause's literals stay those of its kind when variables are added
+AreInOrder-keeps : {N S : Type 0} (u : Universe N S) (old new : List (Origin N S)) (ls : List Literal) (kind : ClauseKind N S) → Keeps old new → AreInOrder u old ls kind → AreInOrder u new ls kind
+AreInOrder-keeps u old new ls (Requires by disjunct r) keeps h = AllZip-keeps old new keeps ls (atoms_of u (Requires by disjunct r)) h
+AreInOrder-keeps u old new ls (GateRequires r) keeps h = AllZip-keeps old new keeps ls (atoms_of u (GateRequires r)) h
+AreInOrder-keeps u old new ls InstallRoot keeps h = tt
+AreInOrder-keeps u old new ls (AnyOf helper s) keeps h = tt
+AreInOrder-keeps u old new ls (Constrains by v s) keeps h = tt
+AreInOrder-keeps u old new ls (ForbidMultipleInstances n s t) keeps h = tt
+AreInOrder-keeps u old new ls (ConstrainsExcluded s v) keeps h = tt
+AreInOrder-keeps u old new ls (ConstrainsParent by v) keeps h = tt
+AreInOrder-keeps u old new ls (HasBit n s i b) keeps h = tt
+AreInOrder-keeps u old new ls (Lock s t) keeps h = tt
+AreInOrder-keeps u old new ls (Excluded s reason) keeps h = tt
+
+AreInOrder-zip : {N S : Type 0} (u : Universe N S) (origins : List (Origin N S)) (ls : List Literal) (kind : ClauseKind N S) → AllZip (IsAtom origins) ls (atoms_of u kind) → AreInOrder u origins ls kind
+AreInOrder-zip u origins ls (Requires by disjunct r) h = h
+AreInOrder-zip u origins ls (GateRequires r) h = h
+AreInOrder-zip u origins ls InstallRoot h = tt
+AreInOrder-zip u origins ls (AnyOf helper s) h = tt
+AreInOrder-zip u origins ls (Constrains by v s) h = tt
+AreInOrder-zip u origins ls (ForbidMultipleInstances n s t) h = tt
+AreInOrder-zip u origins ls (ConstrainsExcluded s v) h = tt
+AreInOrder-zip u origins ls (ConstrainsParent by v) h = tt
+AreInOrder-zip u origins ls (HasBit n s i b) h = tt
+AreInOrder-zip u origins ls (Lock s t) h = tt
+AreInOrder-zip u origins ls (Excluded s reason) h = tt
+
+-- literals that are the atoms of a kind, in order
+pub IsClauseOf-zip : {N S : Type 0} (u : Universe N S) (origins : List (Origin N S)) (ls : List Literal) (kind : ClauseKind N S) → AllZip (IsAtom origins) ls (atoms_of u kind) → IsClauseOf u origins ls kind
+IsClauseOf-zip u origins ls kind h = record { atoms = AreAtoms-zip origins ls (atoms_of u kind) h; in_order = AreInOrder-zip u origins ls kind h }
+
+IsClauseOf-keeps : {N S : Type 0} (u : Universe N S) (old new : List (Origin N S)) (ls : List Literal) (kind : ClauseKind N S) → Keeps old new → IsClauseOf u old ls kind → IsClauseOf u new ls kind
+IsClauseOf-keeps u old new ls kind keeps h = record { atoms = AreAtoms-keeps old new ls (atoms_of u kind) keeps h.atoms; in_order = AreInOrder-keeps u old new ls kind keeps h.in_order }
+
+AreApart-within : {N S : Type 0} (kinds more : List (ClauseKind N S)) → IsWithin kinds more → (n : N) (s t : S) → AreApart kinds n s t → AreApart more n s t
+AreApart-within kinds more within n s t (apart_direct h) = apart_direct (within _ h)
+AreApart-within kinds more within n s t (apart_turned h) = apart_turned (within _ h)
+AreApart-within kinds more within n s t (apart_coded i b h k) = apart_coded i b (within _ h) (within _ k)
+
+module _ {N S : Type 0} (u : Universe N S) where
+  -- one more clause
+  AreEncoded-push : (old new : List (Origin N S)) (table : List (Vec Literal Global)) (kinds : List (ClauseKind N S)) (literals : Vec Literal Global) (kind : ClauseKind N S) →
+      Keeps old new → AreEncoded u old table kinds → IsClauseOf u new literals.items kind → AreEncoded u new (table ++ literals ∷ []) (kinds ++ kind ∷ [])
+  AreEncoded-push old new table kinds literals kind keeps before is = record {
+    count =
+        let longer : length (table ++ literals ∷ []) ≡ length table + 1 = simp length-append in
+        let more : length (kinds ++ kind ∷ []) ≡ length kinds + 1 = simp length-append in
+        longer ∙ ap (λ k. k + 1) before.count ∙ sym more;
+    each = λ n k at. ⊎_elim
+        (λ (earlier : slice_get kinds n ≡ Some k).
+        let Is : List Literal → Type 0 = λ ls. IsClauseOf u new ls k in
+        let below : n < length table = omega (arith, slice_get_within kinds n k earlier, before.count) in
+        let same : clause_at (table ++ literals ∷ []) n ≡ clause_at table n = ap (λ o. option_map_or (λ (clause : Vec Literal Global). clause.items) o []) (place_same table literals n below) in
+        subst Is (sym same) (IsClauseOf-keeps u old new (clause_at table n) k keeps (before.each n k earlier)))
+        (λ (last : (n ≡ length kinds) × (kind ≡ k)).
+        let Is : List Literal → ClauseKind N S → Type 0 = λ ls q. IsClauseOf u new ls q in
+        let same : clause_at (table ++ literals ∷ []) n ≡ literals.items = ap (λ o. option_map_or (λ (clause : Vec Literal Global). clause.items) o []) (ap (λ i. slice_get (table ++ literals ∷ []) i) (last.0 ∙ sym before.count) ∙ place_last table literals) in
+        subst (λ ls. Is ls k) (sym same) (subst (λ q. Is literals.items q) last.1 is))
+        (place_cases kinds kind n k at);
+  }
+    where
+      place_same : (xs : List (Vec Literal Global)) (x : Vec Literal Global) (n : ℕ) → n < length xs → slice_get (xs ++ x ∷ []) n ≡ slice_get xs n
+      place_same xs x n below = place_left xs (x ∷ []) n _ (slice_get-get_or xs n x below) ∙ sym (slice_get-get_or xs n x below)
+
+  -- what a new lock or exclusion must be
+  abbrev pub IsDue : List N → List S → ClauseKind N S → Type 0
+  IsDue asked exempt (Lock s t) = Contains asked (u.name t) × (Contains exempt t → ⊥)
+  IsDue asked exempt (Excluded s reason) = (Contains asked (u.name s) × (Contains exempt s → ⊥)) ⊎ (u.needs s ≡ unknown reason)
+  IsDue asked exempt InstallRoot = ⊤
+  IsDue asked exempt (Requires by disjunct r) = ⊤
+  IsDue asked exempt (AnyOf helper s) = ⊤
+  IsDue asked exempt (Constrains by v s) = ⊤
+  IsDue asked exempt (ForbidMultipleInstances n s t) = ⊤
+  IsDue asked exempt (GateRequires r) = ⊤
+  IsDue asked exempt (ConstrainsExcluded s v) = ⊤
+  IsDue asked exempt (ConstrainsParent by v) = ⊤
+  IsDue asked exempt (HasBit n s i b) = ⊤
+
+  AreDue-push : (asked : List N) (exempt : List S) (kinds : List (ClauseKind N S)) (kind : ClauseKind N S) → AreDue u asked exempt kinds → IsDue asked exempt kind → AreDue u asked exempt (kinds ++ kind ∷ [])
+  AreDue-push asked exempt kinds kind before is =
+      let Due : ClauseKind N S → Type 0 = λ k. IsDue asked exempt k in
+      record {
+        locks = λ s t h. ⊎_elim (λ earlier. before.locks s t earlier) (λ e. subst Due e is) (Contains-push_cases kinds kind (Lock s t) h);
+        exclusions = λ s reason h. ⊎_elim (λ earlier. before.exclusions s reason earlier) (λ e. subst Due e is) (Contains-push_cases kinds kind (Excluded s reason) h);
+      }
+
+  -- what a new requirement's clause needs to be there before it
+  pub record IsReady (notes : Notes N S) (disjunct : List VersionSetId) (r : Requirement) : Type 0 where
+    pub helpers : (v : VersionSetId) → Contains disjunct v → Contains notes.helped v
+    pub packages : (v : VersionSetId) → Contains (version_sets u r) v → Contains notes.asked (u.version_set_name v)
+    pub candidates : (s : S) → Contains (requirement_candidates u r) s → Contains notes.seen s
+
+  abbrev pub IsPrepared : Notes N S → ClauseKind N S → Type 0
+  IsPrepared notes (Requires by disjunct r) = IsReady notes disjunct.items r
+  IsPrepared notes (Lock s t) = ⊤
+  IsPrepared notes (Excluded s reason) = ⊤
+  IsPrepared notes InstallRoot = ⊤
+  IsPrepared notes (AnyOf helper s) = ⊤
+  IsPrepared notes (Constrains by v s) = ⊤
+  IsPrepared notes (ForbidMultipleInstances n s t) = ⊤
+  IsPrepared notes (GateRequires r) = ⊤
+  IsPrepared notes (ConstrainsExcluded s v) = ⊤
+  IsPrepared notes (ConstrainsParent by v) = ⊤
+  IsPrepared notes (HasBit n s i b) = ⊤
+
+  -- a clause that may be added: it is true, direct, due, and what it brings with it is there
+  pub record IsNext (asking : List N) (root : Demands) (notes : Notes N S) (origins : List (Origin N S)) (literals : List Literal) (kind : ClauseKind N S) : Type 0 where
+    pub clause : IsClauseOf u origins literals kind
+    pub is_true : IsTrueClause u no_codes root kind
+    pub direct : IsDirect kind
+    pub due : IsDue (asking ++ notes.asked) notes.exempt kind
+    pub prepared : IsPrepared notes kind
+
+  -- the numbers of the clauses that ask for candidates, after a clause
+  pub record AreListed (kinds : List (ClauseKind N S)) (requirements : List ℕ) : Type 0 where
+    pub listed : (n : ℕ) (kind : ClauseKind N S) → slice_get kinds n ≡ Some kind → AsksForCandidates kind → Contains requirements n
+    pub ask : (n : ℕ) → Contains requirements n → (kind : ClauseKind N S) × (slice_get kinds n ≡ Some kind) × AsksForCandidates kind
+
+  pub AreListed-plain : (kinds : List (ClauseKind N S)) (requirements : List ℕ) (kind : ClauseKind N S) → (AsksForCandidates kind → ⊥) → AreListed kinds requirements → AreListed (kinds ++ kind ∷ []) requirements
+  AreListed-plain kinds requirements kind plain before =
+      let Asks : ClauseKind N S → Type 0 = λ k. AsksForCandidates k in
+      record {
+        listed = λ n k at asks. ⊎_elim (λ earlier. before.listed n k earlier asks) (λ last. absurd (plain (subst Asks (sym last.1) asks))) (place_cases kinds kind n k at);
+        ask = λ n h. let w = before.ask n h in (w.0, place_left kinds (kind ∷ []) n w.0 w.1, w.2);
+      }
+
+  pub AreListed-asking : (kinds : List (ClauseKind N S)) (requirements : List ℕ) (kind : ClauseKind N S) → AsksForCandidates kind → AreListed kinds requirements → AreListed (kinds ++ kind ∷ []) (requirements ++ length kinds ∷ [])
+  AreListed-asking kinds requirements kind asking before =
+      let Has : ℕ → Type 0 = λ n. Contains (requirements ++ length kinds ∷ []) n in
+      let Stands : ℕ → Type 0 = λ n. slice_get (kinds ++ kind ∷ []) n ≡ Some kind in
+      record {
+        listed = λ n k at asks. ⊎_elim (λ earlier. Contains-append_left requirements (length kinds ∷ []) n (before.listed n k earlier asks)) (λ last. subst Has (sym last.0) (Contains-push requirements (length kinds))) (place_cases kinds kind n k at);
+        ask = λ n h. ⊎_elim
+            (λ earlier. let w = before.ask n earlier in (w.0, place_left kinds (kind ∷ []) n w.0 w.1, w.2))
+            (λ e. (kind, subst Stands e (place_last kinds kind), asking))
+            (Contains-push_cases requirements (length kinds) n h);
+      }
+
+  abbrev pub with_clause : Notes N S → List (Origin N S) → List ℕ → Vec Literal Global → ClauseKind N S → Notes N S
+  with_clause notes origins requirements literals kind = record notes { origins = origins; requirements = requirements; table = notes.table ++ literals ∷ []; kinds = notes.kinds ++ kind ∷ [] }
+
+  IsEncoding-clause : (asking : List N) (root : Demands) (notes : Notes N S) (origins : List (Origin N S)) (requirements : List ℕ) (literals : Vec Literal Global) (kind : ClauseKind N S) → Grows notes.origins origins → AreListed (notes.kinds ++ kind ∷ []) requirements →
+      IsNext asking root notes origins literals.items kind → IsEncodingWhile u asking root notes → IsEncodingWhile u asking root (with_clause notes origins requirements literals kind)
+  IsEncoding-clause asking root notes origins requirements literals kind grows listed next before =
+      let within = IsWithin-push notes.kinds kind in
+      let Prepared : ClauseKind N S → Type 0 = λ k. IsPrepared notes k in
+      record {
+        root_first = grows.keeps.kept 0 Root before.root_first;
+        distinct = grows.distinct before.distinct;
+        encoded = AreEncoded-push notes.origins origins notes.table notes.kinds literals kind grows.keeps before.encoded next.clause;
+        each_true = All-push (IsTrueClause u no_codes root) notes.kinds kind before.each_true next.is_true;
+        each_direct = All-push IsDirect notes.kinds kind before.each_direct next.direct;
+        due = AreDue-push (asking ++ notes.asked) notes.exempt notes.kinds kind before.due next.due;
+        installs = within InstallRoot before.installs;
+        listed = listed.listed;
+        ask = listed.ask;
+        helpers = λ by disjunct r h. ⊎_elim (λ earlier. before.helpers by disjunct r earlier) (λ e. let ready : IsReady notes disjunct.items r = subst Prepared e next.prepared in ready.helpers) (Contains-push_cases notes.kinds kind (Requires by disjunct r) h);
+        packages = λ by disjunct r h. ⊎_elim (λ earlier. before.packages by disjunct r earlier) (λ e. let ready : IsReady notes disjunct.items r = subst Prepared e next.prepared in ready.packages) (Contains-push_cases notes.kinds kind (Requires by disjunct r) h);
+        candidates = λ by disjunct r h. ⊎_elim (λ earlier. before.candidates by disjunct r earlier) (λ e. let ready : IsReady notes disjunct.items r = subst Prepared e next.prepared in ready.candidates) (Contains-push_cases notes.kinds kind (Requires by disjunct r) h);
+        follow = λ v h s m. within _ (before.follow v h s m);
+        locks = λ s t h free lock inside differ. within _ (before.locks s t h free lock inside differ);
+        exclusions = λ s reason h free inside. within _ (before.exclusions s reason h free inside);
+        registered = λ s h. let at = place_of_member notes.origins (Solvable s) (before.registered s h) in place_in origins at.0 (Solvable s) (grows.keeps.kept at.0 (Solvable s) at.1);
+        instances = λ s t h k same differ. AreApart-within notes.kinds (notes.kinds ++ kind ∷ []) within (u.name s) s t (before.instances s t h k same differ);
+        sound_groups = before.sound_groups;
+        grouped = before.grouped;
+        members = before.members;
+      }
+
+  abbrev IsStep_to : List N → (Demands → Type 0) → Notes N S → Notes N S → Type 0
+  IsStep_to asking Premise old new = IsStepWhile u asking Premise old new
+
+  IsStep-with_clause : (asking : List N) (Premise : Demands → Type 0) (old : Notes N S) (origins : List (Origin N S)) (requirements : List ℕ) (literals : Vec Literal Global) (kind : ClauseKind N S) → Grows old.origins origins →
+      (AreListed old.kinds old.requirements → AreListed (old.kinds ++ kind ∷ []) requirements) →
+      ((root : Demands) → Premise root → IsEncodingWhile u asking root old → IsNext asking root old origins literals.items kind) → IsStepWhile u asking Premise old (with_clause old origins requirements literals kind)
+  IsStep-with_clause asking Premise old origins requirements literals kind grows listed next = record {
+    origins = grows.keeps;
+    kinds = IsWithin-push old.kinds kind;
+    seen = Extends-same old.seen;
+    asked = IsWithin-same old.asked;
+    helped = IsWithin-same old.helped;
+    exempt = refl;
+    keeps = λ root premise before. IsEncoding-clause asking root old origins requirements literals kind grows (listed (record { listed = before.listed; ask = before.ask })) (next root premise before) before;
+  }
+
+  -- one more clause, which asks for no candidates
+  pub IsStep-clause : (asking : List N) (Premise : Demands → Type 0) (old new : Notes N S) (kind : ClauseKind N S) (as' : List (Atom N S)) (adds : AddsClause old new kind as') → (AsksForCandidates kind → ⊥) →
+      ((root : Demands) → Premise root → IsEncodingWhile u asking root old → IsNext asking root old new.origins adds.literals.items kind) → IsStepWhile u asking Premise old new
+  IsStep-clause asking Premise old new kind as' adds plain next =
+      let Step : Notes N S → Type 0 = λ n. IsStepWhile u asking Premise old n in
+      subst Step (sym adds.is) (IsStep-with_clause asking Premise old new.origins old.requirements adds.literals kind adds.origins (AreListed-plain old.kinds old.requirements kind plain) next)
+
+  -- one more clause, which asks for candidates
+  pub IsStep-requirement : (asking : List N) (Premise : Demands → Type 0) (old new : Notes N S) (kind : ClauseKind N S) (as' : List (Atom N S)) (adds : AddsRequirement old new kind as') → AsksForCandidates kind →
+      ((root : Demands) → Premise root → IsEncodingWhile u asking root old → IsNext asking root old new.origins adds.literals.items kind) → IsStepWhile u asking Premise old new
+  IsStep-requirement asking Premise old new kind as' adds asks next =
+      let Step : Notes N S → Type 0 = λ n. IsStepWhile u asking Premise old n in
+      subst Step (sym adds.is) (IsStep-with_clause asking Premise old new.origins (old.requirements ++ length old.kinds ∷ []) adds.literals kind adds.origins (AreListed-asking old.kinds old.requirements kind asks) next)
+
+  pub clause_listed : (old new : Notes N S) (kind : ClauseKind N S) (as' : List (Atom N S)) → AddsClause old new kind as' → Contains new.kinds kind
+  clause_listed old new kind as' adds =
+      let Listed : Notes N S → Type 0 = λ n. Contains n.kinds kind in
+      subst Listed (sym adds.is) (Contains-push old.kinds kind)
+
+  pub requirement_listed : (old new : Notes N S) (kind : ClauseKind N S) (as' : List (Atom N S)) → AddsRequirement old new kind as' → Contains new.kinds kind
+  requirement_listed old new kind as' adds =
+      let Listed : Notes N S → Type 0 = λ n. Contains n.kinds kind in
+      subst Listed (sym adds.is) (Contains-push old.kinds kind)
+
+  pub IsStep-same : (asking : List N) (Premise : Demands → Type 0) (notes : Notes N S) → IsStepWhile u asking Premise notes notes
+  IsStep-same asking Premise notes = record {
+    origins = Keeps-same notes.origins;
+    kinds = IsWithin-same notes.kinds;
+    seen = Extends-same notes.seen;
+    asked = IsWithin-same notes.asked;
+    helped = IsWithin-same notes.helped;
+    exempt = refl;
+    keeps = λ root premise before. before;
+  }
+
+  pub IsStep-trans : (asking : List N) (Premise : Demands → Type 0) (one two three : Notes N S) → IsStepWhile u asking Premise one two → IsStepWhile u asking Premise two three → IsStepWhile u asking Premise one three
+  IsStep-trans asking Premise one two three first second = record {
+    origins = Keeps-trans one.origins two.origins three.origins first.origins second.origins;
+    kinds = IsWithin-trans one.kinds two.kinds three.kinds first.kinds second.kinds;
+    seen = Extends-trans one.seen two.seen three.seen first.seen second.seen;
+    asked = IsWithin-trans one.asked two.asked three.asked first.asked second.asked;
+    helped = IsWithin-trans one.helped two.helped three.helped first.helped second.helped;
+    exempt = second.exempt ∙ first.exempt;
+    keeps = λ root premise before. second.keeps root premise (first.keeps root premise before);
+  }
+
+  -- under a premise from which its own follows
+  pub IsStep-weaker : (asking : List N) (Premise Stronger : Demands → Type 0) → ((root : Demands) → Stronger root → Premise root) → (old new : Notes N S) → IsStepWhile u asking Premise old new → IsStepWhile u asking Stronger old new
+  IsStep-weaker asking Premise Stronger follows old new step = record {
+    origins = step.origins;
+    kinds = step.kinds;
+    seen = step.seen;
+    asked = step.asked;
+    helped = step.helped;
+    exempt = step.exempt;
+    keeps = λ root premise before. step.keeps root (follows root premise) before;
+  }

@@ -1,0 +1,9 @@
+use Rattle.resolver_encoding.specs.Notes.{notes_in}
+use Rattle.resolver_encoding.proofs.ClauseLemmas.{Adds-zip, clause_added}
+use Rattle.resolver_encoding.proofs.encoding.Encoding.add_unit.Goals as goal
+
+pub returns-clause-added : goal.returns-clause-added
+returns-clause-added g c =
+    clause_added (notes_in c.args.self.now) _ _ _ c.args.kind c.push_literal.new.literals _ c.push_literal.ensures.grows c.push_literal.ensures.limit
+    (Adds-zip _ _ _ _ c.new-literals.ensures.items c.in_ok-push_literal.ensures.added)
+    c.in_ok-add_clause.ensures.added

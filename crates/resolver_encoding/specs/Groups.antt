@@ -1,0 +1,28 @@
+-- Solvables by the names of their packages.
+use Rattle.std.specs.Prelude.{ℕ, ◌≡◌, ◌⊎◌, List, [], Some, Contains, Vec, length, slice_get}
+use Rattle.std.specs.Option.{option_map_or}
+use Rattle.std.specs.declared.alloc.Global.{Global}
+use Rattle.resolver_clause_store.specs.Variables.{AreDistinct}
+use Rattle.resolver_encoding.specs.declared.groups.Groups.{Groups}
+
+-- the group at this place, and none where there is no such group
+abbrev pub group_at : {S : Type 0} → List (Vec S Global) → ℕ → List S
+group_at {S} groups place = option_map_or (λ (group : Vec S Global). group.items) (slice_get groups place) []
+
+-- each name has one group
+pub record AreGroups {N S : Type 0} (g : Groups N S) : Type 0 where
+  pub count : length g.members.items ≡ length g.names.keys
+  pub distinct : AreDistinct g.names.keys
+
+-- the solvable is in the group of the name
+pub record IsNamed {N S : Type 0} (g : Groups N S) (n : N) (s : S) : Type 0 where
+  pub place : ℕ
+  pub named : slice_get g.names.keys place ≡ Some n
+  pub inside : Contains (group_at g.members.items place) s
+
+-- one more solvable is in the group of the name
+pub record AddsNamed {N S : Type 0} (old new : Groups N S) (n : N) (s : S) : Type 0 where
+  pub sound : AreGroups new
+  pub earlier : (m : N) (t : S) → IsNamed old m t → IsNamed new m t
+  pub here : IsNamed new n s
+  pub only : (m : N) (t : S) → IsNamed new m t → IsNamed old m t ⊎ ((m ≡ n) × (t ≡ s))

@@ -1,0 +1,25 @@
+-- What an encoding has noted.
+use Rattle.std.specs.Prelude.{map}
+use Rattle.resolver_clause_store.specs.Variables.{IsBounded as AreBounded, limit_in, origins_in}
+use Rattle.resolver_clause_store.specs.declared.RequirementClause.{RequirementClause}
+use Rattle.resolver_encoding.specs.Encodings.{Notes}
+use Rattle.resolver_encoding.specs.declared.encoding.Encoding.{Encoding}
+
+abbrev pub notes_in : {N S : Type 0} → Encoding N S → Notes N S
+notes_in e = record {
+  origins = origins_in e.variables;
+  table = e.literals.items;
+  kinds = e.kinds.items;
+  requirements = map (λ (r : RequirementClause). r.number) e.requirements.items;
+  seen = e.seen.keys;
+  groups = e.groups;
+  asked = e.asked.keys;
+  helped = e.helped.keys;
+  exempt = e.exempt.items;
+  variable_limit = limit_in e.variables;
+  clause_limit = e.clause_limit;
+}
+
+-- there are no more variables than there may be
+abbrev pub IsBounded : {N S : Type 0} → Encoding N S → Type 0
+IsBounded e = AreBounded e.variables

@@ -1,0 +1,123 @@
+//! The clauses of all that was read.
+
+ghost use Rattle.std.specs.Prelude.{◌≡◌, ◌≤◌, ◌^◌, [], ◌∷◌, ◌++◌, Bool, IfErr, OnOk};
+ghost use Rattle.resolver_clause_store.specs.Laws.{IsIdentity};
+ghost use Rattle.resolver_encoding.specs.Atoms.{atom};
+ghost use Rattle.resolver_encoding.specs.Encodings.{AddsClause, IsFull, IsUnread, KeepsLimits};
+ghost use Rattle.resolver_encoding.specs.Refusals.{IsShortage};
+
+use crate::groups::Groups;
+use crate::literals::push_literal;
+use indexmap::IndexSet;
+use resolver_clause_store::{
+    ClauseKind, Exhausted, Literal, Origin, RequirementClause, Variables, VersionSetId,
+};
+use std::alloc::Global;
+use std::hash::Hash;
+
+/// The clauses of all that was read, and what each variable stands for.
+#[derive(Drop)]
+pub struct Encoding<N: Copy + Eq + Hash + Drop, S: Copy + Eq + Hash + Drop> {
+    alloc: Global,
+    pub(crate) variables: Variables<N, S>,
+    pub(crate) kinds: Vec<ClauseKind<N, S>>,
+    pub(crate) literals: Vec<Vec<Literal>>,
+    pub(crate) requirements: Vec<RequirementClause>,
+    seen: IndexSet<S>,
+    groups: Groups<N, S>,
+    asked: IndexSet<N>,
+    helped: IndexSet<VersionSetId>,
+    exempt: Vec<S>,
+    clause_limit: usize,
+}
+
+impl<N: Copy + Eq + Hash + Drop, S: Copy + Eq + Hash + Drop> Encoding<N, S> {
+    ghost use Rattle.resolver_encoding.specs.Notes.{IsBounded, notes_in};
+
+    /// Nothing read yet. There may be as many variables and as many clauses as the limits say.
+    pub fn new(alloc: Global, variable_limit: usize, clause_limit: usize) -> Self
+        requires { variable_limit ≤ 2 ^ 31 }
+        ensures bounded { IsBounded result }
+        ensures nothing_read { IsUnread (notes_in result) }
+        ensures none_exempt { (notes_in result).exempt ≡ [] }
+        ensures variables { (notes_in result).variable_limit ≡ variable_limit }
+        ensures clauses { (notes_in result).clause_limit ≡ clause_limit }
+    {
+        Encoding {
+            alloc,
+            variables: Variables::new(alloc, variable_limit),
+            kinds: Vec::new(alloc),
+            literals: Vec::new(alloc),
+            requirements: Vec::new(alloc),
+            seen: IndexSet::new(alloc),
+            groups: Groups::new(alloc),
+            asked: IndexSet::new(alloc),
+            helped: IndexSet::new(alloc),
+            exempt: Vec::new(alloc),
+            clause_limit,
+        }
+    }
+
+    /// Adds a clause.
+    fn add_clause(
+        &mut self,
+        kind: ClauseKind<N, S>,
+        literals: Vec<Literal>,
+    ) -> Result<(), Exhausted>
+        requires bounded { IsBounded self.old }
+        ensures bounded { IsBounded self.new }
+        ensures added { OnOk result (notes_in self.new ≡ record (notes_in self.old) { table = (notes_in self.old).table ++ literals ∷ []; kinds = (notes_in self.old).kinds ++ kind ∷ [] }) }
+        ensures limits { KeepsLimits (notes_in self.old) (notes_in self.new) }
+        ensures refusal { IfErr result (IsShortage (IsFull (notes_in self.new))) }
+    {
+        if self.kinds.len() == self.clause_limit {
+            return Err(Exhausted::Ids);
+        }
+        self.kinds.push(kind)?;
+        self.literals.push(literals)?;
+        Ok(())
+    }
+
+    /// Adds a clause of one literal.
+    fn add_unit(
+        &mut self,
+        kind: ClauseKind<N, S>,
+        origin: Origin<N, S>,
+        positive: bool,
+    ) -> Result<(), Exhausted>
+        requires names { IsIdentity N.eq }
+        requires solvables { IsIdentity S.eq }
+        requires bounded { IsBounded self.old }
+        ensures bounded { IsBounded self.new }
+        ensures added { OnOk result (AddsClause (notes_in self.old) (notes_in self.new) kind (atom origin positive ∷ [])) }
+        ensures limits { KeepsLimits (notes_in self.old) (notes_in self.new) }
+        ensures refusal { IfErr result (IsShortage (IsFull (notes_in self.new))) }
+    {
+        let mut literals = Vec::new(self.alloc);
+        push_literal(&mut self.variables, &mut literals, origin, positive)?;
+        self.add_clause(kind, literals)?;
+        Ok(())
+    }
+
+    /// Adds a clause of two literals.
+    fn add_pair(
+        &mut self,
+        kind: ClauseKind<N, S>,
+        first: (Origin<N, S>, bool),
+        second: (Origin<N, S>, bool),
+    ) -> Result<(), Exhausted>
+        requires names { IsIdentity N.eq }
+        requires solvables { IsIdentity S.eq }
+        requires bounded { IsBounded self.old }
+        ensures bounded { IsBounded self.new }
+        ensures added { OnOk result (AddsClause (notes_in self.old) (notes_in self.new) kind (atom first.0 first.1 ∷ atom second.0 second.1 ∷ [])) }
+        ensures limits { KeepsLimits (notes_in self.old) (notes_in self.new) }
+        ensures refusal { IfErr result (IsShortage (IsFull (notes_in self.new))) }
+    {
+        let mut literals = Vec::new(self.alloc);
+        push_literal(&mut self.variables, &mut literals, first.0, first.1)?;
+        push_literal(&mut self.variables, &mut literals, second.0, second.1)?;
+        self.add_clause(kind, literals)?;
+        Ok(())
+    }
+}

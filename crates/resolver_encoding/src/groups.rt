@@ -1,0 +1,102 @@
+//! Solvables by the names of their packages.
+
+ghost use Rattle.std.specs.Prelude.{◌≡◌, ◌≢◌, ◌<◌, ℕ, [], ◌∷◌, ◌++◌, All, Contains, IfErr, OnOk, length};
+ghost use Rattle.resolver_clause_store.specs.Laws.{IsIdentity};
+
+use indexmap::IndexSet;
+use resolver_clause_store::{Exhausted, append, place_of};
+use std::alloc::Global;
+use std::hash::Hash;
+
+/// For each name the solvables that were put there, first come first.
+#[derive(Drop)]
+pub(crate) struct Groups<N: Copy + Eq + Hash + Drop, S: Copy + Drop> {
+    alloc: Global,
+    names: IndexSet<N>,
+    members: Vec<Vec<S>>,
+}
+
+impl<N: Copy + Eq + Hash + Drop, S: Copy + Drop> Groups<N, S> {
+    ghost use Rattle.resolver_encoding.specs.Groups.{AddsNamed, AreGroups, IsNamed, group_at};
+
+    /// No groups.
+    pub(crate) fn new(alloc: Global) -> Self
+        ensures sound { AreGroups result }
+        ensures none { (n : N) (s : S) → IsNamed result n s → ⊥ }
+    {
+        Groups {
+            alloc,
+            names: IndexSet::new(alloc),
+            members: Vec::new(alloc),
+        }
+    }
+
+    /// The group at a place, and none where there is no such group.
+    fn group(&self, place: usize) -> &[S]
+        ensures { result.now ≡ group_at self.now.members.items place }
+    {
+        match self.members.get(place) {
+            Some(group) => group.as_slice(),
+            None => &[],
+        }
+    }
+
+    /// The solvables of a name.
+    pub(crate) fn named(&self, name: N) -> &[S]
+        requires { IsIdentity N.eq }
+        ensures each { All (IsNamed self.now name) result.now }
+        ensures every { AreGroups self.now → (s : S) → IsNamed self.now name s → Contains result.now s }
+    {
+        match place_of(&self.names, &name) {
+            Some(place) => self.group(place),
+            None => &[],
+        }
+    }
+
+    /// Puts a solvable into the group at a place, where there is such a group.
+    fn put(&mut self, place: usize, solvable: S) -> Result<(), Exhausted>
+        ensures names { self.new.names.keys ≡ self.old.names.keys }
+        ensures count { length self.new.members.items ≡ length self.old.members.items }
+        ensures others { (k : ℕ) → k ≢ place → group_at self.new.members.items k ≡ group_at self.old.members.items k }
+        ensures here { OnOk result (place < length self.old.members.items → group_at self.new.members.items place ≡ group_at self.old.members.items place ++ solvable ∷ []) }
+        ensures memory { IfErr result (λ e. e ≡ Exhausted.Memory) }
+    {
+        if place >= self.members.len() {
+            return Ok(());
+        }
+        self.members[place].push(solvable)?;
+        Ok(())
+    }
+
+    /// Puts a solvable into the group of a name that has none yet.
+    fn open(&mut self, name: N, solvable: S) -> Result<(), Exhausted>
+        requires names { IsIdentity N.eq }
+        requires absent { Contains self.old.names.keys name → ⊥ }
+        ensures added { OnOk result (AreGroups self.old → AddsNamed self.old self.new name solvable) }
+        ensures memory { IfErr result (λ e. e ≡ Exhausted.Memory) }
+    {
+        let mut group = Vec::new(self.alloc);
+        group.push(solvable)?;
+        self.members.push(group)?;
+        append(&mut self.names, name)?;
+        Ok(())
+    }
+
+    /// Puts a solvable into the group of a name.
+    pub(crate) fn add(&mut self, name: N, solvable: S) -> Result<(), Exhausted>
+        requires { IsIdentity N.eq }
+        ensures added { OnOk result (AreGroups self.old → AddsNamed self.old self.new name solvable) }
+        ensures memory { IfErr result (λ e. e ≡ Exhausted.Memory) }
+    {
+        match place_of(&self.names, &name) {
+            Some(place) => {
+                self.put(place, solvable)?;
+                Ok(())
+            }
+            None => {
+                self.open(name, solvable)?;
+                Ok(())
+            }
+        }
+    }
+}

@@ -1,0 +1,75 @@
+//! Literals of origins.
+
+ghost use Rattle.std.specs.Prelude.{◌≡◌, [], ◌∷◌, IfErr, OnOk, false, map, true};
+ghost use Rattle.resolver_clause_store.specs.Laws.{IsIdentity};
+ghost use Rattle.resolver_clause_store.specs.Variables.{IsBounded, IsFull as AreFull, limit_in, origins_in};
+ghost use Rattle.resolver_clause_store.specs.declared.Origin.TheVariants.{ConditionHelper, Solvable};
+ghost use Rattle.resolver_encoding.specs.Atoms.{atom};
+ghost use Rattle.resolver_encoding.specs.Encodings.{Adds, Grows};
+ghost use Rattle.resolver_encoding.specs.Refusals.{IsShortage};
+
+use resolver_clause_store::{Exhausted, Literal, Origin, Variables, VersionSetId};
+use std::hash::Hash;
+
+/// Puts the literal of an origin behind the others.
+pub(crate) fn push_literal<N: Copy + Eq + Hash + Drop, S: Copy + Eq + Hash + Drop>(
+    variables: &mut Variables<N, S>,
+    literals: &mut Vec<Literal>,
+    origin: Origin<N, S>,
+    positive: bool,
+) -> Result<(), Exhausted>
+    requires names { IsIdentity N.eq }
+    requires solvables { IsIdentity S.eq }
+    requires bounded { IsBounded variables.old }
+    ensures bounded { IsBounded variables.new }
+    ensures limit { limit_in variables.new ≡ limit_in variables.old }
+    ensures grows { Grows (origins_in variables.old) (origins_in variables.new) }
+    ensures added { OnOk result (Adds (origins_in variables.new) literals.old.items literals.new.items (atom origin positive ∷ [])) }
+    ensures refusal { IfErr result (IsShortage (AreFull variables.new)) }
+{
+    let variable = variables.intern(origin)?;
+    literals.push(Literal { variable, positive })?;
+    Ok(())
+}
+
+/// Puts the negated literal of each condition helper behind the others.
+pub(crate) fn push_helpers<N: Copy + Eq + Hash + Drop, S: Copy + Eq + Hash + Drop>(
+    variables: &mut Variables<N, S>,
+    literals: &mut Vec<Literal>,
+    disjunct: &[VersionSetId],
+) -> Result<(), Exhausted>
+    requires names { IsIdentity N.eq }
+    requires solvables { IsIdentity S.eq }
+    requires bounded { IsBounded variables.old }
+    ensures bounded { IsBounded variables.new }
+    ensures limit { limit_in variables.new ≡ limit_in variables.old }
+    ensures grows { Grows (origins_in variables.old) (origins_in variables.new) }
+    ensures added { OnOk result (Adds (origins_in variables.new) literals.old.items literals.new.items (map (λ v. atom (ConditionHelper v) false) disjunct.now)) }
+    ensures refusal { IfErr result (IsShortage (AreFull variables.new)) }
+{
+    for version_set in disjunct {
+        push_literal(variables, literals, Origin::ConditionHelper(*version_set), false)?;
+    }
+    Ok(())
+}
+
+/// Puts the literal of each candidate behind the others.
+pub(crate) fn push_candidates<N: Copy + Eq + Hash + Drop, S: Copy + Eq + Hash + Drop>(
+    variables: &mut Variables<N, S>,
+    literals: &mut Vec<Literal>,
+    candidates: &[S],
+) -> Result<(), Exhausted>
+    requires names { IsIdentity N.eq }
+    requires solvables { IsIdentity S.eq }
+    requires bounded { IsBounded variables.old }
+    ensures bounded { IsBounded variables.new }
+    ensures limit { limit_in variables.new ≡ limit_in variables.old }
+    ensures grows { Grows (origins_in variables.old) (origins_in variables.new) }
+    ensures added { OnOk result (Adds (origins_in variables.new) literals.old.items literals.new.items (map (λ s. atom (Solvable s) true) candidates.now)) }
+    ensures refusal { IfErr result (IsShortage (AreFull variables.new)) }
+{
+    for candidate in candidates {
+        push_literal(variables, literals, Origin::Solvable(*candidate), true)?;
+    }
+    Ok(())
+}
