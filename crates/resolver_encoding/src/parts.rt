@@ -1,10 +1,13 @@
 //! What an encoding is given up for.
 
-ghost use Rattle.std.specs.Prelude.{◌≡◌, map, length};
+ghost use Rattle.std.specs.Prelude.{◌≡◌, map, length, OnOk, IfErr};
+ghost use Rattle.resolver_clause_store.specs.Caches.{IsTrueCache};
+ghost use Rattle.resolver_encoding.specs.Encodings.{IsAllRead, IsFull, IsUnread, KeepsLimits};
+ghost use Rattle.resolver_encoding.specs.Refusals.{IsStop};
 ghost use Rattle.resolver_clause_store.specs.Variables.{origins_in};
 
 use crate::encoding::Encoding;
-use resolver_clause_store::{ClauseKind, Literal, RequirementClause, Variables};
+use resolver_clause_store::{Cache, ClauseKind, ConditionalRequirement, DependencyProvider, Exhausted, Interrupted, Literal, RequirementClause, Variables, VersionSetId};
 use std::hash::Hash;
 
 /// The clauses of an encoding, for a search: what each says, its literals, and which ask for candidates.
@@ -17,7 +20,27 @@ pub struct Parts<N: Copy + Eq + Hash + Drop, S: Copy + Eq + Hash + Drop> {
 }
 
 impl<N: Copy + Eq + Hash + Drop, S: Copy + Eq + Hash + Drop> Encoding<N, S> {
-    ghost use Rattle.resolver_encoding.specs.Notes.{notes_in};
+    ghost use Rattle.resolver_encoding.specs.Notes.{IsBounded, notes_in};
+
+    /// STUB
+    pub fn read_all<D: DependencyProvider<NameId = N, SolvableId = S>>(
+        &mut self,
+        _provider: &D,
+        cache: &mut Cache<N, S>,
+        requirements: &[ConditionalRequirement],
+        constraints: &[VersionSetId],
+    ) -> Result<(), Interrupted<D::Cancel>>
+        requires bounded { IsBounded self.old }
+        requires unread { IsUnread (notes_in self.old) }
+        requires is_true { IsTrueCache (D.universe _provider.now) cache.old }
+        ensures is_true { IsTrueCache (D.universe _provider.now) cache.new }
+        ensures read { OnOk result (IsAllRead (D.universe _provider.now) (record { requirements = requirements.now; constraints = constraints.now }) (notes_in self.new)) }
+        ensures exempt { OnOk result ((notes_in self.new).exempt ≡ (notes_in self.old).exempt) }
+        ensures limits { KeepsLimits (notes_in self.old) (notes_in self.new) }
+        ensures refusal { IfErr result (IsStop (D.may_cancel _provider.now) (IsFull (notes_in self.new))) }
+    {
+        Err(Interrupted::Exhausted(Exhausted::Memory))
+    }
 
     /// How many variables there are.
     pub fn variable_count(&self) -> usize

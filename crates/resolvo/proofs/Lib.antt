@@ -1,9 +1,3 @@
-pub mod MemberLemmas
-pub mod ReadingLemmas
-pub mod CountLemmas
-pub mod StepLemmas
-pub mod DisjunctRules
-pub mod AnswerLemmas
 pub mod RefusalLemmas
 pub mod SeenLemmas
 pub mod JustifiedLemmas
@@ -14,3 +8,4 @@ pub mod NegationLemmas
 pub mod LevelLemmas
 pub mod CoreLemmas
 pub mod ClauseSearchLemmas
+pub mod SolveLemmas

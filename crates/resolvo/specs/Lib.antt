@@ -2,10 +2,7 @@ pub mod Problems
 pub mod Conflicts
 pub mod Answers
 pub mod Explanations
-pub mod Reading
-pub mod Notes
 pub mod Refusals
-pub mod Counts
 pub mod Solvers
 pub mod TestProvider
 pub mod Propagation

@@ -1,27 +1,14 @@
 -- What each refusal says.
-use Rattle.std.specs.Prelude.{◌≡◌, ◌+◌, ℕ, List, All, length, ⊤}
+use Rattle.std.specs.Prelude.{◌≡◌, ◌+◌, ℕ, length, ⊤}
 use Rattle.resolver_clause_store.specs.Universe.{Universe, Demands}
-use Rattle.resolver_clause_store.specs.declared.Exhausted.{Exhausted as Shortage}
-use Rattle.resolver_clause_store.specs.declared.Exhausted.TheVariants.{Memory, Ids}
-use Rattle.resolver_clause_store.specs.declared.Interrupted.{Interrupted}
-use Rattle.resolver_clause_store.specs.declared.Interrupted.TheVariants.{Cancelled as Stopped, Exhausted as RanOut}
-use Rattle.resolver_report.specs.declared.Rule.{Rule}
-use Rattle.resolver_report.specs.ReachedRules.{LeavesKept}
-use Rattle.resolver_report.specs.TrueRules.{IsTrueRule}
+use Rattle.resolver_encoding.specs.Encodings.{IsAllRead, Notes}
+use Rattle.resolver_encoding.specs.Refusals.{IsShortage}
 use Rattle.resolvo.specs.Conflicts.{rules_in}
 use Rattle.resolvo.specs.Explanations.{Explains}
+use Rattle.resolvo.specs.Solvers.{clause_count_in, learnt_count_in}
+use Rattle.resolvo.specs.declared.solver.Solver.{Solver}
 use Rattle.resolvo.specs.declared.solver.UnsolvableOrCancelled.{UnsolvableOrCancelled}
 use Rattle.resolvo.specs.declared.solver.UnsolvableOrCancelled.TheVariants.{Unsolvable, Cancelled, Exhausted}
-
--- memory is wanted, or a count stands at its limit
-abbrev pub IsShortage : Type 0 → Shortage → Type 0
-IsShortage at_limit Memory = ⊤
-IsShortage at_limit Ids = at_limit
-
--- the value is one that the provider may stop with, or memory is wanted, or a count stands at its limit
-abbrev pub IsStop : {C : Type 0} → (C → Type 0) → Type 0 → Interrupted C → Type 0
-IsStop may_cancel at_limit (Stopped value) = may_cancel value
-IsStop may_cancel at_limit (RanOut e) = IsShortage at_limit e
 
 -- the conflict explains itself, or the search was stopped so
 abbrev pub IsRefusal : {D N S C : Type 0} → Universe N S → (C → Type 0) → Demands → Type 0 → UnsolvableOrCancelled D C N S → Type 0
@@ -29,16 +16,24 @@ IsRefusal u may_cancel root at_limit (Unsolvable c) = Explains u root (rules_in 
 IsRefusal u may_cancel root at_limit (Cancelled value) = may_cancel value
 IsRefusal u may_cancel root at_limit (Exhausted e) = IsShortage at_limit e
 
--- the rules are those of a list of true ones that are about what that list reaches; for each rule of that list there is a
--- clause, and one for the root
-pub record IsCountedConflict {N S : Type 0} (u : Universe N S) (root : Demands) (clause_count : ℕ) (rules : List (Rule N S)) : Type 0 where
-  pub read : List (Rule N S)
-  pub each_true : All (IsTrueRule u root) read
-  pub left : LeavesKept read rules
-  pub counted : clause_count ≡ 1 + length read
+-- there are so many clauses, and the learnt ones
+abbrev pub CountsClauses : {D C N S : Type 0} → ℕ → Solver D C N S → Type 0
+CountsClauses read s = clause_count_in s ≡ read + learnt_count_in s
 
--- for a conflict there are as many clauses as rules were read, and one for the root
-abbrev pub IsCounted : {D N S C : Type 0} → Universe N S → Demands → ℕ → UnsolvableOrCancelled D C N S → Type 0
-IsCounted u root clause_count (Unsolvable c) = IsCountedConflict u root clause_count (rules_in c)
-IsCounted u root clause_count (Cancelled value) = ⊤
-IsCounted u root clause_count (Exhausted e) = ⊤
+-- for a conflict all clauses are counted
+abbrev pub IsCounted : {D C N S : Type 0} → ℕ → Solver D C N S → UnsolvableOrCancelled D C N S → Type 0
+IsCounted read s (Unsolvable c) = CountsClauses read s
+IsCounted read s (Cancelled value) = ⊤
+IsCounted read s (Exhausted e) = ⊤
+
+-- there are the clauses of all that was read, and the learnt ones
+pub record CountsAllRead {D C N S : Type 0} (u : Universe N S) (root : Demands) (s : Solver D C N S) : Type 0 where
+  pub notes : Notes N S
+  pub read : IsAllRead u root notes
+  pub counted : CountsClauses (length notes.kinds) s
+
+-- so there are for a conflict
+abbrev pub CountsRefuted : {D C N S : Type 0} → Universe N S → Demands → Solver D C N S → UnsolvableOrCancelled D C N S → Type 0
+CountsRefuted u root s (Unsolvable c) = CountsAllRead u root s
+CountsRefuted u root s (Cancelled value) = ⊤
+CountsRefuted u root s (Exhausted e) = ⊤

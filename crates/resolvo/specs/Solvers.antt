@@ -1,7 +1,6 @@
 -- What callers see of a solver.
-use Rattle.std.specs.Prelude.{◌≡◌, ◌+◌, ◌<◌, ℕ, List, length}
-use Rattle.resolver_clause_store.specs.Near.{AreCounted}
-use Rattle.resolver_clause_store.specs.Universe.{Universe, Demands}
+use Rattle.std.specs.Prelude.{◌≡◌, ◌≤◌, ◌^◌, ◌⊎◌, ℕ}
+use Rattle.resolver_clause_store.specs.Universe.{Universe}
 use Rattle.resolver_clause_store.specs.Caches.{IsTrueCache}
 use Rattle.resolvo.specs.declared.solver.Solver.{Solver}
 
@@ -9,25 +8,33 @@ module _ {D C N S : Type 0} where
   abbrev pub provider_in : Solver D C N S → D
   provider_in s = s.provider
 
-  -- how many clauses the present state has: one for the root, and one for each rule
-  abbrev pub clause_count_in : Solver D C N S → ℕ
-  clause_count_in s = s.clause_count
-
-  -- how many variables it has, and at most may have
+  -- how many variables, clauses and learnt clauses the present state has; learnt ones are clauses, too
   abbrev pub variable_count_in : Solver D C N S → ℕ
   variable_count_in s = s.variable_count
 
-  abbrev pub variable_limit_in : Solver D C N S → ℕ
-  variable_limit_in s = s.variable_limit
+  abbrev pub clause_count_in : Solver D C N S → ℕ
+  clause_count_in s = s.clause_count
 
-  -- the count of variables, one for the root and one for each solvable that was counted, stands at its limit
-  pub record IsAtLimit (u : Universe N S) (root : Demands) (s : Solver D C N S) : Type 0 where
-    pub solvables : List S
-    pub counted : AreCounted u root solvables
-    pub count : s.variable_count ≡ 1 + length solvables
-    pub at_limit : s.variable_count ≡ s.variable_limit
+  abbrev pub learnt_count_in : Solver D C N S → ℕ
+  learnt_count_in s = s.learnt_count
 
-  -- what the solver keeps of its provider's answers is true, and there is room for the root
+  -- there may be so many of each
+  pub record HasLimits (limit : ℕ) (s : Solver D C N S) : Type 0 where
+    pub variables : s.variable_limit ≡ limit
+    pub clauses : s.clause_limit ≡ limit
+    pub learnt : s.learnt_limit ≡ limit
+
+  -- there may be as many of each as before
+  pub record KeepsLimits (old new : Solver D C N S) : Type 0 where
+    pub variables : new.variable_limit ≡ old.variable_limit
+    pub clauses : new.clause_limit ≡ old.clause_limit
+    pub learnt : new.learnt_limit ≡ old.learnt_limit
+
+  -- one of the counts stands at its limit
+  abbrev pub IsAtLimit : Solver D C N S → Type 0
+  IsAtLimit s = (s.variable_limit ≤ s.variable_count) ⊎ ((s.clause_limit ≤ s.clause_count) ⊎ (s.learnt_limit ≤ s.learnt_count))
+
+  -- what the solver keeps of its provider's answers is true, and a variable's number fits
   pub record IsSound (u : Universe N S) (s : Solver D C N S) : Type 0 where
     pub true_answers : IsTrueCache u s.cache
-    pub room : 0 < s.variable_limit
+    pub fits : s.variable_limit ≤ 2 ^ 31

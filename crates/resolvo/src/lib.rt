@@ -8,8 +8,6 @@ mod contradiction;
 mod decide;
 mod problem;
 mod propagate;
-mod reading;
-mod sets;
 mod solver;
 #[cfg(test)]
 mod test_provider;

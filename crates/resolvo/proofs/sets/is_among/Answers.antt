@@ -1,5 +1,0 @@
-use Rattle.resolvo.proofs.MemberLemmas.{list_any-member}
-use Rattle.resolvo.proofs.sets.is_among.Goals as goal
-
-pub returns : goal.returns
-returns g c = list_any-member c.requires g.met.T.Eq.laws c.args.set.now.keys c.args.member.now c.contains.result c.contains.ensures

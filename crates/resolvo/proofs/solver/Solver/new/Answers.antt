@@ -1,5 +1,0 @@
-use Rattle.std.proofs.Common.{lit<}
-use Rattle.resolvo.proofs.solver.Solver.new.Goals as goal
-
-pub returns-clause-sound : goal.returns-clause-sound
-returns-clause-sound g c = record { true_answers = c.new.ensures (g.D.Interner.universe c.args.provider); room = lit< tt }

@@ -1,0 +1,14 @@
+use Rattle.std.proofs.Common.{ap, sym, ◌∙◌, List}
+use Rattle.resolver_clause_store.specs.declared.ClauseKind.{ClauseKind}
+use Rattle.resolver_encoding.specs.Stated.{stated_by_all}
+use Rattle.resolver_encoding.specs.Values.{kinds_at}
+use Rattle.resolvo.proofs.SolveLemmas.{explained, lawful_solvables}
+use Rattle.resolvo.proofs.solver.explain.Goals as goal
+
+pub returns-clause-explained : goal.returns-clause-explained
+returns-clause-explained g c = λ root notes kinds encoding core.
+    let u = g.D.Interner.universe c.args.provider.now in
+    explained u g.D.NameId.PartialEq.eq root notes c.args.core.now c.in_ok-stated.stated.items c.in_ok-rules.rules.items
+      (lawful_solvables u g.D.SolvableId.PartialEq.eq (g.met.D.Interner.lawful_ids c.args.provider.now) (g.met.D.Interner.solvables_compare c.args.provider.now) g.met.D.Interner.solvables_are_values) g.met.D.Interner.names_are_values encoding core
+      (c.in_ok-stated.ensures.stated ∙ ap (λ (ks : List (ClauseKind g.row.D-NameId.Denot g.row.D-SolvableId.Denot)). stated_by_all u (kinds_at ks c.args.core.now)) (sym kinds))
+      c.in_ok-rules.ensures.left c.in_ok-rules.ensures.refuted c.in_ok-rules.ensures.again
