@@ -28,7 +28,7 @@ same_bool true b f g = sym (f refl)
 same_bool false true f g = g refl
 same_bool false false f g = refl
 
-same_numbers : (m n : ℕ) → (m == n) ≡ true → m ≡ n
+pub same_numbers : (m n : ℕ) → (m == n) ≡ true → m ≡ n
 same_numbers m n e = search (rules, e)
 
 pub itself_number : (m : ℕ) → (m == m) ≡ true

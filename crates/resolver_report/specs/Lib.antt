@@ -9,6 +9,7 @@ pub mod ReachedPlaces
 pub mod Plain
 pub mod Same
 pub mod Shapes
+pub mod EdgePlaces
 pub mod Edges
 pub mod Graphs
 pub mod ConflictGraphs

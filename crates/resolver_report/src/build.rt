@@ -81,7 +81,7 @@ pub fn graph_of<N: Copy + Eq + Hash + Drop, S: Copy + Eq + Hash + Drop>(
     if is_entered(&links) {
         let edges = edges_of(alloc, &nodes, &links)?;
         return Ok(ConflictGraph {
-            graph: Graph::new(nodes, edges),
+            graph: Graph::new(alloc, nodes, edges)?,
             root_node: NodeId(0),
             unresolved_node: Some(NodeId(1)),
         });
@@ -89,7 +89,7 @@ pub fn graph_of<N: Copy + Eq + Hash + Drop, S: Copy + Eq + Hash + Drop>(
     nodes.swap_remove(1);
     let edges = edges_of(alloc, &nodes, &links)?;
     Ok(ConflictGraph {
-        graph: Graph::new(nodes, edges),
+        graph: Graph::new(alloc, nodes, edges)?,
         root_node: NodeId(0),
         unresolved_node: None,
     })

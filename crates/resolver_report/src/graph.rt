@@ -3,8 +3,10 @@
 ghost use Rattle.std.specs.Prelude.{◌≡◌, ◌<◌, All, IfOk, IfErr, length};
 ghost use Rattle.resolver_clause_store.specs.Lists.{HasNoRepeats};
 ghost use Rattle.std.specs.Option.{ForSome};
+ghost use Rattle.resolver_report.specs.EdgePlaces.{HasPlacesOfEdges};
 ghost use Rattle.resolver_report.specs.Shapes.{incoming, IsShape, outgoing, Shape};
 
+use crate::edge_places::{EdgePlaces, edge_places};
 use crate::edges::{Incoming, Outgoing};
 use crate::parts::{ConflictNode, Edge, NodeId};
 use resolver_clause_store::Exhausted;
@@ -16,6 +18,7 @@ use std::marker::Model;
 pub struct Graph<S> {
     nodes: Vec<ConflictNode<S>>,
     edges: Vec<Edge<S>>,
+    places: EdgePlaces,
 }
 
 impl<S> Model for Graph<S> {
@@ -23,19 +26,11 @@ impl<S> Model for Graph<S> {
 
     ghost view = { λ g. record { nodes = g.nodes.items; edges = g.edges.items } };
 
-    ghost invariant = { λ g. IsShape (record { nodes = g.nodes.items; edges = g.edges.items }) };
+    ghost invariant = { λ g. IsShape (record { nodes = g.nodes.items; edges = g.edges.items }) × HasPlacesOfEdges (length g.nodes.items) g.edges.items g.places };
 }
 
 impl<S> Graph<S> {
     ghost use Rattle.resolver_report.specs.Edges.{incoming_left, outgoing_left};
-
-    /// The graph with these nodes and edges.
-    pub(crate) fn new(nodes: Vec<ConflictNode<S>>, edges: Vec<Edge<S>>) -> Self
-        requires { IsShape (record { nodes = nodes.items; edges = edges.items }) }
-        ensures { result ≡ record { nodes = nodes.items; edges = edges.items } }
-    {
-        Graph { nodes, edges }
-    }
 
     /// The allocator of the graph.
     pub(crate) fn allocator(&self) -> Global {
@@ -65,8 +60,8 @@ impl<S> Graph<S> {
         ensures { outgoing_left result ≡ outgoing self.now.edges n.0 }
     {
         Outgoing {
-            rest: &self.edges,
-            node: n,
+            edges: &self.edges,
+            rest: &self.places.from[n.0],
         }
     }
 
@@ -76,9 +71,31 @@ impl<S> Graph<S> {
         ensures { incoming_left result ≡ incoming self.now.edges n.0 }
     {
         Incoming {
-            rest: &self.edges,
-            node: n,
+            edges: &self.edges,
+            rest: &self.places.to[n.0],
         }
+    }
+}
+
+impl<S: Drop> Graph<S> {
+    /// The graph with these nodes and edges.
+    ///
+    /// The error is [`Exhausted::Memory`] alone.
+    pub(crate) fn new(
+        alloc: Global,
+        nodes: Vec<ConflictNode<S>>,
+        edges: Vec<Edge<S>>,
+    ) -> Result<Self, Exhausted>
+        requires { IsShape (record { nodes = nodes.items; edges = edges.items }) }
+        ensures value { IfOk result (λ g. g ≡ record { nodes = nodes.items; edges = edges.items }) }
+        ensures memory { IfErr result (λ e. e ≡ Exhausted.Memory) }
+    {
+        let places = edge_places(alloc, nodes.len(), &edges)?;
+        Ok(Graph {
+            nodes,
+            edges,
+            places,
+        })
     }
 }
 
@@ -91,7 +108,7 @@ impl<S: Copy + Drop> Graph<S> {
         let alloc = self.allocator();
         let nodes = Vec::from_slice(alloc, &self.nodes)?;
         let edges = Vec::from_slice(alloc, &self.edges)?;
-        Ok(Graph { nodes, edges })
+        Graph::new(alloc, nodes, edges)
     }
 }
 

@@ -4,6 +4,7 @@
 mod askers;
 mod build;
 mod classes;
+mod edge_places;
 mod edges;
 mod findings;
 mod graph;

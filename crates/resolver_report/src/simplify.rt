@@ -1,6 +1,6 @@
 //! Which solvables of a graph are told of together.
 
-ghost use Rattle.std.specs.Prelude.{◌≡◌, ◌+◌, List, IfOk, IfErr, OnOk, IfSome, IsNone, MatchOption};
+ghost use Rattle.std.specs.Prelude.{◌≡◌, ℕ, ◌+◌, List, IfOk, IfErr, OnOk, IfSome, IsNone, MatchOption};
 ghost use Rattle.resolver_clause_store.specs.Laws.{IsIdentity};
 ghost use Rattle.resolver_report.specs.Merging.{Key, class_in, group_in, solvables_at as solvables_at_places};
 ghost use Rattle.resolver_report.specs.Shapes.{solvable_at as solvable_at_place};
@@ -68,10 +68,9 @@ fn group_of<S: Copy + Eq + Hash + Drop>(
     alloc: Global,
     graph: &Graph<S>,
     class: &[usize],
-    _n: usize,
     groups: &HashMap<S, Rc<MergedConflictNode<S>>>,
 ) -> Result<Option<Rc<MergedConflictNode<S>>>, Exhausted>
-    ensures value { IfOk result (λ group. (ks : List Key) → class.now ≡ class_in ks _n → IsSimplifiedBefore S.eq ks graph.now _n groups.now → MatchOption group (IsNone (group_in ks _n)) (IsGroupOf ks graph.now _n)) }
+    ensures value { IfOk result (λ group. (ks : List Key) (n : ℕ) → class.now ≡ class_in ks n → IsSimplifiedBefore S.eq ks graph.now n groups.now → MatchOption group (IsNone (group_in ks n)) (IsGroupOf ks graph.now n)) }
     ensures memory { IfErr result (λ e. e ≡ Exhausted.Memory) }
 {
     let [first, _, ..] = class else {
@@ -100,7 +99,7 @@ fn add_group<S: Copy + Eq + Hash + Drop>(
     let Some(solvable) = solvable_at(graph, n) else {
         return Ok(());
     };
-    let Some(group) = group_of(alloc, graph, class, n, groups)? else {
+    let Some(group) = group_of(alloc, graph, class, groups)? else {
         return Ok(());
     };
     groups.insert(solvable, group)?;

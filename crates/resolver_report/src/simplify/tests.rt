@@ -155,6 +155,36 @@ fn alike_versions_share_a_group(rt: HostRuntime) -> Result<(), Fail> {
 }
 
 #[test]
+fn the_order_of_edges_does_not_part(rt: HostRuntime) -> Result<(), Fail> {
+    let alloc = rt.alloc();
+    let rules = [
+        required(alloc, By::Root, 0, &[12, 11])?,
+        required(alloc, By::Solvable(11), 1, &[])?,
+        required(alloc, By::Solvable(11), 2, &[21])?,
+        required(alloc, By::Solvable(12), 2, &[21])?,
+        required(alloc, By::Solvable(12), 1, &[])?,
+    ];
+    let groups = graph_of(alloc, &rules)?.simplify(&Packages)?;
+    assert_eq!(rt; groups.len(), 2);
+    let group = groups.get(&12).ok_or("no group")?;
+    assert_eq!(rt; group.ids.as_slice(), [12, 11].as_slice());
+    Ok(())
+}
+
+#[test]
+fn how_often_an_edge_stands_parts(rt: HostRuntime) -> Result<(), Fail> {
+    let alloc = rt.alloc();
+    let rules = [
+        required(alloc, By::Root, 0, &[12, 11])?,
+        required(alloc, By::Solvable(11), 1, &[])?,
+        required(alloc, By::Solvable(11), 1, &[])?,
+        required(alloc, By::Solvable(12), 1, &[])?,
+    ];
+    assert!(rt; graph_of(alloc, &rules)?.simplify(&Packages)?.is_empty());
+    Ok(())
+}
+
+#[test]
 fn conflicts_are_not_told_apart(rt: HostRuntime) -> Result<(), Fail> {
     let alloc = rt.alloc();
     let rules = [

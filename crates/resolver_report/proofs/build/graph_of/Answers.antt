@@ -25,4 +25,4 @@ returns-clause-value g c =
     let nodes : c.swap_remove.new.self.items ≡ swap_remove (first_mentions g.S.PartialEq.eq c.args.rules.now) 1 Root = c.swap_remove.ensures.items ∙ rw old (other_default (first_mentions g.S.PartialEq.eq c.args.rules.now) c.swap_remove.result (omega arith) Root) in
     let edges : c.in_ok-edges-2.edges.items ≡ map (edge_in g.S.PartialEq.eq (swap_remove (first_mentions g.S.PartialEq.eq c.args.rules.now) 1 Root)) (links g.N.PartialEq.eq c.args.rules.now) = c.in_ok-edges-2.ensures.value ∙ rw (c.deref-3.ensures.value, c.deref-4.ensures.value, nodes, c.in_ok-links.ensures.value) in
     let not_entered : is_entered g.S.PartialEq.eq (links g.N.PartialEq.eq c.args.rules.now) ≡ false = rw (← c.in_ok-links.ensures.value, ← c.deref-2.ensures.value, ← c.is_entered.ensures) c.if-is_entered.false in
-    rw (c.new-2.ensures, nodes, edges, not_entered)
+    rw (c.in_ok-new-2.ensures.value, nodes, edges, not_entered)
