@@ -222,3 +222,6 @@ impl ClauseSearch {
         }
     }
 }
+
+#[cfg(test)]
+mod tests;
