@@ -1,16 +1,16 @@
 -- A clause behind the others, a trail that was undone, and what a finished search has found.
-use Rattle.std.proofs.Common.{◌≡◌, ◌≢◌, ℕ, zero, suc, ◌+◌, ◌-◌, ◌<◌, ◌≤◌, ◌⊎◌, List, [], ◌∷◌, ◌++◌, length, get_or, take, drop, Option, Some, None, Bool, true, false, arith, rules, inl, inr, refl, sym, ap, ◌∙◌, subst, ⊎_elim, length-append}
-use Rattle.std.specs.Prelude.{Vec, not}
+use Rattle.std.proofs.Common.{◌≡◌, ◌≢◌, ℕ, zero, suc, ◌+◌, ◌-◌, ◌<◌, ◌≤◌, ◌⊎◌, List, [], ◌∷◌, ◌++◌, length, get_or, take, drop, Some, None, Bool, true, arith, inl, inr, refl, sym, ap, ◌∙◌, subst, ⊎_elim, length-append}
+use Rattle.std.specs.Prelude.{Vec}
 use Rattle.std.specs.Bool.{beq}
 use Rattle.std.specs.Option.{option_map, option_map_or}
-use Rattle.std.specs.List.{All, Any, Contains, slice_get}
+use Rattle.std.specs.List.{All}
 use Rattle.std.specs.declared.alloc.Global.{Global}
 use Rattle.std.proofs.Math.ListN.{get_or-append}
 use Rattle.std.proofs.Math.Seq.{get_or-append_seam}
-use Rattle.std.proofs.lemmas.Bool.{cases_eq, cases_Bool, both_ways, cases_lt}
+use Rattle.std.proofs.lemmas.Bool.{cases_eq, cases_lt}
 use Rattle.std.proofs.lemmas.List.{drop_more, get_or-take, length-take-le, take-append-drop, take-append-le}
-use Rattle.std.proofs.lemmas.List.Elements.{All-contains, All-weaker}
-use Rattle.std.proofs.lemmas.Option.{none-some, same_Some, slice_get-get_or}
+use Rattle.std.proofs.lemmas.List.Elements.{All-contains}
+use Rattle.std.proofs.lemmas.Option.{same_Some, slice_get-get_or}
 use Rattle.resolver_clause_store.specs.declared.Literal.{Literal}
 use Rattle.resolver_clause_store.specs.declared.RequirementClause.{RequirementClause}
 use Rattle.resolver_clause_store.specs.declared.Slot.{Slot}
@@ -18,14 +18,14 @@ use Rattle.resolver_clause_store.specs.declared.Reason.{Reason}
 use Rattle.resolver_clause_store.specs.declared.Reason.TheVariants.{Decided, Forced}
 use Rattle.resolver_clause_store.specs.declared.Trail.{Trail}
 use Rattle.resolver_clause_store.specs.Formula.{AreBelow, FollowsFrom, IsBelow, MakesTrue, Satisfies, clause_at, clause_true}
-use Rattle.resolver_clause_store.specs.Outcomes.{IsChosen, IsCore, IsFalseBefore, IsFalsified, IsFinished, IsForced, IsForcing, IsImplied, IsMet, IsPropagated, IsReasoned}
-use Rattle.resolver_clause_store.specs.TrailView.{Gains, IsUndone, length_of, level_of, literal_value, slot_of, variable_count}
+use Rattle.resolver_clause_store.specs.Outcomes.{IsChosen, IsFalseBefore, IsFalsified, IsFinished, IsForcing, IsImplied, IsMet, IsPropagated}
+use Rattle.resolver_clause_store.specs.TrailView.{Gains, IsUndone, length_of, slot_of, variable_count}
 use Rattle.resolver_clause_store.proofs.FormulaLemmas.{clause_at-get_or, clause_at-last, clause_at-past, clause_at-push, clause_at-take}
 use Rattle.resolver_clause_store.proofs.SlotLemmas.{none-from, slot-within}
-use Rattle.resolver_clause_store.proofs.TrailLemmas.{false-before, false_before-kept, gains-cases, keeps-gains, value-false, value-none}
+use Rattle.resolver_clause_store.proofs.TrailLemmas.{false-before, false_before-kept, gains-cases, keeps-gains, value-false}
 use Rattle.resolvo.specs.declared.decide.Choice.{Choice}
 use Rattle.resolvo.specs.ClauseSearches.{Grows}
-use Rattle.resolvo.specs.Decisions.{IsChoice, IsFirst}
+use Rattle.resolvo.specs.Decisions.{IsChoice}
 use Rattle.resolvo.specs.Derivations.{IsDerived, causes_at}
 use Rattle.resolvo.specs.Propagation.{AllSettled, AreChosen, IsJustified, IsUnit}
 use Rattle.resolvo.specs.Resolvents.{IsAsserting, IsFalseAt}
@@ -107,7 +107,6 @@ derived-below given table causes values derived holds (suc bound) n below within
     let early = derived.earlier place inside k d at in
     derived-below given table causes values derived holds bound _ (omega (arith, early)) (omega (arith, early)))))
     (cases_lt n given)
-
 
 forced-decided : (n m : ℕ) → Forced n ≡ Decided m → ⊥
 forced-decided n m e = absurd cc
@@ -243,16 +242,20 @@ finished given table causes requirements trail derived justified chosen inside s
           (λ w.
           let c = chosen.each v s w.0 at w.1 in
           let within : w.0 < given = omega (arith, c.number_is, All-contains (λ (requirement : RequirementClause). requirement.number < given) requirements c.requirement inside c.listed) in
-          inl (w.0, w.1, record {
-            requirement = c.requirement;
-            listed = c.listed;
-            number_is = c.number_is;
-            value = c.value;
-            before = c.before;
-            after = c.after;
-            clause = clause_at-take table given w.0 long within ∙ c.clause;
-            false_before = c.false_before;
-          }))
+          inl (
+            w.0,
+            w.1,
+            record {
+              requirement = c.requirement;
+              listed = c.listed;
+              number_is = c.number_is;
+              value = c.value;
+              before = c.before;
+              after = c.after;
+              clause = clause_at-take table given w.0 long within ∙ c.clause;
+              false_before = c.false_before;
+            },
+          ))
           (λ w. inr (record {
             clause = clause_at table w.0;
             implied = implied given table causes w.0 derived (justified.within v s w.0 at w.1);

@@ -1,12 +1,12 @@
 -- Marked clauses that contradict each other.
-use Rattle.std.proofs.Common.{◌≡◌, ◌≢◌, ℕ, ◌+◌, ◌-◌, ◌<◌, ◌≤◌, ◌⊎◌, List, [], ◌∷◌, ◌++◌, length, get_or, set, take, Option, Some, None, Bool, true, false, arith, rules, inl, inr, refl, sym, ap, ◌∙◌, subst, ⊎_elim, get_or-set_same, get_or-set_other, length-set}
-use Rattle.std.specs.Prelude.{Vec, not}
+use Rattle.std.proofs.Common.{◌≡◌, ℕ, ◌+◌, ◌-◌, ◌<◌, ◌≤◌, List, [], length, set, take, Bool, true, false, arith, sym, ◌∙◌, subst, ⊎_elim, get_or-set_same, get_or-set_other, length-set}
+use Rattle.std.specs.Prelude.{Vec}
 use Rattle.std.specs.List.{All, Contains}
 use Rattle.std.specs.declared.alloc.Global.{Global}
-use Rattle.std.proofs.lemmas.Bool.{cases_eq, cases_Bool, both_ways, cases_lt, false≢true}
-use Rattle.std.proofs.lemmas.List.Elements.{All-contains, All-weaker}
+use Rattle.std.proofs.lemmas.Bool.{cases_eq, both_ways, cases_lt, false≢true}
+use Rattle.std.proofs.lemmas.List.Elements.{All-contains}
 use Rattle.resolver_clause_store.specs.declared.Literal.{Literal}
-use Rattle.resolver_clause_store.specs.Formula.{clause_at, clause_true, MakesTrue, FollowsFrom}
+use Rattle.resolver_clause_store.specs.Formula.{clause_at, clause_true, FollowsFrom}
 use Rattle.resolvo.specs.Resolvents.{is_marked}
 use Rattle.resolver_clause_store.specs.Outcomes.{IsCore}
 use Rattle.resolver_clause_store.proofs.FormulaLemmas.{clause_at-take}

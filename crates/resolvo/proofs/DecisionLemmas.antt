@@ -1,9 +1,9 @@
 -- The requirement that is decided next.
-use Rattle.std.proofs.Common.{◌≡◌, ◌≢◌, ℕ, ◌+◌, ◌<◌, ◌≤◌, ◌⊎◌, List, [], ◌∷◌, ◌++◌, length, get_or, take, drop, Option, Some, None, Bool, true, false, arith, rules, inl, inr, refl, sym, ap, ◌∙◌, subst, ⊎_elim}
+use Rattle.std.proofs.Common.{◌≡◌, ℕ, ◌+◌, ◌<◌, ◌≤◌, ◌⊎◌, List, length, get_or, take, Option, Some, None, Bool, true, false, arith, inl, inr, refl, sym, ap, ◌∙◌, subst, ⊎_elim}
 use Rattle.std.specs.Prelude.{Vec, MatchOption, IfNone}
 use Rattle.std.proofs.lemmas.List.Elements.{All-more}
 use Rattle.resolver_clause_store.proofs.SetLemmas.{All-done}
-use Rattle.std.specs.List.{All, Any, Contains}
+use Rattle.std.specs.List.{All, Any}
 use Rattle.std.specs.declared.alloc.Global.{Global}
 use Rattle.std.proofs.lemmas.Bool.{both_ways, cases_lt, false≢true}
 use Rattle.std.proofs.lemmas.List.{get_or_default}
@@ -13,7 +13,7 @@ use Rattle.resolver_clause_store.specs.declared.RequirementClause.{RequirementCl
 use Rattle.resolver_clause_store.specs.declared.Trail.{Trail}
 use Rattle.resolver_clause_store.specs.Formula.{clause_at}
 use Rattle.resolver_clause_store.specs.TrailView.{literal_value}
-use Rattle.resolver_clause_store.specs.Outcomes.{IsMet, IsSatisfied, IsFalsified}
+use Rattle.resolver_clause_store.specs.Outcomes.{IsMet, IsSatisfied}
 use Rattle.resolvo.specs.declared.decide.Choice.{Choice}
 use Rattle.resolvo.specs.Propagation.{IsSettled}
 use Rattle.resolvo.specs.Decisions.{IsFirst, HasPassed, IsChoiceOf, IsChoice}

@@ -1,25 +1,24 @@
 -- Levels and places of marked variables.
-use Rattle.std.proofs.Common.{◌≡◌, ◌≢◌, ℕ, ◌+◌, ◌<◌, ◌≤◌, ◌⊎◌, List, [], ◌∷◌, ◌++◌, length, get_or, set, take, Option, Some, None, Bool, true, false, arith, rules, inl, inr, refl, sym, ap, ◌∙◌, subst, ⊎_elim, get_or-set_other}
+use Rattle.std.proofs.Common.{◌≡◌, ◌≢◌, ℕ, ◌+◌, ◌<◌, ◌≤◌, ◌⊎◌, List, [], length, get_or, set, take, Option, Some, None, Bool, true, false, arith, rules, inl, inr, refl, sym, ap, ◌∙◌, subst, ⊎_elim, get_or-set_other}
 use Rattle.std.specs.Prelude.{Vec, not}
-use Rattle.std.specs.Bool.{beq}
 use Rattle.std.specs.List.{All, Any, Contains}
 use Rattle.std.specs.Option.{option_map, option_map_or}
 use Rattle.std.specs.declared.alloc.Global.{Global}
-use Rattle.std.proofs.lemmas.Bool.{cases_eq, cases_Bool, both_ways, cases_lt}
+use Rattle.std.proofs.lemmas.Bool.{cases_Bool, both_ways, cases_lt}
 use Rattle.std.proofs.lemmas.List.Elements.{All-more, All-weaker}
-use Rattle.std.proofs.lemmas.Option.{same_Some, none-some}
+use Rattle.std.proofs.lemmas.Option.{same_Some}
 use Rattle.resolver_clause_store.specs.declared.Literal.{Literal}
 use Rattle.resolver_clause_store.specs.declared.Slot.{Slot}
 use Rattle.resolver_clause_store.specs.declared.Trail.{Trail}
 use Rattle.resolver_clause_store.specs.Formula.{clause_at, FollowsFrom}
 use Rattle.resolver_clause_store.specs.Outcomes.{IsFalsified, IsFalseBefore}
 use Rattle.resolver_clause_store.specs.Slots.{is_decided}
-use Rattle.resolver_clause_store.specs.TrailView.{slot_of, length_of, variable_at, place_of, literal_value}
+use Rattle.resolver_clause_store.specs.TrailView.{slot_of, length_of, variable_at, place_of}
 use Rattle.resolver_clause_store.proofs.TrailLemmas.{value-false}
 use Rattle.resolver_clause_store.proofs.FormulaLemmas.{beq-false}
 use Rattle.resolvo.specs.Propagation.{IsJustified}
 use Rattle.resolvo.specs.declared.analyze.Resolvent.{Resolvent}
-use Rattle.resolvo.specs.Resolvents.{is_marked, MarksAlso, AreAtMost, AllBefore, HasMark, StandsAt, IsLevelled, IsReason, IsSingle, IsFalseAt, IsAsserting, Negates, Refutes, level_in}
+use Rattle.resolvo.specs.Resolvents.{is_marked, MarksAlso, AllBefore, StandsAt, IsLevelled, IsReason, IsSingle, IsAsserting, Negates, Refutes, level_in}
 use Rattle.resolvo.proofs.MarkLemmas.{unmarked-set}
 use Rattle.resolvo.proofs.NegationLemmas.{negation}
 
@@ -121,21 +120,24 @@ lowered : (table : List (Vec Literal Global)) (trail : Trail) (old mid : List Bo
 lowered table trail old mid variable number reason justified so other slot m at =
     let s = reason.slot in
     let differ : other ≢ variable = λ e. both_ways _ (unmarked-set mid variable) (ap (λ k. is_marked (set mid variable false) k) (sym e) ∙ m) in
-    let middle : is_marked mid other ≡ true = sym (get_or-set_other mid variable other false false differ) ∙ m in
-    (differ, middle, ⊎_elim
-    (λ yes. inl yes)
-    (λ unmarked. ⊎_elim
-    (λ (less : slot.place < s.place). inr (unmarked, less))
-    (λ (more : s.place ≤ slot.place).
-    let others : All (λ (l : Literal). l.variable ≢ other) (clause_at table number) = λ k d below. λ e. ⊎_elim
-    (λ w. differ (sym e ∙ ap (λ (l : Literal). l.variable) w))
-    (λ (f : IsFalseBefore trail s.place (get_or (clause_at table number) k d)).
-    let same = same_Some _ _ (sym f.is ∙ ap (λ v. slot_of trail v) e ∙ at) in
-    absurd (omega (arith, f.earlier, more, ap (λ (t : Slot). t.place) same)))
-    (justified.forced variable s number reason.is reason.reason k d below) in
-    absurd (both_ways _ (so.only other unmarked others) middle))
-    (cases_lt slot.place s.place))
-    (cases_Bool (is_marked old other)))
+    let middle : is_marked mid other ≡ true = sym (get_or-set_other mid variable other false false differ) ∙ m in (
+      differ,
+      middle,
+      ⊎_elim
+          (λ yes. inl yes)
+          (λ unmarked. ⊎_elim
+          (λ (less : slot.place < s.place). inr (unmarked, less))
+          (λ (more : s.place ≤ slot.place).
+          let others : All (λ (l : Literal). l.variable ≢ other) (clause_at table number) = λ k d below. λ e. ⊎_elim
+          (λ w. differ (sym e ∙ ap (λ (l : Literal). l.variable) w))
+          (λ (f : IsFalseBefore trail s.place (get_or (clause_at table number) k d)).
+          let same = same_Some _ _ (sym f.is ∙ ap (λ v. slot_of trail v) e ∙ at) in
+          absurd (omega (arith, f.earlier, more, ap (λ (t : Slot). t.place) same)))
+          (justified.forced variable s number reason.is reason.reason k d below) in
+          absurd (both_ways _ (so.only other unmarked others) middle))
+          (cases_lt slot.place s.place))
+          (cases_Bool (is_marked old other)),
+    )
 
 same-place : (trail : Trail) (variable other : ℕ) (s t : Slot) → slot_of trail variable ≡ Some s → slot_of trail other ≡ Some t → s.place ≡ t.place → variable ≡ other
 same-place trail variable other s t here there same = sym (trail.listed variable s here).1 ∙ ap (λ n. variable_at trail n) same ∙ (trail.listed other t there).1

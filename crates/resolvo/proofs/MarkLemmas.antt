@@ -1,10 +1,10 @@
 -- Marks of variables.
-use Rattle.std.proofs.Common.{◌≡◌, ◌≢◌, ℕ, ◌+◌, ◌<◌, ◌≤◌, ◌⊎◌, List, length, get_or, set, take, Option, Some, None, Bool, true, false, arith, rules, inl, inr, refl, sym, ap, ◌∙◌, subst, ⊎_elim, length-set, get_or-set_same, get_or-set_other, length-append, [], ◌∷◌, ◌++◌}
+use Rattle.std.proofs.Common.{◌≡◌, ◌≢◌, ℕ, ◌+◌, ◌<◌, ◌≤◌, List, length, get_or, set, take, Bool, true, false, arith, refl, sym, ◌∙◌, subst, ⊎_elim, length-set, get_or-set_same, get_or-set_other, length-append, [], ◌∷◌, ◌++◌}
 use Rattle.std.proofs.Math.ListN.{get_or-append}
 use Rattle.std.proofs.Math.Seq.{get_or-append_seam}
 use Rattle.std.proofs.lemmas.List.{take_more, get_or_past, get_or_default}
-use Rattle.std.specs.List.{All, Any}
-use Rattle.std.proofs.lemmas.Grind.{common_steps, elements}
+use Rattle.std.specs.List.{All}
+use Rattle.std.proofs.lemmas.Grind.{elements}
 use Rattle.std.proofs.lemmas.Bool.{cases_eq, cases_lt}
 use Rattle.std.proofs.lemmas.List.Elements.{All-more, All-weaker}
 use Rattle.resolver_clause_store.specs.declared.Literal.{Literal}

@@ -1,23 +1,22 @@
 -- What the marked variables contradict.
-use Rattle.std.proofs.Common.{◌≡◌, ◌≢◌, ℕ, ◌+◌, ◌<◌, ◌≤◌, ◌⊎◌, List, [], ◌∷◌, ◌++◌, length, get_or, set, take, Option, Some, None, Bool, true, false, arith, rules, inl, inr, refl, sym, ap, ◌∙◌, subst, ⊎_elim, get_or-set_same, get_or-set_other, length-append}
+use Rattle.std.proofs.Common.{◌≡◌, ◌≢◌, ℕ, List, [], ◌∷◌, ◌++◌, length, get_or, set, Bool, true, false, arith, sym, ap, ◌∙◌, subst, ⊎_elim, get_or-set_other, length-append}
 use Rattle.std.proofs.Math.ListN.{get_or-append}
 use Rattle.std.proofs.Math.Seq.{get_or-append_seam}
-use Rattle.std.specs.Prelude.{Vec, not}
+use Rattle.std.specs.Prelude.{Vec}
 use Rattle.std.specs.Bool.{beq}
-use Rattle.std.specs.List.{All, Contains, list_any, AllByRecursion}
+use Rattle.std.specs.List.{All}
 use Rattle.std.specs.declared.alloc.Global.{Global}
-use Rattle.std.proofs.lemmas.Bool.{cases_eq, cases_Bool, both_ways, or_from, or_parts}
-use Rattle.std.proofs.lemmas.List.Elements.{All-weaker, recursion_from_All, All-from_recursion, All-contains}
+use Rattle.std.proofs.lemmas.Bool.{cases_eq, cases_Bool, both_ways}
 use Rattle.std.proofs.lemmas.Option.{same_Some}
 use Rattle.resolver_clause_store.specs.declared.Literal.{Literal}
 use Rattle.resolver_clause_store.specs.declared.Slot.{Slot}
 use Rattle.resolver_clause_store.specs.declared.Trail.{Trail}
 use Rattle.resolver_clause_store.specs.TrailView.{slot_of}
-use Rattle.resolver_clause_store.specs.Formula.{literal_true, clause_true, clause_at, MakesTrue, FollowsFrom}
+use Rattle.resolver_clause_store.specs.Formula.{literal_true, clause_true, clause_at, MakesTrue}
 use Rattle.resolver_clause_store.specs.Outcomes.{IsFalsified}
 use Rattle.resolvo.specs.Propagation.{IsJustified}
 use Rattle.resolver_clause_store.proofs.FormulaLemmas.{clause-false, beq-true}
-use Rattle.resolvo.specs.Resolvents.{is_marked, MarksAlso, AgreesOn, Refutes, IsReason}
+use Rattle.resolvo.specs.Resolvents.{is_marked, MarksAlso, Refutes, IsReason}
 use Rattle.resolver_clause_store.proofs.TrailLemmas.{value-false}
 
 -- the variables of a false clause contradict it

@@ -1,9 +1,9 @@
 -- Learnt clauses and what they follow from.
-use Rattle.std.specs.Prelude.{◌≡◌, ◌≢◌, ℕ, ◌+◌, ◌<◌, ◌≤◌, Bool, true, false, Option, Some, None, List, [], length, Vec, All, slice_get}
+use Rattle.std.specs.Prelude.{◌≡◌, ◌≢◌, ℕ, ◌+◌, ◌<◌, ◌≤◌, Bool, true, false, List, [], length, Vec, All, slice_get}
 use Rattle.std.specs.Option.{option_map_or}
 use Rattle.std.specs.declared.alloc.Global.{Global}
 use Rattle.resolver_clause_store.specs.declared.Literal.{Literal}
-use Rattle.resolver_clause_store.specs.Formula.{clause_at, clause_true, MakesTrue, FollowsFrom}
+use Rattle.resolver_clause_store.specs.Formula.{clause_at, clause_true, FollowsFrom}
 use Rattle.resolvo.specs.Resolvents.{is_marked}
 
 -- the causes of a learnt clause, by its place among them

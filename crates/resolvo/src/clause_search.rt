@@ -229,3 +229,6 @@ impl ClauseSearch {
         }
     }
 }
+
+#[cfg(test)]
+mod tests;

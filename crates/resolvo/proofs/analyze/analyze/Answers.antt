@@ -1,4 +1,4 @@
-use Rattle.std.proofs.Common.{rules, arith, ◌<◌}
+use Rattle.std.proofs.Common.{arith, ◌<◌}
 use Rattle.resolvo.proofs.NegationLemmas.{learnt-follows}
 use Rattle.resolvo.proofs.LevelLemmas.{asserting}
 use Rattle.resolvo.proofs.analyze.analyze.Goals as goal

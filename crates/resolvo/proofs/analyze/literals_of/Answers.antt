@@ -1,6 +1,4 @@
-use Rattle.std.proofs.Common.{rules, arith, ap, sym, ◌∙◌}
-use Rattle.std.specs.Option.{option_map}
-use Rattle.std.proofs.lemmas.Option.{none-some}
+use Rattle.std.proofs.Common.{rules}
 use Rattle.resolvo.proofs.NegationLemmas.{negates-more, negates-skip, negates-absent, negates-all}
 use Rattle.resolvo.proofs.analyze.literals_of.Goals as goal
 use Rattle.resolvo.proofs.analyze.literals_of.Goals.{then-marks-index+in-Some+in_ok-push-in-Some, then-marks-index+in-None, else-marks-index}

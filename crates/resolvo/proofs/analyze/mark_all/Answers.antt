@@ -1,5 +1,5 @@
-use Rattle.std.proofs.Common.{rules, arith}
-use Rattle.resolvo.proofs.MarkLemmas.{marks-more, marks-none}
+use Rattle.std.proofs.Common.{rules}
+use Rattle.resolvo.proofs.MarkLemmas.{marks-more}
 use Rattle.resolvo.proofs.analyze.mark_all.Goals as goal
 
 pub literals-preserved : goal.literals-preserved

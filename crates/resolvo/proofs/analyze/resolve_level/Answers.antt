@@ -1,7 +1,5 @@
 use Rattle.std.proofs.Common.{rules, arith, ◌≡◌, ◌-◌, ap, sym, ◌∙◌, true}
 use Rattle.resolver_clause_store.specs.Slots.{is_decided}
-use Rattle.resolver_clause_store.specs.TrailView.{slot_of}
-use Rattle.resolver_clause_store.specs.declared.Slot.{Slot}
 use Rattle.resolvo.specs.Resolvents.{is_marked}
 use Rattle.resolvo.proofs.MarkLemmas.{marked-read}
 use Rattle.resolvo.proofs.LevelLemmas.{levelled-skip, single-found, never-decided}

@@ -1,4 +1,4 @@
-use Rattle.std.proofs.Common.{◌≡◌, ◌≤◌}
+use Rattle.std.proofs.Common.{◌≤◌}
 use Rattle.resolver_clause_store.specs.TrailView.{length_of}
 use Rattle.resolvo.specs.Resolvents.{IsResolvent, IsLevelled}
 use Rattle.resolvo.proofs.analyze.resolve_level.Given as goal

@@ -1,4 +1,4 @@
-use Rattle.std.proofs.Common.{rules, arith, ◌∙◌}
+use Rattle.std.proofs.Common.{◌∙◌}
 use Rattle.resolvo.proofs.JustifiedLemmas.{chosen-extends}
 use Rattle.resolvo.proofs.clause_search.descend.Goals as goal
 

@@ -1,4 +1,4 @@
-use Rattle.std.proofs.Common.{rules, arith, ◌+◌, sub-one}
+use Rattle.std.proofs.Common.{arith}
 use Rattle.resolvo.proofs.CoreLemmas.{marked-begin, marked-replace, core-refuted}
 use Rattle.resolvo.proofs.contradiction.core.Goals as goal
 

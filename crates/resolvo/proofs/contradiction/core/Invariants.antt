@@ -1,4 +1,4 @@
-use Rattle.std.proofs.Common.{◌≡◌, ℕ, ◌<◌, ◌≤◌, length}
+use Rattle.std.proofs.Common.{◌≤◌, length}
 use Rattle.resolvo.specs.Derivations.{MarkedRefute}
 use Rattle.resolvo.proofs.contradiction.core.Given as goal
 

@@ -1,5 +1,5 @@
 use Rattle.resolver_clause_store.proofs.TrailLemmas.{value-none}
-use Rattle.resolvo.proofs.JustifiedLemmas.{justified-gains, justified-same, extends-none, extends-same, extends-gains}
+use Rattle.resolvo.proofs.JustifiedLemmas.{justified-gains, justified-same, extends-same, extends-gains}
 use Rattle.resolvo.proofs.propagate.look_at.Goals as goal
 
 pub returns-in_err-force-in-Unit-clause-justified : goal.returns-in_err-force-in-Unit-clause-justified

@@ -1,4 +1,4 @@
-use Rattle.std.proofs.Common.{arith, below_more, ◌∙◌, sym, subst}
+use Rattle.std.proofs.Common.{arith, below_more, ◌∙◌, sym}
 use Rattle.std.proofs.lemmas.Bool.{both_ways}
 use Rattle.resolvo.proofs.JustifiedLemmas.{extends-trans}
 use Rattle.resolvo.proofs.propagate.look_at_all.Goals as goal

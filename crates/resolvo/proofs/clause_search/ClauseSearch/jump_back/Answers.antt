@@ -1,8 +1,7 @@
-use Rattle.std.proofs.Common.{rules, arith, ◌∙◌, ◌≡◌, ◌<◌, ◌++◌, ◌∷◌, [], length, sym, subst, length-append}
-use Rattle.resolver_clause_store.specs.Formula.{AreBelow, IsBelow, clause_at}
+use Rattle.std.proofs.Common.{rules, arith, ◌∙◌, ◌≡◌, ◌++◌, ◌∷◌, [], length, length-append}
+use Rattle.resolver_clause_store.specs.Formula.{clause_at}
 use Rattle.resolver_clause_store.specs.TrailView.{variable_count}
 use Rattle.resolver_clause_store.proofs.FormulaLemmas.{clause_at-last}
-use Rattle.resolvo.specs.Propagation.{IsJustified, AreChosen, IsUnit}
 use Rattle.resolvo.proofs.JustifiedLemmas.{justified-gains, extends-gains, chosen-extends}
 use Rattle.resolvo.proofs.ClauseSearchLemmas.{asserted-free, asserted-unit, below-push, chosen-given, chosen-grows, chosen-undone, derived-push, false-below, grows-push, justified-grows, justified-undone}
 use Rattle.resolvo.proofs.clause_search.ClauseSearch.jump_back.Goals as goal

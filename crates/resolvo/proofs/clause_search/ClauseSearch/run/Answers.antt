@@ -1,4 +1,3 @@
-use Rattle.std.proofs.Common.{◌∙◌, sym}
 use Rattle.resolvo.proofs.ClauseSearchLemmas.{finished}
 use Rattle.resolvo.proofs.clause_search.ClauseSearch.run.Goals as goal
 

@@ -1,0 +1,415 @@
+//! What searches over clauses find.
+
+ghost use Rattle.std.specs.Prelude.{◌<◌, All, IfOk, IfSome, IsTrue};
+ghost use Rattle.resolver_clause_store.specs.Formula.{AreBelow, IsBelow};
+ghost use Rattle.resolver_clause_store.specs.declared.RequirementClause.{RequirementClause};
+ghost use Rattle.resolvo.specs.ClauseSearches.{IsConsistent};
+
+use super::*;
+use resolver_clause_store::{Reason, Slot, Variable};
+use std::test::Fail;
+
+/// Whether each variable of the clause is below the number.
+fn is_below(clause: &[Literal], variables: usize) -> bool
+    ensures { IsTrue result → IsBelow variables clause.now }
+{
+    clause
+        .iter()
+        .all(|literal| literal.variable.index() < variables)
+}
+
+/// Whether each variable of each clause is below the number.
+fn are_below(table: &[Vec<Literal>], variables: usize) -> bool
+    ensures { IsTrue result → AreBelow variables table.now }
+{
+    'clauses: for number in 0..table.len() {
+        if !is_below(clause(table, number), variables) {
+            return false;
+        }
+    }
+    true
+}
+
+/// Whether each requirement's clause is one of the first ones.
+fn are_inside(requirements: &[RequirementClause], count: usize) -> bool
+    ensures { IsTrue result → All (λ (requirement : RequirementClause). requirement.number < count) requirements.now }
+{
+    requirements
+        .iter()
+        .all(|requirement| requirement.number < count)
+}
+
+/// A variable for a positive number, counted from 1, and its negation for a negative one.
+fn literal(number: i32) -> Literal {
+    Literal {
+        variable: Variable::new(number.unsigned_abs().saturating_sub(1)),
+        positive: number > 0,
+    }
+}
+
+fn add(alloc: Global, table: &mut Vec<Vec<Literal>>, numbers: &[i32]) -> Result<(), AllocError> {
+    let mut literals = Vec::new(alloc);
+    for number in numbers {
+        literals.push(literal(*number))?;
+    }
+    table.push(literals)?;
+    Ok(())
+}
+
+/// A requirement whose version sets end at these places.
+fn demand(
+    alloc: Global,
+    requirements: &mut Vec<RequirementClause>,
+    number: usize,
+    of_root: bool,
+    places: &[usize],
+) -> Result<(), AllocError> {
+    let mut ends = Vec::new(alloc);
+    for place in places {
+        ends.push(*place)?;
+    }
+    requirements.push(RequirementClause {
+        number,
+        of_root,
+        ends,
+    })?;
+    Ok(())
+}
+
+/// The number of the clause that is decided first, and the place of the candidate in it.
+fn first_decision(
+    alloc: Global,
+    table: &[Vec<Literal>],
+    requirements: &[RequirementClause],
+) -> Result<Option<(usize, usize)>, AllocError> {
+    let mut trail = Trail::new(alloc, 16)?;
+    if !are_below(table, 16) || !are_inside(requirements, table.len()) {
+        return Ok(None);
+    }
+    match propagate(&mut trail, table)? {
+        Some(_) => Ok(None),
+        None => match decide(&trail, table, requirements) {
+            Some(choice) => Ok(Some((choice.number, choice.place))),
+            None => Ok(None),
+        },
+    }
+}
+
+/// A search whose clauses with a positive literal are requirements.
+fn search_of(
+    alloc: Global,
+    clauses: Vec<Vec<Literal>>,
+    variables: usize,
+) -> Result<Option<ClauseSearch>, AllocError>
+    ensures { IfOk result (λ made. IfSome made IsConsistent) }
+{
+    let mut requirements = Vec::new(alloc);
+    for number in 0..clauses.len() {
+        demand(alloc, &mut requirements, number, true, &[])?;
+    }
+    if are_below(clauses.as_slice(), variables)
+        && are_inside(requirements.as_slice(), clauses.len())
+    {
+        let made = ClauseSearch::new(alloc, clauses, variables, requirements)?;
+        return Ok(Some(made));
+    }
+    Ok(None)
+}
+
+/// The next number of a sequence that looks random.
+fn next(seed: u64) -> u64 {
+    seed.wrapping_mul(6364136223846793005)
+        .wrapping_add(1442695040888963407)
+}
+
+/// 44 clauses of three literals each over 10 variables.
+fn random(alloc: Global, start: u64) -> Result<Vec<Vec<Literal>>, AllocError> {
+    let mut clauses = Vec::new(alloc);
+    let mut seed = start;
+    for _ in 0..44 {
+        let mut literals = Vec::new(alloc);
+        for _ in 0..3 {
+            seed = next(seed);
+            let variable = Variable::new(((seed >> 33) % 10) as u32);
+            seed = next(seed);
+            literals.push(Literal {
+                variable,
+                positive: (seed >> 40) % 2 == 0,
+            })?;
+        }
+        clauses.push(literals)?;
+    }
+    Ok(clauses)
+}
+
+fn is_true(values: u64, literal: &Literal) -> bool {
+    ((values >> (literal.variable.index() % 64)) % 2 == 1) == literal.positive
+}
+
+fn some_true(values: u64, clause: &[Literal]) -> bool {
+    clause.iter().any(|literal| is_true(values, literal))
+}
+
+fn all_true(values: u64, clauses: &[Vec<Literal>]) -> bool {
+    clauses
+        .iter()
+        .all(|literals| some_true(values, literals.as_slice()))
+}
+
+/// Whether some values of 10 variables make all clauses true.
+fn some_values(clauses: &[Vec<Literal>]) -> bool {
+    for values in 0..1024u64 {
+        if all_true(values, clauses) {
+            return true;
+        }
+    }
+    false
+}
+
+/// The values of 10 variables, of which those with none are false.
+fn values_on(trail: &Trail) -> u64 {
+    let mut values = 0;
+    for number in 0..10u32 {
+        let positive = Literal {
+            variable: Variable::new(number),
+            positive: true,
+        };
+        if positive.variable.index() < trail.variable_count()
+            && trail.value(positive) == Some(true)
+        {
+            values |= 1u64 << number;
+        }
+    }
+    values
+}
+
+/// The clauses with these numbers.
+fn part_of(
+    alloc: Global,
+    clauses: &[Vec<Literal>],
+    numbers: &[usize],
+) -> Result<Vec<Vec<Literal>>, AllocError> {
+    let mut part = Vec::new(alloc);
+    for number in numbers {
+        if let Some(literals) = clauses.get(*number) {
+            let mut copy = Vec::new(alloc);
+            for literal in literals {
+                copy.push(*literal)?;
+            }
+            part.push(copy)?;
+        }
+    }
+    Ok(part)
+}
+
+/// One pigeon more than holes: each pigeon has a hole, and no hole has two.
+fn pigeons(alloc: Global, holes: u32) -> Result<Vec<Vec<Literal>>, AllocError>
+    requires { holes < 1000 }
+{
+    let mut clauses = Vec::new(alloc);
+    for pigeon in 0..holes + 1 {
+        let mut literals = Vec::new(alloc);
+        for hole in 0..holes {
+            literals.push(seat(holes, pigeon, hole, true))?;
+        }
+        clauses.push(literals)?;
+    }
+    for hole in 0..holes {
+        for pigeon in 0..holes + 1 {
+            for other in 0..pigeon {
+                let mut literals = Vec::new(alloc);
+                literals.push(seat(holes, pigeon, hole, false))?;
+                literals.push(seat(holes, other, hole, false))?;
+                clauses.push(literals)?;
+            }
+        }
+    }
+    Ok(clauses)
+}
+
+/// Whether a pigeon is in a hole.
+fn seat(holes: u32, pigeon: u32, hole: u32, positive: bool) -> Literal {
+    Literal {
+        variable: Variable::new(pigeon.wrapping_mul(holes).wrapping_add(hole)),
+        positive,
+    }
+}
+
+#[test]
+fn random_clauses_agree_with_trying_all_values(rt: HostRuntime) -> Result<(), Fail> {
+    let mut contradictions = 0u32;
+    for seed in 0..40u64 {
+        let clauses = random(rt.alloc(), seed)?;
+        let expected = some_values(clauses.as_slice());
+        let mut found = None;
+        if let Some(mut search) = search_of(rt.alloc(), random(rt.alloc(), seed)?, 10)? {
+            match search.run(rt.alloc(), 100000, 100000) {
+                Ok(Outcome::Finished) => {
+                    assert!(rt; all_true(values_on(search.trail()), clauses.as_slice()));
+                    found = Some(true);
+                }
+                Ok(Outcome::Contradiction(core)) => {
+                    let part = part_of(rt.alloc(), clauses.as_slice(), core.as_slice())?;
+                    assert_eq!(rt; part.len(), core.len());
+                    assert!(rt; !some_values(part.as_slice()));
+                    contradictions = contradictions.wrapping_add(1);
+                    found = Some(false);
+                }
+                Err(_why) => (),
+            }
+        }
+        assert_eq!(rt; found, Some(expected));
+    }
+    assert!(rt;
+        5 < contradictions && contradictions < 35,
+        "{contradictions}"
+    );
+    Ok(())
+}
+
+#[test]
+fn six_pigeons_do_not_fit_into_five_holes(rt: HostRuntime) -> Result<(), Fail> {
+    let clauses = pigeons(rt.alloc(), 5)?;
+    let count = clauses.len();
+    let mut found = 0;
+    if let Some(mut search) = search_of(rt.alloc(), clauses, 30)? {
+        if let Ok(Outcome::Contradiction(core)) = search.run(rt.alloc(), 100000, 100000) {
+            found = core.len();
+        }
+        assert!(rt; 0 < search.learnt_count());
+    }
+    assert_eq!(rt; count, 81);
+    assert_eq!(rt; found, count);
+    Ok(())
+}
+
+/// What ends a search for the pigeons, and how much was learnt then.
+fn limited(
+    alloc: Global,
+    learnt_limit: usize,
+    clause_limit: usize,
+) -> Result<Option<(Exhausted, usize)>, AllocError> {
+    if let Some(mut search) = search_of(alloc, pigeons(alloc, 5)?, 30)? {
+        if let Err(why) = search.run(alloc, learnt_limit, clause_limit) {
+            return Ok(Some((why, search.learnt_count())));
+        }
+    }
+    Ok(None)
+}
+
+#[test]
+fn the_limits_stand(rt: HostRuntime) -> Result<(), Fail> {
+    assert_eq!(rt; limited(rt.alloc(), 3, 100000)?, Some((Exhausted::Ids, 3)));
+    assert_eq!(rt; limited(rt.alloc(), 100000, 85)?, Some((Exhausted::Ids, 4)));
+    Ok(())
+}
+
+#[test]
+fn requirements_of_the_root_come_first(rt: HostRuntime) -> Result<(), Fail> {
+    let mut table = Vec::new(rt.alloc());
+    let mut requirements = Vec::new(rt.alloc());
+    add(rt.alloc(), &mut table, &[1])?;
+    add(rt.alloc(), &mut table, &[-1, 2, 3])?;
+    add(rt.alloc(), &mut table, &[-1, 4, 5, 6])?;
+    demand(rt.alloc(), &mut requirements, 1, false, &[3])?;
+    demand(rt.alloc(), &mut requirements, 2, true, &[4])?;
+    let first = first_decision(rt.alloc(), table.as_slice(), requirements.as_slice())?;
+    assert_eq!(rt; first, Some((2, 1)));
+    Ok(())
+}
+
+#[test]
+fn fewer_candidates_of_the_first_version_set_come_first(rt: HostRuntime) -> Result<(), Fail> {
+    let mut table = Vec::new(rt.alloc());
+    let mut requirements = Vec::new(rt.alloc());
+    add(rt.alloc(), &mut table, &[1])?;
+    add(rt.alloc(), &mut table, &[-1, 2, 3, 4])?;
+    add(rt.alloc(), &mut table, &[-1, 5, 6, 7, 8, 9])?;
+    add(rt.alloc(), &mut table, &[-5])?;
+    add(rt.alloc(), &mut table, &[-1, 10, 11])?;
+    demand(rt.alloc(), &mut requirements, 1, false, &[4])?;
+    demand(rt.alloc(), &mut requirements, 2, false, &[2, 3, 6])?;
+    demand(rt.alloc(), &mut requirements, 4, false, &[3])?;
+    let first = first_decision(rt.alloc(), table.as_slice(), requirements.as_slice())?;
+    assert_eq!(rt; first, Some((2, 2)));
+    Ok(())
+}
+
+#[test]
+fn the_lowest_number_comes_first_among_equals(rt: HostRuntime) -> Result<(), Fail> {
+    let mut table = Vec::new(rt.alloc());
+    let mut requirements = Vec::new(rt.alloc());
+    add(rt.alloc(), &mut table, &[1])?;
+    add(rt.alloc(), &mut table, &[-2, 10, 11])?;
+    add(rt.alloc(), &mut table, &[-1, 3, 4])?;
+    add(rt.alloc(), &mut table, &[-1, 5, 6])?;
+    demand(rt.alloc(), &mut requirements, 3, false, &[3])?;
+    demand(rt.alloc(), &mut requirements, 2, false, &[3])?;
+    demand(rt.alloc(), &mut requirements, 1, true, &[3])?;
+    let first = first_decision(rt.alloc(), table.as_slice(), requirements.as_slice())?;
+    assert_eq!(rt; first, Some((2, 1)));
+    Ok(())
+}
+
+#[test]
+fn met_requirements_are_not_decided(rt: HostRuntime) -> Result<(), Fail> {
+    let mut table = Vec::new(rt.alloc());
+    let mut requirements = Vec::new(rt.alloc());
+    add(rt.alloc(), &mut table, &[1])?;
+    add(rt.alloc(), &mut table, &[-1, 2, 3])?;
+    add(rt.alloc(), &mut table, &[3])?;
+    add(rt.alloc(), &mut table, &[-4, 5, 6])?;
+    demand(rt.alloc(), &mut requirements, 1, true, &[3])?;
+    demand(rt.alloc(), &mut requirements, 3, false, &[3])?;
+    let first = first_decision(rt.alloc(), table.as_slice(), requirements.as_slice())?;
+    assert_eq!(rt; first, None);
+    Ok(())
+}
+
+fn slot_of(search: &ClauseSearch, number: i32) -> Option<Slot> {
+    let wanted = literal(number);
+    if wanted.variable.index() < search.trail().variable_count() {
+        return search.trail().slot(wanted.variable);
+    }
+    None
+}
+
+#[test]
+fn reasons_and_levels_stand_on_the_trail(rt: HostRuntime) -> Result<(), Fail> {
+    let mut table = Vec::new(rt.alloc());
+    add(rt.alloc(), &mut table, &[1])?;
+    add(rt.alloc(), &mut table, &[-1, 2, 3])?;
+    add(rt.alloc(), &mut table, &[-2, 4])?;
+    add(rt.alloc(), &mut table, &[-2, -4])?;
+    let mut done = false;
+    if let Some(mut search) = search_of(rt.alloc(), table, 5)? {
+        if let Ok(Outcome::Finished) = search.run(rt.alloc(), 10, 10) {
+            done = true;
+        }
+        assert_eq!(rt; search.learnt_count(), 1);
+        let root = Slot {
+            value: true,
+            level: 0,
+            place: 0,
+            reason: Reason::Forced(0),
+        };
+        let refused = Slot {
+            value: false,
+            level: 0,
+            place: 1,
+            reason: Reason::Forced(4),
+        };
+        let second = Slot {
+            value: true,
+            level: 0,
+            place: 2,
+            reason: Reason::Forced(1),
+        };
+        assert_eq!(rt; slot_of(&search, 1), Some(root));
+        assert_eq!(rt; slot_of(&search, 2), Some(refused));
+        assert_eq!(rt; slot_of(&search, 3), Some(second));
+        assert_eq!(rt; slot_of(&search, 4), None);
+    }
+    assert!(rt; done);
+    Ok(())
+}
