@@ -27,6 +27,7 @@ pub use build::graph_of;
 pub use edges::{Incoming, Outgoing};
 pub use graph::{ConflictGraph, Graph};
 pub use laws::{kept_rules_stay_refuted, valid_sets_obey_true_rules};
+pub use marks::marks_are_least_closed;
 pub use message::DisplayUnsat;
 pub use parts::{ConflictCause, ConflictEdge, ConflictNode, Edge, NodeId};
 pub use plain::find;
