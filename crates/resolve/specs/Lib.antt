@@ -12,3 +12,4 @@ pub mod Words
 pub mod Statements
 pub mod Postfix
 pub mod Faults
+pub mod Outcomes

@@ -1,16 +1,19 @@
 //! From an input to an answer, with the streams of a program.
 
-ghost use Rattle.std.specs.Prelude.{◌≡◌, ◌≢◌, ◌<◌, ◌≤◌, IfErr, OnOk};
+ghost use Rattle.std.specs.Prelude.{◌≡◌, ◌≢◌, ◌<◌, ◌≤◌, IfErr, IfOk, OnOk, string_bytes};
 ghost use Rattle.std.specs.Io.KnownBytes.{Appends};
 ghost use Rattle.resolver_clause_store.specs.declared.data.Exhausted.TheVariants.{Memory};
 ghost use Rattle.resolve.specs.declared.run.Fault.TheVariants.{Exhausted as RanOut};
+ghost use Rattle.resolvo.specs.Conflicts.{rules_in};
+ghost use Rattle.resolvo.specs.Solvers.{provider_in};
 ghost use Rattle.resolve.specs.Faults.{exhausted_text, fault_of, status_of};
+ghost use Rattle.resolve.specs.Outcomes.{IsConflictWritten, IsOutcomeOf, conflict_message};
 
 use crate::catalog::Catalog;
-use crate::ids::SolvableId;
-use crate::request::{InputError, read_request};
+use crate::ids::{NameId, SolvableId};
+use crate::request::{InputError, Request, read_request};
 use resolver_clause_store::Exhausted;
-use resolvo::{Problem, Solver, UnsolvableOrCancelled};
+use resolvo::{Conflict, Problem, Solver, UnsolvableOrCancelled};
 use std::alloc::{AllocError, AllocFailed, Global};
 use std::io;
 use std::io::{Read, Write};
@@ -51,14 +54,22 @@ impl<T: Drop> From<AllocFailed<T>> for Fault {
     }
 }
 
+impl From<Exhausted> for Fault {
+    ghost from_gives = { λ e fault. fault ≡ RanOut e };
+
+    fn from(e: Exhausted) -> Fault {
+        Fault::Exhausted(e)
+    }
+}
+
 /// What a request came to.
 #[derive(Drop)]
-enum Outcome {
+pub(crate) enum Outcome {
     /// The text of the answer.
     Answer(String),
 
-    /// There is no answer.
-    Conflict,
+    /// The message that says why there is no answer.
+    Conflict(String),
 }
 
 /// What is said of memory or ids that ran out, without a line end.
@@ -72,19 +83,20 @@ pub fn fault_text(e: Exhausted) -> &'static str
 }
 
 /// Reads statements to the input's end, solves the problem that they state, and writes the answer, one `NAME=VERSION`
-/// to a line, by the bytes of the names and then by version. Gives the status with which the program ends.
+/// to a line, by the bytes of the names and then by version. Where there is no answer it writes the message that says
+/// why. Gives the status with which the program ends.
 ///
 /// | Outcome | Output | Errors | Status |
 /// |---|---|---|---|
 /// | an answer | the answer | nothing | 0 |
-/// | a conflict | nothing | nothing | 1 |
+/// | a conflict | the message | nothing | 1 |
 /// | a bad statement | nothing | `resolve: line N: bad statement` | 2 |
 /// | the input cannot be read | nothing | `resolve: cannot read input` | 3 |
 /// | the output cannot be written | open | `resolve: cannot write output` | 3 |
 /// | memory is refused | nothing | `resolve: out of memory` | 4 |
 /// | ids stand at their limit | nothing | `resolve: out of ids` | 4 |
 ///
-/// An answer is made whole before the first byte is written. A failed write of an error changes no status.
+/// An answer or a message is made whole before the first byte is written. A failed write of an error changes no status.
 pub fn run<R: Read + Drop, O: Write, E: Write>(
     alloc: Global,
     input: R,
@@ -92,12 +104,16 @@ pub fn run<R: Read + Drop, O: Write, E: Write>(
     errors: &mut E,
 ) -> u8
     ensures status { result ≤ 4 }
-    ensures output_kept { result ≢ 0 → result ≢ 3 → output.new ≡ output.old }
+    ensures output_kept { 1 < result → result ≢ 3 → output.new ≡ output.old }
+    ensures conflict { result ≡ 1 → IsConflictWritten (O.contents output.old) (O.contents output.new) }
     ensures errors_kept { result < 2 → errors.new ≡ errors.old }
 {
     match answer(alloc, input) {
-        Ok(Outcome::Conflict) => 1,
-        Ok(Outcome::Answer(text)) => match write_answer(output, &text) {
+        Ok(Outcome::Conflict(text)) => match write_text(output, &text) {
+            Ok(()) => 1,
+            Err(fault) => report(errors, fault),
+        },
+        Ok(Outcome::Answer(text)) => match write_text(output, &text) {
             Ok(()) => 0,
             Err(fault) => report(errors, fault),
         },
@@ -132,7 +148,8 @@ fn report<E: Write>(errors: &mut E, fault: Fault) -> u8
     }
 }
 
-fn write_answer<O: Write>(output: &mut O, text: &str) -> Result<(), Fault>
+/// Writes all of a text.
+fn write_text<O: Write>(output: &mut O, text: &str) -> Result<(), Fault>
     ensures fault { IfErr result (λ fault. fault ≡ Fault.UnwritableOutput) }
     ensures written { OnOk result (Appends (O.contents output.old) (O.contents output.new) text.now) }
 {
@@ -158,19 +175,44 @@ fn read_input<R: Read + Drop>(alloc: Global, mut input: R) -> Result<Vec<u8>, Fa
     }
 }
 
-fn answer<R: Read + Drop>(alloc: Global, input: R) -> Result<Outcome, Fault> {
+/// What the statements of an input come to.
+fn answer<R: Read + Drop>(alloc: Global, input: R) -> Result<Outcome, Fault>
+    ensures { IfOk result (λ outcome. (request : Request) × IsOutcomeOf request outcome) }
+{
     let bytes = read_input(alloc, input)?;
     let request = read_request(alloc, &bytes)?;
+    let outcome = solve_request(alloc, request)?;
+    Ok(outcome)
+}
+
+/// What a request comes to.
+fn solve_request(alloc: Global, request: Request) -> Result<Outcome, Fault>
+    ensures { IfOk result (IsOutcomeOf request) }
+{
     let problem = Problem::new()
         .requirements(request.requirements)
         .constraints(request.constraints);
     let mut solver = Solver::new(alloc, request.catalog);
     match solver.solve(problem) {
         Ok(chosen) => Ok(Outcome::Answer(answer_text(alloc, solver.provider(), &chosen)?)),
-        Err(UnsolvableOrCancelled::Unsolvable(_)) => Ok(Outcome::Conflict),
+        Err(UnsolvableOrCancelled::Unsolvable(conflict)) => Ok(Outcome::Conflict(conflict_text(
+            alloc, &solver, &conflict,
+        )?)),
         Err(UnsolvableOrCancelled::Exhausted(e)) => Err(Fault::Exhausted(e)),
         Err(UnsolvableOrCancelled::Cancelled(value)) => match value {},
     }
+}
+
+/// The message of a conflict.
+fn conflict_text(
+    alloc: Global,
+    solver: &Solver<Catalog>,
+    conflict: &Conflict<NameId, SolvableId>,
+) -> Result<String, Fault>
+    ensures { IfOk result (λ text. string_bytes text ≡ conflict_message (provider_in solver.now) (rules_in conflict.now)) }
+{
+    let message = conflict.display_user_friendly(solver)?;
+    Ok(format!(in alloc; "{message}")?)
 }
 
 /// The chosen solvables, by the bytes of the names and then by version.

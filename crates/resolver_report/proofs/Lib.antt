@@ -23,4 +23,7 @@ pub mod StoryLemmas
 pub mod TreeLemmas
 pub mod CandidateLemmas
 pub mod LeastLemmas
+pub mod MonotoneLemmas
+pub mod FactLemmas
+pub mod SameLemmas
 pub mod MessageExamples

@@ -23,6 +23,7 @@ pub mod Causes
 pub mod Runs
 pub mod EdgeRuns
 pub mod Marks
+pub mod EdgeFacts
 pub mod Forests
 pub mod Messages
 pub mod Verdicts
@@ -32,3 +33,4 @@ pub mod Displays
 pub mod Picks
 pub mod Indents
 pub mod ConflictTexts
+pub mod TestTexts

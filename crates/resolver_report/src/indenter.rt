@@ -148,3 +148,6 @@ impl Indenter {
         Ok(())
     }
 }
+
+#[cfg(test)]
+mod tests;

@@ -34,6 +34,7 @@ pub use laws::{
     graphs_of_kept_rules_are_reached, graphs_of_true_rules_are_true, kept_rules_stay_refuted,
     valid_sets_obey_true_rules,
 };
+pub use marks::marks_are_least_closed;
 pub use message::DisplayUnsat;
 pub use parts::{ConflictCause, ConflictEdge, ConflictNode, Edge, NodeId};
 pub use plain::find;

@@ -1,12 +1,13 @@
 //! Which nodes of a graph can be installed, and which are missing.
 
-ghost use Rattle.std.specs.Prelude.{◌≡◌, ◌<◌, IfOk, IfErr, length, map};
+ghost use Rattle.std.specs.Prelude.{◌≡◌, ◌<◌, ⊤, IfOk, IfErr, MatchBool, length, map};
 ghost use Rattle.std.specs.List.{list_all, list_any};
 ghost use Rattle.std.specs.Option.{option_map};
 ghost use Rattle.resolver_report.specs.ConflictGraphs.{shape_of};
 ghost use Rattle.resolver_report.specs.EdgeRuns.{run_view};
-ghost use Rattle.resolver_report.specs.Marks.{all_marked as all_marked_in, can_be_installed as can_be_installed_by, installable as installable_in, is_marked as is_marked_in, is_place as is_place_at, missing as missing_in, must_be_missing as must_be_missing_by, some_marked as some_marked_in};
-ghost use Rattle.resolver_report.specs.Shapes.{places};
+ghost use Rattle.resolver_report.specs.EdgeFacts.{can_be_installed_with, edges_at, edges_view, must_be_missing_with};
+ghost use Rattle.resolver_report.specs.Marks.{IsLeastClosed, all_marked as all_marked_in, can_be_installed as can_be_installed_by, installable as installable_in, is_marked as is_marked_in, is_place as is_place_at, missing as missing_in, must_be_missing as must_be_missing_by, some_marked as some_marked_in};
+ghost use Rattle.resolver_report.specs.Shapes.{ConflictShape, places};
 
 use crate::graph::ConflictGraph;
 use crate::parts::NodeId;
@@ -68,85 +69,108 @@ fn some_run_marked(marks: &[bool], runs: &[EdgeRun]) -> bool
     false
 }
 
-fn can_be_installed<S: Copy + Drop>(
-    alloc: Global,
-    graph: &ConflictGraph<S>,
-    marks: &[bool],
-    n: NodeId,
-) -> Result<bool, Exhausted>
-    requires { n.0 < length graph.now.graph.nodes }
-    ensures value { IfOk result (λ b. b ≡ can_be_installed_by (shape_of graph.now) marks.now n.0) }
-    ensures memory { IfErr result (λ e. e ≡ Exhausted.Memory) }
-{
-    if is_place(graph.unresolved_node, n) {
-        return Ok(false);
-    }
-    let into = incoming(alloc, &graph.graph, n)?;
-    if has_exclusion(&into) {
-        return Ok(false);
-    }
-    let out = outgoing(alloc, &graph.graph, n)?;
-    if has_conflict(&out) {
-        return Ok(false);
-    }
-    let runs = runs_of(alloc, &out)?;
-    Ok(each_run_marked(marks, &runs))
+/// What the edges of a node say of it.
+#[derive(Drop)]
+pub struct NodeEdges {
+    /// Some edge to it excludes something.
+    is_excluded: bool,
+    /// Some edge from it is a conflict.
+    has_conflict: bool,
+    /// The runs of the edges from it.
+    runs: Vec<EdgeRun>,
 }
 
-fn must_be_missing<S: Copy + Drop>(
+/// What the edges of a node say of it.
+fn node_edges<S: Copy + Drop>(
     alloc: Global,
     graph: &ConflictGraph<S>,
-    marks: &[bool],
     n: NodeId,
-) -> Result<bool, Exhausted>
+) -> Result<NodeEdges, Exhausted>
     requires { n.0 < length graph.now.graph.nodes }
-    ensures value { IfOk result (λ b. b ≡ must_be_missing_by (shape_of graph.now) marks.now n.0) }
+    ensures value { IfOk result (λ e. edges_view e ≡ edges_at (shape_of graph.now) n.0) }
     ensures memory { IfErr result (λ e. e ≡ Exhausted.Memory) }
 {
-    if is_place(graph.unresolved_node, n) {
-        return Ok(true);
-    }
+    let into = incoming(alloc, &graph.graph, n)?;
     let out = outgoing(alloc, &graph.graph, n)?;
-    if has_conflict(&out) {
-        return Ok(false);
-    }
     let runs = runs_of(alloc, &out)?;
-    Ok(some_run_marked(marks, &runs))
+    Ok(NodeEdges {
+        is_excluded: has_exclusion(&into),
+        has_conflict: has_conflict(&out),
+        runs,
+    })
+}
+
+/// What the edges of each node say of it.
+fn all_edges<S: Copy + Drop>(
+    alloc: Global,
+    graph: &ConflictGraph<S>,
+) -> Result<Vec<NodeEdges>, Exhausted>
+    ensures value { IfOk result (λ v. map edges_view v.items ≡ map (edges_at (shape_of graph.now)) (places graph.now.graph)) }
+    ensures memory { IfErr result (λ e. e ≡ Exhausted.Memory) }
+{
+    let mut found = Vec::new(alloc);
+    for n in 0..graph.graph.nodes().len() {
+        found.push(node_edges(alloc, graph, NodeId(n))?)?;
+    }
+    Ok(found)
+}
+
+/// Whether a node can be installed, given what can be.
+fn can_be_installed(unresolved: Option<NodeId>, node: &NodeEdges, marks: &[bool], n: NodeId) -> bool
+    ensures { result ≡ can_be_installed_with (option_map (λ m. m.0) unresolved) (edges_view node.now) marks.now n.0 }
+{
+    !is_place(unresolved, n)
+        && !node.is_excluded
+        && !node.has_conflict
+        && each_run_marked(marks, &node.runs)
+}
+
+/// Whether a node is missing, given what is.
+fn must_be_missing(unresolved: Option<NodeId>, node: &NodeEdges, marks: &[bool], n: NodeId) -> bool
+    ensures { result ≡ must_be_missing_with (option_map (λ m. m.0) unresolved) (edges_view node.now) marks.now n.0 }
+{
+    is_place(unresolved, n) || (!node.has_conflict && some_run_marked(marks, &node.runs))
 }
 
 /// One round of marking what can be installed.
-fn next_installable<S: Copy + Drop>(
+fn next_installable<S>(
     alloc: Global,
     graph: &ConflictGraph<S>,
+    nodes: &[NodeEdges],
     marks: &[bool],
 ) -> Result<Vec<bool>, Exhausted>
+    requires { map edges_view nodes.now ≡ map (edges_at (shape_of graph.now)) (places graph.now.graph) }
     ensures value { IfOk result (λ v. v.items ≡ map (can_be_installed_by (shape_of graph.now) marks.now) (places graph.now.graph)) }
     ensures memory { IfErr result (λ e. e ≡ Exhausted.Memory) }
 {
     let mut next = Vec::new(alloc);
-    for n in 0..graph.graph.nodes().len() {
-        next.push(can_be_installed(alloc, graph, marks, NodeId(n))?)?;
+    for n in 0..nodes.len() {
+        let node = &nodes[n];
+        next.push(can_be_installed(graph.unresolved_node, node, marks, NodeId(n)))?;
     }
     Ok(next)
 }
 
 /// One round of marking what is missing.
-fn next_missing<S: Copy + Drop>(
+fn next_missing<S>(
     alloc: Global,
     graph: &ConflictGraph<S>,
+    nodes: &[NodeEdges],
     marks: &[bool],
 ) -> Result<Vec<bool>, Exhausted>
+    requires { map edges_view nodes.now ≡ map (edges_at (shape_of graph.now)) (places graph.now.graph) }
     ensures value { IfOk result (λ v. v.items ≡ map (must_be_missing_by (shape_of graph.now) marks.now) (places graph.now.graph)) }
     ensures memory { IfErr result (λ e. e ≡ Exhausted.Memory) }
 {
     let mut next = Vec::new(alloc);
-    for n in 0..graph.graph.nodes().len() {
-        next.push(must_be_missing(alloc, graph, marks, NodeId(n))?)?;
+    for n in 0..nodes.len() {
+        let node = &nodes[n];
+        next.push(must_be_missing(graph.unresolved_node, node, marks, NodeId(n)))?;
     }
     Ok(next)
 }
 
-/// What can be installed, by as many rounds as there are nodes.
+/// What can be installed: rounds are made until one marks nothing more.
 pub fn installable<S: Copy + Drop>(
     alloc: Global,
     graph: &ConflictGraph<S>,
@@ -154,14 +178,19 @@ pub fn installable<S: Copy + Drop>(
     ensures value { IfOk result (λ v. v.items ≡ installable_in (shape_of graph.now)) }
     ensures memory { IfErr result (λ e. e ≡ Exhausted.Memory) }
 {
+    let nodes = all_edges(alloc, graph)?;
     let mut marks = Vec::new(alloc);
     for _round in 0..graph.graph.nodes().len() {
-        marks = next_installable(alloc, graph, &marks)?;
+        let next = next_installable(alloc, graph, &nodes, &marks)?;
+        if is_same(&next, &marks) {
+            return Ok(marks);
+        }
+        marks = next;
     }
     Ok(marks)
 }
 
-/// What is missing, by as many rounds as there are nodes.
+/// What is missing: rounds are made until one marks nothing more.
 pub fn missing<S: Copy + Drop>(
     alloc: Global,
     graph: &ConflictGraph<S>,
@@ -169,9 +198,28 @@ pub fn missing<S: Copy + Drop>(
     ensures value { IfOk result (λ v. v.items ≡ missing_in (shape_of graph.now)) }
     ensures memory { IfErr result (λ e. e ≡ Exhausted.Memory) }
 {
+    let nodes = all_edges(alloc, graph)?;
     let mut marks = Vec::new(alloc);
     for _round in 0..graph.graph.nodes().len() {
-        marks = next_missing(alloc, graph, &marks)?;
+        let next = next_missing(alloc, graph, &nodes, &marks)?;
+        if is_same(&next, &marks) {
+            return Ok(marks);
+        }
+        marks = next;
     }
     Ok(marks)
 }
+
+/// Whether two lists of marks are the same.
+fn is_same(first: &[bool], second: &[bool]) -> bool
+    ensures { MatchBool result (first.now ≡ second.now) ⊤ }
+{
+    first == second
+}
+
+/// What can be installed, and what is missing, are the least sets that are closed under their rules: each node that the
+/// rule marks, given the marks, is marked, and any other marks of which that is so have these.
+pub fn marks_are_least_closed<S>()
+    ensures installable { (g : ConflictShape S) → IsLeastClosed (length g.shape.nodes) (can_be_installed_by g) (installable_in g) }
+    ensures missing { (g : ConflictShape S) → IsLeastClosed (length g.shape.nodes) (must_be_missing_by g) (missing_in g) }
+{}

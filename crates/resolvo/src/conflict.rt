@@ -3,16 +3,19 @@
 ghost use Rattle.std.specs.Prelude.{◌≡◌, All, IfErr, IfOk};
 ghost use Rattle.resolver_clause_store.specs.Universe.{Demands, Universe};
 ghost use Rattle.resolver_report.specs.ConflictGraphs.{shape_of};
+ghost use Rattle.resolver_report.specs.Displays.{displayed_graph, interner_in};
 ghost use Rattle.resolver_report.specs.Graphs.{graph_of as graph_of_rules};
 ghost use Rattle.resolver_report.specs.ReachedPlaces.{AreNodesReached};
 ghost use Rattle.resolver_report.specs.ReachedRules.{IsKept};
 ghost use Rattle.resolver_report.specs.TrueEdges.{AreEdgesTrue};
 ghost use Rattle.resolver_report.specs.TrueRules.{IsTrueRule};
+ghost use Rattle.resolvo.specs.Solvers.{provider_in};
 
 use crate::solver::Solver;
 use resolver_clause_store::{DependencyProvider, Exhausted, Interner};
 use resolver_report::{
-    ConflictGraph, Rule, graph_of, graphs_of_kept_rules_are_reached, graphs_of_true_rules_are_true,
+    ConflictGraph, DisplayUnsat, Rule, graph_of, graphs_of_kept_rules_are_reached,
+    graphs_of_true_rules_are_true,
 };
 use std::hash::Hash;
 
@@ -55,5 +58,20 @@ impl<N: Copy + Eq + Ord + Hash + Drop, S: Copy + Eq + Ord + Hash + Drop> Conflic
         graphs_of_kept_rules_are_reached::<N, S>();
         let graph = graph_of(*self.rules.allocator(), self.rules())?;
         Ok(graph)
+    }
+
+    /// The message of the rules: which packages are missing or do not go together, as a tree of lines. It is written by
+    /// its `Display`, with the texts of the solver's provider. What the solver has done since does not matter.
+    ///
+    /// The error is [`Exhausted::Memory`] alone.
+    pub fn display_user_friendly<'a, D: DependencyProvider<NameId = N, SolvableId = S>>(
+        &self,
+        solver: &'a Solver<D>,
+    ) -> Result<DisplayUnsat<'a, D>, Exhausted>
+        ensures graph { IfOk result (λ message. displayed_graph message ≡ graph_of_rules N.eq S.eq (rules_in self.now)) }
+        ensures provider { IfOk result (λ message. interner_in message ≡ provider_in solver.now) }
+        ensures memory { IfErr result (λ e. e ≡ Exhausted.Memory) }
+    {
+        Ok(DisplayUnsat::new(self.graph(solver)?, solver.provider()))
     }
 }

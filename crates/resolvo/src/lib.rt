@@ -20,7 +20,7 @@ pub use resolver_clause_store::{
     Requirement, StringId, VersionSetId, VersionSetUnionId,
 };
 pub use resolver_report::{
-    By, ConflictCause, ConflictEdge, ConflictGraph, ConflictNode, Edge, Graph, Incoming,
-    MergedConflictNode, NodeId, Outgoing, Rule,
+    By, ConflictCause, ConflictEdge, ConflictGraph, ConflictNode, DisplayUnsat, Edge, Graph,
+    Incoming, MergedConflictNode, NodeId, Outgoing, Rule,
 };
 pub use solver::{Solver, UnsolvableOrCancelled};

@@ -22,8 +22,8 @@ fn expect_answer(rt: &impl Abort, alloc: Global, input: &str, output: &str) {
     expect_run(rt, alloc, input, output, "", 0);
 }
 
-fn expect_conflict(rt: &impl Abort, alloc: Global, input: &str) {
-    expect_run(rt, alloc, input, "", "", 1);
+fn expect_conflict(rt: &impl Abort, alloc: Global, input: &str, message: &str) {
+    expect_run(rt, alloc, input, message, "", 1);
 }
 
 #[test]
@@ -86,6 +86,11 @@ fn a_constraint_on_its_own_package(rt: HostRuntime) {
         &rt,
         rt.alloc(),
         "package a=1\nconstrains a=1 a@2..3\nrequire a@1\n",
+        "The following packages are incompatible
+└─ a >=1, <2 cannot be installed because there are no viable options:
+   └─ a 1 would constrain
+      └─ a >=2, <3, which conflicts with any installable versions previously reported
+",
     );
 }
 
@@ -100,7 +105,18 @@ fn a_shared_requirement_takes_the_best_version_that_can_be(rt: HostRuntime) {
 fn two_requirers_that_need_different_versions(rt: HostRuntime) {
     let input =
         "package p=1\npackage p=2\npackage q=1\npackage q=2\npackage r=1\npackage r=2\nrequires p=1 r@1\nrequires p=2 r@1\nrequires q=1 r@2\nrequires q=2 r@2\nrequire p\nrequire q\n";
-    expect_conflict(&rt, rt.alloc(), input);
+    let message = "The following packages are incompatible
+├─ q * can be installed with any of the following options:
+│  └─ q 1 would require
+│     └─ r >=2, <3, which can be installed with any of the following options:
+│        └─ r 2
+└─ p * cannot be installed because there are no viable options:
+   ├─ p 2, which conflicts with the versions reported above.
+   └─ p 1 would require
+      └─ r >=1, <2, which cannot be installed because there are no viable options:
+         └─ r 1, which conflicts with the versions reported above.
+";
+    expect_conflict(&rt, rt.alloc(), input, message);
 }
 
 #[test]
@@ -133,17 +149,77 @@ fn packages_may_need_each_other(rt: HostRuntime) {
 
 #[test]
 fn no_candidate_is_left(rt: HostRuntime) {
-    expect_conflict(&rt, rt.alloc(), "require x\n");
+    let alloc = rt.alloc();
     expect_conflict(
         &rt,
-        rt.alloc(),
-        "package a=1\nexclude a=1 it is bad\nrequire a\n",
+        alloc,
+        "require x\n",
+        "No candidates were found for x *.\n",
     );
-    expect_conflict(
-        &rt,
-        rt.alloc(),
-        "package a=1\npackage a=2\nrequires a=1 x\nrequires a=2 x\nrequire a\n",
-    );
+    let excluded = "package a=1\nexclude a=1 it is bad\nrequire a\n";
+    let message = "The following packages are incompatible
+└─ a * cannot be installed because there are no viable options:
+   └─ a 1 is excluded because it is bad
+";
+    expect_conflict(&rt, alloc, excluded, message);
+    let alike = "package a=1\npackage a=2\nrequires a=1 x\nrequires a=2 x\nrequire a\n";
+    let message = "a * cannot be installed because there are no viable options:
+└─ a 1 | 2 would require
+   └─ x *, for which no candidates were found.
+";
+    expect_conflict(&rt, alloc, alike, message);
+}
+
+#[test]
+fn a_cycle_with_a_missing_package(rt: HostRuntime) {
+    let input =
+        "package a=1\npackage b=1\nrequires a=1 b\nrequires b=1 a\nrequires b=1 missing\nrequire a\n";
+    let message = "a * cannot be installed because there are no viable options:
+└─ a 1 would require
+   └─ b *, which cannot be installed because there are no viable options:
+      └─ b 1 would require
+         └─ missing *, for which no candidates were found.
+";
+    expect_conflict(&rt, rt.alloc(), input, message);
+}
+
+#[test]
+fn a_lock_on_another_version(rt: HostRuntime) {
+    let input = "package a=1\npackage a=2\nlock a=1\nrequire a@2..3\n";
+    let message = "The following packages are incompatible
+└─ a >=2, <3 can be installed with any of the following options:
+   └─ a 2
+├─ a 1 is locked, but another version is required as reported above
+";
+    expect_conflict(&rt, rt.alloc(), input, message);
+}
+
+#[test]
+fn a_constraint_of_the_root(rt: HostRuntime) {
+    let input = "package a=1\npackage b=1\nrequires a=1 b\nrequire a\nconstrain b@2..3\n";
+    let message = "The following packages are incompatible
+└─ a * can be installed with any of the following options:
+   └─ a 1 would require
+      └─ b *, which can be installed with any of the following options:
+         └─ b 1
+├─ the constraint b >=2, <3 cannot be fulfilled
+";
+    expect_conflict(&rt, rt.alloc(), input, message);
+}
+
+#[test]
+fn two_versions_of_a_shared_dependency(rt: HostRuntime) {
+    let input =
+        "package bluesky-widgets=42\npackage suitcase-utils=53\npackage suitcase-utils=54\nrequires bluesky-widgets=42 suitcase-utils@0..54\nrequire bluesky-widgets@0..100\nrequire suitcase-utils@54..100\n";
+    let message = "The following packages are incompatible
+├─ bluesky-widgets >=0, <100 can be installed with any of the following options:
+│  └─ bluesky-widgets 42 would require
+│     └─ suitcase-utils >=0, <54, which can be installed with any of the following options:
+│        └─ suitcase-utils 53
+└─ suitcase-utils >=54, <100 cannot be installed because there are no viable options:
+   └─ suitcase-utils 54, which conflicts with the versions reported above.
+";
+    expect_conflict(&rt, rt.alloc(), input, message);
 }
 
 #[test]

@@ -1,0 +1,44 @@
+-- What a request comes to.
+use Rattle.std.specs.Prelude.{◌≡◌, ◌==◌, ℕ, Bool, List, Option, ⊤, string_bytes}
+use Rattle.std.specs.Io.KnownBytes.{Appends}
+use Rattle.resolver_clause_store.specs.Universe.{Demands}
+use Rattle.resolver_report.specs.declared.Rule.{Rule}
+use Rattle.resolver_report.specs.Graphs.{graph_of}
+use Rattle.resolver_report.specs.Messages.{message}
+use Rattle.resolvo.specs.Explanations.{Explains}
+use Rattle.resolve.specs.declared.catalog.Catalog.{Catalog}
+use Rattle.resolve.specs.declared.ids.NameId.{NameId}
+use Rattle.resolve.specs.declared.ids.SolvableId.{SolvableId}
+use Rattle.resolve.specs.declared.request.Request.{Request}
+use Rattle.resolve.specs.declared.run.Outcome.{Outcome}
+use Rattle.resolve.specs.declared.run.Outcome.TheVariants.{Answer, Conflict}
+use Rattle.resolve.specs.Catalogs.{catalog_universe, same_solvable_ids}
+
+abbrev pub same_name_ids : NameId → NameId → Bool
+same_name_ids a b = a.0 == b.0
+
+-- the message of the graph of some rules, in the texts of a catalog
+abbrev pub conflict_message : Catalog → List (Rule NameId SolvableId) → List ℕ
+conflict_message it rules = message (catalog_universe it) (graph_of same_name_ids same_solvable_ids rules)
+
+-- what a request asks for
+abbrev pub demands_of : Request → Demands
+demands_of request = record { requirements = request.requirements.items; constraints = request.constraints.items }
+
+-- the text is the message of rules that say why the request has no answer
+pub record IsMessageOf (request : Request) (text : List ℕ) : Type 0 where
+  pub rules : List (Rule NameId SolvableId)
+  pub explain : Explains (catalog_universe request.catalog) (demands_of request) rules
+  pub is : text ≡ conflict_message request.catalog rules
+
+-- for a conflict the text is such a message
+abbrev pub IsOutcomeOf : Request → Outcome → Type 0
+IsOutcomeOf request (Answer text) = ⊤
+IsOutcomeOf request (Conflict text) = IsMessageOf request (string_bytes text)
+
+-- what was written is such a message, for some request
+pub record IsConflictWritten (old new : Option (List ℕ)) : Type 0 where
+  pub request : Request
+  pub text : List ℕ
+  pub is_message : IsMessageOf request text
+  pub appended : Appends old new text
