@@ -6,6 +6,8 @@ ghost use Rattle.resolve.specs.Packages.{version_at, IsConstrained, IsDeclared, 
 
 mod provider;
 mod tables;
+#[cfg(test)]
+mod tests;
 mod texts;
 
 use crate::ids::{NameId, Range, SolvableId, Version, VersionSet, found_id, id_of};
