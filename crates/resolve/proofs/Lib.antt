@@ -4,3 +4,4 @@ pub mod LinesLemmas
 pub mod NumberLemmas
 pub mod ConditionLemmas
 pub mod WordLemmas
+pub mod TableLemmas

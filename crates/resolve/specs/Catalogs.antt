@@ -117,6 +117,29 @@ conditions_in it = it.conditions.conditions.items
 abbrev pub strings_in : Catalog → List (List ℕ)
 strings_in it = map string_bytes it.strings.keys
 
+-- all tables
+pub record Tables : Type 0 where
+  pub names : List (List ℕ)
+  pub packages : List Listing
+  pub solvables : List Solvable
+  pub versions : List Version
+  pub version_sets : List VersionSet
+  pub unions : List (List VersionSetId)
+  pub conditions : List Condition
+  pub strings : List (List ℕ)
+
+abbrev pub tables_in : Catalog → Tables
+tables_in it = record {
+  names = names_in it;
+  packages = packages_in it;
+  solvables = solvables_in it;
+  versions = versions_in it;
+  version_sets = version_sets_in it;
+  unions = unions_in it;
+  conditions = conditions_in it;
+  strings = strings_in it;
+}
+
 -- what the catalog says of a package
 abbrev pub listing_in : Catalog → NameId → Package SolvableId
 listing_in it n = listing_of (slice_get it.packages.packages.items n.0)

@@ -1,5 +1,5 @@
 -- What tables of packages and versions say, and what they keep to.
-use Rattle.std.specs.Prelude.{◌≡◌, ◌≢◌, [], ◌∷◌, ◌++◌, ℕ, ◌<◌, ◌≤◌, List, Option, Some, None, slice_get, slice_set, true, false, length, All, AllPairs, IfSome, IsSome, IsNone}
+use Rattle.std.specs.Prelude.{◌≡◌, ◌≢◌, [], ◌∷◌, ◌++◌, ℕ, ◌<◌, ◌≤◌, List, Option, Some, None, slice_get, slice_set, true, false, length, Contains, All, AllPairs, IfSome, IsSome, IsNone}
 use Rattle.std.specs.Ordering.{nat_cmp, on, flip_args, then_cmp}
 use Rattle.std.specs.declared.cmp.Ordering.{Ordering}
 use Rattle.resolve.specs.declared.ids.NameId.{NameId}
@@ -58,11 +58,21 @@ candidates_of (Some p) = p.candidates.items
 abbrev pub candidates_at : List Package → ℕ → List SolvableId
 candidates_at packages n = candidates_of (slice_get packages n)
 
+-- each package is what it was
+abbrev pub KeepsPackages : List Package → List Package → Type 0
+KeepsPackages packages packages' = (n : ℕ) (p : Package) → slice_get packages n ≡ Some p → slice_get packages' n ≡ Some p
+
 -- the version stands last, and is the last candidate of its package; each other package lists what it did
 pub record IsDeclared (versions versions' : List Version) (packages packages' : List Package) (version : Version) : Type 0 where
   pub last : versions' ≡ versions ++ version ∷ []
   pub listed : candidates_at packages' version.name.0 ≡ candidates_at packages version.name.0 ++ record { 0 = length versions } ∷ []
   pub others : (n : ℕ) → n ≢ version.name.0 → slice_get packages' n ≡ slice_get packages n
+
+-- nothing changed, since the version is declared, or there is no such package
+pub record IsDeclarationRefused (versions versions' : List Version) (packages packages' : List Package) (version : Version) : Type 0 where
+  pub kept : versions' ≡ versions
+  pub kept_packages : packages' ≡ packages
+  pub taken : version.name.0 < length packages → Contains versions version
 
 -- the solvable is now its package's favored one, of which there was none; nothing else changed
 pub record IsFavored (versions : List Version) (packages packages' : List Package) (s : SolvableId) : Type 0 where

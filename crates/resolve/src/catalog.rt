@@ -1,11 +1,13 @@
 //! What was declared, in tables.
 
-ghost use Rattle.std.specs.Prelude.{◌≡◌, ◌<◌, ◌++◌, ◌∷◌, [], IfOk, IfSome, IsTrue, MatchBool, OnOk, length};
-ghost use Rattle.resolve.specs.Additions.{IsInterned};
-ghost use Rattle.resolve.specs.Packages.{version_at, IsConstrained, IsDeclared, IsExcluded, IsExclusionRefused, IsFavorRefused, IsFavored, IsLockRefused, IsLocked, IsMadeUnknown, IsReasonRefused, IsRequired};
+ghost use Rattle.std.specs.Prelude.{◌≡◌, ◌<◌, ◌≤◌, ◌++◌, ◌∷◌, [], IfErr, IfOk, IfSome, MatchBool, OnOk, length};
+ghost use Rattle.resolve.specs.Additions.{IsInterned, IsShortage};
+ghost use Rattle.resolve.specs.Packages.{version_at, IsConstrained, IsDeclarationRefused, IsDeclared, IsExcluded, IsExclusionRefused, IsFavorRefused, IsFavored, IsLockRefused, IsLocked, IsMadeUnknown, IsReasonRefused, IsRequired, KeepsPackages};
 
 mod provider;
 mod tables;
+#[cfg(test)]
+mod tests;
 mod texts;
 
 use crate::ids::{NameId, Range, SolvableId, Version, VersionSet, found_id, id_of};
@@ -32,7 +34,7 @@ pub struct Catalog {
 }
 
 impl Catalog {
-    ghost use Rattle.resolve.specs.Catalogs.{IsFound, catalog_universe, conditions_in, names_in, packages_in, solvables_in, strings_in, unions_in, version_sets_in, versions_in};
+    ghost use Rattle.resolve.specs.Catalogs.{IsFound, catalog_universe, conditions_in, names_in, packages_in, solvables_in, strings_in, tables_in, unions_in, version_sets_in, versions_in};
 
     /// A catalog in which nothing is declared.
     pub fn new(alloc: Global) -> Catalog {
@@ -49,7 +51,10 @@ impl Catalog {
 
     /// The package of a name. Equal names share it.
     pub fn name(&mut self, text: &str) -> Result<NameId, Exhausted>
-        ensures { IfOk result (λ id. IsInterned (names_in self.old) (names_in self.new) text.now id.0) }
+        ensures interned { IfOk result (λ id. IsInterned (names_in self.old) (names_in self.new) text.now id.0) }
+        ensures kept { tables_in self.new ≡ record (tables_in self.old) { names = names_in self.new; packages = packages_in self.new } }
+        ensures packages { KeepsPackages (packages_in self.old) (packages_in self.new) }
+        ensures refusal { IfErr result (IsShortage (length (names_in self.old))) }
     {
         let key = String::from_str(self.alloc, text)?;
         let (place, is_new) = self.names.insert_full(key)?;
@@ -91,14 +96,18 @@ impl Catalog {
     ///
     /// False if it was declared before.
     pub fn declare(&mut self, name: NameId, number: u32) -> Result<bool, Exhausted>
-        ensures { IfOk result (λ is_new. IsTrue is_new → IsDeclared (versions_in self.old) (versions_in self.new) (packages_in self.old) (packages_in self.new) (record { name = name; number = number })) }
+        ensures declared { IfOk result (λ is_new. MatchBool is_new (IsDeclared (versions_in self.old) (versions_in self.new) (packages_in self.old) (packages_in self.new) (record { name = name; number = number })) (IsDeclarationRefused (versions_in self.old) (versions_in self.new) (packages_in self.old) (packages_in self.new) (record { name = name; number = number }))) }
+        ensures kept { tables_in self.new ≡ record (tables_in self.old) { packages = packages_in self.new; versions = versions_in self.new; solvables = solvables_in self.new } }
+        ensures refusal { IfErr result (IsShortage (length (versions_in self.old))) }
     {
         self.packages.add_version(self.alloc, name, number)
     }
 
     /// The versions of a package that a range takes. Equal ones share an id.
     pub fn version_set(&mut self, name: NameId, range: Range) -> Result<VersionSetId, Exhausted>
-        ensures { IfOk result (λ id. IsInterned (version_sets_in self.old) (version_sets_in self.new) (record { name = name; range = range }) id.0) }
+        ensures interned { IfOk result (λ id. IsInterned (version_sets_in self.old) (version_sets_in self.new) (record { name = name; range = range }) id.0) }
+        ensures kept { tables_in self.new ≡ record (tables_in self.old) { version_sets = version_sets_in self.new } }
+        ensures refusal { IfErr result (IsShortage (length (version_sets_in self.old))) }
     {
         let (place, _) = self.version_sets.insert_full(VersionSet { name, range })?;
         Ok(VersionSetId(id_of(place)?))
@@ -106,7 +115,9 @@ impl Catalog {
 
     /// The union of version sets in that order. Equal ones share an id.
     pub fn union(&mut self, members: Vec<VersionSetId>) -> Result<VersionSetUnionId, Exhausted>
-        ensures { IfOk result (λ id. IsInterned (unions_in self.old) (unions_in self.new) members.items id.0) }
+        ensures interned { IfOk result (λ id. IsInterned (unions_in self.old) (unions_in self.new) members.items id.0) }
+        ensures kept { tables_in self.new ≡ record (tables_in self.old) { unions = unions_in self.new } }
+        ensures refusal { IfErr result (IsShortage (length (unions_in self.old))) }
     {
         let (place, _) = self.unions.insert_full(members)?;
         Ok(VersionSetUnionId(id_of(place)?))
@@ -116,6 +127,8 @@ impl Catalog {
     pub fn condition_on(&mut self, version_set: VersionSetId) -> Result<ConditionId, Exhausted>
         ensures id { IfOk result (λ id. id.0 ≡ length (conditions_in self.old)) }
         ensures added { OnOk result (conditions_in self.new ≡ conditions_in self.old ++ Condition.Requirement version_set ∷ []) }
+        ensures kept { tables_in self.new ≡ record (tables_in self.old) { conditions = conditions_in self.new } }
+        ensures refusal { IfErr result (IsShortage (length (conditions_in self.old))) }
     {
         self.conditions.add_on(version_set)
     }
@@ -129,13 +142,17 @@ impl Catalog {
     ) -> Result<ConditionId, Exhausted>
         ensures id { IfOk result (λ id. id.0 ≡ length (conditions_in self.old)) }
         ensures added { OnOk result (conditions_in self.new ≡ conditions_in self.old ++ Condition.Binary operator left right ∷ []) }
+        ensures kept { tables_in self.new ≡ record (tables_in self.old) { conditions = conditions_in self.new } }
+        ensures refusal { left.0 < length (conditions_in self.old) → right.0 < length (conditions_in self.old) → IfErr result (IsShortage (length (conditions_in self.old))) }
     {
         self.conditions.add_of(operator, left, right)
     }
 
     /// The id of a reason. Equal texts share it.
     pub fn string(&mut self, text: &str) -> Result<StringId, Exhausted>
-        ensures { IfOk result (λ id. IsInterned (strings_in self.old) (strings_in self.new) text.now id.0) }
+        ensures interned { IfOk result (λ id. IsInterned (strings_in self.old) (strings_in self.new) text.now id.0) }
+        ensures kept { tables_in self.new ≡ record (tables_in self.old) { strings = strings_in self.new } }
+        ensures refusal { IfErr result (IsShortage (length (strings_in self.old))) }
     {
         let key = String::from_str(self.alloc, text)?;
         let (place, _) = self.strings.insert_full(key)?;
@@ -148,7 +165,10 @@ impl Catalog {
         solvable: SolvableId,
         requirement: ConditionalRequirement,
     ) -> Result<(), Exhausted>
-        ensures { OnOk result (solvable.0 < length (solvables_in self.old) → IsRequired (solvables_in self.old) (solvables_in self.new) solvable requirement) }
+        ensures added { OnOk result (solvable.0 < length (solvables_in self.old) → IsRequired (solvables_in self.old) (solvables_in self.new) solvable requirement) }
+        ensures dropped { OnOk result (length (solvables_in self.old) ≤ solvable.0 → solvables_in self.new ≡ solvables_in self.old) }
+        ensures kept { tables_in self.new ≡ record (tables_in self.old) { solvables = solvables_in self.new } }
+        ensures memory { IfErr result (λ e. e ≡ Exhausted.Memory) }
     {
         self.packages.add_requirement(solvable, requirement)
     }
@@ -159,7 +179,10 @@ impl Catalog {
         solvable: SolvableId,
         version_set: VersionSetId,
     ) -> Result<(), Exhausted>
-        ensures { OnOk result (solvable.0 < length (solvables_in self.old) → IsConstrained (solvables_in self.old) (solvables_in self.new) solvable version_set) }
+        ensures added { OnOk result (solvable.0 < length (solvables_in self.old) → IsConstrained (solvables_in self.old) (solvables_in self.new) solvable version_set) }
+        ensures dropped { OnOk result (length (solvables_in self.old) ≤ solvable.0 → solvables_in self.new ≡ solvables_in self.old) }
+        ensures kept { tables_in self.new ≡ record (tables_in self.old) { solvables = solvables_in self.new } }
+        ensures memory { IfErr result (λ e. e ≡ Exhausted.Memory) }
     {
         self.packages.add_constraint(solvable, version_set)
     }
@@ -168,28 +191,33 @@ impl Catalog {
     ///
     /// What it requires and constrains is then kept from the solver.
     pub fn set_unknown(&mut self, solvable: SolvableId, reason: StringId) -> bool
-        ensures { MatchBool result (IsMadeUnknown (solvables_in self.old) (solvables_in self.new) solvable reason) (IsReasonRefused (solvables_in self.old) (solvables_in self.new) solvable) }
+        ensures unknown { MatchBool result (IsMadeUnknown (solvables_in self.old) (solvables_in self.new) solvable reason) (IsReasonRefused (solvables_in self.old) (solvables_in self.new) solvable) }
+        ensures kept { tables_in self.new ≡ record (tables_in self.old) { solvables = solvables_in self.new } }
     {
         self.packages.set_unknown(solvable, reason)
     }
 
     /// Favors a solvable. False if its package has a favored one already.
     pub fn favor(&mut self, solvable: SolvableId) -> bool
-        ensures { MatchBool result (IsFavored (versions_in self.old) (packages_in self.old) (packages_in self.new) solvable) (IsFavorRefused (versions_in self.old) (packages_in self.old) (packages_in self.new) solvable) }
+        ensures favored { MatchBool result (IsFavored (versions_in self.old) (packages_in self.old) (packages_in self.new) solvable) (IsFavorRefused (versions_in self.old) (packages_in self.old) (packages_in self.new) solvable) }
+        ensures kept { tables_in self.new ≡ record (tables_in self.old) { packages = packages_in self.new } }
     {
         self.packages.favor(solvable)
     }
 
     /// Locks the package of a solvable to it. False if the package is locked already.
     pub fn lock(&mut self, solvable: SolvableId) -> bool
-        ensures { MatchBool result (IsLocked (versions_in self.old) (packages_in self.old) (packages_in self.new) solvable) (IsLockRefused (versions_in self.old) (packages_in self.old) (packages_in self.new) solvable) }
+        ensures locked { MatchBool result (IsLocked (versions_in self.old) (packages_in self.old) (packages_in self.new) solvable) (IsLockRefused (versions_in self.old) (packages_in self.old) (packages_in self.new) solvable) }
+        ensures kept { tables_in self.new ≡ record (tables_in self.old) { packages = packages_in self.new } }
     {
         self.packages.lock(solvable)
     }
 
     /// Excludes a solvable for a reason. False if it was excluded before.
     pub fn exclude(&mut self, solvable: SolvableId, reason: StringId) -> Result<bool, Exhausted>
-        ensures { IfOk result (λ is_new. MatchBool is_new (IsExcluded (versions_in self.old) (solvables_in self.old) (solvables_in self.new) (packages_in self.old) (packages_in self.new) solvable reason) (IsExclusionRefused (versions_in self.old) (solvables_in self.old) (solvables_in self.new) (packages_in self.old) (packages_in self.new) solvable)) }
+        ensures excluded { IfOk result (λ is_new. MatchBool is_new (IsExcluded (versions_in self.old) (solvables_in self.old) (solvables_in self.new) (packages_in self.old) (packages_in self.new) solvable reason) (IsExclusionRefused (versions_in self.old) (solvables_in self.old) (solvables_in self.new) (packages_in self.old) (packages_in self.new) solvable)) }
+        ensures kept { tables_in self.new ≡ record (tables_in self.old) { solvables = solvables_in self.new; packages = packages_in self.new } }
+        ensures memory { IfErr result (λ e. e ≡ Exhausted.Memory) }
     {
         self.packages.exclude(solvable, reason)
     }

@@ -52,7 +52,7 @@ pub(crate) struct Version {
 /// The id of a place in a table. Ids end where they would not fit.
 pub(crate) fn id_of(place: usize) -> Result<u32, Exhausted>
     ensures id { IfOk result (λ id. id ≡ place) }
-    ensures full { IfErr result (λ e. e ≡ Exhausted.Ids) }
+    ensures full { IfErr result (λ e. (e ≡ Exhausted.Ids) × (4294967295 ≤ place)) }
 {
     if place < u32::MAX as usize {
         Ok(place as u32)

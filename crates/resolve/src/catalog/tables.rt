@@ -1,8 +1,9 @@
 //! Packages with their versions, and conditions.
 
-ghost use Rattle.std.specs.Prelude.{◌≡◌, ◌<◌, ◌++◌, ◌∷◌, [], length, IfOk, IfErr, IfNone, IfSome, IsTrue, MatchBool, OnOk};
+ghost use Rattle.std.specs.Prelude.{◌≡◌, ◌<◌, ◌≤◌, ◌++◌, ◌∷◌, [], length, IfOk, IfErr, IfNone, IfSome, MatchBool, OnOk};
 ghost use Rattle.std.proofs.Props.{props};
-ghost use Rattle.resolve.specs.Packages.{ArePackagesOf, IsConstrained, IsDeclared, IsExcluded, IsExclusionRefused, IsFavorRefused, IsFavored, IsLockRefused, IsLocked, IsMadeUnknown, IsReasonRefused, IsRequired, IsVersionOf, IsWithoutPackage, name_at, version_at, preference};
+ghost use Rattle.resolve.specs.Additions.{IsShortage};
+ghost use Rattle.resolve.specs.Packages.{ArePackagesOf, IsConstrained, IsDeclarationRefused, IsDeclared, IsExcluded, IsExclusionRefused, IsFavorRefused, IsFavored, IsLockRefused, IsLocked, IsMadeUnknown, IsReasonRefused, IsRequired, IsVersionOf, IsWithoutPackage, KeepsPackages, name_at, version_at, preference};
 ghost use Rattle.resolve.specs.Sorting.{sorted_by};
 ghost use Rattle.resolve.specs.Conditions.{ArePartsLower, condition_at};
 
@@ -87,7 +88,11 @@ impl PackageTable {
     }
 
     /// Adds a package without versions.
-    pub fn add_package(&mut self, alloc: Global) -> Result<(), Exhausted> {
+    pub fn add_package(&mut self, alloc: Global) -> Result<(), Exhausted>
+        ensures packages { KeepsPackages self.old.packages.items self.new.packages.items }
+        ensures kept { (self.new.versions.keys ≡ self.old.versions.keys) × (self.new.solvables.items ≡ self.old.solvables.items) }
+        ensures memory { IfErr result (λ e. e ≡ Exhausted.Memory) }
+    {
         self.packages.push(Package {
             candidates: Vec::new(alloc),
             favored: None,
@@ -104,7 +109,8 @@ impl PackageTable {
         name: NameId,
         number: u32,
     ) -> Result<bool, Exhausted>
-        ensures { IfOk result (λ is_new. IsTrue is_new → IsDeclared self.old.versions.keys self.new.versions.keys self.old.packages.items self.new.packages.items (record { name = name; number = number })) }
+        ensures declared { IfOk result (λ is_new. MatchBool is_new (IsDeclared self.old.versions.keys self.new.versions.keys self.old.packages.items self.new.packages.items (record { name = name; number = number })) (IsDeclarationRefused self.old.versions.keys self.new.versions.keys self.old.packages.items self.new.packages.items (record { name = name; number = number }))) }
+        ensures refusal { IfErr result (IsShortage (length self.old.versions.keys)) }
     {
         let version = Version { name, number };
         let package = name.0 as usize;
@@ -129,7 +135,10 @@ impl PackageTable {
         solvable: SolvableId,
         requirement: ConditionalRequirement,
     ) -> Result<(), Exhausted>
-        ensures { OnOk result (solvable.0 < length self.old.solvables.items → IsRequired self.old.solvables.items self.new.solvables.items solvable requirement) }
+        ensures added { OnOk result (solvable.0 < length self.old.solvables.items → IsRequired self.old.solvables.items self.new.solvables.items solvable requirement) }
+        ensures dropped { OnOk result (length self.old.solvables.items ≤ solvable.0 → self.new.solvables.items ≡ self.old.solvables.items) }
+        ensures kept { (self.new.versions.keys ≡ self.old.versions.keys) × (self.new.packages.items ≡ self.old.packages.items) }
+        ensures memory { IfErr result (λ e. e ≡ Exhausted.Memory) }
     {
         let place = solvable.0 as usize;
         if place >= self.solvables.len() {
@@ -144,7 +153,10 @@ impl PackageTable {
         solvable: SolvableId,
         constraint: VersionSetId,
     ) -> Result<(), Exhausted>
-        ensures { OnOk result (solvable.0 < length self.old.solvables.items → IsConstrained self.old.solvables.items self.new.solvables.items solvable constraint) }
+        ensures added { OnOk result (solvable.0 < length self.old.solvables.items → IsConstrained self.old.solvables.items self.new.solvables.items solvable constraint) }
+        ensures dropped { OnOk result (length self.old.solvables.items ≤ solvable.0 → self.new.solvables.items ≡ self.old.solvables.items) }
+        ensures kept { (self.new.versions.keys ≡ self.old.versions.keys) × (self.new.packages.items ≡ self.old.packages.items) }
+        ensures memory { IfErr result (λ e. e ≡ Exhausted.Memory) }
     {
         let place = solvable.0 as usize;
         if place >= self.solvables.len() {
@@ -156,7 +168,8 @@ impl PackageTable {
 
     /// Gives the reason why nobody knows what a solvable needs. False if it has one, or if there is no such solvable.
     pub fn set_unknown(&mut self, solvable: SolvableId, reason: StringId) -> bool
-        ensures { MatchBool result (IsMadeUnknown self.old.solvables.items self.new.solvables.items solvable reason) (IsReasonRefused self.old.solvables.items self.new.solvables.items solvable) }
+        ensures unknown { MatchBool result (IsMadeUnknown self.old.solvables.items self.new.solvables.items solvable reason) (IsReasonRefused self.old.solvables.items self.new.solvables.items solvable) }
+        ensures kept { (self.new.versions.keys ≡ self.old.versions.keys) × (self.new.packages.items ≡ self.old.packages.items) }
     {
         let place = solvable.0 as usize;
         if place >= self.solvables.len() || self.solvables[place].unknown.is_some() {
@@ -182,7 +195,8 @@ impl PackageTable {
 
     /// Favors a solvable. False if its package has a favored one.
     pub fn favor(&mut self, solvable: SolvableId) -> bool
-        ensures { MatchBool result (IsFavored self.old.versions.keys self.old.packages.items self.new.packages.items solvable) (IsFavorRefused self.old.versions.keys self.old.packages.items self.new.packages.items solvable) }
+        ensures favored { MatchBool result (IsFavored self.old.versions.keys self.old.packages.items self.new.packages.items solvable) (IsFavorRefused self.old.versions.keys self.old.packages.items self.new.packages.items solvable) }
+        ensures kept { (self.new.versions.keys ≡ self.old.versions.keys) × (self.new.solvables.items ≡ self.old.solvables.items) }
     {
         let Some(place) = self.package_place(solvable) else {
             return false;
@@ -196,7 +210,8 @@ impl PackageTable {
 
     /// Locks a package to a solvable. False if it is locked.
     pub fn lock(&mut self, solvable: SolvableId) -> bool
-        ensures { MatchBool result (IsLocked self.old.versions.keys self.old.packages.items self.new.packages.items solvable) (IsLockRefused self.old.versions.keys self.old.packages.items self.new.packages.items solvable) }
+        ensures locked { MatchBool result (IsLocked self.old.versions.keys self.old.packages.items self.new.packages.items solvable) (IsLockRefused self.old.versions.keys self.old.packages.items self.new.packages.items solvable) }
+        ensures kept { (self.new.versions.keys ≡ self.old.versions.keys) × (self.new.solvables.items ≡ self.old.solvables.items) }
     {
         let Some(place) = self.package_place(solvable) else {
             return false;
@@ -210,7 +225,9 @@ impl PackageTable {
 
     /// Excludes a solvable. False if it is excluded.
     pub fn exclude(&mut self, solvable: SolvableId, reason: StringId) -> Result<bool, Exhausted>
-        ensures { IfOk result (λ is_new. MatchBool is_new (IsExcluded self.old.versions.keys self.old.solvables.items self.new.solvables.items self.old.packages.items self.new.packages.items solvable reason) (IsExclusionRefused self.old.versions.keys self.old.solvables.items self.new.solvables.items self.old.packages.items self.new.packages.items solvable)) }
+        ensures excluded { IfOk result (λ is_new. MatchBool is_new (IsExcluded self.old.versions.keys self.old.solvables.items self.new.solvables.items self.old.packages.items self.new.packages.items solvable reason) (IsExclusionRefused self.old.versions.keys self.old.solvables.items self.new.solvables.items self.old.packages.items self.new.packages.items solvable)) }
+        ensures kept { self.new.versions.keys ≡ self.old.versions.keys }
+        ensures memory { IfErr result (λ e. e ≡ Exhausted.Memory) }
     {
         let Some(package) = self.package_place(solvable) else {
             return Ok(false);
@@ -253,6 +270,7 @@ impl ConditionTable {
     pub fn add_on(&mut self, version_set: VersionSetId) -> Result<ConditionId, Exhausted>
         ensures id { IfOk result (λ id. id.0 ≡ length self.old.conditions.items) }
         ensures added { OnOk result (self.new.conditions.items ≡ self.old.conditions.items ++ Condition.Requirement version_set ∷ []) }
+        ensures refusal { IfErr result (IsShortage (length self.old.conditions.items)) }
     {
         let id = ConditionId(id_of(self.conditions.len())?);
         self.conditions.push(Condition::Requirement(version_set))?;
@@ -268,6 +286,7 @@ impl ConditionTable {
     ) -> Result<ConditionId, Exhausted>
         ensures id { IfOk result (λ id. id.0 ≡ length self.old.conditions.items) }
         ensures added { OnOk result (self.new.conditions.items ≡ self.old.conditions.items ++ Condition.Binary operator left right ∷ []) }
+        ensures refusal { left.0 < length self.old.conditions.items → right.0 < length self.old.conditions.items → IfErr result (IsShortage (length self.old.conditions.items)) }
     {
         let id = ConditionId(id_of(self.conditions.len())?);
         if left.0 >= id.0 || right.0 >= id.0 {

@@ -15,8 +15,8 @@ invariant_of-self-2 c =
     let h = IsPackageOf-at c.args.self.now.versions.keys c.args.self.now.packages.items c.in-Some.package c.index_mut.result.now c.in-Some.ensures.within c.index_mut.ensures.value c.args.self.now.lawful in
     record { lawful = ArePackagesOf-set _ _ _ _ c.args.self.now.lawful (record { listed = h.listed; rising = h.rising; favored = h.favored; locked = h.locked; excluded = All-pushed (λ e. IsVersionOf c.args.self.now.versions.keys c.in-Some.package e.0) _ _ _ _ c.push.ensures.items h.excluded c.in-Some.ensures.version }) }
 
-pub returns : goal.returns
-returns c =
+pub returns-clause-excluded : goal.returns-clause-excluded
+returns-clause-excluded c =
     let within : c.args.solvable.0 < length c.args.self.now.solvables.items = omega arith in
     let read = slice_get_read c.args.self.now.solvables.items (length c.args.self.now.solvables.items) c.args.solvable.0 c.index.result.now refl within c.index.ensures in
     let stood = slice_get_read c.args.self.now.solvables.items (length c.args.self.now.solvables.items) c.args.solvable.0 c.index_mut-2.result.now refl within c.index_mut-2.ensures.value in

@@ -3,8 +3,8 @@ use Rattle.std.proofs.lemmas.Option.{slice_get_read}
 use Rattle.resolve.proofs.PackageLemmas.{same_read}
 use Rattle.resolve.proofs.catalog.tables.PackageTable.set_unknown.Goals as goal
 
-pub returns : goal.returns
-returns c =
+pub returns-clause-unknown : goal.returns-clause-unknown
+returns-clause-unknown c =
     let within : c.args.solvable.0 < length c.args.self.now.solvables.items = omega arith in
     record {
       before = c.index_mut.result.now;
