@@ -121,6 +121,9 @@ module _ {N S : Type 0} (u : Universe N S) where
       place_same : (xs : List (Vec Literal Global)) (x : Vec Literal Global) (n : ℕ) → n < length xs → slice_get (xs ++ x ∷ []) n ≡ slice_get xs n
       place_same xs x n below = place_left xs (x ∷ []) n _ (slice_get-get_or xs n x below) ∙ sym (slice_get-get_or xs n x below)
 
+  pub AreEncoded-keeps : (old new : List (Origin N S)) (table : List (Vec Literal Global)) (kinds : List (ClauseKind N S)) → Keeps old new → AreEncoded u old table kinds → AreEncoded u new table kinds
+  AreEncoded-keeps old new table kinds keeps before = record { count = before.count; each = λ n k at. IsClauseOf-keeps u old new (clause_at table n) k keeps (before.each n k at) }
+
   -- what a new lock or exclusion must be
   abbrev pub IsDue : List N → List S → ClauseKind N S → Type 0
   IsDue asked exempt (Lock s t) = Contains asked (u.name t) × (Contains exempt t → ⊥)

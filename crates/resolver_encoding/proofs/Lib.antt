@@ -2,6 +2,7 @@ pub mod Lists
 pub mod GroupLemmas
 pub mod ClauseLemmas
 pub mod EncodingLemmas
+pub mod NoteLemmas
 pub mod Satisfied
 pub mod Sound
 pub mod Extended

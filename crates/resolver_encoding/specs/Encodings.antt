@@ -190,6 +190,11 @@ module _ {N S : Type 0} (u : Universe N S) (kinds : List (ClauseKind N S)) where
   AreNeedsRead s (known d) = AreDemandsRead (BySolvable s) d
   AreNeedsRead s (unknown reason) = Contains kinds (Excluded s reason)
 
+-- a clause forbids each listed candidate other than the locked one, unless it is exempt
+abbrev pub IsLockRead : {N S : Type 0} → List (ClauseKind N S) → List S → Option S → List S → Type 0
+IsLockRead kinds exempt None listed = ⊤
+IsLockRead kinds exempt (Some t) listed = All (λ s. s ≢ t → (Contains exempt s → ⊥) → Contains kinds (Lock t s)) listed
+
 -- the root, or the solvable, asks for the requirement; for the constraint
 abbrev pub AsksFor : {N S : Type 0} → Universe N S → By S → ConditionalRequirement → Demands → Type 0
 AsksFor u by r root = Contains (demands_by u root by).requirements r

@@ -6,6 +6,10 @@ ghost use Rattle.resolver_encoding.specs.Atoms.{atom};
 ghost use Rattle.resolver_encoding.specs.Encodings.{AddsClause, IsFull, IsUnread, KeepsLimits};
 ghost use Rattle.resolver_encoding.specs.Refusals.{IsShortage};
 
+mod asking;
+mod helping;
+mod seeing;
+
 use crate::groups::Groups;
 use crate::literals::push_literal;
 use indexmap::IndexSet;
@@ -27,7 +31,7 @@ pub struct Encoding<N: Copy + Eq + Hash + Drop, S: Copy + Eq + Hash + Drop> {
     groups: Groups<N, S>,
     asked: IndexSet<N>,
     helped: IndexSet<VersionSetId>,
-    exempt: Vec<S>,
+    exempt: IndexSet<S>,
     clause_limit: usize,
 }
 
@@ -53,7 +57,7 @@ impl<N: Copy + Eq + Hash + Drop, S: Copy + Eq + Hash + Drop> Encoding<N, S> {
             groups: Groups::new(alloc),
             asked: IndexSet::new(alloc),
             helped: IndexSet::new(alloc),
-            exempt: Vec::new(alloc),
+            exempt: IndexSet::new(alloc),
             clause_limit,
         }
     }
