@@ -151,6 +151,7 @@ module _ {N S : Type 0} (u : Universe N S) where
     pub helpers : (v : VersionSetId) → Contains disjunct v → Contains notes.helped v
     pub packages : (v : VersionSetId) → Contains (version_sets u r) v → Contains notes.asked (u.version_set_name v)
     pub candidates : (s : S) → Contains (requirement_candidates u r) s → Contains notes.seen s
+    pub once : AreDistinct disjunct
 
   abbrev pub IsPrepared : Notes N S → ClauseKind N S → Type 0
   IsPrepared notes (Requires by disjunct r) = IsReady notes disjunct.items r
@@ -219,6 +220,7 @@ module _ {N S : Type 0} (u : Universe N S) where
         helpers = λ by disjunct r h. ⊎_elim (λ earlier. before.helpers by disjunct r earlier) (λ e. let ready : IsReady notes disjunct.items r = subst Prepared e next.prepared in ready.helpers) (Contains-push_cases notes.kinds kind (Requires by disjunct r) h);
         packages = λ by disjunct r h. ⊎_elim (λ earlier. before.packages by disjunct r earlier) (λ e. let ready : IsReady notes disjunct.items r = subst Prepared e next.prepared in ready.packages) (Contains-push_cases notes.kinds kind (Requires by disjunct r) h);
         candidates = λ by disjunct r h. ⊎_elim (λ earlier. before.candidates by disjunct r earlier) (λ e. let ready : IsReady notes disjunct.items r = subst Prepared e next.prepared in ready.candidates) (Contains-push_cases notes.kinds kind (Requires by disjunct r) h);
+        once = λ by disjunct r h. ⊎_elim (λ earlier. before.once by disjunct r earlier) (λ e. let ready : IsReady notes disjunct.items r = subst Prepared e next.prepared in ready.once) (Contains-push_cases notes.kinds kind (Requires by disjunct r) h);
         follow = λ v h s m. within _ (before.follow v h s m);
         locks = λ s t h free lock inside differ. within _ (before.locks s t h free lock inside differ);
         exclusions = λ s reason h free inside. within _ (before.exclusions s reason h free inside);

@@ -3,6 +3,8 @@ pub mod GroupLemmas
 pub mod ClauseLemmas
 pub mod EncodingLemmas
 pub mod NoteLemmas
+pub mod RequirementLemmas
+pub mod ReadLemmas
 pub mod Satisfied
 pub mod Sound
 pub mod Extended

@@ -92,6 +92,7 @@ module _ {N S : Type 0} (u : Universe N S) where
           helpers = before.helpers;
           packages = before.packages;
           candidates = before.candidates;
+          once = before.once;
           follow = before.follow;
           locks = before.locks;
           exclusions = before.exclusions;
@@ -135,6 +136,7 @@ module _ {N S : Type 0} (u : Universe N S) where
               helpers = before.helpers;
               packages = before.packages;
               candidates = λ by disjunct r h t k. Contains-append_left old.seen (s ∷ []) t (before.candidates by disjunct r h t k);
+              once = before.once;
               follow = before.follow;
               locks = before.locks;
               exclusions = before.exclusions;
@@ -203,6 +205,7 @@ module _ {N S : Type 0} (u : Universe N S) where
     helpers = start.helpers;
     packages = start.packages;
     candidates = start.candidates;
+    once = start.once;
     follow = start.follow;
     locks = start.locks;
     exclusions = start.exclusions;
@@ -243,6 +246,7 @@ module _ {N S : Type 0} (u : Universe N S) where
               helpers = before.helpers;
               packages = λ by disjunct r h v k. Contains-append_left mid.asked (n ∷ []) _ (before.packages by disjunct r h v k);
               candidates = before.candidates;
+              once = before.once;
               follow = before.follow;
               locks = λ s t h free lock inside differ. ⊎_elim
                   (λ (earlier : Contains mid.asked (u.name s)). before.locks s t earlier free lock inside differ)
@@ -307,6 +311,7 @@ module _ {N S : Type 0} (u : Universe N S) where
           helpers = λ by disjunct r h w k. Contains-append_left old.helped (v ∷ []) w (before.helpers by disjunct r h w k);
           packages = before.packages;
           candidates = before.candidates;
+          once = before.once;
           follow = λ w h s m. ⊎_elim
               (λ (earlier : Contains old.helped w). before.follow w earlier s m)
               (λ (is : v ≡ w). let Follows : VersionSetId → Type 0 = λ x. (t : S) → Contains (matching u x) t → Contains old.kinds (AnyOf (ConditionHelper x) t) in subst Follows is follows s m)

@@ -7,7 +7,10 @@ ghost use Rattle.resolver_encoding.specs.Encodings.{AddsClause, IsFull, IsUnread
 ghost use Rattle.resolver_encoding.specs.Refusals.{IsShortage};
 
 mod asking;
+mod constraining;
 mod helping;
+mod reading;
+mod requiring;
 mod seeing;
 
 use crate::groups::Groups;

@@ -1,6 +1,8 @@
 //! Clauses that encode a provider's rules: what they state, and what follows for sets of solvables.
 #![tactic(auto)]
 
+mod choices;
+mod disjuncts;
 mod encoding;
 mod groups;
 mod laws;

@@ -8,7 +8,10 @@ ghost use Rattle.resolver_encoding.specs.Encodings.{IsFull, IsLockRead, IsStep, 
 ghost use Rattle.resolver_encoding.specs.Refusals.{IsShortage, IsStop};
 
 use super::Encoding;
-use resolver_clause_store::{Cache, ClauseKind, DependencyProvider, Exhausted, Interner, Interrupted, Origin, Requirement, StringId, VersionSetId, append, is_among};
+use resolver_clause_store::{
+    Cache, ClauseKind, DependencyProvider, Exhausted, Interner, Interrupted, Origin, Requirement,
+    StringId, VersionSetId, append, is_among,
+};
 use std::hash::Hash;
 
 impl<N: Copy + Eq + Hash + Drop, S: Copy + Eq + Hash + Drop> Encoding<N, S> {

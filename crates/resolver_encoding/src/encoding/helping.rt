@@ -9,7 +9,10 @@ ghost use Rattle.resolver_encoding.specs.Encodings.{IsFull, IsStep, KeepsLimits}
 ghost use Rattle.resolver_encoding.specs.Refusals.{IsShortage, IsStop};
 
 use super::Encoding;
-use resolver_clause_store::{Cache, ClauseKind, DependencyProvider, Exhausted, Interner, Interrupted, Origin, VersionSetId, append, is_among};
+use resolver_clause_store::{
+    Cache, ClauseKind, DependencyProvider, Exhausted, Interner, Interrupted, Origin, VersionSetId,
+    append, is_among,
+};
 use std::hash::Hash;
 
 impl<N: Copy + Eq + Hash + Drop, S: Copy + Eq + Hash + Drop> Encoding<N, S> {

@@ -7,7 +7,9 @@ ghost use Rattle.resolver_encoding.specs.Groups.{IsNamed};
 ghost use Rattle.resolver_encoding.specs.Refusals.{IsShortage};
 
 use super::Encoding;
-use resolver_clause_store::{ClauseKind, DependencyProvider, Exhausted, Interner, Origin, append, is_among};
+use resolver_clause_store::{
+    ClauseKind, DependencyProvider, Exhausted, Interner, Origin, append, is_among,
+};
 use std::hash::Hash;
 
 impl<N: Copy + Eq + Hash + Drop, S: Copy + Eq + Hash + Drop> Encoding<N, S> {

@@ -1,4 +1,3 @@
-
 use Rattle.resolver_encoding.proofs.encoding.Encoding.ask_named.Goals as goal
 
 pub returns-in_ok-ask_each-in-Single-clause-asked : goal.returns-in_ok-ask_each-in-Single-clause-asked
