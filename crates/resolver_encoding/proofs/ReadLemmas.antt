@@ -1,5 +1,5 @@
 -- What was read stays read, and when all was.
-use Rattle.std.proofs.Common.{◌≡◌, ◌≢◌, ℕ, ◌+◌, ◌<◌, ◌≤◌, length, take, get_or, List, [], ◌∷◌, ◌++◌, refl, sym, ap, ◌∙◌, subst, ⊎_elim, inl, inr, arith, Contains, All, Vec, Global, Bool, true, false}
+use Rattle.std.proofs.Common.{◌≡◌, ◌≢◌, ℕ, ◌+◌, ◌<◌, ◌≤◌, length, take, get_or, List, [], ◌∷◌, ◌++◌, refl, sym, ap, ◌∙◌, subst, ⊎_elim, inl, inr, arith, Contains, All, Vec, Global, Bool, true, false, ◌⊎◌}
 use Rattle.std.specs.Prelude.{Option, Some, None, ⊤, slice_get}
 use Rattle.std.specs.Cmp.{IsEquivalence}
 use Rattle.std.specs.List.{IsDistinct, list_any}
@@ -193,3 +193,10 @@ module _ {N S : Type 0} (u : Universe N S) where
           (λ (before : slice_get [] n ≡ Some kind). absurd (omega (arith, slice_get_within [] n kind before)))
           (λ (last : (n ≡ length {A = ClauseKind N S} []) × (InstallRoot ≡ kind)). last)
           (place_cases [] InstallRoot n kind at)
+
+-- the first variable is the only one
+pub alone : {N S : Type 0} (old new : List (Origin N S)) (v : ℕ) → old ≡ [] → (new ≡ old) ⊎ (new ≡ old ++ Root ∷ []) → slice_get new v ≡ Some Root → new ≡ Root ∷ []
+alone old new v none added here = ⊎_elim
+    (λ same. let nothing : length new ≡ 0 = ap length (same ∙ none) in absurd (omega (arith, nothing, slice_get_within new v Root here)))
+    (λ more. more ∙ ap (λ list. list ++ Root ∷ []) none)
+    added

@@ -22,7 +22,7 @@ returns-then-is_by-clause-step g c =
     let s = c.args.candidate in
     let by = c.args.by in
     let kind : ClauseKind g.row.N.Denot g.row.S.Denot = Constrains by v s in
-    let adds = c.in_ok-add_unit-then-is_by.ensures.added in
+    let adds = c.in_ok-add_unit.ensures.added in
     let second : Atom g.row.N.Denot g.row.S.Denot = atom (Solvable s) false in
     let same : atom (origin_by by) false ≡ second = ap (λ b. atom (origin_by b) false) c.if-is_by.ensures in
     let Twice : Atom g.row.N.Denot g.row.S.Denot → Type 0 = λ a. AllZip (IsAtom (notes_in c.add_unit.new.self).origins) adds.literals.items (a ∷ []) in
@@ -30,7 +30,7 @@ returns-then-is_by-clause-step g c =
     (λ root asks before. record { clause = record { atoms = AreAtoms-twice (notes_in c.add_unit.new.self).origins adds.literals.items (atom (origin_by by) false) second same (subst Twice (sym same) adds.are); in_order = tt }; is_true = (asks, c.requires.other); direct = tt; due = tt; prepared = tt })
 
 pub returns-then-is_by-clause-forbidden : goal.returns-then-is_by-clause-forbidden
-returns-then-is_by-clause-forbidden g c = clause_listed (g.D.Interner.universe c.args.provider.now) (notes_in c.args.self.now) _ _ _ c.in_ok-add_unit-then-is_by.ensures.added
+returns-then-is_by-clause-forbidden g c = clause_listed (g.D.Interner.universe c.args.provider.now) (notes_in c.args.self.now) _ _ _ c.in_ok-add_unit.ensures.added
 
 pub returns-clause-step : goal.returns-clause-step
 returns-clause-step g c =
