@@ -10,3 +10,4 @@ pub mod Groups
 pub mod Refusals
 pub mod Encodings
 pub mod Notes
+pub mod TestProvider
