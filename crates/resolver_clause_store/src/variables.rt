@@ -1,6 +1,6 @@
 //! The variables, and what they stand for.
 
-ghost use Rattle.std.specs.Prelude.{Contains, ◌≡◌, ◌<◌, ◌≤◌, ◌^◌, [], Some, IfErr, IfOk, OnOk, OnErr, length, slice_get};
+ghost use Rattle.std.specs.Prelude.{Contains, ◌≡◌, ◌<◌, ◌≤◌, ◌^◌, ◌⊎◌, [], ◌∷◌, ◌++◌, Some, IfErr, IfOk, OnOk, OnErr, length, slice_get};
 ghost use Rattle.resolver_clause_store.specs.Laws.{IsIdentity};
 
 use crate::kinds::Origin;
@@ -61,6 +61,7 @@ impl<N: Copy + Eq + Hash + Drop, S: Copy + Eq + Hash + Drop> Variables<N, S> {
         ensures here { IfOk result (λ v. slice_get (origins_in self.new) v ≡ Some origin) }
         ensures limit { limit_in self.new ≡ limit_in self.old }
         ensures distinct { AreDistinct (origins_in self.old) → AreDistinct (origins_in self.new) }
+        ensures added { (origins_in self.new ≡ origins_in self.old) ⊎ (origins_in self.new ≡ origins_in self.old ++ origin ∷ []) }
         ensures unchanged { OnErr result (origins_in self.new ≡ origins_in self.old) }
         ensures ids { IfErr result (λ e. e ≡ Exhausted.Ids → IsFull self.new) }
     {
@@ -81,6 +82,7 @@ impl<N: Copy + Eq + Hash + Drop, S: Copy + Eq + Hash + Drop> Variables<N, S> {
         ensures here { IfOk result (λ v. slice_get (origins_in self.new) v ≡ Some origin) }
         ensures limit { limit_in self.new ≡ limit_in self.old }
         ensures distinct { AreDistinct (origins_in self.old) → AreDistinct (origins_in self.new) }
+        ensures added { (origins_in self.new ≡ origins_in self.old) ⊎ (origins_in self.new ≡ origins_in self.old ++ origin ∷ []) }
         ensures unchanged { OnErr result (origins_in self.new ≡ origins_in self.old) }
         ensures ids { IfErr result (λ e. e ≡ Exhausted.Ids → IsFull self.new) }
     {

@@ -61,9 +61,9 @@ AreAtoms-twice {N} {S} origins ls a b same h =
           (cons_cases a [] w.0 w.1);
       each_atom = λ c i.
           let of_a : Contains (a ∷ []) c = ⊎_elim
-              (λ (e : a ≡ c). let P : Atom N S → Type 0 = λ q. Contains (a ∷ []) q in subst P e (here a []))
-              (λ (later : Contains (b ∷ []) c). let P : Atom N S → Type 0 = λ q. Contains (q ∷ []) c in subst P (sym same) later)
-              (cons_cases a (b ∷ []) c i) in
+          (λ (e : a ≡ c). let P : Atom N S → Type 0 = λ q. Contains (a ∷ []) q in subst P e (here a []))
+          (λ (later : Contains (b ∷ []) c). let P : Atom N S → Type 0 = λ q. Contains (q ∷ []) c in subst P (sym same) later)
+          (cons_cases a (b ∷ []) c i) in
           one.each_atom c of_a;
     }
 
@@ -110,4 +110,17 @@ module _ {N S : Type 0} (old : Notes N S) (origins : List (Origin N S)) (limit :
         literals = literals;
         are = subst Zip (sym now) are;
         is = is ∙ (λ i. record old { origins = sym now i; variable_limit = same i; table = old.table ++ literals ∷ []; kinds = old.kinds ++ kind ∷ [] });
+      }
+
+  -- a clause that asks for candidates
+  pub requirement_added : new ≡ record old { origins = origins; variable_limit = limit; table = old.table ++ literals ∷ []; kinds = old.kinds ++ kind ∷ []; requirements = old.requirements ++ length old.kinds ∷ [] } → AddsRequirement old new kind as'
+  requirement_added is =
+      let Grown : List (Origin N S) → Type 0 = λ os. Grows old.origins os in
+      let Zip : List (Origin N S) → Type 0 = λ os. AllZip (IsAtom os) literals.items as' in
+      let now : new.origins ≡ origins = ap (λ n. n.origins) is in
+      record {
+        origins = subst Grown (sym now) grows;
+        literals = literals;
+        are = subst Zip (sym now) are;
+        is = is ∙ (λ i. record old { origins = sym now i; variable_limit = same i; table = old.table ++ literals ∷ []; kinds = old.kinds ++ kind ∷ []; requirements = old.requirements ++ length old.kinds ∷ [] });
       }

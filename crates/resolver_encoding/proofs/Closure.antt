@@ -33,45 +33,46 @@ active_more u Has More more (Some c) h = holds_more u Has More more c h
 module _ {N S : Type 0} (u : Universe N S) (root : Demands) (lawful : HasLawfulSolvables u) (chosen seeds : List S) where
   contains_or : (xs : List S) (s : S) → Contains xs s ⊎ (Contains xs s → ⊥)
   contains_or xs s = ⊎_elim
-    (λ e. inl (Contains-from_any {K = S} {eq = u.same_solvable} lawful.same_solvable.alone s xs e))
-    (λ e. inr (λ inside. both_ways _ e (list_any-contains (u.same_solvable s) xs s inside (lawful.same_solvable.itself s))))
-    (cases_Bool (list_any (u.same_solvable s) xs))
+      (λ e. inl (Contains-from_any {K = S} {eq = u.same_solvable} lawful.same_solvable.alone s xs e))
+      (λ e. inr (λ inside. both_ways _ e (list_any-contains (u.same_solvable s) xs s inside (lawful.same_solvable.itself s))))
+      (cases_Bool (list_any (u.same_solvable s) xs))
 
   meets_or : (xs : List S) → Meets xs chosen ⊎ (Meets xs chosen → ⊥)
   meets_or [] = inr (λ m. none_in m.shared m.in_first)
   meets_or (x ∷ xs) = ⊎_elim
-    (λ inside. inl (record { shared = x; in_first = here x xs; in_second = inside }))
-    (λ out. ⊎_elim
+      (λ inside. inl (record { shared = x; in_first = here x xs; in_second = inside }))
+      (λ out. ⊎_elim
       (λ m. inl (record { shared = m.shared; in_first = there x xs m.shared m.in_first; in_second = m.in_second }))
       (λ none. inr (λ m. ⊎_elim
-        (λ e. let In : S → Type 0 = λ y. Contains chosen y in out (subst In (sym e) m.in_second))
-        (λ t. none (record { shared = m.shared; in_first = t; in_second = m.in_second }))
-        (cons_cases x xs m.shared m.in_first)))
+      (λ e. let In : S → Type 0 = λ y. Contains chosen y in out (subst In (sym e) m.in_second))
+      (λ t. none (record { shared = m.shared; in_first = t; in_second = m.in_second }))
+      (cons_cases x xs m.shared m.in_first)))
       (meets_or xs))
-    (contains_or chosen x)
+      (contains_or chosen x)
 
   abbrev Holds : ConditionId → Type 0
   Holds c = ConditionHolds u (Contains chosen) c
 
   by_kind : (n : ℕ) (c : ConditionId) (k : Condition) → u.condition c ≡ k → ((a : ConditionId) → u.condition_rank a < u.condition_rank c → Holds a ⊎ (Holds a → ⊥)) → Holds c ⊎ (Holds c → ⊥)
   by_kind n c (Matched v) is below = ⊎_elim
-    (λ m. inl (holds_matched u chosen c v is m))
-    (λ none. inr (λ h. none (matched_holds u chosen c v is h)))
-    (meets_or (matching u v))
+      (λ m. inl (holds_matched u chosen c v is m))
+      (λ none. inr (λ h. none (matched_holds u chosen c v is h)))
+      (meets_or (matching u v))
   by_kind n c (Binary And a b) is below = ⊎_elim
-    (λ h. ⊎_elim
+      (λ h. ⊎_elim
       (λ k. inl (both a b is h k))
       (λ none. inr (λ w. none (both_hold u chosen c a b is w).1))
       (below b (lawful.ids.right_lower c a b And is)))
-    (λ none. inr (λ w. none (both_hold u chosen c a b is w).0))
-    (below a (lawful.ids.left_lower c a b And is))
+      (λ none. inr (λ w. none (both_hold u chosen c a b is w).0))
+      (below a (lawful.ids.left_lower c a b And is))
   by_kind n c (Binary Or a b) is below = ⊎_elim
-    (λ h. inl (left a b is h))
-    (λ none. ⊎_elim
+      (λ h. inl (left a b is h))
+      (λ none. ⊎_elim
       (λ k. inl (right a b is k))
       (λ neither. inr (λ w. ⊎_elim none neither (either_holds u chosen c a b is w)))
       (below b (lawful.ids.right_lower c a b Or is)))
-    (below a (lawful.ids.left_lower c a b Or is))
+      (below a (lawful.ids.left_lower c a b Or is))
+
   holds_or : (n : ℕ) (c : ConditionId) → u.condition_rank c < n → Holds c ⊎ (Holds c → ⊥)
   holds_or zero c h = absurd (omega arith)
   holds_or (suc n) c h = by_kind n c (u.condition c) refl (λ a lower. holds_or n a (omega arith))
@@ -93,20 +94,20 @@ module _ {N S : Type 0} (u : Universe N S) (root : Demands) (lawful : HasLawfulS
   asks_or : (rs : List ConditionalRequirement) (s : S) → Asks rs s ⊎ (Asks rs s → ⊥)
   asks_or [] s = inr (λ a. none_in a.r a.listed)
   asks_or (r ∷ rs) s = ⊎_elim
-    (λ a. inl (record { r = a.r; listed = there r rs a.r a.listed; active = a.active; candidate = a.candidate }))
-    (λ none. 
+      (λ a. inl (record { r = a.r; listed = there r rs a.r a.listed; active = a.active; candidate = a.candidate }))
+      (λ none.
       let only : ((Active r × Contains (requirement_candidates u r.requirement) s) → ⊥) → Asks (r ∷ rs) s → ⊥ = λ off a. ⊎_elim
-        (λ e. let IsIt : ConditionalRequirement → Type 0 = λ q. Active q × Contains (requirement_candidates u q.requirement) s in off (subst IsIt (sym e) (a.active, a.candidate)))
-        (λ t. none (record { r = a.r; listed = t; active = a.active; candidate = a.candidate }))
-        (cons_cases r rs a.r a.listed) in
+      (λ e. let IsIt : ConditionalRequirement → Type 0 = λ q. Active q × Contains (requirement_candidates u q.requirement) s in off (subst IsIt (sym e) (a.active, a.candidate)))
+      (λ t. none (record { r = a.r; listed = t; active = a.active; candidate = a.candidate }))
+      (cons_cases r rs a.r a.listed) in
       ⊎_elim
-        (λ active. ⊎_elim
-          (λ candidate. inl (record { r = r; listed = here r rs; active = active; candidate = candidate }))
-          (λ off. inr (only (λ w. off w.1)))
-          (contains_or (requirement_candidates u r.requirement) s))
-        (λ off. inr (only (λ w. off w.0)))
-        (optional_or r.condition))
-    (asks_or rs s)
+      (λ active. ⊎_elim
+      (λ candidate. inl (record { r = r; listed = here r rs; active = active; candidate = candidate }))
+      (λ off. inr (only (λ w. off w.1)))
+      (contains_or (requirement_candidates u r.requirement) s))
+      (λ off. inr (only (λ w. off w.0)))
+      (optional_or r.condition))
+      (asks_or rs s)
 
   -- one of these asks for it
   pub record AsksOne (done : List S) (s : S) : Type 0 where
@@ -117,30 +118,30 @@ module _ {N S : Type 0} (u : Universe N S) (root : Demands) (lawful : HasLawfulS
   asks_one_or : (done : List S) (s : S) → AsksOne done s ⊎ (AsksOne done s → ⊥)
   asks_one_or [] s = inr (λ a. none_in a.by a.among)
   asks_one_or (t ∷ ts) s = ⊎_elim
-    (λ a. inl (record { by = a.by; among = there t ts a.by a.among; asks = a.asks }))
-    (λ none. ⊎_elim
+      (λ a. inl (record { by = a.by; among = there t ts a.by a.among; asks = a.asks }))
+      (λ none. ⊎_elim
       (λ a. inl (record { by = t; among = here t ts; asks = a }))
       (λ off. inr (λ a. ⊎_elim
-        (λ e. let AskedBy : S → Type 0 = λ q. Asks (demands_of (u.needs q)).requirements s in off (subst AskedBy (sym e) a.asks))
-        (λ among. none (record { by = a.by; among = among; asks = a.asks }))
-        (cons_cases t ts a.by a.among)))
+      (λ e. let AskedBy : S → Type 0 = λ q. Asks (demands_of (u.needs q)).requirements s in off (subst AskedBy (sym e) a.asks))
+      (λ among. none (record { by = a.by; among = among; asks = a.asks }))
+      (cons_cases t ts a.by a.among)))
       (asks_or (demands_of (u.needs t)).requirements s))
-    (asks_one_or ts s)
+      (asks_one_or ts s)
 
   abbrev pub Next : List S → S → Type 0
   Next done s = Contains seeds s ⊎ (Asks root.requirements s ⊎ AsksOne done s)
 
   next_or : (done : List S) (s : S) → Next done s ⊎ (Next done s → ⊥)
   next_or done s = ⊎_elim
-    (λ a. inl (inl a))
-    (λ no. ⊎_elim
+      (λ a. inl (inl a))
+      (λ no. ⊎_elim
       (λ b. inl (inr (inl b)))
       (λ nor. ⊎_elim
-        (λ c. inl (inr (inr c)))
-        (λ neither. inr (λ n. ⊎_elim no (λ m. ⊎_elim nor neither m) n))
-        (asks_one_or done s))
+      (λ c. inl (inr (inr c)))
+      (λ neither. inr (λ n. ⊎_elim no (λ m. ⊎_elim nor neither m) n))
+      (asks_one_or done s))
       (asks_or root.requirements s))
-    (contains_or seeds s)
+      (contains_or seeds s)
 
   record Picked (done rest : List S) : Type 0 where
     s : S
@@ -154,30 +155,35 @@ module _ {N S : Type 0} (u : Universe N S) (root : Demands) (lawful : HasLawfulS
   pick : (done rest : List S) → Picked done rest ⊎ ((x : S) → Contains rest x → Next done x → ⊥)
   pick done [] = inr (λ x h. absurd (none_in x h))
   pick done (y ∷ ys) = ⊎_elim
-    (λ n. inl (record { s = y; others = ys; shorter = omega arith; from = here y ys; next = n; kept = λ x h. there y ys x h; all = cons_cases y ys }))
-    (λ off. ⊎_elim
+      (λ n. inl (record { s = y; others = ys; shorter = omega arith; from = here y ys; next = n; kept = λ x h. there y ys x h; all = cons_cases y ys }))
+      (λ off. ⊎_elim
       (λ p. inl (record {
-        s = p.s; others = y ∷ p.others; shorter = omega (arith, p.shorter); from = there y ys p.s p.from; next = p.next;
+        s = p.s;
+        others = y ∷ p.others;
+        shorter = omega (arith, p.shorter);
+        from = there y ys p.s p.from;
+        next = p.next;
         kept = λ x h. ⊎_elim (λ e. (0, omega arith, e)) (λ t. there y ys x (p.kept x t)) (cons_cases y p.others x h);
-        all = λ x h. ⊎_elim (λ e. inr (0, omega arith, e)) (λ t. ⊎_elim (λ e. inl e) (λ k. inr (there y p.others x k)) (p.all x t)) (cons_cases y ys x h) }))
+        all = λ x h. ⊎_elim (λ e. inr (0, omega arith, e)) (λ t. ⊎_elim (λ e. inl e) (λ k. inr (there y p.others x k)) (p.all x t)) (cons_cases y ys x h);
+      }))
       (λ none. inr (λ x h n. ⊎_elim
-        (λ e. let IsNextOne : S → Type 0 = λ q. Next done q in off (subst IsNextOne (sym e) n))
-        (λ t. none x t n)
-        (cons_cases y ys x h)))
+      (λ e. let IsNextOne : S → Type 0 = λ q. Next done q in off (subst IsNextOne (sym e) n))
+      (λ t. none x t n)
+      (cons_cases y ys x h)))
       (pick done ys))
-    (next_or done y)
+      (next_or done y)
 
   abbrev Reached : S → Type 0
   Reached s = IsReached u root chosen seeds s
 
   reached_next : (done : List S) → ((t : S) → Contains done t → Reached t) → (s : S) → Contains chosen s → Next done s → Reached s
   reached_next done before s inside n = ⊎_elim
-    (λ seed. by_seed seed inside)
-    (λ m. ⊎_elim
+      (λ seed. by_seed seed inside)
+      (λ m. ⊎_elim
       (λ a. by_root a.r a.listed a.active a.candidate inside)
       (λ a. by_reached a.asks.r (before a.by a.among) a.asks.listed a.asks.active a.asks.candidate inside)
       m)
-    n
+      n
 
   -- a part of the set that is there by need, and leads to nothing else of the set
   pub record Closure : Type 0 where
@@ -188,20 +194,24 @@ module _ {N S : Type 0} (u : Universe N S) (root : Demands) (lawful : HasLawfulS
 
   close : (n : ℕ) (done rest : List S) → length rest ≤ n → ((x : S) → Contains chosen x → Contains done x ⊎ Contains rest x) → IsWithin done chosen → IsWithin rest chosen → ((t : S) → Contains done t → Reached t) → Closure
   close zero done rest short all in_done in_rest before = record {
-    part = done; within = in_done; reached = before;
-    closed = λ s inside n. ⊎_elim (λ d. d) (λ r. absurd (omega (arith, r.1))) (all s inside)
+    part = done;
+    within = in_done;
+    reached = before;
+    closed = λ s inside n. ⊎_elim (λ d. d) (λ r. absurd (omega (arith, r.1))) (all s inside);
   }
   close (suc n) done rest short all in_done in_rest before = ⊎_elim
-    (λ p. close n (p.s ∷ done) p.others (omega (arith, p.shorter))
+      (λ p. close n (p.s ∷ done) p.others (omega (arith, p.shorter))
       (λ x inside. ⊎_elim (λ d. inl (there p.s done x d)) (λ r. ⊎_elim (λ e. inl (0, omega arith, e)) (λ o. inr o) (p.all x r)) (all x inside))
       (λ x h. ⊎_elim (λ e. let In : S → Type 0 = λ q. Contains chosen q in subst In e (in_rest p.s p.from)) (λ t. in_done x t) (cons_cases p.s done x h))
       (λ x h. in_rest x (p.kept x h))
       (λ x h. ⊎_elim (λ e. let R : S → Type 0 = λ q. Reached q in subst R e (reached_next done before p.s (in_rest p.s p.from) p.next)) (λ t. before x t) (cons_cases p.s done x h)))
-    (λ none. record {
-      part = done; within = in_done; reached = before;
-      closed = λ s inside nx. ⊎_elim (λ d. d) (λ r. absurd (none s r nx)) (all s inside)
-    })
-    (pick done rest)
+      (λ none. record {
+        part = done;
+        within = in_done;
+        reached = before;
+        closed = λ s inside nx. ⊎_elim (λ d. d) (λ r. absurd (none s r nx)) (all s inside);
+      })
+      (pick done rest)
 
   pub closure : Closure
   closure = close (length chosen) [] chosen (omega arith) (λ x inside. inr inside) (λ x h. absurd (none_in x h)) (λ x h. h) (λ t h. absurd (none_in t h))

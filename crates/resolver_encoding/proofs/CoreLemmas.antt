@@ -32,8 +32,8 @@ module _ {N S : Type 0} (u : Universe N S) (same_name : N → N → Bool) (names
 
   same_helper-true : (o p : Origin N S) → same_helper same_name o p ≡ true → o ≡ p
   same_helper-true (Bit n i) (Bit m j) e =
-    let Of : N → ℕ → Origin N S = λ x k. Bit x k in
-    ap (λ x. Of x i) (names.alone n m (and_left _ _ e)) ∙ ap (Of m) (eqb-true i j (and_right _ _ e))
+      let Of : N → ℕ → Origin N S = λ x k. Bit x k in
+      ap (λ x. Of x i) (names.alone n m (and_left _ _ e)) ∙ ap (Of m) (eqb-true i j (and_right _ _ e))
   same_helper-true (Gate r) (Gate q) e = let Of : Requirement → Origin N S = λ x. Gate x in ap Of (same_requirement-true r q e)
   same_helper-true (ConstraintHelper v) (ConstraintHelper w) e = of_one (Origin N S) (λ n. ConstraintHelper (record { 0 = n })) v.0 w.0 e
   same_helper-true (ConditionHelper v) (ConditionHelper w) e = of_one (Origin N S) (λ n. ConditionHelper (record { 0 = n })) v.0 w.0 e
@@ -62,9 +62,9 @@ module _ {N S : Type 0} (u : Universe N S) (same_name : N → N → Bool) (names
     coded : (n : N) (s : S) (i : ℕ) (b : Bool) → Contains kinds (HasBit n s i b) → implies (Bit n i) s ≡ b
     coded n s i true inside = list_any-contains (says_implies u same_name (Bit n i) s) kinds (HasBit n s i true) inside (and_both _ _ (and_both _ _ (names.itself n) (nat_same i)) (same.itself s))
     coded n s i false inside = ⊎_elim
-      (λ e. absurd (both_ways _ (truth (HasBit n s i false) inside).1 (implied-follows (Bit n i) s e)))
-      (λ e. e)
-      (cases_Bool (implies (Bit n i) s))
+        (λ e. absurd (both_ways _ (truth (HasBit n s i false) inside).1 (implied-follows (Bit n i) s e)))
+        (λ e. e)
+        (cases_Bool (implies (Bit n i) s))
 
     pub defines_core : Defines u implies kinds
     defines_core = record {
@@ -73,13 +73,13 @@ module _ {N S : Type 0} (u : Universe N S) (same_name : N → N → Bool) (names
       matched = λ v s e. Contains-from_any {K = S} {eq = u.same_solvable} same.alone s (matching u v) (implied-follows (ConditionHelper v) s e);
       helped = λ v s inside. list_any-contains (says_implies u same_name (ConstraintHelper v) s) kinds (ConstrainsExcluded s v) inside (and_both _ _ (nat_same v.0) (same.itself s));
       coded = coded;
-      different = λ n s t inside. (truth (ForbidMultipleInstances n s t) inside).2
+      different = λ n s t inside. (truth (ForbidMultipleInstances n s t) inside).2;
     }
 
     says-gate : (r : Requirement) (s : S) (k : ClauseKind N S) → says_implies u same_name (Gate r) s k ≡ true → k ≡ AnyOf (Gate r) s
     says-gate r s (AnyOf helper t) e =
-      let Of : Origin N S → S → ClauseKind N S = λ o x. AnyOf o x in
-      ap (λ o. Of o t) (same_helper-true helper (Gate r) (and_left _ _ e)) ∙ ap (Of (Gate r)) (same.alone t s (and_right _ _ e))
+        let Of : Origin N S → S → ClauseKind N S = λ o x. AnyOf o x in
+        ap (λ o. Of o t) (same_helper-true helper (Gate r) (and_left _ _ e)) ∙ ap (Of (Gate r)) (same.alone t s (and_right _ _ e))
     says-gate r s (ConstrainsExcluded t v) e = absurd (false≢true e)
     says-gate r s (HasBit n t i true) e = absurd (false≢true e)
     says-gate r s k e = absurd (false≢true e)
@@ -87,5 +87,5 @@ module _ {N S : Type 0} (u : Universe N S) (same_name : N → N → Bool) (names
     -- a gate's requirer whose implication is among the clauses
     pub implied-gate : (r : Requirement) (s : S) → implies (Gate r) s ≡ true → Contains kinds (AnyOf (Gate r) s)
     implied-gate r s e =
-      let w = list_any-witness (says_implies u same_name (Gate r) s) kinds e in
-      let In : ClauseKind N S → Type 0 = λ k. Contains kinds k in subst In (says-gate r s w.0 w.2) w.1
+        let w = list_any-witness (says_implies u same_name (Gate r) s) kinds e in
+        let In : ClauseKind N S → Type 0 = λ k. Contains kinds k in subst In (says-gate r s w.0 w.2) w.1

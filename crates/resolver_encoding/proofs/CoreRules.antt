@@ -39,7 +39,7 @@ use Rattle.resolver_encoding.proofs.Satisfied.{satisfied}
 use Rattle.resolver_encoding.proofs.CoreLemmas.{implied-follows, defines_core}
 
 module _ {N S : Type 0} (u : Universe N S) (codes : N → ℕ → S → Bool) (are_codes : AreCodes u codes) (root : Demands) (same : IsIdentity u.same_solvable)
-         (kinds : List (ClauseKind N S)) (are_true : All (IsTrueClause u codes root) kinds) (implies : Origin N S → S → Bool) (so : (o : Origin N S) (s : S) → implies o s ≡ true → follows u codes o s ≡ true) where
+    (kinds : List (ClauseKind N S)) (are_true : All (IsTrueClause u codes root) kinds) (implies : Origin N S → S → Bool) (so : (o : Origin N S) (s : S) → implies o s ≡ true → follows u codes o s ≡ true) where
   truth : (kind : ClauseKind N S) → Contains kinds kind → IsTrueClause u codes root kind
   truth kind inside = All-contains (IsTrueClause u codes root) kinds kind are_true inside
 
@@ -50,10 +50,10 @@ module _ {N S : Type 0} (u : Universe N S) (codes : N → ℕ → S → Bool) (a
   stated_true st (states_first n s t inside) = (truth (ForbidMultipleInstances n s t) inside).0
   stated_true st (states_second n s t inside) = (truth (ForbidMultipleInstances n s t) inside).1
   stated_true st (states_gated s r inside e) =
-    let w = list_any-witness (is_plain r) (demands_of (u.needs s)).requirements (so (Gate r) s e) in
-    let plain = is_plain-parts r w.0 w.2 in
-    let Implied : Option ConditionId → Type 0 = λ o. Implies u [] o in
-    (w.0, w.1, plain.1, refl, subst Implied (sym plain.0) refl)
+      let w = list_any-witness (is_plain r) (demands_of (u.needs s)).requirements (so (Gate r) s e) in
+      let plain = is_plain-parts r w.0 w.2 in
+      let Implied : Option ConditionId → Type 0 = λ o. Implies u [] o in
+      (w.0, w.1, plain.1, refl, subst Implied (sym plain.0) refl)
   stated_true st (states_helped by v s inside e) = (truth (ConstrainsParent by v) inside, Contains-from_any {K = S} {eq = u.same_solvable} same.alone s (others u v) (so (ConstraintHelper v) s e))
   stated_true st (states_coded n s i b inside) = (truth (HasBit n s i b) inside).0
   stated_true st (states_bit n s i e) = are_codes.named n i s (so (Bit n i) s e)
@@ -84,26 +84,26 @@ contradictory_refutes u implies kinds rules lawful defines listed h = λ set obe
 
 -- clauses of a table that no values make true
 pub core_contradicts : {N S : Type 0} (u : Universe N S) (origins : List (Origin N S)) (table : List (Vec Literal Global)) (kinds : List (ClauseKind N S)) (numbers : List ℕ) →
-  AreEncoded u origins table kinds → All (λ n. n < length kinds) numbers → ((values : ℕ → Bool) → MakesTrue values table numbers → ⊥) → IsContradictory u (kinds_at kinds numbers)
+    AreEncoded u origins table kinds → All (λ n. n < length kinds) numbers → ((values : ℕ → Bool) → MakesTrue values table numbers → ⊥) → IsContradictory u (kinds_at kinds numbers)
 core_contradicts {N} {S} u origins table kinds numbers encoded within none = record {
   none = λ value holds. none (values_by origins value) (λ i d below.
-    let n : ℕ = get_or numbers i d in
-    let inside : n < length kinds = within i d below in
-    let kind : ClauseKind N S = get_or kinds n InstallRoot in
-    clause_by_kind u origins table kinds encoded value n kind (slice_get-get_or kinds n InstallRoot inside)
-      (holds kind (Contains-map (λ m. slice_index_or kinds m InstallRoot) numbers n (Contains-get_or numbers i d below))))
+      let n : ℕ = get_or numbers i d in
+      let inside : n < length kinds = within i d below in
+      let kind : ClauseKind N S = get_or kinds n InstallRoot in
+      clause_by_kind u origins table kinds encoded value n kind (slice_get-get_or kinds n InstallRoot inside)
+      (holds kind (Contains-map (λ m. slice_index_or kinds m InstallRoot) numbers n (Contains-get_or numbers i d below))));
 }
 
 module _ {N S : Type 0} (u : Universe N S) (same_name : N → N → Bool) (codes : N → ℕ → S → Bool) (root : Demands) (core : List (ClauseKind N S)) (rules : List (Rule N S)) where
   -- the rules of a core
   pub core_explained : HasLawfulSolvables u → IsIdentity same_name → AreCodes u codes → All (IsTrueClause u codes root) core →
-    AreListed u (implied_in u same_name core) core rules → AreStated u (implied_in u same_name core) core rules → IsContradictory u core → IsExplained u root rules
+      AreListed u (implied_in u same_name core) core rules → AreStated u (implied_in u same_name core) core rules → IsContradictory u core → IsExplained u root rules
   core_explained ids names are_codes are_true listed stated none = record {
     refuted = contradictory_refutes u (implied_in u same_name core) core rules ids (defines_core u same_name names ids.same_solvable codes root core are_true) listed none;
     each_true = λ k d below.
-      let rule = get_or rules k d in
-      true_rule u root rule (stated_true u codes are_codes root ids.same_solvable core are_true (implied_in u same_name core) (implied-follows u same_name names ids.same_solvable codes root core are_true)
-        (statement_of rule) (stated rule (Contains-get_or rules k d below)))
+        let rule = get_or rules k d in
+        true_rule u root rule (stated_true u codes are_codes root ids.same_solvable core are_true (implied_in u same_name core) (implied-follows u same_name names ids.same_solvable codes root core are_true)
+        (statement_of rule) (stated rule (Contains-get_or rules k d below)));
   }
 
 -- the clauses of a core are true

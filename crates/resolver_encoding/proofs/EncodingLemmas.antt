@@ -121,6 +121,9 @@ module _ {N S : Type 0} (u : Universe N S) where
       place_same : (xs : List (Vec Literal Global)) (x : Vec Literal Global) (n : ℕ) → n < length xs → slice_get (xs ++ x ∷ []) n ≡ slice_get xs n
       place_same xs x n below = place_left xs (x ∷ []) n _ (slice_get-get_or xs n x below) ∙ sym (slice_get-get_or xs n x below)
 
+  pub AreEncoded-keeps : (old new : List (Origin N S)) (table : List (Vec Literal Global)) (kinds : List (ClauseKind N S)) → Keeps old new → AreEncoded u old table kinds → AreEncoded u new table kinds
+  AreEncoded-keeps old new table kinds keeps before = record { count = before.count; each = λ n k at. IsClauseOf-keeps u old new (clause_at table n) k keeps (before.each n k at) }
+
   -- what a new lock or exclusion must be
   abbrev pub IsDue : List N → List S → ClauseKind N S → Type 0
   IsDue asked exempt (Lock s t) = Contains asked (u.name t) × (Contains exempt t → ⊥)
@@ -148,6 +151,7 @@ module _ {N S : Type 0} (u : Universe N S) where
     pub helpers : (v : VersionSetId) → Contains disjunct v → Contains notes.helped v
     pub packages : (v : VersionSetId) → Contains (version_sets u r) v → Contains notes.asked (u.version_set_name v)
     pub candidates : (s : S) → Contains (requirement_candidates u r) s → Contains notes.seen s
+    pub once : AreDistinct disjunct
 
   abbrev pub IsPrepared : Notes N S → ClauseKind N S → Type 0
   IsPrepared notes (Requires by disjunct r) = IsReady notes disjunct.items r
@@ -216,6 +220,7 @@ module _ {N S : Type 0} (u : Universe N S) where
         helpers = λ by disjunct r h. ⊎_elim (λ earlier. before.helpers by disjunct r earlier) (λ e. let ready : IsReady notes disjunct.items r = subst Prepared e next.prepared in ready.helpers) (Contains-push_cases notes.kinds kind (Requires by disjunct r) h);
         packages = λ by disjunct r h. ⊎_elim (λ earlier. before.packages by disjunct r earlier) (λ e. let ready : IsReady notes disjunct.items r = subst Prepared e next.prepared in ready.packages) (Contains-push_cases notes.kinds kind (Requires by disjunct r) h);
         candidates = λ by disjunct r h. ⊎_elim (λ earlier. before.candidates by disjunct r earlier) (λ e. let ready : IsReady notes disjunct.items r = subst Prepared e next.prepared in ready.candidates) (Contains-push_cases notes.kinds kind (Requires by disjunct r) h);
+        once = λ by disjunct r h. ⊎_elim (λ earlier. before.once by disjunct r earlier) (λ e. let ready : IsReady notes disjunct.items r = subst Prepared e next.prepared in ready.once) (Contains-push_cases notes.kinds kind (Requires by disjunct r) h);
         follow = λ v h s m. within _ (before.follow v h s m);
         locks = λ s t h free lock inside differ. within _ (before.locks s t h free lock inside differ);
         exclusions = λ s reason h free inside. within _ (before.exclusions s reason h free inside);

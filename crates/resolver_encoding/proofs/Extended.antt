@@ -25,12 +25,12 @@ use Rattle.resolver_encoding.proofs.Lists.{list_any-contains, list_any-witness}
 
 -- variables that have the values of their origins make a clause true that is true by its atoms
 pub clause_true-atoms : {N S : Type 0} (origins : List (Origin N S)) (value : Origin N S → Bool) (values : ℕ → Bool) → ((x : ℕ) (o : Origin N S) → slice_get origins x ≡ Some o → values x ≡ value o) →
-  (literals : List Literal) (atoms : List (Atom N S)) → AreAtoms origins literals atoms → is_satisfied value atoms ≡ true → clause_true values literals ≡ true
+    (literals : List Literal) (atoms : List (Atom N S)) → AreAtoms origins literals atoms → is_satisfied value atoms ≡ true → clause_true values literals ≡ true
 clause_true-atoms origins value values agree literals atoms are holds =
     let w = list_any-witness (λ a. beq (value a.origin) a.positive) atoms holds in
     let l = are.each_atom w.0 w.1 in
     list_any-contains (λ (l : Literal). beq (values l.variable) l.positive) literals l.0 l.1
-      (rw (agree l.0.variable w.0.origin l.2.origin, l.2.positive) w.2)
+    (rw (agree l.0.variable w.0.origin l.2.origin, l.2.positive) w.2)
 
 -- the values that variables get from their origins
 abbrev pub values_by : {N S : Type 0} → List (Origin N S) → (Origin N S → Bool) → ℕ → Bool
@@ -46,16 +46,16 @@ module _ {N S : Type 0} (u : Universe N S) (origins : List (Origin N S)) (table 
 
   pub table_by_kinds : ((k : ClauseKind N S) → Contains kinds k → is_satisfied value (atoms_of u k) ≡ true) → Satisfies (values_by origins value) table
   table_by_kinds all = λ n d below.
-    let inside : n < length kinds = omega (arith, encoded.count) in
-    let kind : ClauseKind N S = get_or kinds n InstallRoot in
-    let is : slice_get kinds n ≡ Some kind = slice_get-get_or kinds n InstallRoot inside in
-    let stands : slice_get table n ≡ Some (get_or table n d) = slice_get-get_or table n d below in
-    let True : List Literal → Type 0 = λ c. clause_true (values_by origins value) c ≡ true in
-    subst True (ap (λ o. option_map_or (λ (c : Vec Literal Global). c.items) o []) stands) (clause_by_kind n kind is (all kind (Contains-get_or kinds n InstallRoot inside)))
+      let inside : n < length kinds = omega (arith, encoded.count) in
+      let kind : ClauseKind N S = get_or kinds n InstallRoot in
+      let is : slice_get kinds n ≡ Some kind = slice_get-get_or kinds n InstallRoot inside in
+      let stands : slice_get table n ≡ Some (get_or table n d) = slice_get-get_or table n d below in
+      let True : List Literal → Type 0 = λ c. clause_true (values_by origins value) c ≡ true in
+      subst True (ap (λ o. option_map_or (λ (c : Vec Literal Global). c.items) o []) stands) (clause_by_kind n kind is (all kind (Contains-get_or kinds n InstallRoot inside)))
 
 -- an answer
 pub valid_satisfies : {N S : Type 0} (u : Universe N S) (codes : N → ℕ → S → Bool) (root : Demands) (origins : List (Origin N S)) (table : List (Vec Literal Global)) (kinds : List (ClauseKind N S)) (set exempt : List S) →
-  HasLawfulSolvables u → AreCodes u codes → AreEncoded u origins table kinds → All (IsTrueClause u codes root) kinds → Spares u exempt kinds → IsValid u root set exempt → Satisfies (extension u (follows u codes) origins set) table
+    HasLawfulSolvables u → AreCodes u codes → AreEncoded u origins table kinds → All (IsTrueClause u codes root) kinds → Spares u exempt kinds → IsValid u root set exempt → Satisfies (extension u (follows u codes) origins set) table
 valid_satisfies u codes root origins table kinds set exempt lawful are_codes encoded are_true spares ok =
     table_by_kinds u origins table kinds encoded (is_on u (follows u codes) set)
-      (satisfied u (follows u codes) lawful.same_solvable set kinds (defines u root kinds codes are_codes are_true lawful.same_solvable) (valid_obeys u root kinds codes are_codes are_true lawful.same_solvable set exempt ok spares))
+    (satisfied u (follows u codes) lawful.same_solvable set kinds (defines u root kinds codes are_codes are_true lawful.same_solvable) (valid_obeys u root kinds codes are_codes are_true lawful.same_solvable set exempt ok spares))

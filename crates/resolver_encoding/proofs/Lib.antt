@@ -2,6 +2,9 @@ pub mod Lists
 pub mod GroupLemmas
 pub mod ClauseLemmas
 pub mod EncodingLemmas
+pub mod NoteLemmas
+pub mod RequirementLemmas
+pub mod ReadLemmas
 pub mod Satisfied
 pub mod Sound
 pub mod Extended

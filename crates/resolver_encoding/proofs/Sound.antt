@@ -90,7 +90,7 @@ module _ {N S : Type 0} (u : Universe N S) (root : Demands) (kinds : List (Claus
     matched = λ v s e. Contains-from_any {K = S} {eq = u.same_solvable} same.alone s (matching u v) e;
     helped = λ v s inside. list_any-contains (u.same_solvable s) (others u v) s (truth (ConstrainsExcluded s v) inside) (same.itself s);
     coded = λ n s i b inside. (truth (HasBit n s i b) inside).1;
-    different = λ n s t inside. (truth (ForbidMultipleInstances n s t) inside).2
+    different = λ n s t inside. (truth (ForbidMultipleInstances n s t) inside).2;
   }
 
   name_of : (n : N) (s : S) → IsStated u (follows u codes) kinds (one_per_package n s) → u.name s ≡ n
@@ -102,31 +102,31 @@ module _ {N S : Type 0} (u : Universe N S) (root : Demands) (kinds : List (Claus
   module _ (same : IsIdentity u.same_solvable) (set exempt : List S) (ok : IsValid u root set exempt) (spares : Spares u exempt kinds) where
     obeys_alone : (st : Statement N S) → IsStated u (follows u codes) kinds st → ObeysAlone set st
     obeys_alone st (states_requires by disjunct requirement inside) = λ here meets.
-      let t = truth (Requires by disjunct requirement) inside in
-      let met = ok.required t.0 (requires_by u root set by t.0 here t.1) (active_by u set _ t.0.condition t.3 meets) in
-      let HasMember : List S → Type 0 = λ xs. Meets xs set in
-      subst HasMember (ap (requirement_candidates u) t.2) met
+        let t = truth (Requires by disjunct requirement) inside in
+        let met = ok.required t.0 (requires_by u root set by t.0 here t.1) (active_by u set _ t.0.condition t.3 meets) in
+        let HasMember : List S → Type 0 = λ xs. Meets xs set in
+        subst HasMember (ap (requirement_candidates u) t.2) met
     obeys_alone st (states_constrains by v s inside) = λ here chosen.
-      let t = truth (Constrains by v s) inside in
-      ok.constrained v (constrains_by u root set by v here t.0) s chosen t.1
+        let t = truth (Constrains by v s) inside in
+        ok.constrained v (constrains_by u root set by v here t.0) s chosen t.1
     obeys_alone st (states_first n s t inside) = tt
     obeys_alone st (states_second n s t inside) = tt
     obeys_alone st (states_gated s requirement inside e) = λ here meets.
-      let w = list_any-witness (is_plain requirement) (demands_of (u.needs s)).requirements e in
-      let plain = is_plain-parts requirement w.0 w.2 in
-      let Active : Option ConditionId → Type 0 = λ c. OptionalConditionHolds u (Contains set) c in
-      let met = ok.required w.0 (requires_by u root set (BySolvable s) w.0 here w.1) (subst Active (sym plain.0) tt) in
-      let HasMember : List S → Type 0 = λ xs. Meets xs set in
-      subst HasMember (ap (requirement_candidates u) plain.1) met
+        let w = list_any-witness (is_plain requirement) (demands_of (u.needs s)).requirements e in
+        let plain = is_plain-parts requirement w.0 w.2 in
+        let Active : Option ConditionId → Type 0 = λ c. OptionalConditionHolds u (Contains set) c in
+        let met = ok.required w.0 (requires_by u root set (BySolvable s) w.0 here w.1) (subst Active (sym plain.0) tt) in
+        let HasMember : List S → Type 0 = λ xs. Meets xs set in
+        subst HasMember (ap (requirement_candidates u) plain.1) met
     obeys_alone st (states_helped by v s inside e) = λ here chosen.
-      ok.constrained v (constrains_by u root set by v here (truth (ConstrainsParent by v) inside)) s chosen (Contains-from_any {K = S} {eq = u.same_solvable} same.alone s (others u v) e)
+        ok.constrained v (constrains_by u root set by v here (truth (ConstrainsParent by v) inside)) s chosen (Contains-from_any {K = S} {eq = u.same_solvable} same.alone s (others u v) e)
     obeys_alone st (states_coded n s i b inside) = tt
     obeys_alone st (states_bit n s i e) = tt
     obeys_alone st (states_lock s t inside) = λ chosen.
-      let w = truth (Lock s t) inside in
-      ok.not_locked_out t chosen (spares.locks s t inside) (s, w.0, w.1, w.2)
+        let w = truth (Lock s t) inside in
+        ok.not_locked_out t chosen (spares.locks s t inside) (s, w.0, w.1, w.2)
     obeys_alone st (states_excluded s reason inside) = λ chosen.
-      ⊎_elim
+        ⊎_elim
         (λ listed. ok.not_excluded s chosen (λ free. not_unknown _ reason (ok.known_needs s chosen) (spares.exclusions s reason inside free)) (reason, listed))
         (λ none. not_unknown _ reason (ok.known_needs s chosen) none)
         (truth (Excluded s reason) inside)
@@ -135,13 +135,13 @@ module _ {N S : Type 0} (u : Universe N S) (root : Demands) (kinds : List (Claus
     pub valid_obeys : ObeysAll set (IsStated u (follows u codes) kinds)
     valid_obeys = record {
       each = obeys_alone;
-      one_each = λ n s t first second in_set in_set'. ok.one_each s t in_set in_set' (name_of n s first ∙ sym (name_of n t second))
+      one_each = λ n s t first second in_set in_set'. ok.one_each s t in_set in_set' (name_of n s first ∙ sym (name_of n t second));
     }
 
 module _ {N S : Type 0} (u : Universe N S) (implies : Origin N S → S → Bool) (kinds : List (ClauseKind N S)) (rules : List (Rule N S)) (set : List S) (obeys : Obeys set rules) where
   obeys_rule : (rule : Rule N S) → report.ObeysAlone set rule → ObeysAlone set (statement_of rule)
   obeys_rule (RuleRequires by requirement candidates when) h = λ here meets. h here (λ k d below.
-    All-contains (λ xs. Meets xs set) (map (λ (list : Vec S Global). list.items) when.items) _ meets (Contains-map (λ (list : Vec S Global). list.items) when.items _ (Contains-get_or when.items k d below)))
+      All-contains (λ xs. Meets xs set) (map (λ (list : Vec S Global). list.items) when.items) _ meets (Contains-map (λ (list : Vec S Global). list.items) when.items _ (Contains-get_or when.items k d below)))
   obeys_rule (RuleConstrains by v s) h = h
   obeys_rule (RuleLock s t) h = h
   obeys_rule (RuleExcluded s reason) h = h
@@ -158,12 +158,12 @@ module _ {N S : Type 0} (u : Universe N S) (implies : Origin N S → S → Bool)
   pub rules_obey : AreListed u implies kinds rules → ObeysAll set (IsStated u implies kinds)
   rules_obey listed = record {
     each = λ st stated.
-      let w = listed st stated in
-      let Obeyed : Statement N S → Type 0 = λ it. ObeysAlone set it in
-      subst Obeyed w.2 (obeys_rule w.0 (obeys.each w.0 w.1));
+        let w = listed st stated in
+        let Obeyed : Statement N S → Type 0 = λ it. ObeysAlone set it in
+        subst Obeyed w.2 (obeys_rule w.0 (obeys.each w.0 w.1));
     one_each = λ n s t first second.
-      let w = listed (one_per_package n s) first in
-      let v = listed (one_per_package n t) second in
-      let Listed : Rule N S → Type 0 = λ rule. Contains rules rule in
-      obeys.one_each n s t (subst Listed (is_mark w.0 n s w.2) w.1) (subst Listed (is_mark v.0 n t v.2) v.1)
+        let w = listed (one_per_package n s) first in
+        let v = listed (one_per_package n t) second in
+        let Listed : Rule N S → Type 0 = λ rule. Contains rules rule in
+        obeys.one_each n s t (subst Listed (is_mark w.0 n s w.2) w.1) (subst Listed (is_mark v.0 n t v.2) v.1);
   }

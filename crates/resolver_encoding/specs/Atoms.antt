@@ -69,13 +69,13 @@ is_satisfied value atoms = list_any (λ a. beq (value a.origin) a.positive) atom
 -- what a list of clauses states
 pub data IsStated {N S : Type 0} (u : Universe N S) (implies : Origin N S → S → Bool) (kinds : List (ClauseKind N S)) : Statement N S → Type 0 where
   states_requires : (by : By S) (disjunct : _) (requirement : Requirement) → Contains kinds (Requires by disjunct requirement) →
-    IsStated u implies kinds (requires by requirement (requirement_candidates u requirement) (map (matching u) disjunct.items))
+      IsStated u implies kinds (requires by requirement (requirement_candidates u requirement) (map (matching u) disjunct.items))
   states_constrains : (by : By S) (v : VersionSetId) (s : S) → Contains kinds (Constrains by v s) → IsStated u implies kinds (constrains by v s)
   states_first : (n : N) (s t : S) → Contains kinds (ForbidMultipleInstances n s t) → IsStated u implies kinds (one_per_package n s)
   states_second : (n : N) (s t : S) → Contains kinds (ForbidMultipleInstances n s t) → IsStated u implies kinds (one_per_package n t)
   -- of a gate: the requirement of each solvable from which it follows
   states_gated : (s : S) (requirement : Requirement) → Contains kinds (GateRequires requirement) → implies (Gate requirement) s ≡ true →
-    IsStated u implies kinds (requires (BySolvable s) requirement (requirement_candidates u requirement) [])
+      IsStated u implies kinds (requires (BySolvable s) requirement (requirement_candidates u requirement) [])
   states_helped : (by : By S) (v : VersionSetId) (s : S) → Contains kinds (ConstrainsParent by v) → implies (ConstraintHelper v) s ≡ true → IsStated u implies kinds (constrains by v s)
   states_coded : (n : N) (s : S) (i : ℕ) (b : Bool) → Contains kinds (HasBit n s i b) → IsStated u implies kinds (one_per_package n s)
   states_bit : (n : N) (s : S) (i : ℕ) → implies (Bit n i) s ≡ true → IsStated u implies kinds (one_per_package n s)

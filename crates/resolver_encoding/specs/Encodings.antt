@@ -5,7 +5,9 @@ use Rattle.std.specs.declared.alloc.Global.{Global}
 use Rattle.resolver_clause_store.specs.Lists.{HaveSameMembers, IsWithin}
 use Rattle.resolver_clause_store.specs.Universe.{Universe, Demands, Needs, known, unknown}
 use Rattle.resolver_clause_store.specs.Candidates.{matching, others, requirement_candidates, version_sets}
+use Rattle.resolver_clause_store.specs.Disjuncts.{IsDisjunctive}
 use Rattle.resolver_clause_store.specs.Variables.{AreDistinct, Keeps}
+use Rattle.resolver_clause_store.specs.declared.ConditionId.{ConditionId}
 use Rattle.resolver_clause_store.specs.declared.By.{By}
 use Rattle.resolver_clause_store.specs.declared.By.TheVariants.{Solvable as BySolvable}
 use Rattle.resolver_clause_store.specs.declared.ClauseKind.{ClauseKind}
@@ -82,6 +84,7 @@ pub record IsEncodingWhile {N S : Type 0} (u : Universe N S) (asking : List N) (
   pub helpers : (by : By S) (disjunct : Vec VersionSetId Global) (r : Requirement) → Contains notes.kinds (Requires by disjunct r) → (v : VersionSetId) → Contains disjunct.items v → Contains notes.helped v
   pub packages : (by : By S) (disjunct : Vec VersionSetId Global) (r : Requirement) → Contains notes.kinds (Requires by disjunct r) → (v : VersionSetId) → Contains (version_sets u r) v → Contains notes.asked (u.version_set_name v)
   pub candidates : (by : By S) (disjunct : Vec VersionSetId Global) (r : Requirement) → Contains notes.kinds (Requires by disjunct r) → (s : S) → Contains (requirement_candidates u r) s → Contains notes.seen s
+  pub once : (by : By S) (disjunct : Vec VersionSetId Global) (r : Requirement) → Contains notes.kinds (Requires by disjunct r) → AreDistinct disjunct.items
   -- of each version set that has its helper
   pub follow : (v : VersionSetId) → Contains notes.helped v → (s : S) → Contains (matching u v) s → Contains notes.kinds (AnyOf (ConditionHelper v) s)
   -- of each package that was asked for
@@ -189,6 +192,22 @@ module _ {N S : Type 0} (u : Universe N S) (kinds : List (ClauseKind N S)) where
   abbrev pub AreNeedsRead : S → Needs → Type 0
   AreNeedsRead s (known d) = AreDemandsRead (BySolvable s) d
   AreNeedsRead s (unknown reason) = Contains kinds (Excluded s reason)
+
+-- a clause forbids each listed candidate other than the locked one, unless it is exempt
+abbrev pub IsLockRead : {N S : Type 0} → List (ClauseKind N S) → List S → Option S → List S → Type 0
+IsLockRead kinds exempt None listed = ⊤
+IsLockRead kinds exempt (Some t) listed = All (λ s. s ≢ t → (Contains exempt s → ⊥) → Contains kinds (Lock t s)) listed
+
+-- the lists of version sets of which one has to be met: without a condition one list without any
+abbrev pub AreDisjuncts : {N S : Type 0} → Universe N S → Option ConditionId → List (List VersionSetId) → Type 0
+AreDisjuncts u None lists = lists ≡ [] ∷ []
+AreDisjuncts u (Some c) lists = IsDisjunctive u c lists
+
+-- the list is one of these
+pub record IsDisjunctOf {N S : Type 0} (u : Universe N S) (c : Option ConditionId) (disjunct : List VersionSetId) : Type 0 where
+  pub lists : List (List VersionSetId)
+  pub are : AreDisjuncts u c lists
+  pub listed : Contains lists disjunct
 
 -- the root, or the solvable, asks for the requirement; for the constraint
 abbrev pub AsksFor : {N S : Type 0} → Universe N S → By S → ConditionalRequirement → Demands → Type 0

@@ -12,3 +12,4 @@ pub mod Encodings
 pub mod Trails
 pub mod Stated
 pub mod Notes
+pub mod TestProvider

@@ -15,7 +15,7 @@ notes_in e = record {
   groups = e.groups;
   asked = e.asked.keys;
   helped = e.helped.keys;
-  exempt = e.exempt.items;
+  exempt = e.exempt.keys;
   variable_limit = limit_in e.variables;
   clause_limit = e.clause_limit;
 }

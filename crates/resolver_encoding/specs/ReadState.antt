@@ -34,7 +34,7 @@ pub record IsReadRequirement {N S : Type 0} (u : Universe N S) (kinds : List (Cl
   pub disjuncts : List (List VersionSetId)
   pub complete : (set : List S) → IsActive u (Contains set) r → (list : List VersionSetId) × Contains disjuncts list × AllMeet set (map (matching u) list)
   pub each : (list : List VersionSetId) → Contains disjuncts list →
-    HasClause kinds by list r.requirement ⊎ Contains deferred (record { by = by; disjunct = list; requirement = r.requirement })
+      HasClause kinds by list r.requirement ⊎ Contains deferred (record { by = by; disjunct = list; requirement = r.requirement })
 
 -- the clauses are all that the rules ask of the root and of what was read
 pub record IsRead {N S : Type 0} (u : Universe N S) (root : Demands) (kinds : List (ClauseKind N S)) (deferred : List (Deferred S)) (read : List S) (asked : List N) (registered exempt : List S) : Type 0 where
@@ -45,7 +45,7 @@ pub record IsRead {N S : Type 0} (u : Universe N S) (root : Demands) (kinds : Li
   pub unknowns : (s : S) (reason : StringId) → Contains read s → u.needs s ≡ unknown reason → Contains kinds (Excluded s reason)
   -- of each requirement that has its clauses
   pub helpers : (by : By S) (disjunct : Vec VersionSetId Global) (r : Requirement) → Contains kinds (Requires by disjunct r) → (v : VersionSetId) → Contains disjunct.items v →
-    (s : S) → Contains (matching u v) s → Contains kinds (AnyOf (ConditionHelper v) s)
+      (s : S) → Contains (matching u v) s → Contains kinds (AnyOf (ConditionHelper v) s)
   pub packages : (by : By S) (list : List VersionSetId) (r : Requirement) → HasClause kinds by list r → (v : VersionSetId) → Contains (version_sets u r) v → Contains asked (u.version_set_name v)
   pub candidates : (by : By S) (list : List VersionSetId) (r : Requirement) → HasClause kinds by list r → (s : S) → Contains (requirement_candidates u r) s → Contains registered s
   -- of each package that was asked for

@@ -31,7 +31,7 @@ pub record IsFirstOpen {N S : Type 0} (u : Universe N S) (earlier : List (Atom N
 pub data IsBecause {N S : Type 0} (u : Universe N S) (kinds : List (ClauseKind N S)) (seeds refused : List S) (earlier : List (Atom N S)) : Atom N S → Type 0 where
   -- a candidate of a requirement that is active
   needed : (by : By S) (disjunct : Vec VersionSetId Global) (r : Requirement) (s : S) → Contains kinds (Requires by disjunct r) → Contains earlier (atom (origin_by by) true) →
-    All (λ v. Contains earlier (atom (ConditionHelper v) true)) disjunct.items → IsFirstOpen u earlier r s → IsBecause u kinds seeds refused earlier (atom (Solvable s) true)
+      All (λ v. Contains earlier (atom (ConditionHelper v) true)) disjunct.items → IsFirstOpen u earlier r s → IsBecause u kinds seeds refused earlier (atom (Solvable s) true)
   -- a candidate of a gate's requirement
   needed_gate : (r : Requirement) (s : S) → Contains kinds (GateRequires r) → Contains earlier (atom (Gate r) true) → IsFirstOpen u earlier r s → IsBecause u kinds seeds refused earlier (atom (Solvable s) true)
   -- a soft requirement, taken or left
@@ -39,7 +39,7 @@ pub data IsBecause {N S : Type 0} (u : Universe N S) (kinds : List (ClauseKind N
   left_out : (s : S) → Contains refused s → IsBecause u kinds seeds refused earlier (atom (Solvable s) false)
   -- the others of a clause are false
   forced : (clause : List (Atom N S)) (a : Atom N S) → IsEntailed u kinds clause →
-    ((b : Atom N S) → Contains clause b → (b ≡ a) ⊎ Contains earlier (atom b.origin (not b.positive))) → IsBecause u kinds seeds refused earlier a
+      ((b : Atom N S) → Contains clause b → (b ≡ a) ⊎ Contains earlier (atom b.origin (not b.positive))) → IsBecause u kinds seeds refused earlier a
 
 pub data IsTrail {N S : Type 0} (u : Universe N S) (kinds : List (ClauseKind N S)) (seeds refused : List S) : List (Atom N S) → Type 0 where
   begun : IsTrail u kinds seeds refused []

@@ -1,10 +1,18 @@
 //! The clauses of all that was read.
 
-ghost use Rattle.std.specs.Prelude.{◌≡◌, ◌≤◌, ◌^◌, [], ◌∷◌, ◌++◌, Bool, IfErr, OnOk};
+ghost use Rattle.std.specs.Prelude.{◌≡◌, ◌≤◌, ◌^◌, [], ◌∷◌, ◌++◌, Bool, IfErr, OnOk, length, map};
 ghost use Rattle.resolver_clause_store.specs.Laws.{IsIdentity};
+ghost use Rattle.resolver_clause_store.specs.Variables.{origins_in};
 ghost use Rattle.resolver_encoding.specs.Atoms.{atom};
 ghost use Rattle.resolver_encoding.specs.Encodings.{AddsClause, IsFull, IsUnread, KeepsLimits};
 ghost use Rattle.resolver_encoding.specs.Refusals.{IsShortage};
+
+mod asking;
+mod constraining;
+mod helping;
+mod reading;
+mod requiring;
+mod seeing;
 
 use crate::groups::Groups;
 use crate::literals::push_literal;
@@ -27,8 +35,20 @@ pub struct Encoding<N: Copy + Eq + Hash + Drop, S: Copy + Eq + Hash + Drop> {
     groups: Groups<N, S>,
     asked: IndexSet<N>,
     helped: IndexSet<VersionSetId>,
-    exempt: Vec<S>,
+    exempt: IndexSet<S>,
     clause_limit: usize,
+}
+
+/// What an encoding is given up for.
+#[derive(Drop)]
+pub struct EncodingParts<N: Copy + Eq + Hash + Drop, S: Copy + Eq + Hash + Drop> {
+    pub variables: Variables<N, S>,
+    /// What the clauses say, by their numbers.
+    pub kinds: Vec<ClauseKind<N, S>>,
+    /// The literals of the clauses, by their numbers.
+    pub literals: Vec<Vec<Literal>>,
+    /// The clauses that ask for candidates, in the order of their numbers.
+    pub requirements: Vec<RequirementClause>,
 }
 
 impl<N: Copy + Eq + Hash + Drop, S: Copy + Eq + Hash + Drop> Encoding<N, S> {
@@ -53,7 +73,7 @@ impl<N: Copy + Eq + Hash + Drop, S: Copy + Eq + Hash + Drop> Encoding<N, S> {
             groups: Groups::new(alloc),
             asked: IndexSet::new(alloc),
             helped: IndexSet::new(alloc),
-            exempt: Vec::new(alloc),
+            exempt: IndexSet::new(alloc),
             clause_limit,
         }
     }
@@ -120,4 +140,50 @@ impl<N: Copy + Eq + Hash + Drop, S: Copy + Eq + Hash + Drop> Encoding<N, S> {
         self.add_clause(kind, literals)?;
         Ok(())
     }
+
+    /// What the clauses say, by their numbers.
+    pub fn kinds(&self) -> &[ClauseKind<N, S>]
+        ensures { result.now ≡ (notes_in self.now).kinds }
+    {
+        &self.kinds
+    }
+
+    /// The literals of the clauses, by their numbers.
+    pub fn literals(&self) -> &[Vec<Literal>]
+        ensures { result.now ≡ (notes_in self.now).table }
+    {
+        &self.literals
+    }
+
+    /// What the variables stand for.
+    pub fn variables(&self) -> &Variables<N, S>
+        ensures { origins_in result.now ≡ (notes_in self.now).origins }
+    {
+        &self.variables
+    }
+
+    /// How many clauses there are.
+    pub fn clause_count(&self) -> usize
+        ensures { result ≡ length (notes_in self.now).kinds }
+    {
+        self.kinds.len()
+    }
+
+    /// Gives up the clauses and the variables.
+    pub fn into_parts(self) -> EncodingParts<N, S>
+        ensures variables { origins_in result.variables ≡ (notes_in self).origins }
+        ensures kinds { result.kinds.items ≡ (notes_in self).kinds }
+        ensures literals { result.literals.items ≡ (notes_in self).table }
+        ensures requirements { map (λ r. r.number) result.requirements.items ≡ (notes_in self).requirements }
+    {
+        EncodingParts {
+            variables: self.variables,
+            kinds: self.kinds,
+            literals: self.literals,
+            requirements: self.requirements,
+        }
+    }
 }
+
+#[cfg(test)]
+mod tests;

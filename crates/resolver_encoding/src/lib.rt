@@ -1,19 +1,21 @@
 //! Clauses that encode a provider's rules: what they state, and what follows for sets of solvables.
 #![tactic(auto)]
 
+mod choices;
 mod chosen;
+mod disjuncts;
 mod encoding;
 mod explain;
 mod groups;
 mod laws;
 mod literals;
-mod parts;
+#[cfg(test)]
+mod test_provider;
 
 pub use chosen::chosen_solvables;
-pub use encoding::Encoding;
+pub use encoding::{Encoding, EncodingParts};
 pub use explain::rules_of_clauses;
 pub use laws::{
     answers_satisfy_true_clauses, core_rules_explain, cores_of_encodings_explain,
     finished_searches_are_answers, finished_trails_are_answers, read_trails_are_answers,
 };
-pub use parts::Parts;

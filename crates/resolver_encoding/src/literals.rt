@@ -1,15 +1,37 @@
 //! Literals of origins.
 
-ghost use Rattle.std.specs.Prelude.{◌≡◌, [], ◌∷◌, IfErr, OnOk, false, map, true};
+ghost use Rattle.std.specs.Prelude.{◌≡◌, [], ◌∷◌, IfErr, MatchBool, OnOk, false, map, true};
 ghost use Rattle.resolver_clause_store.specs.Laws.{IsIdentity};
 ghost use Rattle.resolver_clause_store.specs.Variables.{IsBounded, IsFull as AreFull, limit_in, origins_in};
 ghost use Rattle.resolver_clause_store.specs.declared.Origin.TheVariants.{ConditionHelper, Solvable};
-ghost use Rattle.resolver_encoding.specs.Atoms.{atom};
+ghost use Rattle.resolver_clause_store.specs.declared.By.TheVariants.{Solvable as BySolvable};
+ghost use Rattle.resolver_encoding.specs.Atoms.{atom, origin_by};
 ghost use Rattle.resolver_encoding.specs.Encodings.{Adds, Grows};
 ghost use Rattle.resolver_encoding.specs.Refusals.{IsShortage};
 
-use resolver_clause_store::{Exhausted, Literal, Origin, Variables, VersionSetId};
+use resolver_clause_store::{By, Exhausted, Literal, Origin, Variables, VersionSetId};
 use std::hash::Hash;
+
+/// What the variable of the root, or of a solvable, stands for.
+pub(crate) fn origin_of<N, S>(by: By<S>) -> Origin<N, S>
+    ensures { result ≡ origin_by by }
+{
+    match by {
+        By::Root => Origin::Root,
+        By::Solvable(solvable) => Origin::Solvable(solvable),
+    }
+}
+
+/// Whether it is this solvable.
+pub(crate) fn is_by<S: Copy + Eq>(by: By<S>, solvable: S) -> bool
+    requires { IsIdentity S.eq }
+    ensures { MatchBool result (by ≡ BySolvable solvable) (by ≡ BySolvable solvable → ⊥) }
+{
+    match by {
+        By::Root => false,
+        By::Solvable(parent) => parent == solvable,
+    }
+}
 
 /// Puts the literal of an origin behind the others.
 pub(crate) fn push_literal<N: Copy + Eq + Hash + Drop, S: Copy + Eq + Hash + Drop>(
@@ -48,7 +70,12 @@ pub(crate) fn push_helpers<N: Copy + Eq + Hash + Drop, S: Copy + Eq + Hash + Dro
     ensures refusal { IfErr result (IsShortage (AreFull variables.new)) }
 {
     for version_set in disjunct {
-        push_literal(variables, literals, Origin::ConditionHelper(*version_set), false)?;
+        push_literal(
+            variables,
+            literals,
+            Origin::ConditionHelper(*version_set),
+            false,
+        )?;
     }
     Ok(())
 }

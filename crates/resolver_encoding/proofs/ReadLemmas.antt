@@ -1,0 +1,202 @@
+-- What was read stays read, and when all was.
+use Rattle.std.proofs.Common.{◌≡◌, ◌≢◌, ℕ, ◌+◌, ◌<◌, ◌≤◌, length, take, get_or, List, [], ◌∷◌, ◌++◌, refl, sym, ap, ◌∙◌, subst, ⊎_elim, inl, inr, arith, Contains, All, Vec, Global, Bool, true, false, ◌⊎◌}
+use Rattle.std.specs.Prelude.{Option, Some, None, ⊤, slice_get}
+use Rattle.std.specs.Cmp.{IsEquivalence}
+use Rattle.std.specs.List.{IsDistinct, list_any}
+use Rattle.std.proofs.lemmas.List.{take-append-le}
+use Rattle.std.proofs.lemmas.List.Elements.{All-contains, All-cons, All-nil, All-same, All-weaker}
+use Rattle.std.proofs.lemmas.Map.Made.{length-le_from_is_member}
+use Rattle.std.proofs.lemmas.Map.Views.{list_any-from_Contains, Contains-from_any}
+use Rattle.std.proofs.lemmas.Option.{slice_get_within}
+use Rattle.resolver_clause_store.specs.Laws.{IsIdentity}
+use Rattle.resolver_clause_store.specs.Lists.{IsWithin}
+use Rattle.resolver_clause_store.specs.Universe.{Universe, Demands, Needs, known, unknown}
+use Rattle.resolver_clause_store.specs.Candidates.{matching, others, requirement_candidates, version_sets}
+use Rattle.resolver_clause_store.specs.Valid.{demands_of}
+use Rattle.resolver_clause_store.specs.Variables.{AreDistinct}
+use Rattle.resolver_clause_store.specs.declared.By.{By}
+use Rattle.resolver_clause_store.specs.declared.By.TheVariants.{Root as ByRoot, Solvable as BySolvable}
+use Rattle.resolver_clause_store.specs.declared.ClauseKind.{ClauseKind}
+use Rattle.resolver_clause_store.specs.declared.ClauseKind.TheVariants.{InstallRoot, Requires, AnyOf, GateRequires, Constrains, Lock, Excluded}
+use Rattle.resolver_clause_store.specs.declared.ConditionalRequirement.{ConditionalRequirement}
+use Rattle.resolver_clause_store.specs.declared.Literal.{Literal}
+use Rattle.resolver_clause_store.specs.declared.Origin.{Origin}
+use Rattle.resolver_clause_store.specs.declared.Origin.TheVariants.{Root, Solvable, Bit, Gate, ConstraintHelper, ConditionHelper}
+use Rattle.resolver_clause_store.specs.declared.Requirement.{Requirement}
+use Rattle.resolver_clause_store.specs.declared.StringId.{StringId}
+use Rattle.resolver_clause_store.specs.declared.VersionSetId.{VersionSetId}
+use Rattle.resolver_report.specs.Rules.{IsPresent}
+use Rattle.resolver_report.specs.TrueRules.{demands_by}
+use Rattle.resolver_encoding.specs.Atoms.{Atom, atom}
+use Rattle.resolver_encoding.specs.Encodings.{AddsRequirement, AsksForCandidates, AreDemandsRead, AreNeedsRead, Extends, Grows, HasDisjunct, IsConstraintRead, IsDirect, IsEncoding, IsUnread, Notes}
+use Rattle.resolver_encoding.specs.Read.{IsForbidden, forbidden_direct}
+use Rattle.resolver_encoding.specs.ReadState.{HasClause, has_direct, has_gate, IsRead, IsReadRequirement}
+use Rattle.resolver_encoding.specs.Truth.{IsTrueClause, no_codes}
+use Rattle.resolver_encoding.specs.Values.{IsAtom, IsClauseOf}
+use Rattle.resolver_clause_store.specs.Formula.{clause_at}
+use Rattle.resolver_clause_store.proofs.PlaceLemmas.{place_cases}
+use Rattle.resolver_encoding.proofs.EncodingLemmas.{IsClauseOf-zip}
+use Rattle.resolver_encoding.proofs.NoteLemmas.{All-grown, asks_not}
+use Rattle.resolver_encoding.proofs.Lists.{cons_cases, here, none_in, there}
+
+module _ {N S : Type 0} (u : Universe N S) (kinds more : List (ClauseKind N S)) (within : IsWithin kinds more) where
+  pub HasDisjunct-within : (by : By S) (r : Requirement) (list : List VersionSetId) → HasDisjunct u kinds by r list → HasDisjunct u more by r list
+  HasDisjunct-within by r list h = record { disjunct = h.disjunct; same = h.same; listed = within _ h.listed }
+
+  HasClause-within : (by : By S) (list : List VersionSetId) (r : Requirement) → HasClause kinds by list r → HasClause more by list r
+  HasClause-within by list r (has_direct disjunct is h) = has_direct disjunct is (within _ h)
+  HasClause-within by list r (has_gate s is none h k) = has_gate s is none (within _ h) (within _ k)
+
+  pub IsReadRequirement-within : (by : By S) (r : ConditionalRequirement) → IsReadRequirement u kinds [] by r → IsReadRequirement u more [] by r
+  IsReadRequirement-within by r h = record {
+    disjuncts = h.disjuncts;
+    complete = h.complete;
+    each = λ list k. ⊎_elim (λ has. inl (HasClause-within by list r.requirement has)) (λ later. inr later) (h.each list k);
+  }
+
+  pub IsConstraintRead-within : (by : By S) (v : VersionSetId) → IsConstraintRead u kinds by v → IsConstraintRead u more by v
+  IsConstraintRead-within by v h = All-weaker (λ s. Contains kinds (Constrains by v s)) (λ s. Contains more (Constrains by v s)) (λ s k. within (Constrains by v s) k) (others u v) h
+
+  pub AreDemandsRead-within : (by : By S) (demands : Demands) → AreDemandsRead u kinds by demands → AreDemandsRead u more by demands
+  AreDemandsRead-within by demands h = record {
+    requirements = All-weaker (IsReadRequirement u kinds [] by) (IsReadRequirement u more [] by) (λ r k. IsReadRequirement-within by r k) demands.requirements h.requirements;
+    constraints = All-weaker (IsConstraintRead u kinds by) (IsConstraintRead u more by) (λ v k. IsConstraintRead-within by v k) demands.constraints h.constraints;
+  }
+
+  pub AreNeedsRead-within : (s : S) (needs : Needs) → AreNeedsRead u kinds s needs → AreNeedsRead u more s needs
+  AreNeedsRead-within s (known d) h = AreDemandsRead-within (BySolvable s) d h
+  AreNeedsRead-within s (unknown reason) h = within (Excluded s reason) h
+
+-- one more element of a list that grew
+pub All-worked : {X : Type 0} (P P' : X → Type 0) (xs ys : List X) (i : ℕ) (x : X) → ((y : X) → P y → P' y) → Extends xs ys → i < length xs → x ≡ get_or xs i x → All P (take i xs) → P' x → All P' (take (i + 1) ys)
+All-worked P P' xs ys i x grown more below is all now =
+    let same : take (i + 1) ys ≡ take (i + 1) xs = ap (take (i + 1)) more.is ∙ take-append-le (i + 1) xs more.more (omega (arith, below)) in
+    All-same P' _ _ same (All-grown P P' xs i x grown below is all now)
+
+module _ {N S : Type 0} where
+  abbrev solvables_in : List (Origin N S) → List S
+  solvables_in [] = []
+  solvables_in (Solvable s ∷ os) = s ∷ solvables_in os
+  solvables_in (Root ∷ os) = solvables_in os
+  solvables_in (Bit n i ∷ os) = solvables_in os
+  solvables_in (Gate r ∷ os) = solvables_in os
+  solvables_in (ConstraintHelper v ∷ os) = solvables_in os
+  solvables_in (ConditionHelper v ∷ os) = solvables_in os
+
+  no_more : (os : List (Origin N S)) → length (solvables_in os) ≤ length os
+  no_more [] = omega arith
+  no_more (Solvable s ∷ os) = let rest = no_more os in omega (arith, rest)
+  no_more (Root ∷ os) = let rest = no_more os in omega (arith, rest)
+  no_more (Bit n i ∷ os) = let rest = no_more os in omega (arith, rest)
+  no_more (Gate r ∷ os) = let rest = no_more os in omega (arith, rest)
+  no_more (ConstraintHelper v ∷ os) = let rest = no_more os in omega (arith, rest)
+  no_more (ConditionHelper v ∷ os) = let rest = no_more os in omega (arith, rest)
+
+  solvable_in : (os : List (Origin N S)) (s : S) → Contains os (Solvable s) → Contains (solvables_in os) s
+  solvable_in [] s h = absurd (none_in (Solvable s) h)
+  solvable_in (Solvable t ∷ os) s h = ⊎_elim
+      (λ (is : Solvable t ≡ Solvable s). let same : t ≡ s = cc in let Has : S → Type 0 = λ q. Contains (t ∷ solvables_in os) q in subst Has same (here t (solvables_in os)))
+      (λ (later : Contains os (Solvable s)). there t (solvables_in os) s (solvable_in os s later))
+      (cons_cases (Solvable t) os (Solvable s) h)
+  solvable_in (Root ∷ os) s h = ⊎_elim (λ (is : Root ≡ Solvable s). absurd cc) (λ (later : Contains os (Solvable s)). solvable_in os s later) (cons_cases Root os (Solvable s) h)
+  solvable_in (Bit n i ∷ os) s h = ⊎_elim (λ (is : Bit n i ≡ Solvable s). absurd cc) (λ (later : Contains os (Solvable s)). solvable_in os s later) (cons_cases (Bit n i) os (Solvable s) h)
+  solvable_in (Gate r ∷ os) s h = ⊎_elim (λ (is : Gate r ≡ Solvable s). absurd cc) (λ (later : Contains os (Solvable s)). solvable_in os s later) (cons_cases (Gate r) os (Solvable s) h)
+  solvable_in (ConstraintHelper v ∷ os) s h = ⊎_elim (λ (is : ConstraintHelper v ≡ Solvable s). absurd cc) (λ (later : Contains os (Solvable s)). solvable_in os s later) (cons_cases (ConstraintHelper v) os (Solvable s) h)
+  solvable_in (ConditionHelper v ∷ os) s h = ⊎_elim (λ (is : ConditionHelper v ≡ Solvable s). absurd cc) (λ (later : Contains os (Solvable s)). solvable_in os s later) (cons_cases (ConditionHelper v) os (Solvable s) h)
+
+  -- there are no more solvables than variables, where each has one
+  pub seen_fit : (same : S → S → Bool) → IsIdentity same → IsEquivalence same → (seen : List S) (os : List (Origin N S)) → IsDistinct same seen → ((s : S) → Contains seen s → Contains os (Solvable s)) → length seen ≤ length os
+  seen_fit same identity laws seen os distinct each =
+      let fit = length-le_from_is_member laws seen (solvables_in os) distinct (λ q h. list_any-from_Contains laws q (solvables_in os) (solvable_in os q (each q (Contains-from_any identity.alone q seen h)))) in
+      omega (arith, fit, no_more os)
+
+module _ {N S : Type 0} (u : Universe N S) where
+  demands_read : (root : Demands) (notes : Notes N S) → AreDemandsRead u notes.kinds ByRoot root → All (λ s. AreNeedsRead u notes.kinds s (u.needs s)) notes.seen → (by : By S) → IsPresent by notes.seen → AreDemandsRead u notes.kinds by (demands_by u root by)
+  demands_read root notes root_read seen_read ByRoot present = root_read
+  demands_read root notes root_read seen_read (BySolvable s) present = of_needs (u.needs s) (All-contains (λ t. AreNeedsRead u notes.kinds t (u.needs t)) notes.seen s seen_read present)
+    where
+      of_needs : (needs : Needs) → AreNeedsRead u notes.kinds s needs → AreDemandsRead u notes.kinds (BySolvable s) (demands_of needs)
+      of_needs (known d) h = h
+      of_needs (unknown reason) h = record { requirements = All-nil (IsReadRequirement u notes.kinds [] (BySolvable s)); constraints = All-nil (IsConstraintRead u notes.kinds (BySolvable s)) }
+
+  no_gate : (root : Demands) (notes : Notes N S) → IsEncoding u root notes → (r : Requirement) → Contains notes.kinds (GateRequires r) → ⊥
+  no_gate root notes encoding r h = All-contains IsDirect notes.kinds (GateRequires r) encoding.each_direct h
+
+  packages_of : (root : Demands) (notes : Notes N S) → IsEncoding u root notes → (by : By S) (list : List VersionSetId) (r : Requirement) → HasClause notes.kinds by list r → (v : VersionSetId) → Contains (version_sets u r) v → Contains notes.asked (u.version_set_name v)
+  packages_of root notes encoding by list r (has_direct disjunct is h) v k = encoding.packages by disjunct r h v k
+  packages_of root notes encoding by list r (has_gate s is none h g) v k = absurd (no_gate root notes encoding r g)
+
+  candidates_of : (root : Demands) (notes : Notes N S) → IsEncoding u root notes → (by : By S) (list : List VersionSetId) (r : Requirement) → HasClause notes.kinds by list r → (s : S) → Contains (requirement_candidates u r) s → Contains notes.seen s
+  candidates_of root notes encoding by list r (has_direct disjunct is h) s k = encoding.candidates by disjunct r h s k
+  candidates_of root notes encoding by list r (has_gate t is none h g) s k = absurd (no_gate root notes encoding r g)
+
+  -- all is read when the root is and each that was met
+  pub all_read : (root : Demands) (notes : Notes N S) → IsEncoding u root notes → AreDemandsRead u notes.kinds ByRoot root → All (λ s. AreNeedsRead u notes.kinds s (u.needs s)) notes.seen → IsRead u root notes.kinds [] notes.seen notes.asked notes.seen notes.exempt
+  all_read root notes encoding root_read seen_read = record {
+    installs = encoding.installs;
+    requirements = λ by r present asks. All-contains (IsReadRequirement u notes.kinds [] by) (demands_by u root by).requirements r (demands_read root notes root_read seen_read by present).requirements asks;
+    constraints = λ by v s present asks other. forbidden_direct (All-contains (λ t. Contains notes.kinds (Constrains by v t)) (others u v) s (All-contains (IsConstraintRead u notes.kinds by) (demands_by u root by).constraints v (demands_read root notes root_read seen_read by present).constraints asks) other);
+    unknowns = λ s reason h is. let Read : Needs → Type 0 = λ n. AreNeedsRead u notes.kinds s n in subst Read is (All-contains (λ t. AreNeedsRead u notes.kinds t (u.needs t)) notes.seen s seen_read h);
+    helpers = λ by disjunct r h v k s m. encoding.follow v (encoding.helpers by disjunct r h v k) s m;
+    packages = λ by list r h v k. packages_of root notes encoding by list r h v k;
+    candidates = λ by list r h s k. candidates_of root notes encoding by list r h s k;
+    locks = encoding.locks;
+    exclusions = encoding.exclusions;
+    instances = encoding.instances;
+  }
+
+  none : {X : Type 0} (xs : List X) (x : X) → xs ≡ [] → Contains xs x → ⊥
+  none {X} xs x e h = let Has : List X → Type 0 = λ list. Contains list x in none_in x (subst Has e h)
+
+  -- the root alone
+  pub installed : (old new : Notes N S) (limit : ℕ) (literals : Vec Literal Global) (l : Literal) → IsUnread old → IsAtom {N = N} {S = S} (Root ∷ []) l (atom Root true) → literals.items ≡ l ∷ [] →
+      new ≡ record old { origins = Root ∷ []; variable_limit = limit; table = literals ∷ []; kinds = InstallRoot ∷ [] } → (root : Demands) → IsEncoding u root new
+  installed old new limit literals l unread is items e root =
+      let Right : Notes N S → Type 0 = λ n. IsEncoding u root n in
+      let Literals : List Literal → Type 0 = λ ls. IsClauseOf {N = N} {S = S} u (Root ∷ []) ls InstallRoot in
+      let InNoSeen : List S → Type 0 = λ xs. All (λ s. Contains xs s → ⊥) xs in
+      subst Right (sym e) (record {
+        root_first = refl;
+        distinct = record { same = λ i k x one other. let below_i : i < 1 = slice_get_within (Root ∷ []) i x one in let below_k : k < 1 = slice_get_within (Root ∷ []) k x other in omega (arith, below_i, below_k) };
+        encoded = record {
+          count = refl;
+          each = λ n kind at.
+              let w = is_install n kind at in
+              let At : ℕ → ClauseKind N S → Type 0 = λ m k. IsClauseOf u (Root ∷ []) (clause_at (literals ∷ []) m) k in
+              subst (λ k. At n k) w.1 (subst (λ m. At m InstallRoot) (sym w.0) (subst Literals (sym items) (IsClauseOf-zip u (Root ∷ []) (l ∷ []) InstallRoot (is, tt))));
+        };
+        each_true = All-cons (IsTrueClause u no_codes root) InstallRoot [] tt (All-nil (IsTrueClause u no_codes root));
+        each_direct = All-cons IsDirect InstallRoot [] tt (All-nil IsDirect);
+        due = record { locks = λ s t h. absurd (not_there (Lock s t) (λ q. cc) h); exclusions = λ s reason h. absurd (not_there (Excluded s reason) (λ q. cc) h) };
+        installs = here InstallRoot [];
+        listed = λ n kind at asks. let Asks : ClauseKind N S → Type 0 = λ k. AsksForCandidates k in absurd (asks_not {N = N} {S = S} InstallRoot tt (subst Asks (sym (is_install n kind at).1) asks));
+        ask = λ n h. absurd (none old.requirements n unread.no_requirements h);
+        helpers = λ by disjunct r h. absurd (not_there (Requires by disjunct r) (λ q. cc) h);
+        packages = λ by disjunct r h. absurd (not_there (Requires by disjunct r) (λ q. cc) h);
+        candidates = λ by disjunct r h. absurd (not_there (Requires by disjunct r) (λ q. cc) h);
+        once = λ by disjunct r h. absurd (not_there (Requires by disjunct r) (λ q. cc) h);
+        follow = λ v h. absurd (none old.helped v unread.none_helped h);
+        locks = λ s t h. absurd (none old.asked (u.name s) unread.none_asked h);
+        exclusions = λ s reason h. absurd (none old.asked (u.name s) unread.none_asked h);
+        registered = λ s h. absurd (none old.seen s unread.none_seen h);
+        instances = λ s t h. absurd (none old.seen s unread.none_seen h);
+        sound_groups = unread.sound_groups;
+        grouped = λ s h. absurd (none old.seen s unread.none_seen h);
+        members = λ n s h. absurd (unread.no_groups n s h);
+      })
+    where
+      not_there : (kind : ClauseKind N S) → (InstallRoot ≡ kind → ⊥) → Contains (InstallRoot ∷ []) kind → ⊥
+      not_there kind differ h = ⊎_elim (λ (e : InstallRoot ≡ kind). differ e) (λ (later : Contains [] kind). none_in kind later) (cons_cases InstallRoot [] kind h)
+
+      is_install : (n : ℕ) (kind : ClauseKind N S) → slice_get (InstallRoot ∷ []) n ≡ Some kind → (n ≡ 0) × (InstallRoot ≡ kind)
+      is_install n kind at = ⊎_elim
+          (λ (before : slice_get [] n ≡ Some kind). absurd (omega (arith, slice_get_within [] n kind before)))
+          (λ (last : (n ≡ length {A = ClauseKind N S} []) × (InstallRoot ≡ kind)). last)
+          (place_cases [] InstallRoot n kind at)
+
+-- the first variable is the only one
+pub alone : {N S : Type 0} (old new : List (Origin N S)) (v : ℕ) → old ≡ [] → (new ≡ old) ⊎ (new ≡ old ++ Root ∷ []) → slice_get new v ≡ Some Root → new ≡ Root ∷ []
+alone old new v none added here = ⊎_elim
+    (λ same. let nothing : length new ≡ 0 = ap length (same ∙ none) in absurd (omega (arith, nothing, slice_get_within new v Root here)))
+    (λ more. more ∙ ap (λ list. list ++ Root ∷ []) none)
+    added

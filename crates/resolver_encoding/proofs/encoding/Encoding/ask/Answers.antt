@@ -1,0 +1,32 @@
+use Rattle.std.proofs.Common.{◌≡◌, ◌≢◌, ◌∙◌, ◌∷◌, ◌++◌, [], refl, inl, inr, sym, ap, subst, arith, All, Contains, List, take, map}
+use Rattle.std.specs.Prelude.{⊤}
+use Rattle.std.proofs.lemmas.List.Elements.{Contains-push}
+use Rattle.resolver_clause_store.specs.declared.ClauseKind.TheVariants.{Excluded}
+use Rattle.resolver_encoding.specs.Notes.{IsBounded, notes_in}
+use Rattle.resolver_encoding.proofs.EncodingLemmas.{IsStep-trans}
+use Rattle.resolver_encoding.proofs.NoteLemmas.{IsPackageRead-found, IsStep-asked}
+use Rattle.resolver_encoding.proofs.encoding.Encoding.ask.Goals as goal
+
+pub append-requires-clause-absent : goal.append-requires-clause-absent
+append-requires-clause-absent g c =
+    let Has : List g.row.N.Denot → Type 0 = λ list. Contains list c.args.name in
+    λ h. c.if-is_among.ensures (subst Has (c.in_ok-exclude_each.ensures.asked ∙ c.in_ok-lock_out_others.ensures.asked) h)
+
+pub returns-clause-step : goal.returns-clause-step
+returns-clause-step g c =
+    let u = g.D.Interner.universe c.args.provider.now in
+    let n = c.args.name in
+    let mid = notes_in c.exclude_each.new.self in
+    let answer = c.candidates-package.ensures u c.ask_candidates.ensures.is_true in
+    let AllFree : List g.row.S.Denot → Type 0 = λ xs. All (λ e. (Contains xs e.0 → ⊥) → Contains mid.kinds (Excluded e.0 e.1)) c.deref-2.result.now in
+    IsStep-asked u (notes_in c.args.self.now) mid _ n (IsStep-trans u (n ∷ []) (λ root. ⊤) _ _ _ c.in_ok-lock_out_others.ensures.step c.in_ok-exclude_each.ensures.step)
+    (c.in_ok-exclude_each.ensures.asked ∙ c.in_ok-lock_out_others.ensures.asked)
+    (λ i. record mid { asked = c.in_ok-append.ensures.keys i })
+    (IsPackageRead-found u (notes_in c.lock_out_others.new.self).kinds mid.kinds (notes_in c.args.self.now).exempt mid.exempt c.in_ok-exclude_each.ensures.step.kinds (c.in_ok-exclude_each.ensures.step.exempt ∙ c.in_ok-lock_out_others.ensures.step.exempt) (u.package_named n) _ _ _
+    (c.deref.ensures.value ∙ ap (λ p. p.listed) answer) (ap (λ p. p.locked) answer) (c.deref-2.ensures.value ∙ ap (λ p. p.excluded) answer)
+    c.in_ok-lock_out_others.ensures.read (subst AllFree (sym c.in_ok-exclude_each.ensures.step.exempt) c.in_ok-exclude_each.ensures.read))
+
+pub returns-clause-asked : goal.returns-clause-asked
+returns-clause-asked g c =
+    let Has : List g.row.N.Denot → Type 0 = λ list. Contains list c.args.name in
+    subst Has (sym c.in_ok-append.ensures.keys) (Contains-push c.exclude_each.new.self.asked.keys c.args.name)

@@ -1,0 +1,36 @@
+use Rattle.std.proofs.Common.{◌≡◌, ◌≢◌, ◌∙◌, ◌∷◌, ◌++◌, [], refl, inl, inr, sym, ap, subst, arith, All, Contains, List, take, map}
+use Rattle.std.specs.Prelude.{⊤}
+use Rattle.std.proofs.lemmas.List.Elements.{All-nil}
+use Rattle.resolver_encoding.specs.Notes.{IsBounded, notes_in}
+use Rattle.resolver_clause_store.proofs.SetLemmas.{All-done, Contains-item}
+use Rattle.resolver_encoding.proofs.EncodingLemmas.{IsStep-same, IsStep-trans, KeepsLimits-same, KeepsLimits-trans}
+use Rattle.resolver_encoding.proofs.NoteLemmas.{All-grown_at}
+use Rattle.resolver_encoding.proofs.encoding.Encoding.ask_each.Goals as goal
+
+pub loop-version_set-init : goal.loop-version_set-init
+loop-version_set-init g c =
+    let u = g.D.Interner.universe c.args.provider.now in
+    record {
+      bounded = c.requires.bounded;
+      limits = KeepsLimits-same _;
+      step = IsStep-same u [] (λ root. ⊤) (notes_in c.args.self.now);
+      asked = All-nil (λ v. Contains (notes_in c.args.self.now).asked (u.version_set_name v));
+      is_true = c.requires.is_true;
+    }
+
+pub loop-version_set-preserved : goal.loop-version_set-preserved
+loop-version_set-preserved g c =
+    let u = g.D.Interner.universe c.args.provider.now in
+    let before = c.loop-version_set.invariant in
+    record {
+      bounded = c.ask.ensures.bounded;
+      limits = KeepsLimits-trans _ _ _ before.limits c.ask.ensures.limits;
+      step = IsStep-trans u [] (λ root. ⊤) _ _ _ before.step c.in_ok-ask.ensures.step;
+      asked = All-grown_at (λ v. Contains c.loop-version_set.self.asked.keys (u.version_set_name v)) (λ v. Contains c.ask.new.self.asked.keys (u.version_set_name v)) c.args.named.now c.loop-version_set.version_set-index _ (λ y h. c.in_ok-ask.ensures.step.asked _ h) (omega arith) before.asked (rw c.version_set_name.ensures at c.in_ok-ask.ensures.asked);
+      is_true = c.ask.ensures.is_true;
+    }
+
+pub returns-clause-asked : goal.returns-clause-asked
+returns-clause-asked g c =
+    let u = g.D.Interner.universe c.args.provider.now in
+    All-done (λ v. Contains c.loop-version_set.self.asked.keys (u.version_set_name v)) c.args.named.now c.loop-version_set.version_set-index (omega arith) c.loop-version_set.invariant.asked

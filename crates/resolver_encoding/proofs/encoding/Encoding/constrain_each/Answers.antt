@@ -1,0 +1,42 @@
+use Rattle.std.proofs.Common.{◌≡◌, ◌≢◌, ◌∙◌, ◌∷◌, ◌++◌, [], refl, inl, inr, sym, ap, subst, arith, All, Contains, List, take, map}
+use Rattle.std.specs.Prelude.{⊤}
+use Rattle.std.proofs.lemmas.List.Elements.{All-nil, All-same}
+use Rattle.resolver_clause_store.specs.declared.ClauseKind.TheVariants.{Constrains}
+use Rattle.resolver_encoding.specs.Encodings.{AsksWithin}
+use Rattle.resolver_encoding.specs.Notes.{IsBounded, notes_in}
+use Rattle.resolver_clause_store.proofs.SetLemmas.{All-done, Contains-item}
+use Rattle.resolver_encoding.proofs.EncodingLemmas.{IsStep-same, IsStep-trans, IsStep-weaker, KeepsLimits-same, KeepsLimits-trans}
+use Rattle.resolver_encoding.proofs.NoteLemmas.{All-grown}
+use Rattle.resolver_encoding.proofs.encoding.Encoding.constrain_each.Goals as goal
+
+pub loop-candidate-init : goal.loop-candidate-init
+loop-candidate-init g c =
+    let u = g.D.Interner.universe c.args.provider.now in
+    record {
+      bounded = c.requires.bounded;
+      limits = KeepsLimits-same _;
+      step = IsStep-same u [] (AsksWithin u c.args.by c.args.version_set) (notes_in c.args.self.now);
+      read = All-nil (λ s. Contains (notes_in c.args.self.now).kinds (Constrains c.args.by c.args.version_set s));
+    }
+
+pub constrain-requires-clause-other : goal.constrain-requires-clause-other
+constrain-requires-clause-other g c =
+    let Has : List g.row.S.Denot → Type 0 = λ list. Contains list c.candidate-item.result in
+    subst Has c.requires.forbidden (Contains-item c.args.forbidden.now c.loop-candidate.candidate-index c.candidate-item.result (omega arith) c.candidate-item.is)
+
+pub loop-candidate-preserved : goal.loop-candidate-preserved
+loop-candidate-preserved g c =
+    let u = g.D.Interner.universe c.args.provider.now in
+    let before = c.loop-candidate.invariant in
+    let step = c.in_ok-constrain.ensures.step in
+    record {
+      bounded = c.constrain.ensures.bounded;
+      limits = KeepsLimits-trans _ _ _ before.limits c.constrain.ensures.limits;
+      step = IsStep-trans u [] (AsksWithin u c.args.by c.args.version_set) _ _ _ before.step step;
+      read = All-grown (λ s. Contains (notes_in c.loop-candidate.self).kinds (Constrains c.args.by c.args.version_set s)) (λ s. Contains (notes_in c.constrain.new.self).kinds (Constrains c.args.by c.args.version_set s)) c.args.forbidden.now c.loop-candidate.candidate-index c.candidate-item.result (λ y h. step.kinds _ h) (omega arith) c.candidate-item.is before.read c.in_ok-constrain.ensures.forbidden;
+    }
+
+pub returns-clause-read : goal.returns-clause-read
+returns-clause-read g c =
+    let Forbidden : g.row.S.Denot → Type 0 = λ s. Contains (notes_in c.loop-candidate.self).kinds (Constrains c.args.by c.args.version_set s) in
+    All-same Forbidden _ c.args.forbidden.now (sym c.requires.forbidden) (All-done Forbidden c.args.forbidden.now c.loop-candidate.candidate-index (omega arith) c.loop-candidate.invariant.read)

@@ -1,0 +1,16 @@
+use Rattle.std.proofs.Common.{◌≡◌, ◌≢◌, ◌∙◌, ◌∷◌, ◌++◌, [], refl, inl, inr, sym, ap, subst, arith, All, Contains, List, take, map}
+use Rattle.std.specs.Prelude.{⊤}
+use Rattle.resolver_clause_store.specs.declared.ClauseKind.TheVariants.{Excluded}
+use Rattle.resolver_encoding.specs.Notes.{IsBounded, notes_in}
+use Rattle.resolver_encoding.proofs.EncodingLemmas.{clause_listed}
+use Rattle.resolver_encoding.proofs.NoteLemmas.{IsStep-plain}
+use Rattle.resolver_encoding.proofs.encoding.Encoding.forbid_unknown.Goals as goal
+
+pub returns-clause-step : goal.returns-clause-step
+returns-clause-step g c =
+    let u = g.D.Interner.universe c.args.provider.now in
+    IsStep-plain u [] (λ root. ⊤) (notes_in c.args.self.now) _ (Excluded c.args.solvable c.args.reason) c.in_ok-add_unit.ensures.added tt
+    (λ root _ _. inr c.requires.unknown) tt (inr c.requires.unknown) tt
+
+pub returns-clause-forbidden : goal.returns-clause-forbidden
+returns-clause-forbidden g c = clause_listed (g.D.Interner.universe c.args.provider.now) (notes_in c.args.self.now) _ _ _ c.in_ok-add_unit.ensures.added

@@ -1,0 +1,31 @@
+use Rattle.std.proofs.Common.{◌≡◌, ◌≢◌, ◌∙◌, ◌∷◌, ◌++◌, [], refl, inl, inr, sym, ap, subst, arith, All, Contains, List, take, map}
+use Rattle.std.specs.Prelude.{⊤}
+use Rattle.std.proofs.lemmas.List.Elements.{All-contains, Contains-push}
+use Rattle.resolver_clause_store.specs.Candidates.{matching}
+use Rattle.resolver_clause_store.specs.declared.VersionSetId.{VersionSetId}
+use Rattle.resolver_clause_store.specs.declared.ClauseKind.TheVariants.{AnyOf}
+use Rattle.resolver_clause_store.specs.declared.Origin.TheVariants.{ConditionHelper}
+use Rattle.resolver_encoding.specs.Notes.{IsBounded, notes_in}
+use Rattle.resolver_encoding.proofs.EncodingLemmas.{IsStep-trans}
+use Rattle.resolver_encoding.proofs.NoteLemmas.{IsStep-helped}
+use Rattle.resolver_encoding.proofs.encoding.Encoding.help.Goals as goal
+
+pub append-requires-clause-absent : goal.append-requires-clause-absent
+append-requires-clause-absent g c =
+    let Has : List VersionSetId → Type 0 = λ list. Contains list c.args.version_set in
+    λ h. c.if-is_among.ensures (subst Has c.in_ok-imply_each.ensures.helped h)
+
+pub returns-clause-step : goal.returns-clause-step
+returns-clause-step g c =
+    let u = g.D.Interner.universe c.args.provider.now in
+    let v = c.args.version_set in
+    let mid = notes_in c.imply_each.new.self in
+    let answer = c.matching.ensures u c.ask_matching.ensures.is_true in
+    let AllFollow : List g.row.S.Denot → Type 0 = λ list. All (λ s. Contains mid.kinds (AnyOf (ConditionHelper v) s)) list in
+    IsStep-trans u [] (λ root. ⊤) _ _ _ c.in_ok-imply_each.ensures.step
+    (IsStep-helped u mid _ v (λ i. record mid { helped = c.in_ok-append.ensures.keys i }) (λ s h. All-contains (λ t. Contains mid.kinds (AnyOf (ConditionHelper v) t)) (matching u v) s (subst AllFollow answer c.in_ok-imply_each.ensures.follow) h))
+
+pub returns-clause-helped : goal.returns-clause-helped
+returns-clause-helped g c =
+    let Has : List VersionSetId → Type 0 = λ list. Contains list c.args.version_set in
+    subst Has (sym c.in_ok-append.ensures.keys) (Contains-push c.imply_each.new.self.helped.keys c.args.version_set)

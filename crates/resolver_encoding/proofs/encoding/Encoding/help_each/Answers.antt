@@ -1,0 +1,34 @@
+use Rattle.std.proofs.Common.{◌≡◌, ◌≢◌, ◌∙◌, ◌∷◌, ◌++◌, [], refl, inl, inr, sym, ap, subst, arith, All, Contains, List, take, map}
+use Rattle.std.specs.Prelude.{⊤}
+use Rattle.std.proofs.lemmas.List.Elements.{All-nil}
+use Rattle.resolver_encoding.specs.Notes.{IsBounded, notes_in}
+use Rattle.resolver_clause_store.proofs.SetLemmas.{All-done, Contains-item}
+use Rattle.resolver_encoding.proofs.EncodingLemmas.{IsStep-same, IsStep-trans, KeepsLimits-same, KeepsLimits-trans}
+use Rattle.resolver_encoding.proofs.NoteLemmas.{All-grown_at}
+use Rattle.resolver_encoding.proofs.encoding.Encoding.help_each.Goals as goal
+
+pub loop-version_set-init : goal.loop-version_set-init
+loop-version_set-init g c =
+    let u = g.D.Interner.universe c.args.provider.now in
+    record {
+      bounded = c.requires.bounded;
+      limits = KeepsLimits-same _;
+      step = IsStep-same u [] (λ root. ⊤) (notes_in c.args.self.now);
+      helped = All-nil (Contains (notes_in c.args.self.now).helped);
+      is_true = c.requires.is_true;
+    }
+
+pub loop-version_set-preserved : goal.loop-version_set-preserved
+loop-version_set-preserved g c =
+    let u = g.D.Interner.universe c.args.provider.now in
+    let before = c.loop-version_set.invariant in
+    record {
+      bounded = c.help.ensures.bounded;
+      limits = KeepsLimits-trans _ _ _ before.limits c.help.ensures.limits;
+      step = IsStep-trans u [] (λ root. ⊤) _ _ _ before.step c.in_ok-help.ensures.step;
+      helped = All-grown_at (Contains c.loop-version_set.self.helped.keys) (Contains c.help.new.self.helped.keys) c.args.disjunct.now c.loop-version_set.version_set-index _ (λ y h. c.in_ok-help.ensures.step.helped _ h) (omega arith) before.helped c.in_ok-help.ensures.helped;
+      is_true = c.help.ensures.is_true;
+    }
+
+pub returns-clause-helped : goal.returns-clause-helped
+returns-clause-helped g c = All-done (Contains c.loop-version_set.self.helped.keys) c.args.disjunct.now c.loop-version_set.version_set-index (omega arith) c.loop-version_set.invariant.helped

@@ -1,0 +1,15 @@
+use Rattle.std.proofs.Common.{◌≡◌, ◌≢◌, ◌∙◌, ◌∷◌, ◌++◌, [], refl, inl, inr, sym, ap, subst, arith, All, Contains, List, take, map}
+use Rattle.std.specs.Prelude.{⊤}
+use Rattle.resolver_clause_store.specs.Caches.{IsTrueCache}
+use Rattle.resolver_encoding.specs.Encodings.{AsksWithin, IsConstraintRead, IsStepWhile, KeepsLimits}
+use Rattle.resolver_encoding.specs.Notes.{IsBounded, notes_in}
+use Rattle.resolver_encoding.proofs.encoding.Encoding.read_constraints.Given as goal
+
+abbrev pub invariant-loop-version_set : goal.invariant-loop-version_set
+invariant-loop-version_set g l = record {
+  bounded : IsBounded l.self;
+  limits : KeepsLimits (notes_in l.fn.self) (notes_in l.self);
+  step : IsStepWhile (g.D.Interner.universe l.provider) [] (λ root. All (λ v. AsksWithin (g.D.Interner.universe l.provider) l.by v root) l.constraints) (notes_in l.fn.self) (notes_in l.self);
+  read : All (IsConstraintRead (g.D.Interner.universe l.provider) (notes_in l.self).kinds l.by) (take l.version_set-index l.constraints);
+  is_true : IsTrueCache (g.D.Interner.universe l.provider) l.cache;
+}

@@ -1,0 +1,30 @@
+use Rattle.std.proofs.Common.{◌≡◌, ◌≢◌, ◌∙◌, ◌∷◌, ◌++◌, [], refl, inl, inr, sym, ap, subst, arith, All, Contains, List, take, map}
+use Rattle.std.specs.Prelude.{⊤}
+use Rattle.std.proofs.lemmas.List.Elements.{All-nil}
+use Rattle.resolver_encoding.specs.Notes.{IsBounded, notes_in}
+use Rattle.resolver_clause_store.proofs.SetLemmas.{All-done, Contains-item}
+use Rattle.resolver_encoding.proofs.EncodingLemmas.{Extends-within, IsStep-same, IsStep-trans, KeepsLimits-same, KeepsLimits-trans}
+use Rattle.resolver_encoding.proofs.NoteLemmas.{All-grown}
+use Rattle.resolver_encoding.proofs.encoding.Encoding.see_all.Goals as goal
+
+pub loop-candidate-init : goal.loop-candidate-init
+loop-candidate-init g c = record {
+  bounded = c.requires.bounded;
+  limits = KeepsLimits-same _;
+  step = IsStep-same (g.D.Interner.universe c.args.provider.now) [] (λ root. ⊤) (notes_in c.args.self.now);
+  seen = All-nil (Contains (notes_in c.args.self.now).seen);
+}
+
+pub loop-candidate-preserved : goal.loop-candidate-preserved
+loop-candidate-preserved g c =
+    let u = g.D.Interner.universe c.args.provider.now in
+    let before = c.loop-candidate.invariant in
+    record {
+      bounded = c.see.ensures.bounded;
+      limits = KeepsLimits-trans _ _ _ before.limits c.see.ensures.limits;
+      step = IsStep-trans u [] (λ root. ⊤) _ _ _ before.step c.in_ok-see.ensures.step;
+      seen = All-grown (Contains c.loop-candidate.self.seen.keys) (Contains c.see.new.self.seen.keys) c.args.candidates.now c.loop-candidate.candidate-index c.candidate-item.result (λ y h. Extends-within _ _ c.in_ok-see.ensures.step.seen y h) (omega arith) c.candidate-item.is before.seen c.in_ok-see.ensures.seen;
+    }
+
+pub returns-clause-seen : goal.returns-clause-seen
+returns-clause-seen g c = All-done (Contains c.loop-candidate.self.seen.keys) c.args.candidates.now c.loop-candidate.candidate-index (omega arith) c.loop-candidate.invariant.seen

@@ -1,0 +1,13 @@
+use Rattle.std.proofs.Common.{◌≡◌, ◌≢◌, ◌∙◌, ◌∷◌, ◌++◌, [], refl, inl, inr, sym, ap, subst, arith, All, Contains, List, take, map}
+use Rattle.std.specs.Prelude.{⊤}
+use Rattle.resolver_encoding.specs.Encodings.{IsStepWhile, KeepsLimits}
+use Rattle.resolver_encoding.specs.Notes.{IsBounded, notes_in}
+use Rattle.resolver_encoding.proofs.encoding.Encoding.see_all.Given as goal
+
+abbrev pub invariant-loop-candidate : goal.invariant-loop-candidate
+invariant-loop-candidate g l = record {
+  bounded : IsBounded l.self;
+  limits : KeepsLimits (notes_in l.fn.self) (notes_in l.self);
+  step : IsStepWhile (g.D.Interner.universe l.provider) [] (λ root. ⊤) (notes_in l.fn.self) (notes_in l.self);
+  seen : All (Contains (notes_in l.self).seen) (take l.candidate-index l.candidates);
+}

@@ -1,0 +1,104 @@
+//! The candidates of a requirement, and where those of each version set end.
+
+ghost use Rattle.std.specs.Prelude.{◌≡◌, ◌<◌, ◌^◌, All, IfErr, IfOk};
+ghost use Rattle.resolver_clause_store.specs.Caches.{IsTrueCache};
+ghost use Rattle.resolver_clause_store.specs.Candidates.{requirement_candidates as candidates_of};
+ghost use Rattle.resolver_clause_store.specs.Interruptions.{IsInterruption};
+
+use indexmap::IndexSet;
+use resolver_clause_store::{
+    Cache, DependencyProvider, Exhausted, Interner, Interrupted, Requirement, VersionSetId,
+    requirement_candidates,
+};
+use std::alloc::Global;
+use std::hash::Hash;
+
+/// The candidates of a requirement, and for each of its version sets how many of them stand before the end of its own.
+#[derive(Drop)]
+pub(crate) struct Choices<S: Drop> {
+    pub(crate) candidates: Vec<S>,
+    pub(crate) counts: Vec<usize>,
+}
+
+/// Adds what is not there yet at the end.
+fn list_all<S: Copy + Eq + Hash + Drop>(
+    listed: &mut IndexSet<S>,
+    more: &[S],
+) -> Result<(), Exhausted>
+    ensures memory { IfErr result (λ e. e ≡ Exhausted.Memory) }
+{
+    for candidate in more {
+        listed.insert(*candidate)?;
+    }
+    Ok(())
+}
+
+/// How many candidates stand before the end of those of each version set, repeats dropped.
+fn counts_of<D: DependencyProvider>(
+    alloc: Global,
+    provider: &D,
+    cache: &mut Cache<D::NameId, D::SolvableId>,
+    version_sets: &[VersionSetId],
+) -> Result<Vec<usize>, Interrupted<D::Cancel>>
+    requires is_true { IsTrueCache (D.universe provider.now) cache.old }
+    ensures is_true { IsTrueCache (D.universe provider.now) cache.new }
+    ensures small { IfOk result (λ counts. All (λ n. n < 2 ^ 63) counts.items) }
+    ensures refusal { IfErr result (IsInterruption (D.may_cancel provider.now)) }
+{
+    let mut listed = IndexSet::new(alloc);
+    let mut counts = Vec::new(alloc);
+    for version_set in version_sets {
+        cache.ask_sorted(provider, *version_set)?;
+        list_all(&mut listed, cache.sorted(*version_set))?;
+        counts.push(listed.len())?;
+    }
+    Ok(counts)
+}
+
+/// The candidates of a requirement.
+pub(crate) fn choices_of<D: DependencyProvider>(
+    alloc: Global,
+    provider: &D,
+    cache: &mut Cache<D::NameId, D::SolvableId>,
+    requirement: Requirement,
+) -> Result<Choices<D::SolvableId>, Interrupted<D::Cancel>>
+    requires is_true { IsTrueCache (D.universe provider.now) cache.old }
+    ensures is_true { IsTrueCache (D.universe provider.now) cache.new }
+    ensures candidates { IfOk result (λ choices. choices.candidates.items ≡ candidates_of (D.universe provider.now) requirement) }
+    ensures small { IfOk result (λ choices. All (λ n. n < 2 ^ 63) choices.counts.items) }
+    ensures refusal { IfErr result (IsInterruption (D.may_cancel provider.now)) }
+{
+    let candidates = requirement_candidates(cache, provider, requirement)?;
+    match requirement {
+        Requirement::Single(version_set) => {
+            let counts = counts_of(alloc, provider, cache, &[version_set])?;
+            Ok(Choices { candidates, counts })
+        }
+        Requirement::Union(union) => {
+            let counts = counts_of(
+                alloc,
+                provider,
+                cache,
+                provider.version_sets_in_union(union),
+            )?;
+            Ok(Choices { candidates, counts })
+        }
+    }
+}
+
+/// The places behind a number of literals and each of these counts of candidates.
+pub(crate) fn places_behind(
+    alloc: Global,
+    start: usize,
+    counts: &[usize],
+) -> Result<Vec<usize>, Exhausted>
+    requires start { start < 2 ^ 63 }
+    requires small { All (λ n. n < 2 ^ 63) counts.now }
+    ensures memory { IfErr result (λ e. e ≡ Exhausted.Memory) }
+{
+    let mut places = Vec::new(alloc);
+    for count in counts {
+        places.push(start + *count)?;
+    }
+    Ok(places)
+}

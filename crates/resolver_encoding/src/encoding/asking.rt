@@ -1,0 +1,205 @@
+//! Packages that are asked.
+
+ghost use Rattle.std.specs.Prelude.{◌≡◌, ◌≢◌, ◌⊎◌, [], ◌∷◌, All, Contains, IfErr, OnOk, Some, map, ⊤};
+ghost use Rattle.resolver_clause_store.specs.Caches.{IsTrueCache};
+ghost use Rattle.resolver_clause_store.specs.Candidates.{version_sets};
+ghost use Rattle.resolver_clause_store.specs.declared.ClauseKind.TheVariants.{Excluded as ExcludedKind, Lock as LockKind};
+ghost use Rattle.resolver_encoding.specs.Encodings.{IsFull, IsLockRead, IsStep, IsStepWhile, KeepsLimits};
+ghost use Rattle.resolver_encoding.specs.Refusals.{IsShortage, IsStop};
+
+use super::Encoding;
+use resolver_clause_store::{
+    Cache, ClauseKind, DependencyProvider, Exhausted, Interner, Interrupted, Origin, Requirement,
+    StringId, VersionSetId, append, is_among,
+};
+use std::hash::Hash;
+
+impl<N: Copy + Eq + Hash + Drop, S: Copy + Eq + Hash + Drop> Encoding<N, S> {
+    ghost use Rattle.resolver_encoding.specs.Notes.{IsBounded, notes_in};
+
+    /// Forbids a listed candidate of a package where another one is locked, unless it is exempt.
+    fn lock_out<D: DependencyProvider<NameId = N, SolvableId = S>>(
+        &mut self,
+        provider: &D,
+        name: N,
+        locked: S,
+        candidate: S,
+    ) -> Result<(), Exhausted>
+        requires bounded { IsBounded self.old }
+        requires named { (D.universe provider.now).name candidate ≡ name }
+        requires lock { ((D.universe provider.now).package_named name).locked ≡ Some locked }
+        requires listed { Contains ((D.universe provider.now).package_named name).listed candidate }
+        ensures bounded { IsBounded self.new }
+        ensures step { OnOk result (IsStepWhile (D.universe provider.now) (name ∷ []) (λ root. ⊤) (notes_in self.old) (notes_in self.new)) }
+        ensures forbidden { OnOk result (candidate ≢ locked → (Contains (notes_in self.old).exempt candidate → ⊥) → Contains (notes_in self.new).kinds (LockKind locked candidate)) }
+        ensures asked { OnOk result ((notes_in self.new).asked ≡ (notes_in self.old).asked) }
+        ensures limits { KeepsLimits (notes_in self.old) (notes_in self.new) }
+        ensures refusal { IfErr result (IsShortage (IsFull (notes_in self.new))) }
+    {
+        if candidate == locked {
+            return Ok(());
+        }
+        if is_among(&self.exempt, &candidate) {
+            return Ok(());
+        }
+        let kind = ClauseKind::Lock {
+            locked,
+            forbidden: candidate,
+        };
+        let second = (Origin::Solvable(candidate), false);
+        self.add_pair(kind, (Origin::Root, false), second)?;
+        Ok(())
+    }
+
+    /// Forbids the listed candidates of a package other than the locked one.
+    fn lock_out_others<D: DependencyProvider<NameId = N, SolvableId = S>>(
+        &mut self,
+        provider: &D,
+        name: N,
+        listed: &[S],
+        locked: Option<S>,
+    ) -> Result<(), Exhausted>
+        requires bounded { IsBounded self.old }
+        requires listed { listed.now ≡ ((D.universe provider.now).package_named name).listed }
+        requires locked { locked ≡ ((D.universe provider.now).package_named name).locked }
+        ensures bounded { IsBounded self.new }
+        ensures step { OnOk result (IsStepWhile (D.universe provider.now) (name ∷ []) (λ root. ⊤) (notes_in self.old) (notes_in self.new)) }
+        ensures read { OnOk result (IsLockRead (notes_in self.new).kinds (notes_in self.old).exempt locked listed.now) }
+        ensures asked { OnOk result ((notes_in self.new).asked ≡ (notes_in self.old).asked) }
+        ensures limits { KeepsLimits (notes_in self.old) (notes_in self.new) }
+        ensures refusal { IfErr result (IsShortage (IsFull (notes_in self.new))) }
+    {
+        let Some(locked) = locked else {
+            return Ok(());
+        };
+        for candidate in listed {
+            self.lock_out(provider, name, locked, *candidate)?;
+        }
+        Ok(())
+    }
+
+    /// Forbids a solvable that its package excludes, unless it is exempt.
+    fn exclude<D: DependencyProvider<NameId = N, SolvableId = S>>(
+        &mut self,
+        provider: &D,
+        name: N,
+        solvable: S,
+        reason: StringId,
+    ) -> Result<(), Exhausted>
+        requires bounded { IsBounded self.old }
+        requires named { (D.universe provider.now).name solvable ≡ name }
+        requires excluded { Contains ((D.universe provider.now).package_named name).excluded (solvable, reason) }
+        ensures bounded { IsBounded self.new }
+        ensures step { OnOk result (IsStepWhile (D.universe provider.now) (name ∷ []) (λ root. ⊤) (notes_in self.old) (notes_in self.new)) }
+        ensures forbidden { OnOk result ((Contains (notes_in self.old).exempt solvable → ⊥) → Contains (notes_in self.new).kinds (ExcludedKind solvable reason)) }
+        ensures asked { OnOk result ((notes_in self.new).asked ≡ (notes_in self.old).asked) }
+        ensures limits { KeepsLimits (notes_in self.old) (notes_in self.new) }
+        ensures refusal { IfErr result (IsShortage (IsFull (notes_in self.new))) }
+    {
+        if is_among(&self.exempt, &solvable) {
+            return Ok(());
+        }
+        let kind = ClauseKind::Excluded { solvable, reason };
+        self.add_unit(kind, Origin::Solvable(solvable), false)?;
+        Ok(())
+    }
+
+    /// Forbids what a package excludes.
+    fn exclude_each<D: DependencyProvider<NameId = N, SolvableId = S>>(
+        &mut self,
+        provider: &D,
+        name: N,
+        excluded: &[(S, StringId)],
+    ) -> Result<(), Exhausted>
+        requires bounded { IsBounded self.old }
+        requires excluded { excluded.now ≡ ((D.universe provider.now).package_named name).excluded }
+        ensures bounded { IsBounded self.new }
+        ensures step { OnOk result (IsStepWhile (D.universe provider.now) (name ∷ []) (λ root. ⊤) (notes_in self.old) (notes_in self.new)) }
+        ensures read { OnOk result (All (λ e. (Contains (notes_in self.old).exempt e.0 → ⊥) → Contains (notes_in self.new).kinds (ExcludedKind e.0 e.1)) excluded.now) }
+        ensures asked { OnOk result ((notes_in self.new).asked ≡ (notes_in self.old).asked) }
+        ensures limits { KeepsLimits (notes_in self.old) (notes_in self.new) }
+        ensures refusal { IfErr result (IsShortage (IsFull (notes_in self.new))) }
+    {
+        for (solvable, reason) in excluded {
+            self.exclude(provider, name, *solvable, *reason)?;
+        }
+        Ok(())
+    }
+
+    /// Reads what a package locks and excludes, if it was not asked before.
+    pub(super) fn ask<D: DependencyProvider<NameId = N, SolvableId = S>>(
+        &mut self,
+        provider: &D,
+        cache: &mut Cache<N, S>,
+        name: N,
+    ) -> Result<(), Interrupted<D::Cancel>>
+        requires bounded { IsBounded self.old }
+        requires is_true { IsTrueCache (D.universe provider.now) cache.old }
+        ensures bounded { IsBounded self.new }
+        ensures is_true { IsTrueCache (D.universe provider.now) cache.new }
+        ensures step { OnOk result (IsStep (D.universe provider.now) (λ root. ⊤) (notes_in self.old) (notes_in self.new)) }
+        ensures asked { OnOk result (Contains (notes_in self.new).asked name) }
+        ensures limits { KeepsLimits (notes_in self.old) (notes_in self.new) }
+        ensures refusal { IfErr result (IsStop (D.may_cancel provider.now) (IsFull (notes_in self.new))) }
+    {
+        if is_among(&self.asked, &name) {
+            return Ok(());
+        }
+        cache.ask_candidates(provider, name)?;
+        let package = cache.candidates(name);
+        self.lock_out_others(provider, name, &package.candidates, package.locked)?;
+        self.exclude_each(provider, name, &package.excluded)?;
+        append(&mut self.asked, name)?;
+        Ok(())
+    }
+
+    /// Asks the package of each version set.
+    fn ask_each<D: DependencyProvider<NameId = N, SolvableId = S>>(
+        &mut self,
+        provider: &D,
+        cache: &mut Cache<N, S>,
+        named: &[VersionSetId],
+    ) -> Result<(), Interrupted<D::Cancel>>
+        requires bounded { IsBounded self.old }
+        requires is_true { IsTrueCache (D.universe provider.now) cache.old }
+        ensures bounded { IsBounded self.new }
+        ensures is_true { IsTrueCache (D.universe provider.now) cache.new }
+        ensures step { OnOk result (IsStep (D.universe provider.now) (λ root. ⊤) (notes_in self.old) (notes_in self.new)) }
+        ensures asked { OnOk result (All (λ v. Contains (notes_in self.new).asked ((D.universe provider.now).version_set_name v)) named.now) }
+        ensures limits { KeepsLimits (notes_in self.old) (notes_in self.new) }
+        ensures refusal { IfErr result (IsStop (D.may_cancel provider.now) (IsFull (notes_in self.new))) }
+    {
+        for version_set in named {
+            self.ask(provider, cache, provider.version_set_name(*version_set))?;
+        }
+        Ok(())
+    }
+
+    /// Asks the packages that a requirement names.
+    pub(super) fn ask_named<D: DependencyProvider<NameId = N, SolvableId = S>>(
+        &mut self,
+        provider: &D,
+        cache: &mut Cache<N, S>,
+        requirement: Requirement,
+    ) -> Result<(), Interrupted<D::Cancel>>
+        requires bounded { IsBounded self.old }
+        requires is_true { IsTrueCache (D.universe provider.now) cache.old }
+        ensures bounded { IsBounded self.new }
+        ensures is_true { IsTrueCache (D.universe provider.now) cache.new }
+        ensures step { OnOk result (IsStep (D.universe provider.now) (λ root. ⊤) (notes_in self.old) (notes_in self.new)) }
+        ensures asked { OnOk result (All (λ v. Contains (notes_in self.new).asked ((D.universe provider.now).version_set_name v)) (version_sets (D.universe provider.now) requirement)) }
+        ensures limits { KeepsLimits (notes_in self.old) (notes_in self.new) }
+        ensures refusal { IfErr result (IsStop (D.may_cancel provider.now) (IsFull (notes_in self.new))) }
+    {
+        match requirement {
+            Requirement::Single(version_set) => {
+                self.ask_each(provider, cache, &[version_set])?;
+                Ok(())
+            }
+            Requirement::Union(union) => {
+                self.ask_each(provider, cache, provider.version_sets_in_union(union))?;
+                Ok(())
+            }
+        }
+    }
+}

@@ -1,0 +1,95 @@
+//! Helpers of the version sets of conditions.
+
+ghost use Rattle.std.specs.Prelude.{◌≡◌, ◌≢◌, ◌⊎◌, [], ◌∷◌, All, Contains, IfErr, OnOk, Some, map, ⊤};
+ghost use Rattle.resolver_clause_store.specs.Caches.{IsTrueCache};
+ghost use Rattle.resolver_clause_store.specs.Candidates.{matching};
+ghost use Rattle.resolver_clause_store.specs.declared.ClauseKind.TheVariants.{AnyOf as AnyOfKind};
+ghost use Rattle.resolver_clause_store.specs.declared.Origin.TheVariants.{ConditionHelper as Helper};
+ghost use Rattle.resolver_encoding.specs.Encodings.{IsFull, IsStep, KeepsLimits};
+ghost use Rattle.resolver_encoding.specs.Refusals.{IsShortage, IsStop};
+
+use super::Encoding;
+use resolver_clause_store::{
+    Cache, ClauseKind, DependencyProvider, Exhausted, Interner, Interrupted, Origin, VersionSetId,
+    append, is_among,
+};
+use std::hash::Hash;
+
+impl<N: Copy + Eq + Hash + Drop, S: Copy + Eq + Hash + Drop> Encoding<N, S> {
+    ghost use Rattle.resolver_encoding.specs.Notes.{IsBounded, notes_in};
+
+    /// The helper of a version set follows from each of these.
+    fn imply_each<D: DependencyProvider<NameId = N, SolvableId = S>>(
+        &mut self,
+        provider: &D,
+        version_set: VersionSetId,
+        candidates: &[S],
+    ) -> Result<(), Exhausted>
+        requires bounded { IsBounded self.old }
+        requires candidates { candidates.now ≡ matching (D.universe provider.now) version_set }
+        ensures bounded { IsBounded self.new }
+        ensures step { OnOk result (IsStep (D.universe provider.now) (λ root. ⊤) (notes_in self.old) (notes_in self.new)) }
+        ensures follow { OnOk result (All (λ s. Contains (notes_in self.new).kinds (AnyOfKind (Helper version_set) s)) candidates.now) }
+        ensures helped { OnOk result ((notes_in self.new).helped ≡ (notes_in self.old).helped) }
+        ensures limits { KeepsLimits (notes_in self.old) (notes_in self.new) }
+        ensures refusal { IfErr result (IsShortage (IsFull (notes_in self.new))) }
+    {
+        for candidate in candidates {
+            let helper = Origin::ConditionHelper(version_set);
+            let kind = ClauseKind::AnyOf {
+                helper,
+                candidate: *candidate,
+            };
+            let second = (Origin::Solvable(*candidate), false);
+            self.add_pair(kind, (helper, true), second)?;
+        }
+        Ok(())
+    }
+
+    /// Makes the helper of a version set of a condition, if it has none yet.
+    fn help<D: DependencyProvider<NameId = N, SolvableId = S>>(
+        &mut self,
+        provider: &D,
+        cache: &mut Cache<N, S>,
+        version_set: VersionSetId,
+    ) -> Result<(), Interrupted<D::Cancel>>
+        requires bounded { IsBounded self.old }
+        requires is_true { IsTrueCache (D.universe provider.now) cache.old }
+        ensures bounded { IsBounded self.new }
+        ensures is_true { IsTrueCache (D.universe provider.now) cache.new }
+        ensures step { OnOk result (IsStep (D.universe provider.now) (λ root. ⊤) (notes_in self.old) (notes_in self.new)) }
+        ensures helped { OnOk result (Contains (notes_in self.new).helped version_set) }
+        ensures limits { KeepsLimits (notes_in self.old) (notes_in self.new) }
+        ensures refusal { IfErr result (IsStop (D.may_cancel provider.now) (IsFull (notes_in self.new))) }
+    {
+        if is_among(&self.helped, &version_set) {
+            return Ok(());
+        }
+        cache.ask_matching(provider, version_set)?;
+        self.imply_each(provider, version_set, cache.matching(version_set))?;
+        append(&mut self.helped, version_set)?;
+        Ok(())
+    }
+
+    /// Makes the helper of each version set of a disjunct.
+    pub(super) fn help_each<D: DependencyProvider<NameId = N, SolvableId = S>>(
+        &mut self,
+        provider: &D,
+        cache: &mut Cache<N, S>,
+        disjunct: &[VersionSetId],
+    ) -> Result<(), Interrupted<D::Cancel>>
+        requires bounded { IsBounded self.old }
+        requires is_true { IsTrueCache (D.universe provider.now) cache.old }
+        ensures bounded { IsBounded self.new }
+        ensures is_true { IsTrueCache (D.universe provider.now) cache.new }
+        ensures step { OnOk result (IsStep (D.universe provider.now) (λ root. ⊤) (notes_in self.old) (notes_in self.new)) }
+        ensures helped { OnOk result (All (Contains (notes_in self.new).helped) disjunct.now) }
+        ensures limits { KeepsLimits (notes_in self.old) (notes_in self.new) }
+        ensures refusal { IfErr result (IsStop (D.may_cancel provider.now) (IsFull (notes_in self.new))) }
+    {
+        for version_set in disjunct {
+            self.help(provider, cache, *version_set)?;
+        }
+        Ok(())
+    }
+}
