@@ -25,5 +25,6 @@ pub mod CandidateLemmas
 pub mod LeastLemmas
 pub mod MonotoneLemmas
 pub mod FactLemmas
+pub mod TableLemmas
 pub mod SameLemmas
 pub mod MessageExamples

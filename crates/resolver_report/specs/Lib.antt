@@ -31,6 +31,7 @@ pub mod Stories
 pub mod Tellings
 pub mod Displays
 pub mod Picks
+pub mod Tables
 pub mod Indents
 pub mod ConflictTexts
 pub mod TestTexts

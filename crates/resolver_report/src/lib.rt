@@ -23,6 +23,7 @@ mod rules;
 mod runs;
 mod simplify;
 mod story;
+mod tables;
 mod texts;
 mod tree;
 mod verdict;

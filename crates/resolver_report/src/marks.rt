@@ -1,17 +1,21 @@
 //! Which nodes of a graph can be installed, and which are missing.
 
-ghost use Rattle.std.specs.Prelude.{◌≡◌, ◌<◌, ⊤, IfOk, IfErr, MatchBool, length, map};
+ghost use Rattle.std.specs.Prelude.{◌≡◌, ◌<◌, ⊤, true, if◌then◌else◌, IfOk, IfErr, MatchBool, length, map, slice_set};
 ghost use Rattle.std.specs.List.{list_all, list_any};
 ghost use Rattle.std.specs.Option.{option_map};
 ghost use Rattle.resolver_report.specs.ConflictGraphs.{shape_of};
+ghost use Rattle.resolver_report.specs.Causes.{has_conflict as has_conflict_in, is_exclusion as is_exclusion_in};
+ghost use Rattle.resolver_report.specs.Tables.{IsExcludedTable};
+ghost use Rattle.resolver_report.specs.Runs.{runs_of as runs_of_edges};
 ghost use Rattle.resolver_report.specs.EdgeRuns.{run_view};
 ghost use Rattle.resolver_report.specs.EdgeFacts.{can_be_installed_with, edges_at, edges_view, must_be_missing_with};
 ghost use Rattle.resolver_report.specs.Marks.{IsLeastClosed, all_marked as all_marked_in, can_be_installed as can_be_installed_by, installable as installable_in, is_marked as is_marked_in, is_place as is_place_at, missing as missing_in, must_be_missing as must_be_missing_by, some_marked as some_marked_in};
 ghost use Rattle.resolver_report.specs.Shapes.{ConflictShape, places};
 
 use crate::graph::ConflictGraph;
-use crate::parts::NodeId;
-use crate::runs::{EdgeRun, has_conflict, has_exclusion, incoming, outgoing, runs_of};
+use crate::parts::{Edge, NodeId};
+use crate::runs::{EdgeRun, has_conflict, is_exclusion, runs_of};
+use crate::tables::outgoing_table;
 use resolver_clause_store::Exhausted;
 use std::alloc::Global;
 
@@ -80,24 +84,49 @@ pub struct NodeEdges {
     runs: Vec<EdgeRun>,
 }
 
-/// What the edges of a node say of it.
+/// What the edges of a node say of it, given those from it and which nodes have an edge to them that excludes something.
 fn node_edges<S: Copy + Drop>(
     alloc: Global,
-    graph: &ConflictGraph<S>,
+    out: &[Edge<S>],
+    excluded: &[bool],
     n: NodeId,
 ) -> Result<NodeEdges, Exhausted>
-    requires { n.0 < length graph.now.graph.nodes }
-    ensures value { IfOk result (λ e. edges_view e ≡ edges_at (shape_of graph.now) n.0) }
+    ensures value { IfOk result (λ e. edges_view e ≡ record { excluded = is_marked_in excluded.now n.0; conflicting = has_conflict_in out.now; runs = runs_of_edges out.now }) }
     ensures memory { IfErr result (λ e. e ≡ Exhausted.Memory) }
 {
-    let into = incoming(alloc, &graph.graph, n)?;
-    let out = outgoing(alloc, &graph.graph, n)?;
-    let runs = runs_of(alloc, &out)?;
+    let runs = runs_of(alloc, out)?;
     Ok(NodeEdges {
-        is_excluded: has_exclusion(&into),
-        has_conflict: has_conflict(&out),
+        is_excluded: is_marked(excluded, n),
+        has_conflict: has_conflict(out),
         runs,
     })
+}
+
+/// Which nodes have an edge to them that excludes something.
+fn excluded_nodes<S: Copy + Drop>(
+    alloc: Global,
+    graph: &ConflictGraph<S>,
+) -> Result<Vec<bool>, Exhausted>
+    ensures value { IfOk result (λ v. IsExcludedTable graph.now.graph.edges (length graph.now.graph.nodes) v.items) }
+    ensures memory { IfErr result (λ e. e ≡ Exhausted.Memory) }
+{
+    let count = graph.graph.nodes().len();
+    let mut marks = vec![in alloc; false; count]?;
+    let edges = graph.graph.edges();
+    for edge in edges {
+        mark_excluded(&mut marks, edge);
+    }
+    Ok(marks)
+}
+
+/// Marks the target of an edge that excludes something.
+fn mark_excluded<S>(marks: &mut Vec<bool>, edge: &Edge<S>)
+    requires { edge.now.target.0 < length marks.old.items }
+    ensures { marks.new.items ≡ (if is_exclusion_in edge.now.weight then slice_set marks.old.items edge.now.target.0 true else marks.old.items) }
+{
+    if is_exclusion(edge) {
+        marks[edge.target.0] = true;
+    }
 }
 
 /// What the edges of each node say of it.
@@ -108,9 +137,11 @@ fn all_edges<S: Copy + Drop>(
     ensures value { IfOk result (λ v. map edges_view v.items ≡ map (edges_at (shape_of graph.now)) (places graph.now.graph)) }
     ensures memory { IfErr result (λ e. e ≡ Exhausted.Memory) }
 {
+    let table = outgoing_table(alloc, &graph.graph)?;
+    let excluded = excluded_nodes(alloc, graph)?;
     let mut found = Vec::new(alloc);
-    for n in 0..graph.graph.nodes().len() {
-        found.push(node_edges(alloc, graph, NodeId(n))?)?;
+    for n in 0..table.len() {
+        found.push(node_edges(alloc, &table[n], &excluded, NodeId(n))?)?;
     }
     Ok(found)
 }

@@ -1,11 +1,11 @@
 //! Neighbouring edges that require one thing, and what else edges say.
 
 ghost use Rattle.std.specs.Prelude.{◌≡◌, ◌<◌, ◌++◌, ◌∷◌, [], IfOk, IfErr, OnOk, length, map};
-ghost use Rattle.resolver_report.specs.Causes.{has_conflict as has_conflict_in, has_exclusion as has_exclusion_in, has_second_instance as has_second_instance_in, is_conflict as is_conflict_in, is_exclusion as is_exclusion_in, is_second_instance as is_second_instance_in};
+ghost use Rattle.resolver_report.specs.Causes.{has_conflict as has_conflict_in, has_second_instance as has_second_instance_in, is_conflict as is_conflict_in, is_exclusion as is_exclusion_in, is_second_instance as is_second_instance_in};
 ghost use Rattle.resolver_report.specs.Runs.{runs_of as runs_of_edges};
 ghost use Rattle.resolver_report.specs.EdgeRuns.{and_then, new_run, run_view};
 ghost use Rattle.resolver_report.specs.Same.{same_requirement};
-ghost use Rattle.resolver_report.specs.Shapes.{incoming as incoming_in, outgoing as outgoing_in};
+ghost use Rattle.resolver_report.specs.Shapes.{outgoing as outgoing_in};
 
 use crate::graph::Graph;
 use crate::parts::{ConflictCause, ConflictEdge, Edge, NodeId};
@@ -31,23 +31,6 @@ pub fn outgoing<S: Copy + Drop>(
 {
     let mut edges = Vec::new(alloc);
     for edge in graph.outgoing(n) {
-        edges.push(*edge)?;
-    }
-    Ok(edges)
-}
-
-/// The edges to a node, newest first.
-pub fn incoming<S: Copy + Drop>(
-    alloc: Global,
-    graph: &Graph<S>,
-    n: NodeId,
-) -> Result<Vec<Edge<S>>, Exhausted>
-    requires { n.0 < length graph.now.nodes }
-    ensures value { IfOk result (λ v. v.items ≡ incoming_in graph.now.edges n.0) }
-    ensures memory { IfErr result (λ e. e ≡ Exhausted.Memory) }
-{
-    let mut edges = Vec::new(alloc);
-    for edge in graph.incoming(n) {
         edges.push(*edge)?;
     }
     Ok(edges)
@@ -145,13 +128,6 @@ fn is_second_instance<S>(edge: &Edge<S>) -> bool
         ConflictEdge::Conflict(ConflictCause::ForbidMultipleInstances) => true,
         _ => false,
     }
-}
-
-/// Whether some edge excludes its source.
-pub fn has_exclusion<S>(edges: &[Edge<S>]) -> bool
-    ensures { result ≡ has_exclusion_in edges.now }
-{
-    edges.iter().any(|edge| is_exclusion(edge))
 }
 
 /// Whether the ends of some edge do not go together.

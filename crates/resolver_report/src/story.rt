@@ -13,7 +13,8 @@ ghost use Rattle.resolver_report.specs.Stories.{group_at as group_at_in, groups_
 use crate::graph::ConflictGraph;
 use crate::marks::{is_marked, is_place, some_marked};
 use crate::parts::{ConflictNode, Edge, NodeId};
-use crate::runs::{EdgeRun, outgoing, runs_of};
+use crate::runs::{EdgeRun, runs_of};
+use crate::tables::outgoing_table;
 use crate::verdict::{Verdict, verdict_of};
 use resolver_clause_store::{Exhausted, Requirement};
 use std::alloc::Global;
@@ -230,19 +231,19 @@ pub fn stories_of<S: Copy + Drop>(
     Ok(stories)
 }
 
-/// What is told of a node.
+/// What is told of a node, given the edges from it.
 fn node_story<S: Copy + Drop>(
     alloc: Global,
     findings: &Findings<'_, S>,
+    edges: &[Edge<S>],
     n: NodeId,
 ) -> Result<NodeStory, Exhausted>
-    requires { n.0 < length findings.now.graph.now.graph.nodes }
+    requires { edges.now ≡ outgoing_in findings.now.graph.now.graph.edges n.0 }
     ensures value { IfOk result (λ s. node_view s ≡ node_told (shape_of findings.now.graph.now) (groups_in findings.now) findings.now.installable.items n.0) }
     ensures memory { IfErr result (λ e. e ≡ Exhausted.Memory) }
 {
-    let edges = outgoing(alloc, &findings.graph.graph, n)?;
-    let verdict = verdict_of(alloc, &edges)?;
-    let runs = stories_of(alloc, findings, &edges)?;
+    let verdict = verdict_of(alloc, edges)?;
+    let runs = stories_of(alloc, findings, edges)?;
     Ok(NodeStory {
         group: group_at(&findings.groups, n),
         verdict,
@@ -258,9 +259,10 @@ pub fn node_stories<S: Copy + Drop>(
     ensures value { IfOk result (λ v. map node_view v.items ≡ map (node_told (shape_of findings.now.graph.now) (groups_in findings.now) findings.now.installable.items) (places findings.now.graph.now.graph)) }
     ensures memory { IfErr result (λ e. e ≡ Exhausted.Memory) }
 {
+    let table = outgoing_table(alloc, &findings.graph.graph)?;
     let mut stories = Vec::new(alloc);
-    for n in 0..findings.graph.graph.nodes().len() {
-        stories.push(node_story(alloc, findings, NodeId(n))?)?;
+    for n in 0..table.len() {
+        stories.push(node_story(alloc, findings, &table[n], NodeId(n))?)?;
     }
     Ok(stories)
 }
