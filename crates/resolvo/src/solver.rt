@@ -19,7 +19,7 @@ use crate::clause_search::{ClauseSearch, Outcome};
 use crate::conflict::Conflict;
 use crate::problem::Problem;
 use resolver_clause_store::{Cache, ClauseKind, DependencyProvider, Exhausted, Interner, Interrupted};
-use resolver_encoding::{Encoding, Parts, chosen_solvables, rules_of_clauses};
+use resolver_encoding::{Encoding, EncodingParts, chosen_solvables, rules_of_clauses};
 use resolver_report::keep_reached;
 use std::alloc::Global;
 
@@ -124,7 +124,7 @@ impl<D: DependencyProvider> Solver<D> {
         ensures counted { IfErr result (IsCounted (length (notes_in encoding).kinds) self.new) }
         ensures counted_answer { IfOk result (λ _. CountsClauses (length (notes_in encoding).kinds) self.new) }
     {
-        let Parts {
+        let EncodingParts {
             variables,
             kinds,
             literals,
@@ -178,7 +178,7 @@ impl<D: DependencyProvider> Solver<D> {
             problem.root_requirements(),
             problem.root_constraints(),
         );
-        self.variable_count = encoding.variable_count();
+        self.variable_count = encoding.variables().len();
         self.clause_count = encoding.clause_count();
         self.learnt_count = 0;
         match read {

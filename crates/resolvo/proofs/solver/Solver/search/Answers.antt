@@ -18,7 +18,7 @@ pub new-requires-clause-below : goal.new-requires-clause-below
 new-requires-clause-below g c =
     let notes = notes_in c.args.encoding in
     let parts = c.into_parts-variables.result in
-    let size : length notes.origins ≡ c.len.result = sym (c.len.ensures ∙ ap length c.into_parts-variables.ensures.origins) in
+    let size : length notes.origins ≡ c.len.result = sym (c.len.ensures ∙ ap length c.into_parts-variables.ensures.variables) in
     let Below : ℕ → List (Vec Literal Global) → Type 0 = λ n table. AreBelow n table in
     let Table : List (Vec Literal Global) → Type 0 = λ table. Below c.len.result table in
     let Count : ℕ → Type 0 = λ n. Below n notes.table in
@@ -52,9 +52,9 @@ returns-in-Ok-Finished-clause-answer g c = λ root all_read none.
     let finished : IsFinished (clauses_of search) (requirements_of search) trail = rw c.in-Ok-Finished.field-0-is at outcome in
     let FinishedFor : List (Vec Literal Global) → Type 0 = λ table. IsFinished table (requirements_of search) trail in
     let FinishedBy : List RequirementClause → Type 0 = λ rs. IsFinished notes.table rs trail in
-    let size : variable_count trail ≡ length notes.origins = c.in-Ok-Finished.ensures.same.variables ∙ c.in-Ok.ensures.variables ∙ c.len.ensures ∙ ap length parts.origins in
+    let size : variable_count trail ≡ length notes.origins = c.in-Ok-Finished.ensures.same.variables ∙ c.in-Ok.ensures.variables ∙ c.len.ensures ∙ ap length parts.variables in
     let chosen : c.in-Ok-chosen_solvables.chosen.items ≡ solvables_before notes.origins trail (length_of trail) =
-      c.in-Ok-chosen_solvables.ensures.chosen ∙ ap (λ (t : Trail). solvables_before (origins_in c.into_parts-variables.result.variables) t (length_of t)) c.trail.ensures ∙ ap (λ os. solvables_before os trail (length_of trail)) parts.origins in
+      c.in-Ok-chosen_solvables.ensures.chosen ∙ ap (λ (t : Trail). solvables_before (origins_in c.into_parts-variables.result.variables) t (length_of t)) c.trail.ensures ∙ ap (λ os. solvables_before os trail (length_of trail)) parts.variables in
     plain_answer u root notes requirements trail c.in-Ok-chosen_solvables.chosen.items
       (lawful_solvables u g.D.SolvableId.PartialEq.eq (g.met.D.Interner.lawful_ids c.args.self.now.provider) (g.met.D.Interner.solvables_compare c.args.self.now.provider) g.met.D.Interner.solvables_are_values) (g.met.D.DependencyProvider.lawful_packages c.args.self.now.provider) all_read none parts.requirements size
       (subst FinishedBy c.in-Ok.ensures.requirements (subst FinishedFor clauses finished)) chosen

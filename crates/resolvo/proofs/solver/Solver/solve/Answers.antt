@@ -25,7 +25,7 @@ returns-in-Err-Exhausted-clause-refusal g c =
     let stopped : IsStop (g.D.DependencyProvider.may_cancel c.args.self.now.provider) (IsFull notes) c.in-Err-Exhausted.field-0 = c.in-Err-Exhausted.ensures.refusal in
     let short : IsShortage (IsFull notes) c.in-Err-Exhausted.e = rw c.in-Err-Exhausted.field-0-is at stopped in
     shortage_weaker (IsFull notes) _ (λ full. ⊎_elim
-      (λ (variables : (length notes.origins ≡ notes.variable_limit) × AreDistinct notes.origins). inl (omega (arith, variables.0, limits.variables, c.new-encoding.ensures.variables, c.variable_count-self.ensures)))
+      (λ (variables : (length notes.origins ≡ notes.variable_limit) × AreDistinct notes.origins). inl (omega (arith, variables.0, limits.variables, c.new-encoding.ensures.variables, c.len-self.ensures, ap length c.variables.ensures)))
       (λ (clauses : length notes.kinds ≡ notes.clause_limit). inr (inl (omega (arith, clauses, limits.clauses, c.new-encoding.ensures.clauses, c.clause_count-self.ensures))))
       full) c.in-Err-Exhausted.e short
 
