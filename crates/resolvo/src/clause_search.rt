@@ -128,6 +128,13 @@ impl ClauseSearch {
         self.causes.len()
     }
 
+    /// How many clauses there are, given and learnt.
+    pub fn clause_count(&self) -> usize
+        ensures { result ≡ clause_count_of self.now }
+    {
+        self.table.len()
+    }
+
     /// Puts a learnt clause behind the others, jumps back to the highest level of all its literals but one, and sets that one.
     fn jump_back(&mut self, learnt: Learnt) -> Result<(), AllocError>
         requires consistent { IsConsistent self.old }
