@@ -277,6 +277,7 @@ fn six_pigeons_do_not_fit_into_five_holes(rt: HostRuntime) -> Result<(), Fail> {
             found = core.len();
         }
         assert!(rt; 0 < search.learnt_count());
+        assert_eq!(rt; search.clause_count(), count + search.learnt_count());
     }
     assert_eq!(rt; count, 81);
     assert_eq!(rt; found, count);
