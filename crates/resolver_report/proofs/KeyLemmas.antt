@@ -1,5 +1,5 @@
 -- Keys whose sides stand in order are the same just where the keys are alike.
-use Rattle.std.proofs.Common.{◌≡◌, ◌⊎◌, ℕ, zero, suc, ◌+◌, ◌<◌, ◌≤◌, Bool, true, false, cond, List, [], ◌∷◌, ◌++◌, length, refl, sym, ◌∙◌, ap, subst, inl, inr, ⊎_elim, arith, get_or}
+use Rattle.std.proofs.Common.{◌≡◌, ℕ, zero, suc, ◌+◌, ◌<◌, ◌≤◌, Bool, true, false, cond, List, [], ◌∷◌, ◌++◌, length, refl, sym, ◌∙◌, ap, subst, ⊎_elim, arith, get_or}
 use Rattle.std.specs.Prelude.{◌==◌, ◌&&◌, count_by, filter, nat_eq, Option, Some, None, slice_get, string_bytes}
 use Rattle.std.specs.Cmp.{IsTotalOrder}
 use Rattle.std.specs.List.{range_with_len}
@@ -9,7 +9,7 @@ use Rattle.std.specs.declared.cmp.Ordering.{Ordering}
 use Rattle.std.specs.declared.cmp.Ordering.TheVariants.{Less, Equal, Greater}
 use lib.Pointwise.{pointwise}
 use Rattle.std.proofs.lemmas.Bool.{false≢true, true≢false, cases_lt}
-use Rattle.std.proofs.lemmas.List.{get_or_append_left, get_or_default, get_or_push, length-map}
+use Rattle.std.proofs.lemmas.List.{get_or_default, length-map}
 use Rattle.std.proofs.lemmas.List.Elements.{filter-append}
 use Rattle.std.proofs.lemmas.List.FromFn.{length-range_with_len}
 use Rattle.std.proofs.lemmas.List.Sorted.{ranks_by, sum_by-IsPermutation}
@@ -27,7 +27,6 @@ use Rattle.resolver_report.specs.Same.{same_requirement}
 use Rattle.resolver_report.specs.Shapes.{Shape}
 use Rattle.resolver_report.specs.Listed.{items_if}
 use Rattle.resolver_report.specs.Shapes.{places}
-use Rattle.resolver_report.proofs.AskedLemmas.{cases_lt_suc}
 use Rattle.resolver_report.proofs.ListLemmas.{range-next}
 use Rattle.resolver_report.proofs.AlikeLemmas.{agree_counts, and_left, and_right, both_true, counts_agree, itself_number, same_bool, side_alone, texts_pointwise}
 use Rattle.resolver_report.proofs.OrderedLemmas.{sorted_same}
@@ -202,18 +201,3 @@ keys_told cmp u g os long each = record { long = long ∙ sym size; each = told 
         let is : key_of u g n ≡ k = cc in
         let Is : Key → Type 0 = λ l. IsKeyOf cmp l (get_or os n None) in
         subst Is is (each n lt)
-
--- the keys so far, and one more
-pub key_next : (cmp : Side → Side → Ordering) (key : ℕ → Key) (found more : List (Option NodeKey)) (o : Option NodeKey) (n : ℕ) → length found ≡ n → more ≡ found ++ o ∷ [] → IsKeyOf cmp (key n) o →
-    ((k : ℕ) → k < n → IsKeyOf cmp (key k) (get_or found k None)) → (k : ℕ) → k < n + 1 → IsKeyOf cmp (key k) (get_or more k None)
-key_next cmp key found more o n long are here before k below = at_place (cases_lt_suc k n below)
-  where
-    at_place : (k < n) ⊎ (k ≡ n) → IsKeyOf cmp (key k) (get_or more k None)
-    at_place (inl lt) =
-        let Is : Option NodeKey → Type 0 = λ p. IsKeyOf cmp (key k) p in
-        subst Is (sym (ap (λ list. get_or list k None) are ∙ get_or_append_left found (o ∷ []) None k (omega (arith, lt, long)))) (before k lt)
-    at_place (inr is) =
-        let Is : Option NodeKey → Type 0 = λ p. IsKeyOf cmp (key k) p in
-        let IsAt : ℕ → Type 0 = λ m. IsKeyOf cmp (key m) o in
-        let last : get_or more k None ≡ o = ap (λ list. get_or list k None) are ∙ get_or_push found o None k (long ∙ sym is) in
-        subst Is (sym last) (subst IsAt (sym is) here)

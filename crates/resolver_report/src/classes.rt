@@ -4,7 +4,7 @@ ghost use Rattle.std.specs.Prelude.{◌≡◌, ◌<◌, ◌++◌, ◌∷◌, [],
 ghost use Rattle.std.specs.HashMap.{get};
 ghost use Rattle.resolver_report.specs.Listed.{items_at, items_if};
 ghost use Rattle.resolver_report.specs.Classes.{HasClasses, has_key};
-ghost use Rattle.resolver_report.specs.Keys.{AreKeysOf, key_view, same_key};
+ghost use Rattle.resolver_report.specs.Keys.{AreKeysOf, key_view};
 ghost use Rattle.resolver_report.specs.Merging.{Key, class_in};
 
 use crate::keys::NodeKey;
@@ -13,13 +13,6 @@ use crate::parts::Side;
 use resolver_clause_store::Exhausted;
 use std::alloc::Global;
 use std::collections::HashMap;
-
-/// Whether two keys are the same.
-fn is_same_key(a: &NodeKey, b: &NodeKey) -> bool
-    ensures { result ≡ same_key a.now b.now }
-{
-    a == b
-}
 
 /// Another key that says the same.
 fn copy_of(alloc: Global, key: &NodeKey) -> Result<NodeKey, Exhausted>
