@@ -1,10 +1,11 @@
 //! Requests as a solver sees them.
 
 use super::{InputError, Request, read_request};
-use crate::ids::SolvableId;
+use crate::ids::{NameId, SolvableId};
 use resolver_clause_store::StringId;
-use resolvo::{By, Problem, Rule, Solver, UnsolvableOrCancelled};
+use resolvo::{By, Conflict, Problem, Rule, Solver, UnsolvableOrCancelled};
 use std::alloc::Global;
+use std::fmt::Write;
 use std::test::Fail;
 
 fn request(alloc: Global, input: &str) -> Result<Request, Fail> {
@@ -30,12 +31,12 @@ fn count(alloc: Global, input: &str) -> Result<(usize, Option<Vec<SolvableId>>),
 }
 
 #[test]
-fn a_rule_for_each_requirement_and_a_mark_for_each_candidate(rt: HostRuntime) -> Result<(), Fail> {
+fn a_clause_for_each_requirement_and_for_each_two_instances(rt: HostRuntime) -> Result<(), Fail> {
     assert_eq!(rt; count(rt.alloc(), "")?.0, 1);
     let input =
         "package asdf=1\npackage efgh=4\npackage dummy=6\nrequires asdf=1 efgh\nrequire asdf\n";
     let (clauses, chosen) = count(rt.alloc(), input)?;
-    assert_eq!(rt; clauses, 5);
+    assert_eq!(rt; clauses, 3);
     let chosen = chosen.ok_or("no answer")?;
     assert_eq!(rt;
         chosen.as_slice(),
@@ -43,22 +44,22 @@ fn a_rule_for_each_requirement_and_a_mark_for_each_candidate(rt: HostRuntime) ->
     );
     let input =
         "package asdf=4\npackage asdf=3\npackage b=1\nrequires asdf=4 b\nrequires b=1 idontexist\nrequire asdf\n";
-    assert_eq!(rt; count(rt.alloc(), input)?.0, 7);
+    assert_eq!(rt; count(rt.alloc(), input)?.0, 5);
     Ok(())
 }
 
 #[test]
-fn rules_for_conditions_exclusions_and_constraints(rt: HostRuntime) -> Result<(), Fail> {
+fn clauses_for_conditions_exclusions_and_constraints(rt: HostRuntime) -> Result<(), Fail> {
     let input =
         "package p=1\npackage c=1\npackage c=2\npackage d=1\nrequires p=1 c | d\nrequires p=1 x if c@2\nexclude c=1 old\nrequire p\n";
-    assert_eq!(rt; count(rt.alloc(), input)?.0, 9);
+    assert_eq!(rt; count(rt.alloc(), input)?.0, 7);
     assert_eq!(rt;
         count(
             rt.alloc(),
             "package a=1\nconstrains a=1 a@2..3\nrequire a@1\n"
         )?
         .0,
-        4
+        3
     );
     Ok(())
 }
@@ -75,7 +76,7 @@ fn a_conflict_lists_the_exclusion_with_its_reason(rt: HostRuntime) -> Result<(),
         return Err(Fail::from("no conflict"));
     };
     let rules = conflict.rules();
-    assert_eq!(rt; rules.len(), 3);
+    assert_eq!(rt; rules.len(), 2);
     assert!(rt;
         matches!(
             &rules[0],
@@ -85,21 +86,12 @@ fn a_conflict_lists_the_exclusion_with_its_reason(rt: HostRuntime) -> Result<(),
             }
         )
     );
-    assert!(rt;
-        matches!(
-            &rules[1],
-            Rule::OnePerPackage {
-                instance: SolvableId(0),
-                ..
-            }
-        )
-    );
-    assert!(rt; matches!(&rules[2], Rule::Requires { by: By::Root, .. }));
+    assert!(rt; matches!(&rules[1], Rule::Requires { by: By::Root, .. }));
     Ok(())
 }
 
 #[test]
-fn a_conflict_leaves_out_what_no_requirement_reaches(rt: HostRuntime) -> Result<(), Fail> {
+fn a_conflict_leaves_out_what_the_search_did_not_use(rt: HostRuntime) -> Result<(), Fail> {
     let request = request(
         rt.alloc(),
         "package a=1\npackage a=2\nexclude a=1 it is bad\nexclude a=2 it is worse\nrequire a@1\n",
@@ -110,7 +102,7 @@ fn a_conflict_leaves_out_what_no_requirement_reaches(rt: HostRuntime) -> Result<
         return Err(Fail::from("no conflict"));
     };
     let rules = conflict.rules();
-    assert_eq!(rt; rules.len(), 3);
+    assert_eq!(rt; rules.len(), 2);
     assert!(rt;
         matches!(
             &rules[0],
@@ -120,9 +112,98 @@ fn a_conflict_leaves_out_what_no_requirement_reaches(rt: HostRuntime) -> Result<
             }
         )
     );
-    assert!(rt; matches!(&rules[1], Rule::OnePerPackage { .. }));
-    assert!(rt; matches!(&rules[2], Rule::Requires { by: By::Root, .. }));
+    assert!(rt; matches!(&rules[1], Rule::Requires { by: By::Root, .. }));
     // Both exclusions were read.
-    assert_eq!(rt; solver.clause_count(), 5);
+    assert_eq!(rt; solver.clause_count(), 4);
+    Ok(())
+}
+
+/// The rules of the conflict of an input.
+fn conflict_of(alloc: Global, input: &str) -> Result<Conflict<NameId, SolvableId>, Fail> {
+    let request = request(alloc, input)?;
+    let problem = Problem::new()
+        .requirements(request.requirements)
+        .constraints(request.constraints);
+    let mut solver = Solver::new(alloc, request.catalog);
+    match solver.solve(problem) {
+        Err(UnsolvableOrCancelled::Unsolvable(conflict)) => Ok(conflict),
+        _other => Err(Fail::from("no conflict")),
+    }
+}
+
+#[test]
+fn a_constraint_on_its_own_package_gives_two_rules(rt: HostRuntime) -> Result<(), Fail> {
+    let conflict = conflict_of(
+        rt.alloc(),
+        "package a=1\nconstrains a=1 a@2..3\nrequire a@1\n",
+    )?;
+    let rules = conflict.rules();
+    assert_eq!(rt; rules.len(), 2);
+    assert!(rt; matches!(&rules[0], Rule::Requires { by: By::Root, .. }));
+    assert!(rt;
+        matches!(
+            &rules[1],
+            Rule::Constrains {
+                by: By::Solvable(SolvableId(0)),
+                candidate: SolvableId(0),
+                ..
+            }
+        )
+    );
+    Ok(())
+}
+
+const CLASH: &str = "package p=1\npackage p=2\npackage q=1\npackage q=2\npackage r=1\npackage r=2\nrequires p=1 r@1\nrequires p=2 r@1\nrequires q=1 r@2\nrequires q=2 r@2\nrequire p\nrequire q\n";
+
+/// Whether a rule names no solvable but those from one number up to another.
+fn is_between(rule: &Rule<NameId, SolvableId>, low: u32, high: u32) -> bool {
+    let named = |solvable: SolvableId| low <= solvable.0 && solvable.0 < high;
+    match rule {
+        Rule::Requires { by, candidates, .. } => {
+            let asks = match by {
+                By::Root => true,
+                By::Solvable(solvable) => named(*solvable),
+            };
+            asks && !candidates.is_empty() && candidates.iter().all(|s| named(*s))
+        }
+        Rule::Constrains { candidate, .. } => named(*candidate),
+        Rule::Lock { locked, forbidden } => named(*locked) && named(*forbidden),
+        Rule::Excluded { solvable, .. } => named(*solvable),
+        Rule::OnePerPackage { instance, .. } => named(*instance),
+    }
+}
+
+#[test]
+fn a_package_without_part_in_a_conflict_is_not_named(rt: HostRuntime) -> Result<(), Fail> {
+    let mut input = String::new(rt.alloc());
+    input.push_str(CLASH)?;
+    input.push_str("package w=1\nrequire w\n")?;
+    let conflict = conflict_of(rt.alloc(), &input)?;
+    assert!(rt; 8 <= conflict.rules().len());
+    for rule in conflict.rules() {
+        assert!(rt; is_between(rule, 0, 6));
+    }
+    Ok(())
+}
+
+#[test]
+fn two_hundred_packages_without_part_in_a_conflict_are_not_named(
+    rt: HostRuntime,
+) -> Result<(), Fail> {
+    let mut input = String::new(rt.alloc());
+    for number in 0..200u32 {
+        for version in 1..3u32 {
+            write!(input, "package u{number}={version}\n")?;
+        }
+    }
+    for number in 0..200u32 {
+        write!(input, "require u{number}\n")?;
+    }
+    input.push_str(CLASH)?;
+    let conflict = conflict_of(rt.alloc(), &input)?;
+    assert!(rt; 8 <= conflict.rules().len());
+    for rule in conflict.rules() {
+        assert!(rt; is_between(rule, 400, 406));
+    }
     Ok(())
 }

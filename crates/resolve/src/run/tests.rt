@@ -107,12 +107,11 @@ fn two_requirers_that_need_different_versions(rt: HostRuntime) {
         "package p=1\npackage p=2\npackage q=1\npackage q=2\npackage r=1\npackage r=2\nrequires p=1 r@1\nrequires p=2 r@1\nrequires q=1 r@2\nrequires q=2 r@2\nrequire p\nrequire q\n";
     let message = "The following packages are incompatible
 ├─ q * can be installed with any of the following options:
-│  └─ q 1 would require
+│  └─ q 1 | 2 would require
 │     └─ r >=2, <3, which can be installed with any of the following options:
 │        └─ r 2
 └─ p * cannot be installed because there are no viable options:
-   ├─ p 2, which conflicts with the versions reported above.
-   └─ p 1 would require
+   └─ p 1 | 2 would require
       └─ r >=1, <2, which cannot be installed because there are no viable options:
          └─ r 1, which conflicts with the versions reported above.
 ";
@@ -189,7 +188,7 @@ fn a_lock_on_another_version(rt: HostRuntime) {
     let message = "The following packages are incompatible
 └─ a >=2, <3 can be installed with any of the following options:
    └─ a 2
-├─ a 1 is locked, but another version is required as reported above
+└─ a 1 is locked, but another version is required as reported above
 ";
     expect_conflict(&rt, rt.alloc(), input, message);
 }
