@@ -1,8 +1,7 @@
 -- A few packages with texts, for tests.
-use Rattle.std.specs.Prelude.{ℕ, Bool, cond, nat_eq, List, [], ◌∷◌, ◌++◌, codes, map, None}
+use Rattle.std.specs.Prelude.{ℕ, Bool, cond, nat_eq, List, [], ◌∷◌, ◌++◌, codes, None}
 use Rattle.resolver_clause_store.specs.Universe.{Universe, hint_none, unknown}
 use Rattle.resolver_clause_store.specs.declared.Condition.TheVariants.{Requirement as Matched}
-use Rattle.resolver_report.specs.Messages.{joined_texts}
 
 -- the package of a solvable, and of a version set
 abbrev pub name_number : ℕ → ℕ
@@ -20,10 +19,10 @@ version_text s = cond (nat_eq s 1) (codes "2") (cond (nat_eq s 3) (codes "42") (
 abbrev pub set_text : ℕ → List ℕ
 set_text v = cond (nat_eq v 1) (codes ">=2, <3") (cond (nat_eq v 3) (codes ">=2, <3") (cond (nat_eq v 4) (codes ">=0, <100") (cond (nat_eq v 5) (codes ">=0, <54") (cond (nat_eq v 6) (codes ">=54, <100") (codes "*")))))
 
--- the name of the first, and all versions in their order
+-- the name and the version of the first
 abbrev pub merged_text : List ℕ → List ℕ
 merged_text [] = []
-merged_text (s ∷ ss) = name_text (name_number s) ++ codes " " ++ joined_texts (map version_text (s ∷ ss))
+merged_text (s ∷ ss) = name_text (name_number s) ++ codes " " ++ version_text s
 
 abbrev pub test_texts : Universe ℕ ℕ
 test_texts = record {

@@ -1,9 +1,8 @@
 //! Messages of graphs, byte for byte.
 
-ghost use Rattle.std.specs.Prelude.{◌≡◌, ◌++◌, IfErr, OnOk, codes, map, string_bytes, refl};
+ghost use Rattle.std.specs.Prelude.{◌≡◌, refl};
 ghost use Rattle.std.proofs.Common.{rules};
 ghost use Rattle.std.proofs.lemmas.Bool.{eqb-true, eq-eqb};
-ghost use Rattle.resolver_report.specs.Messages.{joined_texts};
 ghost use Rattle.resolver_report.specs.TestTexts.{name_number, name_text, set_number, set_text, test_texts, version_text};
 
 use super::DisplayUnsat;
@@ -79,21 +78,6 @@ fn set(version_set: u32) -> &'static str
     }
 }
 
-fn write_versions(solvables: &[u32], out: &mut String) -> Result<(), Exhausted>
-    ensures ok { OnOk result (string_bytes out.new ≡ string_bytes out.old ++ joined_texts (map version_text solvables.now)) }
-    ensures memory { IfErr result (λ e. e ≡ Exhausted.Memory) }
-{
-    let mut rest = solvables;
-    while let [first, next @ ..] = rest {
-        out.push_str(version(*first))?;
-        if !next.is_empty() {
-            out.push_str(" | ")?;
-        }
-        rest = next;
-    }
-    Ok(())
-}
-
 impl Interner for Texts {
     type NameId = u32;
 
@@ -154,7 +138,7 @@ impl Interner for Texts {
         };
         out.push_str(name(name_of(*first)))?;
         out.push_str(" ")?;
-        write_versions(solvables, out)?;
+        out.push_str(version(*first))?;
         Ok(())
     }
 }
