@@ -67,11 +67,14 @@ fn limited(
     ensures bounded { IfOk result (λ e. IsBounded e) }
     ensures nothing_read { IfOk result (λ e. IsUnread (notes_in e)) }
 {
-    let mut encoding = Encoding::new(alloc, variables, clauses);
-    if let Some(solvable) = exempt {
-        encoding.exempt.insert(solvable)?;
+    match exempt {
+        None => Ok(Encoding::new(alloc, variables, clauses)),
+        Some(solvable) => {
+            let mut encoding = Encoding::new(alloc, variables, clauses);
+            encoding.exempt.insert(solvable)?;
+            Ok(encoding)
+        }
     }
-    Ok(encoding)
 }
 
 /// Reads a problem into clauses.
