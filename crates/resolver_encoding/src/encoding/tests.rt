@@ -67,11 +67,14 @@ fn limited(
     ensures bounded { IfOk result (λ e. IsBounded e) }
     ensures nothing_read { IfOk result (λ e. IsUnread (notes_in e)) }
 {
-    let mut encoding = Encoding::new(alloc, variables, clauses);
-    if let Some(solvable) = exempt {
-        encoding.exempt.insert(solvable)?;
+    match exempt {
+        None => Ok(Encoding::new(alloc, variables, clauses)),
+        Some(solvable) => {
+            let mut encoding = Encoding::new(alloc, variables, clauses);
+            encoding.exempt.insert(solvable)?;
+            Ok(encoding)
+        }
     }
-    Ok(encoding)
 }
 
 /// Reads a problem into clauses.
@@ -232,7 +235,7 @@ fn a_disjunct_names_each_version_set_once(rt: HostRuntime) -> Result<(), Fail> {
     let list = [VersionSetId(3), VersionSetId(1), VersionSetId(3)];
     let outcome = without_repeats(rt.alloc(), &list);
     assert!(rt;
-        matches!(outcome, Ok(kept) if kept.as_slice() == [VersionSetId(3), VersionSetId(1)].as_slice())
+        matches!(&outcome, Ok(kept) if kept.as_slice() == [VersionSetId(3), VersionSetId(1)].as_slice())
     );
     Ok(())
 }
@@ -242,11 +245,11 @@ fn limits_end_the_reading(rt: HostRuntime) -> Result<(), Fail> {
     let provider = provider_of(rt.alloc(), &[(11, 24)], &[])?;
     let mut encoding = limited(rt.alloc(), 2, 100, None)?;
     let outcome = read(&mut encoding, rt.alloc(), &provider, &[always(11)]);
-    assert!(rt; matches!(outcome, Err(Interrupted::Exhausted(Exhausted::Ids))));
+    assert!(rt; matches!(&outcome, Err(Interrupted::Exhausted(Exhausted::Ids))));
     assert_eq!(rt; encoding.variables().len(), 2);
     let mut encoding = limited(rt.alloc(), 100, 2, None)?;
     let outcome = read(&mut encoding, rt.alloc(), &provider, &[always(11)]);
-    assert!(rt; matches!(outcome, Err(Interrupted::Exhausted(Exhausted::Ids))));
+    assert!(rt; matches!(&outcome, Err(Interrupted::Exhausted(Exhausted::Ids))));
     assert_eq!(rt; encoding.clause_count(), 2);
     Ok(())
 }

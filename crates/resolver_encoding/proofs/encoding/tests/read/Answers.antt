@@ -1,0 +1,5 @@
+use Rattle.resolver_encoding.specs.TestProvider.{test_universe}
+use Rattle.resolver_encoding.proofs.encoding.tests.read.Goals as goal
+
+pub read_all-requires-clause-is_true : goal.read_all-requires-clause-is_true
+read_all-requires-clause-is_true c = c.new-cache.ensures _
