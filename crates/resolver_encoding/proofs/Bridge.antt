@@ -125,13 +125,16 @@ cut_candidates {N} {S} (c ∷ cs) (a ∷ first) middle last e =
     let w = cut_candidates cs first middle last (ap list_rest e) in
     let head : atom (Solvable c) true ≡ a = ap (list_head a) e in
     record {
-      s = w.s; before = c ∷ w.before; after = w.after; is = ap (λ q. c ∷ q) w.is;
+      s = w.s;
+      before = c ∷ w.before;
+      after = w.after;
+      is = ap (λ q. c ∷ q) w.is;
       first_is = ap (λ q. q ∷ first) (sym head) ∙ ap (λ q. atom (Solvable c) true ∷ q) w.first_is;
-      middle_is = w.middle_is
+      middle_is = w.middle_is;
     }
 
 cut_helpers : {N S : Type 0} (vs : List VersionSetId) (candidates : List S) (first : List (Atom N S)) (middle : Atom N S) (last : List (Atom N S)) → middle.positive ≡ true →
-  map (λ v. atom (ConditionHelper v) false) vs ++ map (λ x. atom (Solvable x) true) candidates ≡ first ++ middle ∷ last → Cut vs candidates first middle
+    map (λ v. atom (ConditionHelper v) false) vs ++ map (λ x. atom (Solvable x) true) candidates ≡ first ++ middle ∷ last → Cut vs candidates first middle
 cut_helpers [] candidates first middle last positive e = cut_candidates candidates first middle last e
 cut_helpers {N} {S} (v ∷ vs) candidates [] middle last positive e =
     let head : atom (ConditionHelper v) false ≡ middle = ap (list_head middle) e in
@@ -140,9 +143,12 @@ cut_helpers {N} {S} (v ∷ vs) candidates (a ∷ first) middle last positive e =
     let w = cut_helpers vs candidates first middle last positive (ap list_rest e) in
     let head : atom (ConditionHelper v) false ≡ a = ap (list_head a) e in
     record {
-      s = w.s; before = w.before; after = w.after; is = w.is;
+      s = w.s;
+      before = w.before;
+      after = w.after;
+      is = w.is;
       first_is = ap (λ q. q ∷ first) (sym head) ∙ ap (λ q. atom (ConditionHelper v) false ∷ q) w.first_is;
-      middle_is = w.middle_is
+      middle_is = w.middle_is;
     }
 
 -- the same behind the requirer
@@ -155,7 +161,7 @@ record CutBehind {N S : Type 0} (by : By S) (vs : List VersionSetId) (candidates
   middle_is : middle ≡ atom (Solvable s) true
 
 cut_parent : {N S : Type 0} (by : By S) (vs : List VersionSetId) (candidates : List S) (first : List (Atom N S)) (middle : Atom N S) (last : List (Atom N S)) → middle.positive ≡ true →
-  atom (origin_by by) false ∷ (map (λ v. atom (ConditionHelper v) false) vs ++ map (λ x. atom (Solvable x) true) candidates) ≡ first ++ middle ∷ last → CutBehind by vs candidates first middle
+    atom (origin_by by) false ∷ (map (λ v. atom (ConditionHelper v) false) vs ++ map (λ x. atom (Solvable x) true) candidates) ≡ first ++ middle ∷ last → CutBehind by vs candidates first middle
 cut_parent {N} {S} by vs candidates [] middle last positive e =
     let head : atom (origin_by by) false ≡ middle = ap (list_head middle) e in
     absurd (false≢true (ap (λ (a : Atom N S). a.positive) head ∙ positive))
@@ -163,9 +169,12 @@ cut_parent {N} {S} by vs candidates (a ∷ first) middle last positive e =
     let w = cut_helpers vs candidates first middle last positive (ap list_rest e) in
     let head : atom (origin_by by) false ≡ a = ap (list_head a) e in
     record {
-      s = w.s; before = w.before; after = w.after; is = w.is;
+      s = w.s;
+      before = w.before;
+      after = w.after;
+      is = w.is;
       first_is = ap (λ q. q ∷ first) (sym head) ∙ ap (λ q. atom (origin_by by) false ∷ q) w.first_is;
-      middle_is = w.middle_is
+      middle_is = w.middle_is;
     }
 
 module _ {N S : Type 0} (origins : List (Origin N S)) (trail : Trail) (size : variable_count trail ≡ length origins) where
@@ -226,7 +235,7 @@ module _ {N S : Type 0} (origins : List (Origin N S)) (trail : Trail) (size : va
 
 -- the clauses of an encoding, and a search over them that is finished
 module _ {N S : Type 0} (u : Universe N S) (root : Demands) (notes : Notes N S) (encoding : IsEncoding u root notes) (requirements : List RequirementClause) (numbers : map (λ (r : RequirementClause). r.number) requirements ≡ notes.requirements)
-         (trail : Trail) (size : variable_count trail ≡ length notes.origins) (finished : IsFinished notes.table requirements trail) where
+    (trail : Trail) (size : variable_count trail ≡ length notes.origins) (finished : IsFinished notes.table requirements trail) where
   abbrev before : ℕ → List (Atom N S)
   before n = atoms_before notes.origins trail n
 
@@ -234,12 +243,12 @@ module _ {N S : Type 0} (u : Universe N S) (root : Demands) (notes : Notes N S) 
   entailed : (clause : List Literal) → IsImplied notes.table clause → ((l : Literal) → Contains clause l → l.variable < length notes.origins) → IsEntailed u notes.kinds (atoms_by notes.origins clause)
   entailed clause implied ranged = record {
     holds = λ value all.
-      let w = list_any-witness (λ (l : Literal). beq (values_by notes.origins value l.variable) l.positive) clause (implied (values_by notes.origins value) (table_by_kinds u notes.origins notes.table notes.kinds encoding.encoded value all)) in
-      let l : Literal = w.0 in
-      let same : values_by notes.origins value l.variable ≡ value (origin_at notes.origins l.variable) = values_by-origin notes.origins value l.variable (origin_at notes.origins l.variable) (stands notes.origins trail size l.variable (ranged l w.1)) in
-      let Holds : Bool → Type 0 = λ b. beq b l.positive ≡ true in
-      list_any-contains (λ (a : Atom N S). beq (value a.origin) a.positive) (atoms_by notes.origins clause) (atom (origin_at notes.origins l.variable) l.positive)
-        (Contains-map (λ (m : Literal). atom (origin_at notes.origins m.variable) m.positive) clause l w.1) (subst Holds same w.2)
+        let w = list_any-witness (λ (l : Literal). beq (values_by notes.origins value l.variable) l.positive) clause (implied (values_by notes.origins value) (table_by_kinds u notes.origins notes.table notes.kinds encoding.encoded value all)) in
+        let l : Literal = w.0 in
+        let same : values_by notes.origins value l.variable ≡ value (origin_at notes.origins l.variable) = values_by-origin notes.origins value l.variable (origin_at notes.origins l.variable) (stands notes.origins trail size l.variable (ranged l w.1)) in
+        let Holds : Bool → Type 0 = λ b. beq b l.positive ≡ true in
+        list_any-contains (λ (a : Atom N S). beq (value a.origin) a.positive) (atoms_by notes.origins clause) (atom (origin_at notes.origins l.variable) l.positive)
+        (Contains-map (λ (m : Literal). atom (origin_at notes.origins m.variable) m.positive) clause l w.1) (subst Holds same w.2);
   }
 
   because_forced : (x : ℕ) (slot : Slot) → slot_of trail x ≡ Some slot → IsForced notes.table trail x slot → IsBecause u notes.kinds [] [] (before slot.place) (atom (origin_at notes.origins x) slot.value)
@@ -249,18 +258,18 @@ module _ {N S : Type 0} (u : Universe N S) (root : Demands) (notes : Notes N S) 
       let each : (l : Literal) → Contains f.clause l → Forcing l = λ l inside. All-contains Forcing f.clause l f.forcing inside in
       let Below : Literal → Type 0 = λ l. l.variable < length notes.origins in
       let ranged : (l : Literal) → Contains f.clause l → Below l = λ l inside. ⊎_elim
-        (λ e. subst Below (sym e) (in_range notes.origins trail size x slot at))
-        (λ w. false_in_range notes.origins trail size slot.place l w)
-        (each l inside) in
+      (λ e. subst Below (sym e) (in_range notes.origins trail size x slot at))
+      (λ w. false_in_range notes.origins trail size slot.place l w)
+      (each l inside) in
       forced (atoms_by notes.origins f.clause) (atom (origin_at notes.origins x) slot.value) (entailed f.clause f.implied ranged) (λ b inside.
-        let w = Contains-map_back (λ (m : Literal). atom (origin_at notes.origins m.variable) m.positive) f.clause b inside in
-        ⊎_elim
-          (λ e. inl (sym w.2 ∙ ap (λ (m : Literal). atom (origin_at notes.origins m.variable) m.positive) e))
-          (λ off. let P : Atom N S → Type 0 = λ a. Contains (before slot.place) (atom a.origin (not a.positive)) in inr (subst P w.2 (has_negation notes.origins trail size slot.place w.0 off)))
-          (each w.0 w.1))
+      let w = Contains-map_back (λ (m : Literal). atom (origin_at notes.origins m.variable) m.positive) f.clause b inside in
+      ⊎_elim
+      (λ e. inl (sym w.2 ∙ ap (λ (m : Literal). atom (origin_at notes.origins m.variable) m.positive) e))
+      (λ off. let P : Atom N S → Type 0 = λ a. Contains (before slot.place) (atom a.origin (not a.positive)) in inr (subst P w.2 (has_negation notes.origins trail size slot.place w.0 off)))
+      (each w.0 w.1))
 
   because_chosen : (x : ℕ) (slot : Slot) (number : ℕ) → slot_of trail x ≡ Some slot → IsChosen notes.table requirements trail x slot number → (by : By S) (disjunct : Vec VersionSetId Global) (r : Requirement) → slice_get notes.kinds number ≡ Some (Requires by disjunct r) → Contains notes.kinds (Requires by disjunct r) →
-    IsBecause u notes.kinds [] [] (before slot.place) (atom (origin_at notes.origins x) slot.value)
+      IsBecause u notes.kinds [] [] (before slot.place) (atom (origin_at notes.origins x) slot.value)
   because_chosen x slot number at chosen by disjunct r is inside =
       let kind : ClauseKind N S = Requires by disjunct r in
       let it : Literal = record { variable = x; positive = true } in
@@ -274,12 +283,14 @@ module _ {N S : Type 0} (u : Universe N S) (root : Demands) (notes : Notes N S) 
       let WithValue : Bool → Type 0 = λ b. Because (Solvable after_parent.s) b in
       let WithOrigin : Origin N S → Type 0 = λ p. Because p slot.value in
       subst WithOrigin (sym o) (subst WithValue (sym chosen.value) (needed by disjunct r after_parent.s inside
-        (negation (atom (origin_by by) false) (among _ (here _ _)))
-        (λ k d below. negation (atom (ConditionHelper (get_or disjunct.items k d)) false) (among _ (there _ _ _ (Contains-append_left (map (λ v. atom (ConditionHelper v) false) disjunct.items) (map (λ s. atom (Solvable s) true) after_parent.before) _ (Contains-map (λ v. atom (ConditionHelper v) false) disjunct.items _ (Contains-get_or disjunct.items k d below))))))
-        (record {
-          before = after_parent.before; after = after_parent.after; is = after_parent.is;
-          closed = λ s inside_s. negation (atom (Solvable s) true) (among _ (there _ _ _ (Contains-append_right (map (λ v. atom (ConditionHelper v) false) disjunct.items) (map (λ s. atom (Solvable s) true) after_parent.before) _ (Contains-map (λ s. atom (Solvable s) true) after_parent.before s inside_s))))
-        })))
+      (negation (atom (origin_by by) false) (among _ (here _ _)))
+      (λ k d below. negation (atom (ConditionHelper (get_or disjunct.items k d)) false) (among _ (there _ _ _ (Contains-append_left (map (λ v. atom (ConditionHelper v) false) disjunct.items) (map (λ s. atom (Solvable s) true) after_parent.before) _ (Contains-map (λ v. atom (ConditionHelper v) false) disjunct.items _ (Contains-get_or disjunct.items k d below))))))
+      (record {
+        before = after_parent.before;
+        after = after_parent.after;
+        is = after_parent.is;
+        closed = λ s inside_s. negation (atom (Solvable s) true) (among _ (there _ _ _ (Contains-append_right (map (λ v. atom (ConditionHelper v) false) disjunct.items) (map (λ s. atom (Solvable s) true) after_parent.before) _ (Contains-map (λ s. atom (Solvable s) true) after_parent.before s inside_s))));
+      })))
 
   abbrev all : List (Atom N S)
   all = before (length_of trail)
@@ -294,15 +305,15 @@ module _ {N S : Type 0} (u : Universe N S) (root : Demands) (notes : Notes N S) 
   because : (x : ℕ) (slot : Slot) → slot_of trail x ≡ Some slot → IsBecause u notes.kinds [] [] (before slot.place) (atom (origin_at notes.origins x) slot.value)
   because x slot at = ⊎_elim
       (λ w.
-        let chosen = w.2 in
-        let Listed : ℕ → Type 0 = λ n. Contains notes.requirements n in
-        let Among : List ℕ → Type 0 = λ ns. Contains ns chosen.requirement.number in
-        let listed : Contains notes.requirements w.0 = subst Listed chosen.number_is (subst Among numbers (Contains-map (λ (r : RequirementClause). r.number) requirements chosen.requirement chosen.listed)) in
-        let ask = encoding.ask w.0 listed in
-        let inside : Contains notes.kinds ask.0 = Contains-slice notes.kinds w.0 ask.0 ask.1 in
-        let is = kind_asks ask.0 (All-contains IsDirect notes.kinds ask.0 encoding.each_direct inside) ask.2 in
-        let Has : ClauseKind N S → Type 0 = λ k. Contains notes.kinds k in
-        because_chosen x slot w.0 at chosen is.0 is.1 is.2 (ask.1 ∙ ap Some is.3) (subst Has is.3 inside))
+      let chosen = w.2 in
+      let Listed : ℕ → Type 0 = λ n. Contains notes.requirements n in
+      let Among : List ℕ → Type 0 = λ ns. Contains ns chosen.requirement.number in
+      let listed : Contains notes.requirements w.0 = subst Listed chosen.number_is (subst Among numbers (Contains-map (λ (r : RequirementClause). r.number) requirements chosen.requirement chosen.listed)) in
+      let ask = encoding.ask w.0 listed in
+      let inside : Contains notes.kinds ask.0 = Contains-slice notes.kinds w.0 ask.0 ask.1 in
+      let is = kind_asks ask.0 (All-contains IsDirect notes.kinds ask.0 encoding.each_direct inside) ask.2 in
+      let Has : ClauseKind N S → Type 0 = λ k. Contains notes.kinds k in
+      because_chosen x slot w.0 at chosen is.0 is.1 is.2 (ask.1 ∙ ap Some is.3) (subst Has is.3 inside))
       (λ f. because_forced x slot at f)
       (finished.reasons x slot at)
 
@@ -364,48 +375,48 @@ module _ {N S : Type 0} (u : Universe N S) (root : Demands) (notes : Notes N S) 
   number_of kind (n, below, is) = (n, omega (arith, below, encoding.encoded.count), slice_get-get_or notes.kinds n kind below ∙ ap Some is)
 
   pub unit : (k : ClauseKind N S) (a : Atom N S) → Contains notes.kinds k → Contains (atoms_of u k) a →
-    ((b : Atom N S) → Contains (atoms_of u k) b → (b ≡ a) ⊎ Contains all (atom b.origin (not b.positive))) → Contains all (atom a.origin a.positive)
+      ((b : Atom N S) → Contains (atoms_of u k) b → (b ≡ a) ⊎ Contains all (atom b.origin (not b.positive))) → Contains all (atom a.origin a.positive)
   unit k a inside among others =
       let n = number_of k inside in
       let are = (encoding.encoded.each n.0 k n.2).atoms in
       let l = are.each_atom a among in
       true_literal l.0 a l.2 ((finished.propagated n.0 n.1).last l.0 l.1 (λ m inside_m.
-        let b = are.each_literal m inside_m in
-        ⊎_elim
-          (λ e.
-            let Atom_of_m : Atom N S → Type 0 = λ q. IsAtom notes.origins m q in
-            let as_a = subst Atom_of_m e b.2 in
-            inl (literal_same m l.0 (encoding.distinct.same m.variable l.0.variable a.origin as_a.origin l.2.origin) (as_a.positive ∙ sym l.2.positive)))
-          (λ off. inr (false_literal m b.0 b.2 off))
-          (others b.0 b.1)))
+      let b = are.each_literal m inside_m in
+      ⊎_elim
+      (λ e.
+      let Atom_of_m : Atom N S → Type 0 = λ q. IsAtom notes.origins m q in
+      let as_a = subst Atom_of_m e b.2 in
+      inl (literal_same m l.0 (encoding.distinct.same m.variable l.0.variable a.origin as_a.origin l.2.origin) (as_a.positive ∙ sym l.2.positive)))
+      (λ off. inr (false_literal m b.0 b.2 off))
+      (others b.0 b.1)))
 
   pub no_false : (k : ClauseKind N S) → Contains notes.kinds k → ((b : Atom N S) → Contains (atoms_of u k) b → Contains all (atom b.origin (not b.positive))) → ⊥
   no_false k inside wrong =
       let n = number_of k inside in
       let are = (encoding.encoded.each n.0 k n.2).atoms in
       (finished.propagated n.0 n.1).not_false (λ i d below.
-        let l : Literal = get_or (clause_at notes.table n.0) i d in
-        let a = are.each_literal l (Contains-get_or (clause_at notes.table n.0) i d below) in
-        false_literal l a.0 a.2 (wrong a.0 a.1))
+      let l : Literal = get_or (clause_at notes.table n.0) i d in
+      let a = are.each_literal l (Contains-get_or (clause_at notes.table n.0) i d below) in
+      false_literal l a.0 a.2 (wrong a.0 a.1))
 
   -- the requirer and the helpers of a clause that asks for candidates
   abbrev Depends : By S → Vec VersionSetId Global → Atom N S → Type 0
   Depends by disjunct a = (a.positive ≡ false) × Contains all (atom a.origin true)
 
   atom_cases : (by : By S) (disjunct : Vec VersionSetId Global) (r : Requirement) → Contains all (atom (origin_by by) true) → All (λ v. Contains all (atom (ConditionHelper v) true)) disjunct.items →
-    (a : Atom N S) → Contains (atoms_of u (Requires by disjunct r)) a → ((a.positive ≡ false) × Contains all (atom a.origin true)) ⊎ ((s : S) × Contains (requirement_candidates u r) s × (a ≡ atom (Solvable s) true))
+      (a : Atom N S) → Contains (atoms_of u (Requires by disjunct r)) a → ((a.positive ≡ false) × Contains all (atom a.origin true)) ⊎ ((s : S) × Contains (requirement_candidates u r) s × (a ≡ atom (Solvable s) true))
   atom_cases by disjunct r parent helpers a among =
       let Negative : Atom N S → Type 0 = λ q. (q.positive ≡ false) × Contains all (atom q.origin true) in
       ⊎_elim
-        (λ e. inl (subst Negative e (refl, parent)))
-        (λ t. ⊎_elim
-          (λ h. let w = Contains-map_back (λ v. atom (ConditionHelper v) false) disjunct.items a h in inl (subst Negative w.2 (refl, All-contains (λ v. Contains all (atom (ConditionHelper v) true)) disjunct.items w.0 helpers w.1)))
-          (λ h. let w = Contains-map_back (λ s. atom (Solvable s) true) (requirement_candidates u r) a h in inr (w.0, w.1, sym w.2))
-          (Contains-append_cases (map (λ v. atom (ConditionHelper v) false) disjunct.items) (map (λ s. atom (Solvable s) true) (requirement_candidates u r)) a t))
-        (cons_cases (atom (origin_by by) false) (map (λ v. atom (ConditionHelper v) false) disjunct.items ++ map (λ s. atom (Solvable s) true) (requirement_candidates u r)) a among)
+      (λ e. inl (subst Negative e (refl, parent)))
+      (λ t. ⊎_elim
+      (λ h. let w = Contains-map_back (λ v. atom (ConditionHelper v) false) disjunct.items a h in inl (subst Negative w.2 (refl, All-contains (λ v. Contains all (atom (ConditionHelper v) true)) disjunct.items w.0 helpers w.1)))
+      (λ h. let w = Contains-map_back (λ s. atom (Solvable s) true) (requirement_candidates u r) a h in inr (w.0, w.1, sym w.2))
+      (Contains-append_cases (map (λ v. atom (ConditionHelper v) false) disjunct.items) (map (λ s. atom (Solvable s) true) (requirement_candidates u r)) a t))
+      (cons_cases (atom (origin_by by) false) (map (λ v. atom (ConditionHelper v) false) disjunct.items ++ map (λ s. atom (Solvable s) true) (requirement_candidates u r)) a among)
 
   pub decided : (by : By S) (disjunct : Vec VersionSetId Global) (r : Requirement) → Contains notes.kinds (Requires by disjunct r) → Contains all (atom (origin_by by) true) →
-    All (λ v. Contains all (atom (ConditionHelper v) true)) disjunct.items → (s : S) × Contains (requirement_candidates u r) s × Contains all (atom (Solvable s) true)
+      All (λ v. Contains all (atom (ConditionHelper v) true)) disjunct.items → (s : S) × Contains (requirement_candidates u r) s × Contains all (atom (Solvable s) true)
   decided by disjunct r inside parent helpers =
       let kind : ClauseKind N S = Requires by disjunct r in
       let n = number_of kind inside in
@@ -416,28 +427,28 @@ module _ {N S : Type 0} (u : Universe N S) (root : Demands) (notes : Notes N S) 
       let Met : ℕ → Type 0 = λ m. IsMet trail (clause_at notes.table m) in
       let met : Met n.0 = subst Met w.2 (All-contains (λ (q : RequirementClause). IsMet trail (clause_at notes.table q.number)) requirements w.0 finished.met w.1) in
       ⊎_elim
-        (λ satisfied.
-          let l = any-witness (λ literal. literal_value trail literal ≡ Some true) (clause_at notes.table n.0) satisfied in
-          let a = are.each_literal l.0 l.1 in
-          ⊎_elim
-            (λ negative.
-              let P : Bool → Type 0 = λ b. Contains all (atom a.0.origin b) in
-              absurd (apart a.0.origin negative.1 (subst P negative.0 (true_literal l.0 a.0 a.2 l.2))))
-            (λ c.
-              let Taken : Atom N S → Type 0 = λ q. Contains all (atom q.origin q.positive) in
-              (c.0, c.1, subst Taken c.2 (true_literal l.0 a.0 a.2 l.2)))
-            (atom_cases by disjunct r parent helpers a.0 a.1))
-        (λ still.
-          let l = any-witness (λ (literal : Literal). (literal_value trail literal ≡ None) × (literal.positive ≡ false)) (clause_at notes.table n.0) still in
-          let a = are.each_literal l.0 l.1 in
-          ⊎_elim
-            (λ negative.
-              let v = variable_of (length_of trail) a.0.origin true (omega arith) negative.1 in
-              let same : l.0.variable ≡ v.0 = encoding.distinct.same l.0.variable v.0 a.0.origin a.2.origin v.3 in
-              absurd (literal_open _ v.1 l.0.positive l.2.0 (ap (slot_of trail) same ∙ v.2)))
-            (λ c. absurd (false≢true (sym l.2.1 ∙ a.2.positive ∙ ap (λ (q : Atom N S). q.positive) c.2)))
-            (atom_cases by disjunct r parent helpers a.0 a.1))
-        met
+      (λ satisfied.
+      let l = any-witness (λ literal. literal_value trail literal ≡ Some true) (clause_at notes.table n.0) satisfied in
+      let a = are.each_literal l.0 l.1 in
+      ⊎_elim
+      (λ negative.
+      let P : Bool → Type 0 = λ b. Contains all (atom a.0.origin b) in
+      absurd (apart a.0.origin negative.1 (subst P negative.0 (true_literal l.0 a.0 a.2 l.2))))
+      (λ c.
+      let Taken : Atom N S → Type 0 = λ q. Contains all (atom q.origin q.positive) in
+      (c.0, c.1, subst Taken c.2 (true_literal l.0 a.0 a.2 l.2)))
+      (atom_cases by disjunct r parent helpers a.0 a.1))
+      (λ still.
+      let l = any-witness (λ (literal : Literal). (literal_value trail literal ≡ None) × (literal.positive ≡ false)) (clause_at notes.table n.0) still in
+      let a = are.each_literal l.0 l.1 in
+      ⊎_elim
+      (λ negative.
+      let v = variable_of (length_of trail) a.0.origin true (omega arith) negative.1 in
+      let same : l.0.variable ≡ v.0 = encoding.distinct.same l.0.variable v.0 a.0.origin a.2.origin v.3 in
+      absurd (literal_open _ v.1 l.0.positive l.2.0 (ap (slot_of trail) same ∙ v.2)))
+      (λ c. absurd (false≢true (sym l.2.1 ∙ a.2.positive ∙ ap (λ (q : Atom N S). q.positive) c.2)))
+      (atom_cases by disjunct r parent helpers a.0 a.1))
+      met
 
   pub settled : IsSettled u notes.kinds (Takes all)
   settled = record {
@@ -446,7 +457,7 @@ module _ {N S : Type 0} (u : Universe N S) (root : Demands) (notes : Notes N S) 
     no_false = no_false;
     unit = λ k a helper inside among others. unit k a inside among others;
     decided = decided;
-    decided_gate = λ r inside taken. absurd (All-contains IsDirect notes.kinds (GateRequires r) encoding.each_direct inside)
+    decided_gate = λ r inside taken. absurd (All-contains IsDirect notes.kinds (GateRequires r) encoding.each_direct inside);
   }
 
 -- the chosen ones are the solvables that the trail makes true
@@ -463,7 +474,7 @@ module _ {N S : Type 0} (origins : List (Origin N S)) (trail : Trail) where
   true_before (suc n) s h = ⊎_elim
       (λ old. there (entry_at origins trail n) (atoms_before origins trail n) (atom (Solvable s) true) (true_before n s old))
       (λ last. let P : Atom N S → Type 0 = λ a. Contains (entry_at origins trail n ∷ atoms_before origins trail n) a in
-        subst P (solvable_of (origin_at origins (variable_at trail n)) (value_of trail (variable_at trail n)) s last) (here (entry_at origins trail n) (atoms_before origins trail n)))
+      subst P (solvable_of (origin_at origins (variable_at trail n)) (value_of trail (variable_at trail n)) s last) (here (entry_at origins trail n) (atoms_before origins trail n)))
       (Contains-append_cases (solvables_before origins trail n) (solvable_if (origin_at origins (variable_at trail n)) (value_of trail (variable_at trail n))) s h)
 
   chosen_before : (n : ℕ) (s : S) → Contains (atoms_before origins trail n) (atom (Solvable s) true) → Contains (solvables_before origins trail n) s
@@ -508,8 +519,8 @@ module _ {N S : Type 0} (origins : List (Origin N S)) (trail : Trail) where
 
 -- a finished search over all that was read is an answer
 pub finished_is_valid : {N S : Type 0} (u : Universe N S) (root : Demands) (notes : Notes N S) (requirements : List RequirementClause) (trail : Trail) →
-  HasLawfulSolvables u → HasLawfulPackages u → IsAllRead u root notes → notes.exempt ≡ [] → map (λ (r : RequirementClause). r.number) requirements ≡ notes.requirements → variable_count trail ≡ length notes.origins → IsFinished notes.table requirements trail →
-  IsAnswerBy u root (solvables_before notes.origins trail (length_of trail)) [] []
+    HasLawfulSolvables u → HasLawfulPackages u → IsAllRead u root notes → notes.exempt ≡ [] → map (λ (r : RequirementClause). r.number) requirements ≡ notes.requirements → variable_count trail ≡ length notes.origins → IsFinished notes.table requirements trail →
+    IsAnswerBy u root (solvables_before notes.origins trail (length_of trail)) [] []
 finished_is_valid {N} {S} u root notes requirements trail lawful packages all_read none numbers size finished =
     let encoding = all_read.encoding in
     let atoms : List (Atom N S) = atoms_before notes.origins trail (length_of trail) in
@@ -517,9 +528,9 @@ finished_is_valid {N} {S} u root notes requirements trail lawful packages all_re
     let Due : List S → Type 0 = λ e. AreDue u notes.asked e notes.kinds in
     let Read : List S → Type 0 = λ e. IsRead u root notes.kinds [] notes.seen notes.asked notes.seen e in
     let covers : CoversReached u root notes.kinds chosen [] [] = covers_reached u lawful packages root notes.kinds [] notes.seen notes.asked notes.seen [] (subst Read none all_read.read) chosen []
-      (record { seed_chosen = λ s h. absurd (none_in s h); seed_registered = λ s h. absurd (none_in s h); seed_free = λ s h. absurd (none_in s h) })
-      (λ s inside registered. registered) (record { none = λ e h. absurd (none_in e h) }) in
+    (record { seed_chosen = λ s h. absurd (none_in s h); seed_registered = λ s h. absurd (none_in s h); seed_free = λ s h. absurd (none_in s h) })
+    (λ s inside registered. registered) (record { none = λ e h. absurd (none_in e h) }) in
     finished_is_answer u no_codes root notes.kinds atoms chosen [] [] [] lawful (record { named = λ n i s e. absurd (false≢true e) }) encoding.each_true
-      (Spares-further u notes.asked [] [] notes.kinds (subst Due none encoding.due) (λ s h. absurd (none_in s h)))
-      (is_trail u root notes encoding requirements numbers trail size finished) (settled u root notes encoding requirements numbers trail size finished)
-      (is_chosen notes.origins trail) covers
+    (Spares-further u notes.asked [] [] notes.kinds (subst Due none encoding.due) (λ s h. absurd (none_in s h)))
+    (is_trail u root notes encoding requirements numbers trail size finished) (settled u root notes encoding requirements numbers trail size finished)
+    (is_chosen notes.origins trail) covers

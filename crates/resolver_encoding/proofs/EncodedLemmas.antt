@@ -33,15 +33,15 @@ module _ {N S : Type 0} (u : Universe N S) (root : Demands) (notes : Notes N S) 
   pub encoded_below : AreBelow (length notes.origins) notes.table
   encoded_below number = ⊎_elim
       (λ (less : number < length notes.kinds). λ k d below.
-        let kind : ClauseKind N S = get_or notes.kinds number InstallRoot in
-        let are = (encoding.encoded.each number kind (slice_get-get_or notes.kinds number InstallRoot less)).atoms in
-        let l : Literal = get_or (clause_at notes.table number) k d in
-        let a = are.each_literal l (Contains-get_or (clause_at notes.table number) k d below) in
-        slice_below notes.origins l.variable a.0.origin a.2.origin)
+      let kind : ClauseKind N S = get_or notes.kinds number InstallRoot in
+      let are = (encoding.encoded.each number kind (slice_get-get_or notes.kinds number InstallRoot less)).atoms in
+      let l : Literal = get_or (clause_at notes.table number) k d in
+      let a = are.each_literal l (Contains-get_or (clause_at notes.table number) k d below) in
+      slice_below notes.origins l.variable a.0.origin a.2.origin)
       (λ (more : length notes.kinds ≤ number).
-        let none : clause_at notes.table number ≡ [] = ap (λ o. option_map_or (λ (c : Vec Literal Global). c.items) o []) (slice_none notes.table number (omega (arith, more, encoding.encoded.count))) in
-        let Below : List Literal → Type 0 = λ c. IsBelow (length notes.origins) c in
-        subst Below (sym none) (λ k d below. absurd (omega arith)))
+      let none : clause_at notes.table number ≡ [] = ap (λ o. option_map_or (λ (c : Vec Literal Global). c.items) o []) (slice_none notes.table number (omega (arith, more, encoding.encoded.count))) in
+      let Below : List Literal → Type 0 = λ c. IsBelow (length notes.origins) c in
+      subst Below (sym none) (λ k d below. absurd (omega arith)))
       (cases_lt number (length notes.kinds))
 
   -- each clause that asks for candidates is in the table

@@ -31,7 +31,7 @@ Contains-filter : {X : Type 0} (p : X → Bool) (xs : List X) (x : X) → Contai
 Contains-filter p [] x h = h
 Contains-filter {X} p (y ∷ ys) x h = ⊎_elim
     (λ e. let Has : Bool → Type 0 = λ b. Contains (cond b (y ∷ filter p ys) (filter p ys)) x in
-      ⊎_elim (λ is. let P : X → Type 0 = λ q. Contains (y ∷ ys) q in subst P is (here y ys)) (λ t. there y ys x (Contains-filter p ys x t)) (cons_cases y (filter p ys) x (subst Has e h)))
+    ⊎_elim (λ is. let P : X → Type 0 = λ q. Contains (y ∷ ys) q in subst P is (here y ys)) (λ t. there y ys x (Contains-filter p ys x t)) (cons_cases y (filter p ys) x (subst Has e h)))
     (λ e. let Has : Bool → Type 0 = λ b. Contains (cond b (y ∷ filter p ys) (filter p ys)) x in there y ys x (Contains-filter p ys x (subst Has e h)))
     (cases_Bool (p y))
 
@@ -46,14 +46,14 @@ Contains-front : {X : Type 0} (same : X → X → Bool) → IsIdentity same → 
 Contains-front {X} same id y xs x h =
     let Has : Bool → Type 0 = λ b. Contains (cond b (y ∷ filter (λ z. not (same z y)) xs) xs) x in
     ⊎_elim
-      (λ e. ⊎_elim
-        (λ is. 
-          let w = list_any-witness (λ z. same z y) xs e in
-          let P : X → Type 0 = λ q. Contains xs q in subst P (id.alone w.0 y w.2 ∙ is) w.1)
-        (λ t. Contains-filter (λ z. not (same z y)) xs x t)
-        (cons_cases y (filter (λ z. not (same z y)) xs) x (subst Has e h)))
-      (λ e. subst Has e h)
-      (cases_Bool (list_any (λ z. same z y) xs))
+    (λ e. ⊎_elim
+    (λ is.
+    let w = list_any-witness (λ z. same z y) xs e in
+    let P : X → Type 0 = λ q. Contains xs q in subst P (id.alone w.0 y w.2 ∙ is) w.1)
+    (λ t. Contains-filter (λ z. not (same z y)) xs x t)
+    (cons_cases y (filter (λ z. not (same z y)) xs) x (subst Has e h)))
+    (λ e. subst Has e h)
+    (cases_Bool (list_any (λ z. same z y) xs))
 
 Contains-cut : {X : Type 0} {xs ys zs : List X} → IsCut xs ys zs → (x : X) → Contains ys x → Contains xs x
 Contains-cut cut_none x h = h
@@ -74,14 +74,14 @@ module _ {N S : Type 0} (u : Universe N S) (ids : HasLawfulSolvables u) (package
 
   pub sorted_back : (v : VersionSetId) (s : S) → Contains (sorted_candidates u v) s → Contains (matching u v) s
   sorted_back v s h = Contains-permutation (u.sorted_of (matching u v)) (matching u v) s (IsPermutation-sym (matching u v) (u.sorted_of (matching u v)) (packages.sort_permutes (matching u v)))
-    (favored_back (u.package_named (u.version_set_name v)).favored (u.sorted_of (matching u v)) s h)
+      (favored_back (u.package_named (u.version_set_name v)).favored (u.sorted_of (matching u v)) s h)
 
   in_order_back : (vs : List VersionSetId) (s : S) → Contains (sorted_in_order u vs) s → (v : VersionSetId) × Contains vs v × Contains (matching u v) s
   in_order_back [] s h = absurd (none_in s h)
   in_order_back (v ∷ vs) s h = ⊎_elim
-    (λ a. (v, here v vs, sorted_back v s a))
-    (λ b. let w = in_order_back vs s b in (w.0, there v vs w.0 w.1, w.2))
-    (Contains-append_cases (sorted_candidates u v) (sorted_in_order u vs) s h)
+      (λ a. (v, here v vs, sorted_back v s a))
+      (λ b. let w = in_order_back vs s b in (w.0, there v vs w.0 w.1, w.2))
+      (Contains-append_cases (sorted_candidates u v) (sorted_in_order u vs) s h)
 
   -- a candidate matches a version set of the requirement
   pub candidate_matches : (r : Requirement) (s : S) → Contains (requirement_candidates u r) s → (v : VersionSetId) × Contains (version_sets u r) v × Contains (matching u v) s
@@ -89,29 +89,29 @@ module _ {N S : Type 0} (u : Universe N S) (ids : HasLawfulSolvables u) (package
   candidate_matches (Union m) s h = in_order_back (u.union_members m) s (Contains-repeats u.same_solvable (sorted_in_order u (u.union_members m)) s h)
 
   module _ (root : Demands) (kinds : List (ClauseKind N S)) (deferred : List (Deferred S)) (read : List S) (asked : List N) (registered exempt : List S) (state : IsRead u root kinds deferred read asked registered exempt)
-           (chosen seeds : List S) (seeded : AreSeeds u seeds chosen asked registered exempt) (all_read : (s : S) → Contains chosen s → Contains registered s → Contains read s) (quiet : NoneFires u deferred chosen) where
+      (chosen seeds : List S) (seeded : AreSeeds u seeds chosen asked registered exempt) (all_read : (s : S) → Contains chosen s → Contains registered s → Contains read s) (quiet : NoneFires u deferred chosen) where
     -- an active requirement has its clauses under a disjunct that holds
     has_clause : (part : List S) → IsWithin part chosen → (by : By S) (r : ConditionalRequirement) → IsPresent by read → Contains (demands_by u root by).requirements r → IsActive u (Contains part) r →
-      (list : List VersionSetId) × AllMeet part (map (matching u) list) × HasClause kinds by list r.requirement
+        (list : List VersionSetId) × AllMeet part (map (matching u) list) × HasClause kinds by list r.requirement
     has_clause part within by r present asks active =
-      let it = state.requirements by r present asks in
-      let w = it.complete part active in
-      ⊎_elim
+        let it = state.requirements by r present asks in
+        let w = it.complete part active in
+        ⊎_elim
         (λ clause. (w.0, w.2, clause))
         (λ waits. absurd (quiet.none (record { by = by; disjunct = w.0; requirement = r.requirement }) waits
-          (All-weaker (λ xs. Meets xs part) (λ xs. Meets xs chosen) (λ xs m. record { shared = m.shared; in_first = m.in_first; in_second = within m.shared m.in_second }) (map (matching u) w.0) w.2)))
+        (All-weaker (λ xs. Meets xs part) (λ xs. Meets xs chosen) (λ xs m. record { shared = m.shared; in_first = m.in_first; in_second = within m.shared m.in_second }) (map (matching u) w.0) w.2)))
         (it.each w.0 w.1)
 
     abbrev Reached : S → Type 0
     Reached s = IsReached u root chosen seeds s
 
     of_clause : (by : By S) (r : ConditionalRequirement) (s : S) → IsPresent by read → Contains (demands_by u root by).requirements r → IsActive u (Contains chosen) r → Contains (requirement_candidates u r.requirement) s →
-      Contains registered s × Contains asked (u.name s)
+        Contains registered s × Contains asked (u.name s)
     of_clause by r s present asks active candidate =
-      let w = has_clause chosen (λ x h. h) by r present asks active in
-      let m = candidate_matches r.requirement s candidate in
-      let Asked : N → Type 0 = λ n. Contains asked n in
-      (state.candidates by w.0 r.requirement w.2 s candidate, subst Asked (sym (name_matching m.0 s m.2)) (state.packages by w.0 r.requirement w.2 m.0 m.1))
+        let w = has_clause chosen (λ x h. h) by r present asks active in
+        let m = candidate_matches r.requirement s candidate in
+        let Asked : N → Type 0 = λ n. Contains asked n in
+        (state.candidates by w.0 r.requirement w.2 s candidate, subst Asked (sym (name_matching m.0 s m.2)) (state.packages by w.0 r.requirement w.2 m.0 m.1))
 
     is_chosen : {s : S} → Reached s → Contains chosen s
     is_chosen {s} (by_seed seed inside) = seeded.seed_chosen s seed
@@ -121,9 +121,9 @@ module _ {N S : Type 0} (u : Universe N S) (ids : HasLawfulSolvables u) (package
     reached_is : (s : S) → Reached s → Contains registered s × (Contains exempt s ⊎ Contains asked (u.name s))
     reached_is s (by_seed seed inside) = (seeded.seed_registered s seed, seeded.seed_free s seed)
     reached_is s (by_root r listed active candidate inside) =
-      let w = of_clause ByRoot r s tt listed active candidate in (w.0, inr w.1)
+        let w = of_clause ByRoot r s tt listed active candidate in (w.0, inr w.1)
     reached_is s (by_reached {t = t} r before listed active candidate inside) =
-      let w = of_clause (BySolvable t) r s (all_read t (is_chosen before) (reached_is t before).0) listed active candidate in (w.0, inr w.1)
+        let w = of_clause (BySolvable t) r s (all_read t (is_chosen before) (reached_is t before).0) listed active candidate in (w.0, inr w.1)
 
     free_or_asked : (s : S) → Reached s → (Contains exempt s → ⊥) → Contains asked (u.name s)
     free_or_asked s h free = ⊎_elim (λ e. absurd (free e)) (λ a. a) (reached_is s h).1
@@ -134,18 +134,18 @@ module _ {N S : Type 0} (u : Universe N S) (ids : HasLawfulSolvables u) (package
 
     is_made : (part : List S) (by : By S) (r : Requirement) (list : List VersionSetId) → AllMeet part (map (matching u) list) → HasClause kinds by list r → IsMade u kinds part by r
     is_made part by r list meets (has_direct disjunct is clause) =
-      let Meet : List VersionSetId → Type 0 = λ vs. AllMeet part (map (matching u) vs) in made_direct disjunct (subst Meet (sym is) meets) clause
+        let Meet : List VersionSetId → Type 0 = λ vs. AllMeet part (map (matching u) vs) in made_direct disjunct (subst Meet (sym is) meets) clause
     is_made part by r list meets (has_gate s is none implied clause) = made_gated s is implied clause
 
     pub covers_reached : CoversReached u root kinds chosen seeds exempt
     covers_reached part within reached = record {
       installs = state.installs;
       requirements = λ by r present asks active.
-        let w = has_clause part within by r (present_read part within reached by present) asks active in is_made part by r.requirement w.0 w.1 w.2;
+          let w = has_clause part within by r (present_read part within reached by present) asks active in is_made part by r.requirement w.0 w.1 w.2;
       helpers = state.helpers;
       constraints = λ by v s present asks other inside. state.constraints by v s (present_read part within reached by present) asks other;
       instances = λ s t first second name differ. state.instances s t (reached_is s (reached s first)).0 (reached_is t (reached t second)).0 name differ;
       locks = λ s inside free out. (out.0, state.locks s out.0 (free_or_asked s (reached s inside) free) free out.1 out.2 out.3);
       exclusions = λ s reason inside free listed. state.exclusions s reason (free_or_asked s (reached s inside) free) free listed;
-      unknowns = λ s reason inside e. state.unknowns s reason (all_read s (within s inside) (reached_is s (reached s inside)).0) e
+      unknowns = λ s reason inside e. state.unknowns s reason (all_read s (within s inside) (reached_is s (reached s inside)).0) e;
     }

@@ -52,9 +52,9 @@ module _ {N S : Type 0} (u : Universe N S) where
     kind_states (AnyOf helper s) inside st h = absurd (none_in st h)
     kind_states (Constrains by v s) inside st h = one_stated States _ st (states_constrains by v s inside) h
     kind_states (ForbidMultipleInstances n s t) inside st h = ⊎_elim
-      (λ e. subst States e (states_first n s t inside))
-      (λ rest. one_stated States _ st (states_second n s t inside) rest)
-      (cons_cases (one_per_package n s) (one_per_package n t ∷ []) st h)
+        (λ e. subst States e (states_first n s t inside))
+        (λ rest. one_stated States _ st (states_second n s t inside) rest)
+        (cons_cases (one_per_package n s) (one_per_package n t ∷ []) st h)
     kind_states (GateRequires r) inside st h = absurd (none_in st h)
     kind_states (ConstrainsExcluded s v) inside st h = absurd (none_in st h)
     kind_states (ConstrainsParent by v) inside st h = absurd (none_in st h)
@@ -81,13 +81,13 @@ module _ {N S : Type 0} (u : Universe N S) where
       module _ (rules : List (Rule N S)) (are : map statement_of rules ≡ stated_by_all u kinds) where
         pub listed : AreListed u implies kinds rules
         listed st stated = let Has : List (Statement N S) → Type 0 = λ sts. Contains sts st in
-          Contains-map_back statement_of rules st (subst Has (sym are) (has_statement st stated))
+            Contains-map_back statement_of rules st (subst Has (sym are) (has_statement st stated))
 
         pub stated : AreStated u implies kinds rules
         stated rule inside =
-          let Has : List (Statement N S) → Type 0 = λ sts. Contains sts (statement_of rule) in
-          let w = all_back kinds (statement_of rule) (subst Has are (Contains-map statement_of rules rule inside)) in
-          kind_states w.0 w.1 (statement_of rule) w.2
+            let Has : List (Statement N S) → Type 0 = λ sts. Contains sts (statement_of rule) in
+            let w = all_back kinds (statement_of rule) (subst Has are (Contains-map statement_of rules rule inside)) in
+            kind_states w.0 w.1 (statement_of rule) w.2
 
 stated_append : {N S : Type 0} (u : Universe N S) (kinds : List (ClauseKind N S)) (kind : ClauseKind N S) → stated_by_all u (kinds ++ kind ∷ []) ≡ stated_by_all u kinds ++ stated_by u kind
 stated_append u [] kind = append-nil (stated_by u kind)
@@ -95,7 +95,7 @@ stated_append u (k ∷ ks) kind = ap (λ xs. stated_by u k ++ xs) (stated_append
 
 -- the rules that the clauses of a core state
 pub direct_core_explained : {N S : Type 0} (u : Universe N S) (same_name : N → N → Bool) (root : Demands) (notes : Notes N S) (numbers : List ℕ) (rules : List (Rule N S)) →
-  HasLawfulSolvables u → IsIdentity same_name → IsEncoding u root notes → IsCore notes.table numbers → map statement_of rules ≡ stated_by_all u (kinds_at notes.kinds numbers) → IsExplained u root rules
+    HasLawfulSolvables u → IsIdentity same_name → IsEncoding u root notes → IsCore notes.table numbers → map statement_of rules ≡ stated_by_all u (kinds_at notes.kinds numbers) → IsExplained u root rules
 direct_core_explained {N} {S} u same_name root notes numbers rules lawful names encoding core are =
     let kinds : List (ClauseKind N S) = kinds_at notes.kinds numbers in
     let within : All (λ n. n < length notes.kinds) numbers = λ k d below. let Below : ℕ → Type 0 = λ m. get_or numbers k d < m in subst Below encoding.encoded.count (core.within k d below) in
@@ -104,14 +104,14 @@ direct_core_explained {N} {S} u same_name root notes numbers rules lawful names 
     let implies : Origin N S → S → Bool = implied_in u same_name kinds in
     let no_bits : (n : N) (i : ℕ) (s : S) → implies (Bit n i) s ≡ true → ⊥ = λ n i s e. false≢true (implied-follows u same_name names lawful.same_solvable no_codes root kinds are_true (Bit n i) s e) in
     core_explained u same_name no_codes root kinds rules lawful names (record { named = λ n i s e. absurd (false≢true e) }) are_true
-      (listed u implies kinds direct no_bits rules are) (stated u implies kinds direct no_bits rules are)
-      (core_contradicts u notes.origins notes.table notes.kinds numbers encoding.encoded within core.refuted)
+    (listed u implies kinds direct no_bits rules are) (stated u implies kinds direct no_bits rules are)
+    (core_contradicts u notes.origins notes.table notes.kinds numbers encoding.encoded within core.refuted)
 
 -- one more clause of a core
 pub stated_next : {N S : Type 0} (u : Universe N S) (kinds : List (ClauseKind N S)) (numbers : List ℕ) (i : ℕ) (n : ℕ) (kind : ClauseKind N S) (so_far next : List (Statement N S)) → i < length numbers → n ≡ get_or numbers i n → kind ≡ slice_index_or kinds n InstallRoot →
-  so_far ≡ stated_by_all u (kinds_at kinds (take i numbers)) → next ≡ so_far ++ stated_by u kind → next ≡ stated_by_all u (kinds_at kinds (take (i + 1) numbers))
+    so_far ≡ stated_by_all u (kinds_at kinds (take i numbers)) → next ≡ so_far ++ stated_by u kind → next ≡ stated_by_all u (kinds_at kinds (take (i + 1) numbers))
 stated_next {N} {S} u kinds numbers i n kind so_far next below is kind_is before added =
     let At : ℕ → ClauseKind N S = λ m. slice_index_or kinds m InstallRoot in
     let more : take (i + 1) numbers ≡ take i numbers ++ n ∷ [] = take_more numbers i n below ∙ ap (λ m. take i numbers ++ m ∷ []) (sym is) in
     added ∙ ap (λ xs. xs ++ stated_by u kind) before ∙ ap (λ k. stated_by_all u (kinds_at kinds (take i numbers)) ++ stated_by u k) kind_is
-      ∙ sym (ap (stated_by_all u) (ap (kinds_at kinds) more ∙ map-append At (take i numbers) (n ∷ [])) ∙ stated_append u (kinds_at kinds (take i numbers)) (At n))
+    ∙ sym (ap (stated_by_all u) (ap (kinds_at kinds) more ∙ map-append At (take i numbers) (n ∷ [])) ∙ stated_append u (kinds_at kinds (take i numbers)) (At n))

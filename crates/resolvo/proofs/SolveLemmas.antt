@@ -36,8 +36,8 @@ use Rattle.resolvo.specs.declared.solver.UnsolvableOrCancelled.TheVariants.{Unso
 
 -- a finished search has an answer
 pub plain_answer : {N S : Type 0} (u : Universe N S) (root : Demands) (notes : Notes N S) (requirements : List RequirementClause) (trail : Trail) (chosen : List S) →
-  HasLawfulSolvables u → HasLawfulPackages u → IsAllRead u root notes → notes.exempt ≡ [] → map (λ (r : RequirementClause). r.number) requirements ≡ notes.requirements → variable_count trail ≡ length notes.origins →
-  IsFinished notes.table requirements trail → chosen ≡ solvables_before notes.origins trail (length_of trail) → IsPlainAnswer u root chosen
+    HasLawfulSolvables u → HasLawfulPackages u → IsAllRead u root notes → notes.exempt ≡ [] → map (λ (r : RequirementClause). r.number) requirements ≡ notes.requirements → variable_count trail ≡ length notes.origins →
+    IsFinished notes.table requirements trail → chosen ≡ solvables_before notes.origins trail (length_of trail) → IsPlainAnswer u root chosen
 plain_answer {N} {S} u root notes requirements trail chosen lawful packages all_read none numbers size finished are =
     let answer = finished_is_valid u root notes requirements trail lawful packages all_read none numbers size finished in
     let Answers : List S → Type 0 = λ list. IsPlainAnswer u root list in
@@ -45,8 +45,8 @@ plain_answer {N} {S} u root notes requirements trail chosen lawful packages all_
 
 -- a core of an encoding explains itself
 pub explained : {N S : Type 0} (u : Universe N S) (same_name : N → N → Bool) (root : Demands) (notes : Notes N S) (core : List ℕ) (rules kept : List (Rule N S)) →
-  HasLawfulSolvables u → IsIdentity same_name → IsEncoding u root notes → IsCore notes.table core → map statement_of rules ≡ stated_by_all u (kinds_at notes.kinds core) →
-  LeavesKept rules kept → (IsRefuted rules → IsRefuted kept) → All (IsKept kept) kept → Explains u root kept
+    HasLawfulSolvables u → IsIdentity same_name → IsEncoding u root notes → IsCore notes.table core → map statement_of rules ≡ stated_by_all u (kinds_at notes.kinds core) →
+    LeavesKept rules kept → (IsRefuted rules → IsRefuted kept) → All (IsKept kept) kept → Explains u root kept
 explained u same_name root notes core rules kept lawful names encoding is_core stated left still again =
     let it = direct_core_explained u same_name root notes core rules lawful names encoding is_core stated in
     record { each_true = All-left (IsTrueRule u root) left.cut it.each_true; refuted = still it.refuted; each_reached = again }
@@ -82,7 +82,7 @@ numbers_of_inside requirements numbers bound are inside =
 pub lawful_solvables : {N S : Type 0} (u : Universe N S) (eq : S → S → Bool) → HasLawfulIds u → u.same_solvable ≡ eq → IsIdentity eq → HasLawfulSolvables u
 lawful_solvables {N} {S} u eq ids compare same = record {
   ids = ids;
-  same_solvable = let Same : (S → S → Bool) → Type 0 = λ e. IsIdentity e in subst Same (sym compare) same
+  same_solvable = let Same : (S → S → Bool) → Type 0 = λ e. IsIdentity e in subst Same (sym compare) same;
 }
 
 -- a conflict that was counted was counted over all that was read

@@ -18,7 +18,9 @@ ghost use Rattle.resolvo.specs.Solvers.{HasLimits, IsAtLimit, IsSound, KeepsLimi
 use crate::clause_search::{ClauseSearch, Outcome};
 use crate::conflict::Conflict;
 use crate::problem::Problem;
-use resolver_clause_store::{Cache, ClauseKind, DependencyProvider, Exhausted, Interner, Interrupted};
+use resolver_clause_store::{
+    Cache, ClauseKind, DependencyProvider, Exhausted, Interner, Interrupted,
+};
 use resolver_encoding::{Encoding, EncodingParts, chosen_solvables, rules_of_clauses};
 use resolver_report::keep_reached;
 use std::alloc::Global;
@@ -130,17 +132,25 @@ impl<D: DependencyProvider> Solver<D> {
             literals,
             requirements,
         } = encoding.into_parts();
-        let mut search =
-            match ClauseSearch::new(self.alloc, literals, variables.len(), requirements) {
-                Ok(search) => search,
-                Err(_) => return Err(UnsolvableOrCancelled::Exhausted(Exhausted::Memory)),
-            };
+        let mut search = match ClauseSearch::new(
+            self.alloc,
+            literals,
+            variables.len(),
+            requirements,
+        ) {
+            Ok(search) => search,
+            Err(_) => return Err(UnsolvableOrCancelled::Exhausted(Exhausted::Memory)),
+        };
         let found = search.run(self.alloc, self.learnt_limit, self.clause_limit);
         self.learnt_count = search.learnt_count();
         self.clause_count = search.clause_count();
         match found {
             Err(e) => Err(UnsolvableOrCancelled::Exhausted(e)),
-            Ok(Outcome::Finished) => match chosen_solvables(self.alloc, &variables, search.trail()) {
+            Ok(Outcome::Finished) => match chosen_solvables(
+                self.alloc,
+                &variables,
+                search.trail(),
+            ) {
                 Err(e) => Err(UnsolvableOrCancelled::Exhausted(e)),
                 Ok(chosen) => Ok(chosen),
             },

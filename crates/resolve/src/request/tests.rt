@@ -153,7 +153,8 @@ fn a_constraint_on_its_own_package_gives_two_rules(rt: HostRuntime) -> Result<()
     Ok(())
 }
 
-const CLASH: &str = "package p=1\npackage p=2\npackage q=1\npackage q=2\npackage r=1\npackage r=2\nrequires p=1 r@1\nrequires p=2 r@1\nrequires q=1 r@2\nrequires q=2 r@2\nrequire p\nrequire q\n";
+const CLASH: &str =
+    "package p=1\npackage p=2\npackage q=1\npackage q=2\npackage r=1\npackage r=2\nrequires p=1 r@1\nrequires p=2 r@1\nrequires q=1 r@2\nrequires q=2 r@2\nrequire p\nrequire q\n";
 
 /// Whether a rule names no solvable but those from one number up to another.
 fn is_between(rule: &Rule<NameId, SolvableId>, low: u32, high: u32) -> bool {

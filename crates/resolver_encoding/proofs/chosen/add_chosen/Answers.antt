@@ -11,4 +11,4 @@ returns-in-None-clause-added g c =
     let origins = origins_in c.args.variables.now in
     let x = variable_at c.args.trail.now c.args.place in
     none_added origins x (value_of c.args.trail.now x) c.args.chosen.now.items
-      (ap solvable_found (sym (c.origin.ensures ∙ ap (slice_get origins) c.variable_at.ensures.value)) ∙ sym c.as_solvable.ensures ∙ c.in-None.is)
+    (ap solvable_found (sym (c.origin.ensures ∙ ap (slice_get origins) c.variable_at.ensures.value)) ∙ sym c.as_solvable.ensures ∙ c.in-None.is)

@@ -10,7 +10,7 @@ use Rattle.resolver_report.proofs.marks.excluded_nodes.Goals as goal
 pub loop-edge-init : goal.loop-edge-init
 loop-edge-init g c =
     excluded_none _ (length c.args.graph.now.graph.nodes) c.in_ok-marks.marks.items refl
-      (c.in_ok-marks.ensures.items_if_clones_equal (λ y h. search (rules, h)) ∙ ap (λ k. replicate k false) (ap length c.nodes-count.ensures.value))
+    (c.in_ok-marks.ensures.items_if_clones_equal (λ y h. search (rules, h)) ∙ ap (λ k. replicate k false) (ap length c.nodes-count.ensures.value))
 
 pub loop-edge-preserved : goal.loop-edge-preserved
 loop-edge-preserved g c =
@@ -18,7 +18,7 @@ loop-edge-preserved g c =
     let edges = c.edges-edges.result.now in
     let within = target_within edges c.loop-edge.edge-index c.edge-item.result count (omega arith) c.edge-item.is (rw c.edges-edges.ensures.value c.edges-edges.ensures.targets) in
     excluded_next edges c.loop-edge.edge-index c.edge-item.result count c.loop-edge.marks.items c.mark_excluded.new.marks.items (omega arith) c.edge-item.is within
-      c.mark_excluded.ensures c.loop-edge.invariant
+    c.mark_excluded.ensures c.loop-edge.invariant
 
 pub returns-clause-value : goal.returns-clause-value
 returns-clause-value g c =

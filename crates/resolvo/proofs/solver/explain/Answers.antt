@@ -9,6 +9,6 @@ pub returns-clause-explained : goal.returns-clause-explained
 returns-clause-explained g c = λ root notes kinds encoding core.
     let u = g.D.Interner.universe c.args.provider.now in
     explained u g.D.NameId.PartialEq.eq root notes c.args.core.now c.in_ok-stated.stated.items c.in_ok-rules.rules.items
-      (lawful_solvables u g.D.SolvableId.PartialEq.eq (g.met.D.Interner.lawful_ids c.args.provider.now) (g.met.D.Interner.solvables_compare c.args.provider.now) g.met.D.Interner.solvables_are_values) g.met.D.Interner.names_are_values encoding core
-      (c.in_ok-stated.ensures.stated ∙ ap (λ (ks : List (ClauseKind g.row.D-NameId.Denot g.row.D-SolvableId.Denot)). stated_by_all u (kinds_at ks c.args.core.now)) (sym kinds))
-      c.in_ok-rules.ensures.left c.in_ok-rules.ensures.refuted c.in_ok-rules.ensures.again
+    (lawful_solvables u g.D.SolvableId.PartialEq.eq (g.met.D.Interner.lawful_ids c.args.provider.now) (g.met.D.Interner.solvables_compare c.args.provider.now) g.met.D.Interner.solvables_are_values) g.met.D.Interner.names_are_values encoding core
+    (c.in_ok-stated.ensures.stated ∙ ap (λ (ks : List (ClauseKind g.row.D-NameId.Denot g.row.D-SolvableId.Denot)). stated_by_all u (kinds_at ks c.args.core.now)) (sym kinds))
+    c.in_ok-rules.ensures.left c.in_ok-rules.ensures.refuted c.in_ok-rules.ensures.again

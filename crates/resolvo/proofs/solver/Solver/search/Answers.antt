@@ -29,14 +29,14 @@ new-requires-clause-inside g c =
     let notes = notes_in c.args.encoding in
     let Bound : List (Vec Literal Global) → Type 0 = λ table. All (λ (r : RequirementClause). r.number < length table) c.into_parts-variables.result.requirements.items in
     subst Bound (sym c.into_parts-variables.ensures.literals)
-      (numbers_inside c.into_parts-variables.result.requirements.items notes.requirements (length notes.table) c.into_parts-variables.ensures.requirements c.requires.inside)
+    (numbers_inside c.into_parts-variables.result.requirements.items notes.requirements (length notes.table) c.into_parts-variables.ensures.requirements c.requires.inside)
 
 pub returns-in-Err-found-clause-refusal : goal.returns-in-Err-found-clause-refusal
 returns-in-Err-found-clause-refusal g c = λ root encoding.
     shortage_by _ c.in-Err-found.e (λ ids. ⊎_elim
-      (λ (learnt : _ ≤ _). inr (inr (omega (arith, learnt, c.learnt_count-self.ensures))))
-      (λ (clauses : _ ≤ _). inr (inl (omega (arith, clauses, c.clause_count-self.ensures))))
-      (c.in-Err-found.ensures.ids ids))
+    (λ (learnt : _ ≤ _). inr (inr (omega (arith, learnt, c.learnt_count-self.ensures))))
+    (λ (clauses : _ ≤ _). inr (inl (omega (arith, clauses, c.clause_count-self.ensures))))
+    (c.in-Err-found.ensures.ids ids))
 
 pub returns-in-Ok-Finished-clause-answer : goal.returns-in-Ok-Finished-clause-answer
 returns-in-Ok-Finished-clause-answer g c = λ root all_read none.
@@ -54,10 +54,10 @@ returns-in-Ok-Finished-clause-answer g c = λ root all_read none.
     let FinishedBy : List RequirementClause → Type 0 = λ rs. IsFinished notes.table rs trail in
     let size : variable_count trail ≡ length notes.origins = c.in-Ok-Finished.ensures.same.variables ∙ c.in-Ok.ensures.variables ∙ c.len.ensures ∙ ap length parts.variables in
     let chosen : c.in-Ok-chosen_solvables.chosen.items ≡ solvables_before notes.origins trail (length_of trail) =
-      c.in-Ok-chosen_solvables.ensures.chosen ∙ ap (λ (t : Trail). solvables_before (origins_in c.into_parts-variables.result.variables) t (length_of t)) c.trail.ensures ∙ ap (λ os. solvables_before os trail (length_of trail)) parts.variables in
+    c.in-Ok-chosen_solvables.ensures.chosen ∙ ap (λ (t : Trail). solvables_before (origins_in c.into_parts-variables.result.variables) t (length_of t)) c.trail.ensures ∙ ap (λ os. solvables_before os trail (length_of trail)) parts.variables in
     plain_answer u root notes requirements trail c.in-Ok-chosen_solvables.chosen.items
-      (lawful_solvables u g.D.SolvableId.PartialEq.eq (g.met.D.Interner.lawful_ids c.args.self.now.provider) (g.met.D.Interner.solvables_compare c.args.self.now.provider) g.met.D.Interner.solvables_are_values) (g.met.D.DependencyProvider.lawful_packages c.args.self.now.provider) all_read none parts.requirements size
-      (subst FinishedBy c.in-Ok.ensures.requirements (subst FinishedFor clauses finished)) chosen
+    (lawful_solvables u g.D.SolvableId.PartialEq.eq (g.met.D.Interner.lawful_ids c.args.self.now.provider) (g.met.D.Interner.solvables_compare c.args.self.now.provider) g.met.D.Interner.solvables_are_values) (g.met.D.DependencyProvider.lawful_packages c.args.self.now.provider) all_read none parts.requirements size
+    (subst FinishedBy c.in-Ok.ensures.requirements (subst FinishedFor clauses finished)) chosen
 
 pub explain-requires-clause-within : goal.explain-requires-clause-within
 explain-requires-clause-within g c =

@@ -25,9 +25,9 @@ returns-in-Err-Exhausted-clause-refusal g c =
     let stopped : IsStop (g.D.DependencyProvider.may_cancel c.args.self.now.provider) (IsFull notes) c.in-Err-Exhausted.field-0 = c.in-Err-Exhausted.ensures.refusal in
     let short : IsShortage (IsFull notes) c.in-Err-Exhausted.e = rw c.in-Err-Exhausted.field-0-is at stopped in
     shortage_weaker (IsFull notes) _ (λ full. ⊎_elim
-      (λ (variables : (length notes.origins ≡ notes.variable_limit) × AreDistinct notes.origins). inl (omega (arith, variables.0, limits.variables, c.new-encoding.ensures.variables, c.len-self.ensures, ap length c.variables.ensures)))
-      (λ (clauses : length notes.kinds ≡ notes.clause_limit). inr (inl (omega (arith, clauses, limits.clauses, c.new-encoding.ensures.clauses, c.clause_count-self.ensures))))
-      full) c.in-Err-Exhausted.e short
+    (λ (variables : (length notes.origins ≡ notes.variable_limit) × AreDistinct notes.origins). inl (omega (arith, variables.0, limits.variables, c.new-encoding.ensures.variables, c.len-self.ensures, ap length c.variables.ensures)))
+    (λ (clauses : length notes.kinds ≡ notes.clause_limit). inr (inl (omega (arith, clauses, limits.clauses, c.new-encoding.ensures.clauses, c.clause_count-self.ensures))))
+    full) c.in-Err-Exhausted.e short
 
 pub search-requires-clause-below : goal.search-requires-clause-below
 search-requires-clause-below g c = encoded_below (g.D.Interner.universe c.args.self.now.provider) _ (notes_in c.read_all-read.new.self) c.in-Ok.ensures.read.encoding
@@ -36,7 +36,7 @@ pub search-requires-clause-inside : goal.search-requires-clause-inside
 search-requires-clause-inside g c =
     let notes = notes_in c.read_all-read.new.self in
     numbers_of_inside c.read_all-read.new.self.requirements.items notes.requirements (length notes.table) refl
-      (requirements_inside (g.D.Interner.universe c.args.self.now.provider) _ notes c.in-Ok.ensures.read.encoding c.read_all-read.new.self.requirements.items refl)
+    (requirements_inside (g.D.Interner.universe c.args.self.now.provider) _ notes c.in-Ok.ensures.read.encoding c.read_all-read.new.self.requirements.items refl)
 
 pub returns-clause-answer : goal.returns-clause-answer
 returns-clause-answer g c =
