@@ -1,9 +1,11 @@
 -- Lists of numbers, and one element more.
 use Rattle.std.proofs.Common.{◌≡◌, ℕ, zero, suc, ◌+◌, ◌<◌, Bool, true, false, List, [], ◌∷◌, ◌++◌, length, map, refl, sym, ◌∙◌, ap, arith, get_or, take, add-zero, add-one}
-use Rattle.std.specs.Prelude.{filter}
+use Rattle.std.specs.Prelude.{filter, slice_get, Some}
 use Rattle.std.specs.List.{range_with_len}
+use Rattle.std.specs.Option.{option_map}
 use Rattle.std.proofs.lemmas.List.{map-append, append-nil, take_more}
 use Rattle.std.proofs.lemmas.List.Elements.{filter-append}
+use Rattle.std.proofs.lemmas.Option.{slice_get-map, slice_get-get_or}
 
 pub range-suc : (a n : ℕ) → range_with_len a (suc n) ≡ range_with_len a n ++ (a + n) ∷ []
 range-suc a zero = rw add-zero refl
@@ -12,12 +14,18 @@ range-suc a (suc n) = let same : (a + 1) + n ≡ a + suc n = omega arith in ap (
 pub range-next : (n : ℕ) → range_with_len 0 (n + 1) ≡ range_with_len 0 n ++ n ∷ []
 range-next n = let same : 0 + n ≡ n = omega arith in rw add-one (range-suc 0 n ∙ ap (λ k. range_with_len 0 n ++ k ∷ []) same)
 
+pub map-range-next : {X : Type 0} (f : ℕ → X) (n : ℕ) → map f (range_with_len 0 (n + 1)) ≡ map f (range_with_len 0 n) ++ f n ∷ []
+map-range-next f n = ap (map f) (range-next n) ∙ map-append f (range_with_len 0 n) (n ∷ [])
+
 -- one more number, which the test passes or not
 pub filter-range-pass : (p : ℕ → Bool) (n : ℕ) → p n ≡ true → filter p (range_with_len 0 (n + 1)) ≡ filter p (range_with_len 0 n) ++ n ∷ []
 filter-range-pass p n e = ap (filter p) (range-next n) ∙ filter-append p (range_with_len 0 n) (n ∷ []) ∙ rw e refl
 
 pub filter-range-fail : (p : ℕ → Bool) (n : ℕ) → p n ≡ false → filter p (range_with_len 0 (n + 1)) ≡ filter p (range_with_len 0 n)
 filter-range-fail p n e = ap (filter p) (range-next n) ∙ filter-append p (range_with_len 0 n) (n ∷ []) ∙ rw (e, append-nil) refl
+
+pub slice_get-view : {X Y : Type 0} (f : X → Y) (xs : List X) (i : ℕ) (x : X) → i < length xs → x ≡ get_or xs i x → slice_get (map f xs) i ≡ Some (f x)
+slice_get-view f xs i x h e = slice_get-map f xs i ∙ ap (option_map f) (slice_get-get_or xs i x h ∙ ap Some (sym e))
 
 -- a list made by a function, and one element more
 pub mapped_next : {X Y : Type 0} (f : X → Y) (xs : List X) (made : List Y) (i : ℕ) (x : X) (y : Y) → made ≡ map f (take i xs) → i < length xs → x ≡ get_or xs i x → y ≡ f x → made ++ y ∷ [] ≡ map f (take (i + 1) xs)
