@@ -1,5 +1,5 @@
 -- The table of edges, one edge more.
-use Rattle.std.proofs.Common.{◌≡◌, ◌≢◌, ℕ, zero, suc, ◌+◌, ◌-◌, ◌<◌, ◌≤◌, Bool, true, false, cond, List, [], ◌∷◌, ◌++◌, length, take, reverse, filter, refl, sym, ◌∙◌, ap, subst, arith, rules, get_or, append_assoc}
+use Rattle.std.proofs.Common.{◌≡◌, ℕ, zero, suc, ◌+◌, ◌-◌, ◌<◌, ◌≤◌, Bool, true, false, cond, List, [], ◌∷◌, ◌++◌, length, take, filter, refl, sym, ◌∙◌, ap, subst, arith, rules, get_or, append_assoc}
 use Rattle.std.specs.Prelude.{◌==◌, ◌||◌, if◌then◌else◌, slice_set, replicate}
 use Rattle.std.proofs.lemmas.Bool.{true≢false}
 use Rattle.std.specs.Prelude.{All, Vec}
@@ -48,7 +48,7 @@ module _ {S : Type 0} where
   filled_none all count table sources e = record { long = ap length e ∙ length-replicate count []; sources = sources; filled = λ n lt. ap (λ t. get_or t n [] ++ outgoing all n) e ∙ ap (λ x. x ++ outgoing all n) (none_at count n) }
 
   pub filled_next : (all rest : List (Edge S)) (last : Edge S) (count : ℕ) (table new : List (List (Edge S))) → 1 ≤ length rest → last ≡ get_or rest (length rest - 1) last
-    → new ≡ slice_set table last.source.0 (get_or table last.source.0 [] ++ last ∷ []) → IsFilled all rest count table → IsFilled all (take (length rest - 1) rest) count new
+      → new ≡ slice_set table last.source.0 (get_or table last.source.0 [] ++ last ∷ []) → IsFilled all rest count table → IsFilled all (take (length rest - 1) rest) count new
   filled_next all rest last count table new some is made h = record { long = ap length made ∙ length-set table last.source.0 (get_or table last.source.0 [] ++ last ∷ []) ∙ h.long; sources = All-take (λ (e : Edge S). e.source.0 < count) (length rest - 1) rest h.sources; filled = λ n lt. at_test n lt (last.source.0 == n) refl }
     where
       within : last.source.0 < count
@@ -121,7 +121,7 @@ module _ {S : Type 0} where
   incoming_last before last n b e = ap (filter (λ (d : Edge S). d.target.0 == n)) (reverse-append before (last ∷ [])) ∙ rw e refl
 
   pub excluded_next : (edges : List (Edge S)) (i : ℕ) (e : Edge S) (count : ℕ) (marks new : List Bool) → i < length edges → e ≡ get_or edges i e → e.target.0 < count
-    → new ≡ (if is_exclusion e.weight then slice_set marks e.target.0 true else marks) → IsExcludedTable (take i edges) count marks → IsExcludedTable (take (i + 1) edges) count new
+      → new ≡ (if is_exclusion e.weight then slice_set marks e.target.0 true else marks) → IsExcludedTable (take i edges) count marks → IsExcludedTable (take (i + 1) edges) count new
   excluded_next edges i e count marks new lt is within made h = record { long = ap length made ∙ long_at (is_exclusion e.weight) ∙ h.long; told = told }
     where
       more : take (i + 1) edges ≡ take i edges ++ e ∷ []

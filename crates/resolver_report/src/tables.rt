@@ -21,10 +21,7 @@ fn empty_lists<S: Drop>(alloc: Global, count: usize) -> Result<Vec<Vec<Edge<S>>>
 }
 
 /// Adds an edge to the list of its source.
-fn add_edge<S: Copy + Drop>(
-    table: &mut Vec<Vec<Edge<S>>>,
-    edge: Edge<S>,
-) -> Result<(), Exhausted>
+fn add_edge<S: Copy + Drop>(table: &mut Vec<Vec<Edge<S>>>, edge: Edge<S>) -> Result<(), Exhausted>
     requires { edge.source.0 < length table.old.items }
     ensures ok { OnOk result (lists_in table.new.items ≡ slice_set (lists_in table.old.items) edge.source.0 (slice_index_or (lists_in table.old.items) edge.source.0 [] ++ edge ∷ [])) }
     ensures memory { IfErr result (λ e. e ≡ Exhausted.Memory) }

@@ -1,8 +1,6 @@
-use Rattle.std.proofs.Common.{◌≡◌, ◌<◌, ◌∙◌, ap, arith, length, rules, refl, subst, sym, take, false}
+use Rattle.std.proofs.Common.{◌∙◌, ap, arith, length, rules, refl, subst, false}
 use Rattle.std.specs.Prelude.{replicate}
 use Rattle.std.proofs.lemmas.List.{take_all}
-use Rattle.std.proofs.lemmas.List.Elements.{All-get_or}
-use Rattle.resolver_report.specs.declared.parts.Edge.{Edge}
 use Rattle.resolver_report.specs.Tables.{IsExcludedTable}
 use Rattle.resolver_report.proofs.TableLemmas.{excluded_none, excluded_next, target_within}
 use Rattle.resolver_report.proofs.marks.excluded_nodes.Goals as goal
@@ -10,7 +8,7 @@ use Rattle.resolver_report.proofs.marks.excluded_nodes.Goals as goal
 pub loop-edge-init : goal.loop-edge-init
 loop-edge-init g c =
     excluded_none _ (length c.args.graph.now.graph.nodes) c.in_ok-marks.marks.items refl
-      (c.in_ok-marks.ensures.items_if_clones_equal (λ y h. search (rules, h)) ∙ ap (λ k. replicate k false) (ap length c.nodes-count.ensures.value))
+    (c.in_ok-marks.ensures.items_if_clones_equal (λ y h. search (rules, h)) ∙ ap (λ k. replicate k false) (ap length c.nodes-count.ensures.value))
 
 pub loop-edge-preserved : goal.loop-edge-preserved
 loop-edge-preserved g c =
@@ -18,7 +16,7 @@ loop-edge-preserved g c =
     let edges = c.edges-edges.result.now in
     let within = target_within edges c.loop-edge.edge-index c.edge-item.result count (omega arith) c.edge-item.is (rw c.edges-edges.ensures.value c.edges-edges.ensures.targets) in
     excluded_next edges c.loop-edge.edge-index c.edge-item.result count c.loop-edge.marks.items c.mark_excluded.new.marks.items (omega arith) c.edge-item.is within
-      c.mark_excluded.ensures c.loop-edge.invariant
+    c.mark_excluded.ensures c.loop-edge.invariant
 
 pub returns-clause-value : goal.returns-clause-value
 returns-clause-value g c =
