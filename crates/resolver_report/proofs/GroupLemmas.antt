@@ -1,7 +1,7 @@
 -- The first node of a group.
-use Rattle.std.proofs.Common.{◌≡◌, ◌≢◌, ◌⊎◌, ℕ, zero, suc, ◌+◌, ◌<◌, ◌≤◌, Bool, true, false, cond, List, [], ◌∷◌, length, map, filter, refl, sym, ◌∙◌, ap, subst, inl, inr, arith, rules, get_or}
-use Rattle.std.specs.Prelude.{◌==◌, Option, Some, None, IsNone, MatchOption, slice_get}
-use Rattle.std.specs.List.{filter_map, position_or_len, range_with_len}
+use Rattle.std.proofs.Common.{◌≡◌, ◌⊎◌, ℕ, zero, suc, ◌+◌, ◌<◌, ◌≤◌, Bool, true, false, List, [], ◌∷◌, length, map, filter, refl, sym, ◌∙◌, ap, subst, inl, inr, arith, get_or}
+use Rattle.std.specs.Prelude.{Option, Some, None, IsNone, MatchOption, slice_get}
+use Rattle.std.specs.List.{filter_map, range_with_len}
 use Rattle.std.specs.Option.{is_some, option_map}
 use Rattle.std.proofs.lemmas.Bool.{true≢false, false≢true, cases_lt}
 use Rattle.resolver_clause_store.specs.Laws.{IsIdentity}
@@ -10,9 +10,9 @@ use Rattle.resolver_clause_store.specs.Universe.{Universe}
 use Rattle.resolver_report.specs.declared.parts.ConflictNode.{ConflictNode}
 use Rattle.resolver_report.specs.declared.parts.ConflictNode.TheVariants.{Root, Solvable, UnresolvedDependency, Excluded}
 use Rattle.resolver_report.specs.Graphs.{place_in}
-use Rattle.resolver_report.specs.Merging.{Key, are_alike, are_alike_if_there, class_in, first_of_two, group_in, key_of, keys, same_texts, solvables_at}
+use Rattle.resolver_report.specs.Merging.{Key, are_alike_if_there, class_in, first_of_two, group_in, key_of, keys, same_texts, solvables_at}
 use Rattle.resolver_report.specs.Same.{same_node}
-use Rattle.resolver_report.specs.Shapes.{Shape, as_solvable, places, solvable_at}
+use Rattle.resolver_report.specs.Shapes.{Shape, as_solvable, solvable_at}
 use Rattle.resolver_report.specs.Simplified.{Group, IsGroupOf}
 use Rattle.resolver_report.specs.Stories.{known_group, group_at}
 use Rattle.std.proofs.lemmas.List.Sums.{position_or_len_is}

@@ -1,8 +1,7 @@
 -- Texts of messages, by computation. Written by tools/gen_examples.py.
-use Rattle.std.specs.Prelude.{◌≡◌, ℕ, zero, suc, Bool, true, false, ◌==◌, nat_le, if◌then◌else◌, List, [], ◌∷◌, ◌++◌, codes, map, Option, Some, None, unwrap_or, slice_get, refl}
+use Rattle.std.specs.Prelude.{◌≡◌, ℕ, ◌==◌, nat_le, if◌then◌else◌, List, [], ◌∷◌, ◌++◌, codes, map, Option, Some, None, unwrap_or, slice_get, refl}
 use Rattle.resolver_clause_store.specs.Universe.{Universe, hint_none, unknown}
-use Rattle.resolver_clause_store.specs.declared.Requirement.{Requirement}
-use Rattle.resolver_clause_store.specs.declared.Requirement.TheVariants.{Single, Union}
+use Rattle.resolver_clause_store.specs.declared.Requirement.TheVariants.{Single}
 use Rattle.resolver_clause_store.specs.declared.data.Condition.TheVariants.{Requirement as Matched}
 use Rattle.resolver_report.specs.declared.parts.ConflictNode.{ConflictNode}
 use Rattle.resolver_report.specs.declared.parts.ConflictNode.TheVariants.{Root, Solvable, UnresolvedDependency, Excluded as Reason}

@@ -1,5 +1,5 @@
 -- Lists of marks that compare equal are one.
-use Rattle.std.proofs.Common.{◌≡◌, Bool, true, false, List, [], ◌∷◌, refl, sym, ◌∙◌}
+use Rattle.std.proofs.Common.{◌≡◌, Bool, true, false, List, [], ◌∷◌, refl, sym}
 use Rattle.std.specs.Prelude.{◌&&◌, ⊤, MatchBool}
 use Rattle.std.proofs.lemmas.Bool.{false≢true}
 use lib.Pointwise.{pointwise}

@@ -1,8 +1,7 @@
 -- Pieces side by side, one after the other.
-use Rattle.std.proofs.Common.{◌≡◌, ℕ, zero, suc, ◌+◌, ◌-◌, ◌<◌, ◌≤◌, Bool, true, false, cond, List, [], ◌∷◌, ◌++◌, length, drop, map, refl, sym, ◌∙◌, ap, arith, rules, append_assoc, get_or, add-one}
-use Rattle.std.specs.Prelude.{◌==◌, slice_set, slice_get, Option, Some, None, unwrap_or}
+use Rattle.std.proofs.Common.{◌≡◌, ℕ, zero, suc, ◌+◌, ◌-◌, ◌<◌, ◌≤◌, Bool, true, false, List, [], ◌∷◌, ◌++◌, length, drop, map, refl, sym, ◌∙◌, ap, arith, append_assoc, get_or, add-one}
+use Rattle.std.specs.Prelude.{◌==◌, slice_set}
 use Rattle.std.proofs.lemmas.List.{append-nil, length-map, length-drop}
-use Rattle.std.proofs.lemmas.Bool.{true≢false}
 use Rattle.std.proofs.Math.Seq.{drop-cons}
 use Rattle.resolver_report.specs.Forests.{Forest, Piece, quiet, said, put, is_last, text_of, indent_from}
 use Rattle.resolver_report.specs.Marks.{is_marked}

@@ -1,8 +1,8 @@
 -- What an edge says of its two ends.
-use Rattle.std.specs.Prelude.{ℕ, Bool, true, false, List, Option, Some, None}
+use Rattle.std.specs.Prelude.{Bool, true, false, List, Option, Some, None}
 use Rattle.std.specs.List.{list_any}
 use Rattle.resolver_clause_store.specs.declared.VersionSetId.{VersionSetId}
-use Rattle.resolver_report.specs.declared.parts.ConflictCause.TheVariants.{Locked, Constrains, ForbidMultipleInstances, Excluded}
+use Rattle.resolver_report.specs.declared.parts.ConflictCause.TheVariants.{Constrains, ForbidMultipleInstances, Excluded}
 use Rattle.resolver_report.specs.declared.parts.ConflictEdge.{ConflictEdge}
 use Rattle.resolver_report.specs.declared.parts.ConflictEdge.TheVariants.{Requires, Conflict}
 use Rattle.resolver_report.specs.declared.parts.Edge.{Edge}

@@ -3,7 +3,7 @@ use Rattle.std.specs.Prelude.{◌≡◌, ℕ, zero, suc, ◌<◌, Bool, true, fa
 use Rattle.std.specs.List.{list_any, list_all}
 use Rattle.resolver_report.specs.declared.parts.NodeId.{NodeId}
 use Rattle.resolver_report.specs.Causes.{has_conflict, has_exclusion}
-use Rattle.resolver_report.specs.Runs.{Run, runs_of}
+use Rattle.resolver_report.specs.Runs.{runs_of}
 use Rattle.resolver_report.specs.Shapes.{Shape, ConflictShape, places, outgoing, incoming}
 
 -- Marks of nodes, by their places. What has no mark is not marked.

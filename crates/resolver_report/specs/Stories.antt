@@ -1,7 +1,5 @@
 -- What the code that writes a message is given, as the definitions take it.
-use Rattle.std.specs.Prelude.{◌≡◌, ℕ, Bool, true, false, not, List, [], ◌∷◌, ◌++◌, map, Option, Some, None, slice_get}
-use Rattle.resolver_clause_store.specs.Universe.{Universe}
-use Rattle.resolver_report.specs.declared.parts.Edge.{Edge}
+use Rattle.std.specs.Prelude.{ℕ, Bool, true, false, not, List, map, Option, Some, None, slice_get}
 use Rattle.resolver_report.specs.declared.story.Findings.{Findings}
 use Rattle.resolver_report.specs.declared.story.RunStory.{RunStory}
 use Rattle.resolver_report.specs.declared.story.NodeStory.{NodeStory}

@@ -1,5 +1,5 @@
 -- A few packages with texts, for tests.
-use Rattle.std.specs.Prelude.{ℕ, Bool, cond, nat_eq, List, [], ◌∷◌, ◌++◌, codes, None}
+use Rattle.std.specs.Prelude.{ℕ, cond, nat_eq, List, [], ◌∷◌, ◌++◌, codes, None}
 use Rattle.resolver_clause_store.specs.Universe.{Universe, hint_none, unknown}
 use Rattle.resolver_clause_store.specs.declared.Condition.TheVariants.{Requirement as Matched}
 

@@ -3,7 +3,7 @@ use Rattle.std.specs.List.{range_with_len}
 use Rattle.std.proofs.lemmas.List.{map-append}
 use Rattle.resolver_report.specs.ConflictGraphs.{shape_of}
 use Rattle.resolver_report.specs.Causes.{has_conflict}
-use Rattle.resolver_report.specs.EdgeFacts.{EdgeFacts, edges_at, edges_view}
+use Rattle.resolver_report.specs.EdgeFacts.{edges_at, edges_view}
 use Rattle.resolver_report.specs.Marks.{is_marked}
 use Rattle.resolver_report.specs.Runs.{runs_of}
 use Rattle.resolver_report.proofs.ListLemmas.{map-range-next}

@@ -1,8 +1,6 @@
-use Rattle.std.proofs.Common.{◌≡◌, ◌<◌, ◌∙◌, ap, arith, length, rules, refl, subst, sym, take, false}
+use Rattle.std.proofs.Common.{◌∙◌, ap, arith, length, rules, refl, subst, false}
 use Rattle.std.specs.Prelude.{replicate}
 use Rattle.std.proofs.lemmas.List.{take_all}
-use Rattle.std.proofs.lemmas.List.Elements.{All-get_or}
-use Rattle.resolver_report.specs.declared.parts.Edge.{Edge}
 use Rattle.resolver_report.specs.Tables.{IsExcludedTable}
 use Rattle.resolver_report.proofs.TableLemmas.{excluded_none, excluded_next, target_within}
 use Rattle.resolver_report.proofs.marks.excluded_nodes.Goals as goal

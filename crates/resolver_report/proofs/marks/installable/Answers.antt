@@ -1,4 +1,4 @@
-use Rattle.std.proofs.Common.{◌≡◌, ◌≤◌, ◌∙◌, ap, arith, length, map, suc, sym}
+use Rattle.std.proofs.Common.{◌≡◌, ◌∙◌, ap, arith, length, map, suc, sym}
 use Rattle.resolver_report.specs.ConflictGraphs.{shape_of}
 use Rattle.resolver_report.specs.Marks.{can_be_installed, marked_in}
 use Rattle.resolver_report.specs.Shapes.{places}

@@ -1,4 +1,4 @@
-use Rattle.std.proofs.Common.{◌≡◌, ◌∙◌, ap, map, sym, subst}
+use Rattle.std.proofs.Common.{◌≡◌, ◌∙◌, map, sym, subst}
 use Rattle.resolver_report.specs.ConflictGraphs.{shape_of}
 use Rattle.resolver_report.specs.declared.graph.ConflictGraph.{ConflictGraph}
 use Rattle.resolver_report.specs.Merging.{group_in, keys}

@@ -1,4 +1,4 @@
-use Rattle.std.proofs.Common.{◌≡◌, sym, ◌∙◌, refl}
+use Rattle.std.proofs.Common.{sym, ◌∙◌, refl}
 use Rattle.resolver_report.proofs.RunLemmas.{add_same, add_other}
 use Rattle.resolver_report.proofs.runs.add_edge.Goals as goal
 

@@ -1,6 +1,6 @@
-use Rattle.std.proofs.Common.{◌≡◌, arith, rules, ap, map, sym, ◌∙◌, refl}
+use Rattle.std.proofs.Common.{arith, ap, map, sym, ◌∙◌, refl}
 use Rattle.resolver_report.specs.EdgeRuns.{run_view}
-use Rattle.resolver_report.proofs.RunLemmas.{runs_of_next, and_edge}
+use Rattle.resolver_report.proofs.RunLemmas.{runs_of_next}
 use Rattle.resolver_report.proofs.runs.runs_of.Goals.{in-Requires+in_ok-add_edge, in_default}
 use Rattle.resolver_report.proofs.runs.runs_of.Goals as goal
 

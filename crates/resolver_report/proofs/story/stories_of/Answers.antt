@@ -1,6 +1,5 @@
-use Rattle.std.proofs.Common.{map, reverse, ◌∙◌, true, false, ap, refl}
+use Rattle.std.proofs.Common.{map, reverse, true, false, ap}
 use Rattle.resolver_report.specs.ConflictGraphs.{shape_of}
-use Rattle.resolver_report.specs.EdgeRuns.{run_view}
 use Rattle.resolver_report.specs.Messages.{told_of_run}
 use Rattle.resolver_report.specs.Runs.{runs_of}
 use Rattle.resolver_report.specs.Stories.{groups_in, has_viability, run_told_view}

@@ -1,4 +1,4 @@
-use Rattle.std.proofs.Common.{◌≡◌, ◌∙◌, ◌++◌, ◌∷◌, [], ap, arith, map, sym}
+use Rattle.std.proofs.Common.{arith}
 use Rattle.std.proofs.lemmas.Grind.{common_steps, replicate_next}
 use Rattle.std.proofs.lemmas.List.{map-append}
 use Rattle.resolver_report.proofs.tables.empty_lists.Goals as goal

@@ -1,4 +1,4 @@
-use Rattle.std.proofs.Common.{◌≡◌, ◌∙◌, ap, arith, length, map, sym}
+use Rattle.std.proofs.Common.{arith, length}
 use Rattle.std.proofs.lemmas.List.{length-map}
 use Rattle.resolver_report.specs.Tables.{lists_in}
 use Rattle.resolver_report.proofs.TableLemmas.{filled_none, filled_next, last_within}

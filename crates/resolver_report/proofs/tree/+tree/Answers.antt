@@ -1,4 +1,4 @@
-use Rattle.std.proofs.Common.{◌≡◌, ◌∙◌, sym, ap, arith, map, drop, ◌+◌, List, ℕ, Bool, ◌++◌, subst, [], length, ◌≤◌, ◌-◌, ◌∷◌, true, false, suc, refl, get_or}
+use Rattle.std.proofs.Common.{◌≡◌, ◌∙◌, sym, ap, arith, map, drop, ◌+◌, List, Bool, ◌++◌, [], ◌-◌, ◌∷◌, true, false, refl, get_or}
 use Rattle.std.specs.Prelude.{slice_set, string_bytes}
 use Rattle.std.proofs.lemmas.List.{get_or_default}
 use Rattle.resolver_report.specs.declared.parts.NodeId.{NodeId}
@@ -10,7 +10,7 @@ use Rattle.resolver_report.specs.Tellings.{candidate_in, run_in, text_at, tree_i
 use Rattle.resolver_report.specs.Verdicts.{verdict_view}
 use Rattle.resolver_report.proofs.CandidateLemmas.{quiet_text, quiet_reported, more_text, more_reported, off_branch, resolved_run, told_candidate}
 use Rattle.resolver_report.proofs.TextLemmas.{written_2}
-use Rattle.resolver_report.proofs.TreeLemmas.{told_next, grew_next, told_all, grew_all, all_dropped, from_place, from_place_view, at_end, at_end_place, suc_of, unset, line_and_below}
+use Rattle.resolver_report.proofs.TreeLemmas.{told_next, grew_next, told_all, all_dropped, from_place, from_place_view, at_end, at_end_place, suc_of, unset, line_and_below}
 use Rattle.resolver_report.proofs.tree.+tree.Goals as goal
 
 pub tell_candidate-returns-then-not-requires_more-clause-text : goal.tell_candidate-returns-then-not-requires_more-clause-text

@@ -1,4 +1,4 @@
-use Rattle.std.proofs.Common.{◌≡◌, ℕ, List, Bool, ◌+◌, ◌*◌, ◌++◌, drop, map, string_bytes}
+use Rattle.std.proofs.Common.{◌≡◌, List, Bool, ◌+◌, ◌*◌, ◌++◌, drop, map, string_bytes}
 use Rattle.resolver_report.specs.declared.parts.NodeId.{NodeId}
 use Rattle.resolver_report.specs.Forests.{text_of}
 use Rattle.resolver_report.specs.Indents.{levels_in}

@@ -1,4 +1,4 @@
-use Rattle.std.proofs.Common.{◌≡◌, ◌∙◌, ◌++◌, ap, map, rules, sym, true, false, length}
+use Rattle.std.proofs.Common.{◌≡◌, ◌∙◌, ◌++◌, ap, map, rules, true, false, length}
 use Rattle.std.specs.Prelude.{string_bytes, replicate}
 use Rattle.resolver_report.specs.Forests.{text_of}
 use Rattle.resolver_report.specs.Merging.{group_in}

@@ -1,4 +1,4 @@
-use Rattle.std.proofs.Common.{◌≡◌, ◌<◌, ◌∙◌, sym, ap, arith, length}
+use Rattle.std.proofs.Common.{◌<◌, ◌∙◌, sym, ap, arith, length}
 use Rattle.std.specs.Option.{is_some}
 use Rattle.resolver_report.specs.Merging.{group_in}
 use Rattle.resolver_report.specs.Stories.{node_told}
