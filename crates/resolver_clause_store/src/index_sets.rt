@@ -29,10 +29,7 @@ pub fn place_of<T: Eq + Hash>(set: &IndexSet<T>, member: &T) -> Option<usize>
 }
 
 /// Puts a new member behind the others.
-pub fn append<T: Copy + Eq + Hash + Drop>(
-    set: &mut IndexSet<T>,
-    member: T,
-) -> Result<(), Exhausted>
+pub fn append<T: Copy + Eq + Hash + Drop>(set: &mut IndexSet<T>, member: T) -> Result<(), Exhausted>
     requires identity { IsIdentity T.eq }
     requires absent { Contains set.old.keys member → ⊥ }
     ensures keys { IfOk result (λ _. set.new.keys ≡ set.old.keys ++ member ∷ []) }

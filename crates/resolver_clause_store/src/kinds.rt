@@ -9,10 +9,7 @@ pub enum Origin<N, S> {
     Root,
     Solvable(S),
     /// A bit of the code by which the instances of a name are told apart.
-    Bit {
-        name: N,
-        index: u32,
-    },
+    Bit { name: N, index: u32 },
     /// Stands for each solvable that asks for the requirement without a condition.
     Gate(Requirement),
     /// Stands for each candidate that does not match.

@@ -3,9 +3,9 @@
 ghost use Rattle.std.specs.Prelude.{Contains, ◌≡◌, ◌<◌, ◌≤◌, ◌^◌, ◌⊎◌, [], ◌∷◌, ◌++◌, Some, IfErr, IfOk, OnOk, OnErr, length, slice_get};
 ghost use Rattle.resolver_clause_store.specs.Laws.{IsIdentity};
 
-use crate::kinds::Origin;
 use crate::data::Exhausted;
 use crate::index_sets::{append, place_of};
+use crate::kinds::Origin;
 use crate::literals::Variable;
 use indexmap::IndexSet;
 use std::alloc::Global;
