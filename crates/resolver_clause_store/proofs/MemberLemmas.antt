@@ -2,7 +2,7 @@
 use Rattle.std.proofs.Common.{◌≡◌, Bool, true, false, List, [], ◌∷◌, ◌++◌, Contains, refl, sym, ◌∙◌, ap, MatchBool, true≢false}
 use Rattle.std.specs.Cmp.{IsEquivalence}
 use Rattle.std.specs.List.{list_any}
-use Rattle.std.specs.Prelude.{ℕ, ◌<◌, Option, Some, None, if◌then◌else◌, length, slice_get, position, is_some}
+use Rattle.std.specs.Prelude.{ℕ, ◌<◌, Some, None, if◌then◌else◌, length, slice_get, position}
 use Rattle.std.specs.List.{position_or_len}
 use Rattle.std.proofs.Common.{get_or, cond, subst, arith}
 use Rattle.std.proofs.lemmas.Option.{same_Some}

@@ -1,7 +1,6 @@
 -- Why a question may be left unanswered.
 use Rattle.std.specs.Prelude.{◌≡◌}
-use Rattle.resolver_clause_store.specs.declared.data.Exhausted.{Exhausted}
-use Rattle.resolver_clause_store.specs.declared.data.Exhausted.TheVariants.{Memory, Ids}
+use Rattle.resolver_clause_store.specs.declared.data.Exhausted.TheVariants.{Memory}
 use Rattle.resolver_clause_store.specs.declared.data.Interrupted.{Interrupted}
 use Rattle.resolver_clause_store.specs.declared.data.Interrupted.TheVariants.{Cancelled, Exhausted as RanOut}
 

@@ -5,7 +5,6 @@ use Rattle.resolver_clause_store.specs.Universe.{Universe, Package}
 use Rattle.resolver_clause_store.specs.declared.ids.VersionSetId.{VersionSetId}
 use Rattle.resolver_clause_store.specs.declared.ids.ConditionId.{ConditionId}
 use Rattle.resolver_clause_store.specs.declared.data.LogicalOperator.{LogicalOperator}
-use Rattle.resolver_clause_store.specs.declared.data.Condition.{Condition}
 use Rattle.resolver_clause_store.specs.declared.data.Condition.TheVariants.{Binary}
 
 -- the test calls a value equal to itself and to no other

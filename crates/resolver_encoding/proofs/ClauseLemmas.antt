@@ -1,14 +1,14 @@
 -- Literals that are added, and clauses made of them.
-use Rattle.std.proofs.Common.{◌≡◌, ℕ, ◌+◌, ◌<◌, ◌≤◌, List, [], ◌∷◌, ◌++◌, length, get_or, take, Bool, true, false, refl, sym, ap, ◌∙◌, subst, ⊎_elim, Contains, Vec, Global, append_assoc, append-nil, map}
+use Rattle.std.proofs.Common.{◌≡◌, ℕ, ◌+◌, ◌<◌, List, [], ◌∷◌, ◌++◌, length, get_or, take, sym, ap, ◌∙◌, subst, ⊎_elim, Contains, Vec, Global, append_assoc, append-nil, map}
 use Rattle.std.specs.List.{AllZip}
 use Rattle.std.proofs.lemmas.List.{take_more, map-append}
-use Rattle.resolver_clause_store.specs.Variables.{AreDistinct, Keeps}
+use Rattle.resolver_clause_store.specs.Variables.{Keeps}
 use Rattle.resolver_clause_store.specs.declared.ClauseKind.{ClauseKind}
 use Rattle.resolver_clause_store.specs.declared.Literal.{Literal}
 use Rattle.resolver_clause_store.specs.declared.Origin.{Origin}
 use Rattle.resolver_clause_store.proofs.PlaceLemmas.{Keeps-same, Keeps-trans}
-use Rattle.resolver_encoding.specs.Atoms.{Atom, atom}
-use Rattle.resolver_encoding.specs.Encodings.{Adds, AddsClause, AddsRequirement, Grows, KeepsLimits, Notes}
+use Rattle.resolver_encoding.specs.Atoms.{Atom}
+use Rattle.resolver_encoding.specs.Encodings.{Adds, AddsClause, AddsRequirement, Grows, Notes}
 use Rattle.resolver_encoding.specs.Values.{AreAtoms, IsAtom}
 use Rattle.resolver_encoding.proofs.Lists.{here, there, cons_cases, none_in}
 

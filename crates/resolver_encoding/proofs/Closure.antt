@@ -1,6 +1,6 @@
 -- The part of a set that is there by need, as a list.
 use Rattle.resolver_encoding.specs.Truth.{HasLawfulSolvables}
-use Rattle.std.proofs.Common.{◌≡◌, ◌≢◌, ℕ, zero, suc, ◌+◌, ◌<◌, ◌≤◌, ◌⊎◌, List, [], ◌∷◌, length, Bool, true, false, arith, inl, inr, refl, sym, ap, ◌∙◌, subst, ⊎_elim, Contains}
+use Rattle.std.proofs.Common.{◌≡◌, ℕ, zero, suc, ◌+◌, ◌<◌, ◌≤◌, ◌⊎◌, List, [], ◌∷◌, length, arith, inl, inr, refl, sym, subst, ⊎_elim, Contains}
 use Rattle.std.specs.Prelude.{Option, Some, None}
 use Rattle.std.specs.List.{list_any}
 use Rattle.std.proofs.lemmas.Bool.{cases_Bool, both_ways}

@@ -1,5 +1,5 @@
 -- What a core's clauses imply fits them.
-use Rattle.std.proofs.Common.{◌≡◌, ℕ, ◌⊎◌, List, Bool, true, false, inl, inr, refl, sym, ap, ◌∙◌, subst, ⊎_elim, Contains, All}
+use Rattle.std.proofs.Common.{◌≡◌, ℕ, List, Bool, true, false, sym, ap, ◌∙◌, subst, ⊎_elim, Contains, All}
 use Rattle.std.specs.Prelude.{◌&&◌, nat_eq}
 use Rattle.std.proofs.lemmas.Bool.{cases_Bool, both_ways, false≢true, eqb-true}
 use Rattle.std.proofs.lemmas.List.Elements.{All-contains}
@@ -11,12 +11,12 @@ use Rattle.resolver_clause_store.specs.declared.Requirement.{Requirement}
 use Rattle.resolver_clause_store.specs.declared.Origin.{Origin}
 use Rattle.resolver_clause_store.specs.declared.Origin.TheVariants.{Root, Solvable, Bit, Gate, ConstraintHelper, ConditionHelper}
 use Rattle.resolver_clause_store.specs.declared.ClauseKind.{ClauseKind}
-use Rattle.resolver_clause_store.specs.declared.ClauseKind.TheVariants.{InstallRoot, Requires, AnyOf, Constrains, ForbidMultipleInstances, GateRequires, ConstrainsExcluded, ConstrainsParent, HasBit, Lock, Excluded}
+use Rattle.resolver_clause_store.specs.declared.ClauseKind.TheVariants.{AnyOf, ForbidMultipleInstances, ConstrainsExcluded, HasBit}
 use Rattle.resolver_encoding.specs.Atoms.{IsHelper, Defines}
-use Rattle.resolver_encoding.specs.Truth.{follows, AreCodes, IsTrueClause, same_requirement}
+use Rattle.resolver_encoding.specs.Truth.{follows, IsTrueClause}
 use Rattle.resolver_encoding.specs.Core.{same_helper, says_implies, implied_in}
-use Rattle.resolver_encoding.proofs.Lists.{list_any-contains, list_any-witness, true_if}
-use Rattle.resolver_encoding.proofs.Sound.{defines, same_requirement-true, same_requirement-same, and_left, and_right, and_both, nat_same}
+use Rattle.resolver_encoding.proofs.Lists.{list_any-contains, list_any-witness}
+use Rattle.resolver_encoding.proofs.Sound.{same_requirement-true, same_requirement-same, and_left, and_right, and_both, nat_same}
 
 module _ {N S : Type 0} (u : Universe N S) (same_name : N → N → Bool) (names : IsIdentity same_name) (same : IsIdentity u.same_solvable) where
   same_helper-same : (o : Origin N S) → IsHelper o → same_helper same_name o o ≡ true

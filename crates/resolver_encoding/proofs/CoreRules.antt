@@ -1,6 +1,6 @@
 -- The rules that a core's clauses state are true and refuted.
 use Rattle.resolver_encoding.specs.Truth.{HasLawfulSolvables}
-use Rattle.std.proofs.Common.{◌∷◌, get_or, ◌≡◌, ◌⊎◌, ℕ, List, [], Bool, true, false, inl, inr, refl, sym, ap, ◌∙◌, subst, ⊎_elim, Contains, All, Vec, Global, arith}
+use Rattle.std.proofs.Common.{◌∷◌, get_or, ◌≡◌, ℕ, List, [], Bool, true, refl, sym, subst, Contains, All, Vec, Global}
 use Rattle.std.specs.Prelude.{Option, Some, None, map}
 use Rattle.std.proofs.lemmas.List.Elements.{All-contains, Contains-get_or, All-map}
 use Rattle.std.proofs.lemmas.Map.Views.{Contains-from_any}
@@ -10,8 +10,6 @@ use Rattle.resolver_clause_store.specs.Universe.{Universe, Demands}
 use Rattle.resolver_clause_store.specs.Candidates.{others}
 use Rattle.resolver_clause_store.specs.Valid.{demands_of}
 use Rattle.resolver_clause_store.specs.declared.ConditionId.{ConditionId}
-use Rattle.resolver_clause_store.specs.declared.Requirement.{Requirement}
-use Rattle.resolver_clause_store.specs.declared.ConditionalRequirement.{ConditionalRequirement}
 use Rattle.resolver_report.specs.declared.Rule.{Rule}
 use Rattle.resolver_report.specs.declared.Rule.TheVariants.{Requires as RuleRequires, Constrains as RuleConstrains, Lock as RuleLock, Excluded as RuleExcluded, OnePerPackage}
 use Rattle.resolver_report.specs.Rules as report
@@ -20,8 +18,8 @@ use Rattle.resolver_report.specs.TrueRules.{IsTrueRule}
 use Rattle.resolver_clause_store.specs.declared.Origin.{Origin}
 use Rattle.resolver_clause_store.specs.declared.Origin.TheVariants.{Bit, Gate, ConstraintHelper}
 use Rattle.resolver_clause_store.specs.declared.ClauseKind.{ClauseKind}
-use Rattle.resolver_clause_store.specs.declared.ClauseKind.TheVariants.{InstallRoot, Requires, AnyOf, Constrains, ForbidMultipleInstances, GateRequires, ConstrainsExcluded, ConstrainsParent, HasBit, Lock, Excluded}
-use Rattle.resolver_encoding.specs.Statements.{Statement, requires, constrains, lock, excluded, one_per_package, AllMeet, Implies, IsTrueStatement, statement_of}
+use Rattle.resolver_clause_store.specs.declared.ClauseKind.TheVariants.{InstallRoot, Requires, Constrains, ForbidMultipleInstances, ConstrainsParent, HasBit, Lock, Excluded}
+use Rattle.resolver_encoding.specs.Statements.{Statement, AllMeet, Implies, IsTrueStatement, statement_of}
 use Rattle.resolver_encoding.specs.Atoms.{is_on, Defines, IsStated, states_requires, states_constrains, states_first, states_second, states_gated, states_helped, states_coded, states_bit, states_lock, states_excluded}
 use Rattle.resolver_encoding.specs.Truth.{follows, AreCodes, IsTrueClause, is_plain, AreListed, AreStated}
 use Rattle.resolver_encoding.specs.Core.{implied_in, IsExplained, IsContradictory}

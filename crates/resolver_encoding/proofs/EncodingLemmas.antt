@@ -1,6 +1,6 @@
 -- Steps of an encoding: one after another, one more clause, one more solvable, package or helper.
-use Rattle.std.proofs.Common.{◌≡◌, ◌≢◌, ℕ, ◌+◌, ◌<◌, List, [], ◌∷◌, ◌++◌, length, length-append, refl, sym, ap, ◌∙◌, subst, ⊎_elim, inl, inr, arith, append_assoc, append-nil, Contains, All, Vec, Global, ◌⊎◌}
-use Rattle.std.specs.Prelude.{Option, Some, None, ⊤, slice_get}
+use Rattle.std.proofs.Common.{◌≡◌, ℕ, ◌+◌, ◌<◌, List, [], ◌∷◌, ◌++◌, length, length-append, refl, sym, ap, ◌∙◌, subst, ⊎_elim, arith, append_assoc, append-nil, Contains, Vec, Global, ◌⊎◌}
+use Rattle.std.specs.Prelude.{Some, ⊤, slice_get}
 use Rattle.std.specs.Option.{option_map_or}
 use Rattle.std.specs.List.{AllZip}
 use Rattle.std.proofs.lemmas.List.Elements.{All-push, Contains-append_left, Contains-push, Contains-push_cases}
@@ -8,21 +8,18 @@ use Rattle.std.proofs.lemmas.Option.{slice_get-get_or, slice_get_within}
 use Rattle.resolver_clause_store.specs.Formula.{clause_at}
 use Rattle.resolver_clause_store.specs.Lists.{IsWithin}
 use Rattle.resolver_clause_store.specs.Universe.{Universe, Demands, unknown}
-use Rattle.resolver_clause_store.specs.Candidates.{matching, requirement_candidates, version_sets}
+use Rattle.resolver_clause_store.specs.Candidates.{requirement_candidates, version_sets}
 use Rattle.resolver_clause_store.specs.Variables.{AreDistinct, Keeps}
-use Rattle.resolver_clause_store.specs.declared.By.{By}
 use Rattle.resolver_clause_store.specs.declared.ClauseKind.{ClauseKind}
 use Rattle.resolver_clause_store.specs.declared.ClauseKind.TheVariants.{InstallRoot, Requires, AnyOf, GateRequires, Constrains, ForbidMultipleInstances, ConstrainsExcluded, ConstrainsParent, HasBit, Lock, Excluded}
 use Rattle.resolver_clause_store.specs.declared.Literal.{Literal}
 use Rattle.resolver_clause_store.specs.declared.Origin.{Origin}
-use Rattle.resolver_clause_store.specs.declared.Origin.TheVariants.{Root, Solvable, ConditionHelper}
+use Rattle.resolver_clause_store.specs.declared.Origin.TheVariants.{Root, Solvable}
 use Rattle.resolver_clause_store.specs.declared.Requirement.{Requirement}
-use Rattle.resolver_clause_store.specs.declared.StringId.{StringId}
 use Rattle.resolver_clause_store.specs.declared.VersionSetId.{VersionSetId}
 use Rattle.resolver_clause_store.proofs.PlaceLemmas.{Keeps-same, Keeps-trans, place_cases, place_in, place_last, place_left, place_of_member}
 use Rattle.resolver_encoding.specs.Atoms.{Atom, atoms_of}
-use Rattle.resolver_encoding.specs.Encodings.{AddsClause, AddsRequirement, AsksForCandidates, Extends, Grows, IsDirect, IsEncoding, IsEncodingWhile, IsStep, IsStepWhile, KeepsLimits, Notes}
-use Rattle.resolver_encoding.specs.Groups.{AddsNamed, IsNamed}
+use Rattle.resolver_encoding.specs.Encodings.{AddsClause, AddsRequirement, AsksForCandidates, Extends, Grows, IsDirect, IsEncodingWhile, IsStepWhile, KeepsLimits, Notes}
 use Rattle.resolver_encoding.specs.Read.{AreApart, apart_direct, apart_turned, apart_coded}
 use Rattle.resolver_encoding.specs.Truth.{AreDue, IsTrueClause, no_codes}
 use Rattle.resolver_encoding.specs.Values.{AreEncoded, AreInOrder, IsAtom, IsClauseOf}

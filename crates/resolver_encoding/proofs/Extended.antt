@@ -1,24 +1,21 @@
 -- A set's extension makes the clauses true.
 use Rattle.resolver_encoding.specs.Truth.{HasLawfulSolvables}
-use Rattle.std.proofs.Common.{◌≡◌, ◌<◌, ℕ, List, [], Bool, true, false, refl, sym, ap, ◌∙◌, subst, Contains, All, Vec, Global, length, get_or, arith}
-use Rattle.std.specs.Prelude.{Option, Some, None, slice_get}
+use Rattle.std.proofs.Common.{◌≡◌, ◌<◌, ℕ, List, [], Bool, true, false, ap, subst, Contains, All, Vec, Global, length, get_or, arith}
+use Rattle.std.specs.Prelude.{Some, slice_get}
 use Rattle.std.specs.Option.{option_map_or}
 use Rattle.std.specs.Bool.{beq}
-use Rattle.std.specs.List.{list_any}
 use Rattle.std.proofs.lemmas.List.Elements.{Contains-get_or}
 use Rattle.std.proofs.lemmas.Option.{slice_get-get_or}
 use Rattle.resolver_clause_store.specs.Formula.{clause_at, clause_true, Satisfies}
-use Rattle.resolver_clause_store.specs.Laws.{IsIdentity}
 use Rattle.resolver_clause_store.specs.Universe.{Universe, Demands}
 use Rattle.resolver_clause_store.specs.Valid.{IsValid}
 use Rattle.resolver_clause_store.specs.declared.Literal.{Literal}
 use Rattle.resolver_clause_store.specs.declared.Origin.{Origin}
 use Rattle.resolver_clause_store.specs.declared.ClauseKind.{ClauseKind}
 use Rattle.resolver_clause_store.specs.declared.ClauseKind.TheVariants.{InstallRoot}
-use Rattle.resolver_encoding.specs.Statements.{ObeysAll}
 use Rattle.resolver_encoding.specs.Truth.{AreCodes, follows, IsTrueClause, Spares}
-use Rattle.resolver_encoding.specs.Atoms.{Atom, is_on, is_satisfied, atoms_of, Defines, IsStated}
-use Rattle.resolver_encoding.specs.Values.{IsAtom, AreAtoms, extension, AreEncoded}
+use Rattle.resolver_encoding.specs.Atoms.{Atom, is_on, is_satisfied, atoms_of}
+use Rattle.resolver_encoding.specs.Values.{AreAtoms, extension, AreEncoded}
 use Rattle.resolver_encoding.proofs.Satisfied.{satisfied}
 use Rattle.resolver_encoding.proofs.Sound.{defines, valid_obeys}
 use Rattle.resolver_encoding.proofs.Lists.{list_any-contains, list_any-witness}

@@ -1,5 +1,5 @@
 -- Groups to which a solvable was added.
-use Rattle.std.proofs.Common.{◌≡◌, ◌≢◌, ℕ, ◌+◌, ◌<◌, ◌⊎◌, List, [], ◌∷◌, ◌++◌, length, length-append, arith, inl, inr, refl, sym, ap, ◌∙◌, subst, ⊎_elim, Contains, Vec, Global}
+use Rattle.std.proofs.Common.{◌≡◌, ◌≢◌, ℕ, ◌+◌, ◌<◌, List, [], ◌∷◌, ◌++◌, length, length-append, arith, inl, inr, refl, sym, ap, ◌∙◌, subst, ⊎_elim, Contains, Vec, Global}
 use Rattle.std.specs.Prelude.{Some, slice_get}
 use Rattle.std.specs.Option.{option_map_or}
 use Rattle.std.proofs.lemmas.Bool.{cases_eq}
@@ -7,10 +7,10 @@ use Rattle.std.proofs.lemmas.Option.{slice_get_within}
 use Rattle.std.proofs.lemmas.List.Elements.{Contains-append_left, Contains-push, Contains-push_cases}
 use Rattle.std.proofs.lemmas.Option.{slice_get-get_or}
 use Rattle.resolver_clause_store.specs.Variables.{AreDistinct}
-use Rattle.resolver_encoding.specs.Groups.{AddsNamed, AreGroups, IsNamed, group_at}
+use Rattle.resolver_encoding.specs.Groups.{AddsNamed, AreGroups, group_at}
 use Rattle.resolver_encoding.specs.declared.groups.Groups.{Groups}
 use Rattle.resolver_encoding.proofs.Lists.{none_in}
-use Rattle.resolver_clause_store.proofs.PlaceLemmas.{place_left, place_last, place_cases, place_in, AreDistinct-push}
+use Rattle.resolver_clause_store.proofs.PlaceLemmas.{place_left, place_last, place_cases, AreDistinct-push}
 
 module _ {N S : Type 0} (old new : Groups N S) (n : N) (s : S) where
   -- the group of a new name

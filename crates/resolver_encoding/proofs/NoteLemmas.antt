@@ -1,32 +1,28 @@
 -- Steps that note a clause of a plain kind, a variable, a solvable, a package or a helper.
-use Rattle.std.proofs.Common.{◌≡◌, ◌≢◌, ℕ, ◌+◌, ◌<◌, length, get_or, take, List, [], ◌∷◌, ◌++◌, refl, sym, ap, ◌∙◌, subst, ⊎_elim, inl, inr, arith, Contains, All, Bool, true, false, ◌⊎◌}
-use Rattle.std.specs.Prelude.{Option, Some, None, ⊤, slice_get}
+use Rattle.std.proofs.Common.{◌≡◌, ◌≢◌, ℕ, ◌+◌, ◌<◌, length, get_or, take, List, [], ◌∷◌, ◌++◌, refl, sym, ap, ◌∙◌, subst, ⊎_elim, inl, inr, Contains, All, Bool, true, false}
+use Rattle.std.specs.Prelude.{Option, Some, None, ⊤}
 use Rattle.std.proofs.lemmas.Bool.{true≢false}
 use Rattle.std.proofs.lemmas.List.Elements.{All-contains, All-more, All-weaker, Contains-append_left, Contains-push, Contains-push_cases}
 use Rattle.resolver_clause_store.specs.Laws.{IsIdentity}
 use Rattle.resolver_clause_store.specs.Lists.{IsWithin}
-use Rattle.resolver_clause_store.specs.Universe.{Universe, Demands, Package, unknown}
-use Rattle.resolver_clause_store.specs.Candidates.{matching, others, requirement_candidates, version_sets}
-use Rattle.resolver_clause_store.specs.Variables.{AreDistinct, Keeps}
-use Rattle.resolver_clause_store.specs.declared.By.{By}
+use Rattle.resolver_clause_store.specs.Universe.{Universe, Demands, Package}
+use Rattle.resolver_clause_store.specs.Candidates.{matching}
 use Rattle.resolver_clause_store.specs.declared.ClauseKind.{ClauseKind}
 use Rattle.resolver_clause_store.specs.declared.ClauseKind.TheVariants.{InstallRoot, Requires, AnyOf, GateRequires, Constrains, ForbidMultipleInstances, ConstrainsExcluded, ConstrainsParent, HasBit, Lock, Excluded}
 use Rattle.resolver_clause_store.specs.declared.Origin.{Origin}
 use Rattle.resolver_clause_store.specs.declared.Origin.TheVariants.{Root, Solvable, ConditionHelper}
-use Rattle.resolver_clause_store.specs.declared.Requirement.{Requirement}
 use Rattle.resolver_clause_store.specs.declared.StringId.{StringId}
 use Rattle.resolver_clause_store.specs.declared.VersionSetId.{VersionSetId}
 use Rattle.resolver_clause_store.proofs.PlaceLemmas.{Keeps-same, place_in, place_of_member}
 use Rattle.resolver_clause_store.proofs.SetLemmas.{All-next}
 use Rattle.resolver_encoding.specs.Atoms.{atoms_of}
-use Rattle.resolver_encoding.specs.Encodings.{AddsClause, AsksForCandidates, Extends, Grows, IsDirect, IsEncodingWhile, IsLockRead, IsStep, IsStepWhile, Notes}
+use Rattle.resolver_encoding.specs.Encodings.{AddsClause, AsksForCandidates, Grows, IsDirect, IsEncodingWhile, IsLockRead, IsStep, IsStepWhile, Notes}
 use Rattle.resolver_encoding.specs.Groups.{AddsNamed, AreGroups, IsNamed}
 use Rattle.resolver_encoding.specs.Read.{AreApart, apart_direct, apart_turned}
 use Rattle.resolver_encoding.specs.Truth.{AreDue, IsTrueClause, no_codes}
-use Rattle.resolver_encoding.specs.Values.{AreEncoded}
 use Rattle.resolver_encoding.specs.declared.groups.Groups.{Groups}
-use Rattle.resolver_encoding.proofs.Lists.{none_in, cons_cases, here, there}
-use Rattle.resolver_encoding.proofs.EncodingLemmas.{AreEncoded-keeps, Extends-push, Extends-same, IsClauseOf-zip, IsDue, IsNext, IsPrepared, IsStep-clause, IsWithin-push, IsWithin-same}
+use Rattle.resolver_encoding.proofs.Lists.{cons_cases, here, there}
+use Rattle.resolver_encoding.proofs.EncodingLemmas.{AreEncoded-keeps, Extends-push, Extends-same, IsClauseOf-zip, IsDue, IsPrepared, IsStep-clause, IsWithin-push, IsWithin-same}
 
 -- one more element of a list, by facts that grew
 pub All-grown : {X : Type 0} (P P' : X → Type 0) (xs : List X) (i : ℕ) (x : X) → ((y : X) → P y → P' y) → i < length xs → x ≡ get_or xs i x → All P (take i xs) → P' x → All P' (take (i + 1) xs)

@@ -1,38 +1,36 @@
 -- What a finished trail makes true is an answer, and each of it is there by need.
 use Rattle.resolver_encoding.specs.Truth.{HasLawfulSolvables}
-use Rattle.std.proofs.Common.{ℕ, ◌≡◌, ◌≢◌, ◌⊎◌, List, [], ◌∷◌, ◌++◌, Bool, true, false, inl, inr, refl, sym, ap, ◌∙◌, subst, ⊎_elim, Contains, All, Vec, Global}
-use Rattle.std.specs.Prelude.{not, map, Option, Some, None}
+use Rattle.std.proofs.Common.{ℕ, ◌≡◌, List, ◌∷◌, Bool, true, false, inl, inr, sym, ◌∙◌, subst, ⊎_elim, Contains, All}
+use Rattle.std.specs.Prelude.{not, map, Option}
 use Rattle.std.specs.Bool.{beq}
-use Rattle.std.proofs.lemmas.Bool.{cases_Bool, both_ways, false≢true}
-use Rattle.std.proofs.lemmas.List.Elements.{Contains-append_right, All-contains, All-map, Contains-get_or}
-use Rattle.resolver_clause_store.specs.Laws.{IsIdentity}
+use Rattle.std.proofs.lemmas.Bool.{cases_Bool, false≢true}
+use Rattle.std.proofs.lemmas.List.Elements.{Contains-append_right, All-contains, All-map}
 use Rattle.resolver_clause_store.specs.Lists.{Meets, IsWithin}
 use Rattle.resolver_clause_store.specs.Universe.{Universe, Demands}
 use Rattle.resolver_clause_store.specs.Candidates.{matching, requirement_candidates}
-use Rattle.resolver_clause_store.specs.Reached.{IsReached, AllReached}
+use Rattle.resolver_clause_store.specs.Reached.{AllReached}
 use Rattle.resolver_clause_store.specs.Valid.{IsValid, demands_of}
 use Rattle.resolver_clause_store.specs.declared.Requirement.{Requirement}
-use Rattle.resolver_clause_store.specs.declared.VersionSetId.{VersionSetId}
 use Rattle.resolver_clause_store.specs.declared.ConditionalRequirement.{ConditionalRequirement}
 use Rattle.resolver_clause_store.specs.declared.By.{By}
 use Rattle.resolver_clause_store.specs.declared.By.TheVariants.{Root as ByRoot, Solvable as BySolvable}
 use Rattle.resolver_report.specs.Rules.{IsPresent}
 use Rattle.resolver_clause_store.specs.declared.Origin.{Origin}
-use Rattle.resolver_clause_store.specs.declared.Origin.TheVariants.{Root, Solvable, Gate, ConditionHelper}
+use Rattle.resolver_clause_store.specs.declared.Origin.TheVariants.{Solvable, Gate}
 use Rattle.resolver_clause_store.specs.declared.ClauseKind.{ClauseKind}
-use Rattle.resolver_clause_store.specs.declared.ClauseKind.TheVariants.{InstallRoot, Requires, AnyOf, Constrains, ForbidMultipleInstances, GateRequires, ConstrainsExcluded, ConstrainsParent, HasBit, Lock, Excluded}
+use Rattle.resolver_clause_store.specs.declared.ClauseKind.TheVariants.{Requires, AnyOf}
 use Rattle.resolver_clause_store.specs.Conditions.{IsActive, OptionalConditionHolds}
 use Rattle.resolver_clause_store.specs.declared.ConditionId.{ConditionId}
 use Rattle.resolver_report.specs.TrueRules.{demands_by}
 use Rattle.resolver_encoding.specs.Statements.{AllMeet}
-use Rattle.resolver_encoding.specs.Atoms.{Atom, atom, origin_by, atoms_of, is_on, is_satisfied, Defines}
+use Rattle.resolver_encoding.specs.Atoms.{Atom, atom, atoms_of, is_on, is_satisfied}
 use Rattle.resolver_encoding.specs.Truth.{AreCodes, is_plain, follows, IsTrueClause, Spares}
-use Rattle.resolver_encoding.specs.Read.{IsSettled, Covers, IsClosedPart}
-use Rattle.resolver_encoding.specs.TrailAtoms.{IsEntailed, IsFirstOpen, IsBecause, needed, needed_gate, seeded, left_out, forced, IsTrail, begun, went_on, Takes, IsChosen, CoversReached, IsAnswerBy}
+use Rattle.resolver_encoding.specs.Read.{IsSettled, IsClosedPart}
+use Rattle.resolver_encoding.specs.TrailAtoms.{IsFirstOpen, IsBecause, needed, needed_gate, seeded, left_out, forced, IsTrail, begun, went_on, Takes, IsChosen, CoversReached, IsAnswerBy}
 use Rattle.resolver_encoding.proofs.Lists.{here, there, cons_cases, none_in, list_any-witness, beq-true}
 use Rattle.resolver_encoding.proofs.Satisfied.{has-contains, contains-has, present, helper_meets, satisfied}
 use Rattle.resolver_encoding.proofs.Sound.{is_plain-parts, active_by, defines, valid_obeys}
-use Rattle.resolver_encoding.proofs.Closure.{active_more, Closure, closure, Asks, AsksOne, Next}
+use Rattle.resolver_encoding.proofs.Closure.{active_more, Closure, closure, Next}
 use Rattle.resolver_encoding.proofs.Answers.{closed_part_is_valid}
 
 not_same : (b : Bool) → b ≡ not b → ⊥

@@ -1,8 +1,8 @@
 -- What was read stays read, and when all was.
-use Rattle.std.proofs.Common.{◌≡◌, ◌≢◌, ℕ, ◌+◌, ◌<◌, ◌≤◌, length, take, get_or, List, [], ◌∷◌, ◌++◌, refl, sym, ap, ◌∙◌, subst, ⊎_elim, inl, inr, arith, Contains, All, Vec, Global, Bool, true, false, ◌⊎◌}
-use Rattle.std.specs.Prelude.{Option, Some, None, ⊤, slice_get}
+use Rattle.std.proofs.Common.{◌≡◌, ℕ, ◌+◌, ◌<◌, ◌≤◌, length, take, get_or, List, [], ◌∷◌, ◌++◌, refl, sym, ap, ◌∙◌, subst, ⊎_elim, inl, inr, arith, Contains, All, Vec, Global, Bool, true, ◌⊎◌}
+use Rattle.std.specs.Prelude.{Some, slice_get}
 use Rattle.std.specs.Cmp.{IsEquivalence}
-use Rattle.std.specs.List.{IsDistinct, list_any}
+use Rattle.std.specs.List.{IsDistinct}
 use Rattle.std.proofs.lemmas.List.{take-append-le}
 use Rattle.std.proofs.lemmas.List.Elements.{All-contains, All-cons, All-nil, All-same, All-weaker}
 use Rattle.std.proofs.lemmas.Map.Made.{length-le_from_is_member}
@@ -11,25 +11,23 @@ use Rattle.std.proofs.lemmas.Option.{slice_get_within}
 use Rattle.resolver_clause_store.specs.Laws.{IsIdentity}
 use Rattle.resolver_clause_store.specs.Lists.{IsWithin}
 use Rattle.resolver_clause_store.specs.Universe.{Universe, Demands, Needs, known, unknown}
-use Rattle.resolver_clause_store.specs.Candidates.{matching, others, requirement_candidates, version_sets}
+use Rattle.resolver_clause_store.specs.Candidates.{others, requirement_candidates, version_sets}
 use Rattle.resolver_clause_store.specs.Valid.{demands_of}
-use Rattle.resolver_clause_store.specs.Variables.{AreDistinct}
 use Rattle.resolver_clause_store.specs.declared.By.{By}
 use Rattle.resolver_clause_store.specs.declared.By.TheVariants.{Root as ByRoot, Solvable as BySolvable}
 use Rattle.resolver_clause_store.specs.declared.ClauseKind.{ClauseKind}
-use Rattle.resolver_clause_store.specs.declared.ClauseKind.TheVariants.{InstallRoot, Requires, AnyOf, GateRequires, Constrains, Lock, Excluded}
+use Rattle.resolver_clause_store.specs.declared.ClauseKind.TheVariants.{InstallRoot, Requires, GateRequires, Constrains, Lock, Excluded}
 use Rattle.resolver_clause_store.specs.declared.ConditionalRequirement.{ConditionalRequirement}
 use Rattle.resolver_clause_store.specs.declared.Literal.{Literal}
 use Rattle.resolver_clause_store.specs.declared.Origin.{Origin}
 use Rattle.resolver_clause_store.specs.declared.Origin.TheVariants.{Root, Solvable, Bit, Gate, ConstraintHelper, ConditionHelper}
 use Rattle.resolver_clause_store.specs.declared.Requirement.{Requirement}
-use Rattle.resolver_clause_store.specs.declared.StringId.{StringId}
 use Rattle.resolver_clause_store.specs.declared.VersionSetId.{VersionSetId}
 use Rattle.resolver_report.specs.Rules.{IsPresent}
 use Rattle.resolver_report.specs.TrueRules.{demands_by}
-use Rattle.resolver_encoding.specs.Atoms.{Atom, atom}
-use Rattle.resolver_encoding.specs.Encodings.{AddsRequirement, AsksForCandidates, AreDemandsRead, AreNeedsRead, Extends, Grows, HasDisjunct, IsConstraintRead, IsDirect, IsEncoding, IsUnread, Notes}
-use Rattle.resolver_encoding.specs.Read.{IsForbidden, forbidden_direct}
+use Rattle.resolver_encoding.specs.Atoms.{atom}
+use Rattle.resolver_encoding.specs.Encodings.{AsksForCandidates, AreDemandsRead, AreNeedsRead, Extends, HasDisjunct, IsConstraintRead, IsDirect, IsEncoding, IsUnread, Notes}
+use Rattle.resolver_encoding.specs.Read.{forbidden_direct}
 use Rattle.resolver_encoding.specs.ReadState.{HasClause, has_direct, has_gate, IsRead, IsReadRequirement}
 use Rattle.resolver_encoding.specs.Truth.{IsTrueClause, no_codes}
 use Rattle.resolver_encoding.specs.Values.{IsAtom, IsClauseOf}

@@ -1,10 +1,10 @@
 -- What was read covers what is there by need.
 use Rattle.resolver_encoding.specs.Truth.{HasLawfulSolvables}
-use Rattle.std.proofs.Common.{◌≡◌, ◌≢◌, ◌⊎◌, List, [], ◌∷◌, ◌++◌, Bool, true, false, cond, not, inl, inr, refl, sym, ap, ◌∙◌, subst, ⊎_elim, Contains, All, Vec, Global}
+use Rattle.std.proofs.Common.{◌≡◌, ◌⊎◌, List, [], ◌∷◌, Bool, cond, not, inr, sym, ◌∙◌, subst, ⊎_elim, Contains}
 use Rattle.std.specs.Prelude.{map, Option, Some, None, filter}
 use Rattle.std.specs.List.{list_any}
-use Rattle.std.proofs.lemmas.Bool.{cases_Bool, both_ways}
-use Rattle.std.proofs.lemmas.List.Elements.{Contains-append_cases, All-contains, All-weaker}
+use Rattle.std.proofs.lemmas.Bool.{cases_Bool}
+use Rattle.std.proofs.lemmas.List.Elements.{Contains-append_cases, All-weaker}
 use Rattle.std.proofs.lemmas.List.Sorted.{Contains-permutation, IsPermutation-sym}
 use Rattle.resolver_clause_store.specs.Laws.{IsIdentity, HasLawfulPackages}
 use Rattle.resolver_clause_store.specs.Lists.{Meets, IsWithin, IsCut, cut_none, cut_left, cut_right, without_repeats, moved_to_front}
@@ -22,8 +22,8 @@ use Rattle.resolver_report.specs.Rules.{IsPresent}
 use Rattle.resolver_report.specs.TrueRules.{demands_by}
 use Rattle.resolver_clause_store.specs.declared.ClauseKind.{ClauseKind}
 use Rattle.resolver_encoding.specs.Statements.{AllMeet}
-use Rattle.resolver_encoding.specs.Read.{Covers, IsMade, made_direct, made_gated}
-use Rattle.resolver_encoding.specs.ReadState.{Deferred, HasClause, has_direct, has_gate, IsReadRequirement, IsRead, AreSeeds, NoneFires}
+use Rattle.resolver_encoding.specs.Read.{IsMade, made_direct, made_gated}
+use Rattle.resolver_encoding.specs.ReadState.{Deferred, HasClause, has_direct, has_gate, IsRead, AreSeeds, NoneFires}
 use Rattle.resolver_encoding.specs.TrailAtoms.{CoversReached}
 use Rattle.resolver_encoding.proofs.Lists.{here, there, cons_cases, none_in, list_any-witness}
 

@@ -1,9 +1,9 @@
 -- Requirements that were read.
-use Rattle.std.proofs.Common.{◌≡◌, ◌≢◌, ℕ, ◌+◌, ◌<◌, length, List, [], ◌∷◌, ◌++◌, refl, sym, ap, ◌∙◌, subst, ⊎_elim, inl, inr, arith, Contains, All, Vec, Global, map}
-use Rattle.std.specs.Prelude.{Option, Some, None, ⊤}
+use Rattle.std.proofs.Common.{◌≡◌, List, [], ◌∷◌, refl, sym, ap, subst, ⊎_elim, inl, arith, Contains, All, Vec, Global, map}
+use Rattle.std.specs.Prelude.{Option, Some, None}
 use Rattle.std.proofs.lemmas.List.Elements.{All-cons, All-contains, All-contains_itself, All-head, All-map, All-nil, All-tail, All-weaker}
 use Rattle.resolver_clause_store.specs.Lists.{HaveSameMembers, IsWithin, Meets}
-use Rattle.resolver_clause_store.specs.Universe.{Universe, Demands}
+use Rattle.resolver_clause_store.specs.Universe.{Universe}
 use Rattle.resolver_clause_store.specs.Candidates.{matching}
 use Rattle.resolver_clause_store.specs.Conditions.{OptionalConditionHolds}
 use Rattle.resolver_clause_store.specs.Disjuncts.{IsTaken, SomeHolds}
@@ -14,8 +14,8 @@ use Rattle.resolver_clause_store.specs.declared.ConditionId.{ConditionId}
 use Rattle.resolver_clause_store.specs.declared.ConditionalRequirement.{ConditionalRequirement}
 use Rattle.resolver_clause_store.specs.declared.Requirement.{Requirement}
 use Rattle.resolver_clause_store.specs.declared.VersionSetId.{VersionSetId}
-use Rattle.resolver_encoding.specs.Encodings.{AreDemandsRead, AreDisjuncts, AreNeedsRead, HasDisjunct, IsConstraintRead}
-use Rattle.resolver_encoding.specs.ReadState.{HasClause, has_direct, has_gate, IsReadRequirement}
+use Rattle.resolver_encoding.specs.Encodings.{AreDisjuncts, HasDisjunct}
+use Rattle.resolver_encoding.specs.ReadState.{HasClause, has_direct, IsReadRequirement}
 use Rattle.resolver_encoding.specs.Statements.{AllMeet, Implies}
 use Rattle.resolver_encoding.proofs.Lists.{cons_cases, here, none_in, there}
 

@@ -1,16 +1,15 @@
 -- A set that obeys what clauses state makes each of them true.
-use Rattle.std.proofs.Common.{arith, ◌≡◌, ◌≢◌, ◌⊎◌, List, [], ◌∷◌, ◌++◌, Bool, true, false, inl, inr, refl, sym, ap, ◌∙◌, subst, ⊎_elim, Contains, All, Vec, Global}
+use Rattle.std.proofs.Common.{arith, ◌≡◌, List, Bool, true, false, refl, sym, ap, ◌∙◌, Contains}
 use Rattle.std.specs.Prelude.{not, map}
 use Rattle.std.specs.List.{list_any}
-use Rattle.std.proofs.lemmas.Bool.{cases_Bool, both_ways, false≢true}
-use Rattle.std.proofs.lemmas.List.Elements.{All-contains, All-map, Contains-get_or, Contains-append_left, Contains-append_right}
+use Rattle.std.proofs.lemmas.Bool.{both_ways, false≢true}
+use Rattle.std.proofs.lemmas.List.Elements.{All-map, Contains-get_or}
 use Rattle.std.proofs.lemmas.Map.Views.{Contains-from_any}
 use Rattle.resolver_clause_store.specs.Laws.{IsIdentity}
 use Rattle.resolver_clause_store.specs.Lists.{Meets}
 use Rattle.resolver_clause_store.specs.Universe.{Universe}
 use Rattle.resolver_clause_store.specs.Candidates.{matching, requirement_candidates}
 use Rattle.resolver_clause_store.specs.declared.VersionSetId.{VersionSetId}
-use Rattle.resolver_clause_store.specs.declared.Requirement.{Requirement}
 use Rattle.resolver_clause_store.specs.declared.By.{By}
 use Rattle.resolver_clause_store.specs.declared.By.TheVariants.{Root as ByRoot, Solvable as BySolvable}
 use Rattle.resolver_report.specs.Rules.{IsPresent}
@@ -18,7 +17,7 @@ use Rattle.resolver_clause_store.specs.declared.Origin.{Origin}
 use Rattle.resolver_clause_store.specs.declared.Origin.TheVariants.{Root, Solvable, Bit, Gate, ConstraintHelper, ConditionHelper}
 use Rattle.resolver_clause_store.specs.declared.ClauseKind.{ClauseKind}
 use Rattle.resolver_clause_store.specs.declared.ClauseKind.TheVariants.{InstallRoot, Requires, AnyOf, Constrains, ForbidMultipleInstances, GateRequires, ConstrainsExcluded, ConstrainsParent, HasBit, Lock, Excluded}
-use Rattle.resolver_encoding.specs.Statements.{Statement, requires, constrains, lock, excluded, one_per_package, AllMeet, ObeysAll}
+use Rattle.resolver_encoding.specs.Statements.{AllMeet, ObeysAll}
 use Rattle.resolver_encoding.specs.Atoms.{Atom, atom, origin_by, atoms_of, has, is_on, IsHelper, is_satisfied, IsStated, states_requires, states_constrains, states_first, states_second, states_gated, states_helped, states_coded, states_bit, states_lock, states_excluded, Defines}
 use Rattle.resolver_encoding.proofs.Lists.{In, first, later, on_left, on_right, mapped, list_any-contains, list_any-none, list_any-witness, true_if, beq-false}
 

@@ -1,5 +1,5 @@
 -- What true clauses and listed rules say of a set.
-use Rattle.std.proofs.Common.{ℕ, ◌≡◌, ◌≢◌, ◌⊎◌, List, [], ◌∷◌, Bool, true, false, inl, inr, refl, sym, ap, ◌∙◌, subst, ⊎_elim, Contains, All, Vec, Global}
+use Rattle.std.proofs.Common.{ℕ, ◌≡◌, List, Bool, true, false, inl, inr, refl, sym, ap, ◌∙◌, subst, ⊎_elim, Contains, All, Vec, Global}
 use Rattle.std.specs.Prelude.{Option, Some, None, map, is_none, ◌&&◌, nat_eq}
 use Rattle.std.proofs.lemmas.List.Elements.{All-contains, Contains-get_or}
 use Rattle.std.proofs.lemmas.Bool.{eqb-true, eq-eqb}
@@ -25,10 +25,9 @@ use Rattle.resolver_report.specs.Rules.{IsPresent, Obeys}
 use Rattle.resolver_report.specs.TrueRules.{demands_by}
 use Rattle.resolver_clause_store.specs.declared.Origin.{Origin}
 use Rattle.resolver_clause_store.specs.declared.ClauseKind.{ClauseKind}
-use Rattle.resolver_clause_store.specs.declared.ClauseKind.TheVariants.{InstallRoot, Requires, AnyOf, Constrains, ForbidMultipleInstances, GateRequires, ConstrainsExcluded, ConstrainsParent, HasBit, Lock, Excluded}
-use Rattle.resolver_clause_store.specs.declared.Origin.TheVariants.{ConditionHelper}
-use Rattle.resolver_encoding.specs.Statements.{Statement, requires, constrains, lock, excluded, one_per_package, AllMeet, ObeysAlone, ObeysAll, Implies, statement_of}
-use Rattle.resolver_encoding.specs.Atoms.{has, IsHelper, IsStated, states_requires, states_constrains, states_first, states_second, states_gated, states_helped, states_coded, states_bit, states_lock, states_excluded, Defines}
+use Rattle.resolver_clause_store.specs.declared.ClauseKind.TheVariants.{Requires, AnyOf, Constrains, ForbidMultipleInstances, ConstrainsExcluded, ConstrainsParent, HasBit, Lock, Excluded}
+use Rattle.resolver_encoding.specs.Statements.{Statement, one_per_package, AllMeet, ObeysAlone, ObeysAll, Implies, statement_of}
+use Rattle.resolver_encoding.specs.Atoms.{IsStated, states_requires, states_constrains, states_first, states_second, states_gated, states_helped, states_coded, states_bit, states_lock, states_excluded, Defines}
 use Rattle.resolver_encoding.proofs.Lists.{Contains-map, list_any-contains, list_any-witness}
 use Rattle.resolver_encoding.specs.Truth.{same_requirement, is_plain, AreCodes, follows, IsTrueClause, Spares, AreListed}
 

@@ -1,12 +1,11 @@
 -- What the clauses of a conflict's core imply by themselves.
-use Rattle.std.specs.Prelude.{Contains, ◌≡◌, ◌≡◌, ℕ, nat_eq, ◌&&◌, Bool, true, false, List, All}
+use Rattle.std.specs.Prelude.{Contains, ◌≡◌, ◌≡◌, nat_eq, ◌&&◌, Bool, true, false, List, All}
 use Rattle.std.specs.List.{list_any}
 use Rattle.resolver_clause_store.specs.Universe.{Universe, Demands}
-use Rattle.resolver_clause_store.specs.Laws.{IsIdentity}
 use Rattle.resolver_clause_store.specs.declared.Origin.{Origin}
-use Rattle.resolver_clause_store.specs.declared.Origin.TheVariants.{Root, Solvable, Bit, Gate, ConstraintHelper, ConditionHelper}
+use Rattle.resolver_clause_store.specs.declared.Origin.TheVariants.{Bit, Gate, ConstraintHelper, ConditionHelper}
 use Rattle.resolver_clause_store.specs.declared.ClauseKind.{ClauseKind}
-use Rattle.resolver_clause_store.specs.declared.ClauseKind.TheVariants.{InstallRoot, Requires, AnyOf, Constrains, ForbidMultipleInstances, GateRequires, ConstrainsExcluded, ConstrainsParent, HasBit, Lock, Excluded}
+use Rattle.resolver_clause_store.specs.declared.ClauseKind.TheVariants.{AnyOf, ConstrainsExcluded, HasBit}
 use Rattle.resolver_report.specs.declared.Rule.{Rule}
 use Rattle.resolver_report.specs.Rules.{IsRefuted}
 use Rattle.resolver_report.specs.TrueRules.{IsTrueRule}

@@ -1,5 +1,5 @@
 -- What an encoding of everything that was read holds.
-use Rattle.std.specs.Prelude.{ℕ, ◌≡◌, ◌≢◌, ◌⊎◌, ◌<◌, List, Option, Some, None, [], ◌∷◌, ◌++◌, Contains, All, Vec, length, slice_get, ⊤}
+use Rattle.std.specs.Prelude.{ℕ, ◌≡◌, ◌≢◌, ◌⊎◌, List, Option, Some, None, [], ◌∷◌, ◌++◌, Contains, All, Vec, length, slice_get, ⊤}
 use Rattle.std.specs.List.{AllZip}
 use Rattle.std.specs.declared.alloc.Global.{Global}
 use Rattle.resolver_clause_store.specs.Lists.{HaveSameMembers, IsWithin}

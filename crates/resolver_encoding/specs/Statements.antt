@@ -1,5 +1,5 @@
 -- What a rule states, apart from how it is stored.
-use Rattle.std.specs.Prelude.{◌≡◌, ◌≢◌, ◌⊎◌, List, [], ◌∷◌, Option, Some, None, Contains, All, ⊤, map, Vec}
+use Rattle.std.specs.Prelude.{◌≡◌, ◌≢◌, ◌⊎◌, List, [], Option, Some, None, Contains, All, ⊤, map, Vec}
 use Rattle.std.proofs.Common.{Global}
 use Rattle.resolver_clause_store.specs.Lists.{Meets}
 use Rattle.resolver_clause_store.specs.Universe.{Universe, Demands, unknown}

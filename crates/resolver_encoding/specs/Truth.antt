@@ -1,5 +1,5 @@
 -- Which clauses are true of a provider and a problem.
-use Rattle.std.specs.Prelude.{ℕ, nat_eq, is_none, ◌&&◌, ◌≡◌, ◌≢◌, ◌⊎◌, Bool, true, false, List, Some, Contains, All, map, ⊤}
+use Rattle.std.specs.Prelude.{ℕ, nat_eq, is_none, ◌&&◌, ◌≡◌, ◌≢◌, ◌⊎◌, Bool, true, false, List, Some, Contains, map, ⊤}
 use Rattle.resolver_clause_store.specs.Laws.{HasLawfulIds, IsIdentity}
 use Rattle.resolver_clause_store.specs.Universe.{Universe, Demands, unknown}
 use Rattle.resolver_clause_store.specs.Candidates.{matching, others}

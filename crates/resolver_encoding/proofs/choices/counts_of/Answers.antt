@@ -1,4 +1,4 @@
-use Rattle.std.proofs.Common.{◌<◌, ◌^◌, All, arith}
+use Rattle.std.proofs.Common.{◌<◌, ◌^◌}
 use Rattle.std.proofs.lemmas.List.Elements.{All-push}
 use Rattle.resolver_encoding.proofs.choices.counts_of.Goals as goal
 

@@ -1,11 +1,10 @@
-use Rattle.std.proofs.Common.{◌≡◌, ◌∙◌, sym, ap, subst, arith, Contains, List, ⊎_elim, get_or}
+use Rattle.std.proofs.Common.{◌∙◌, sym, subst, arith, Contains, List, ⊎_elim}
 use Rattle.std.proofs.lemmas.List.Elements.{All-contains, All-nil, Contains-get_or}
 use Rattle.std.proofs.lemmas.Option.{slice_get_within}
 use Rattle.resolver_clause_store.specs.Lists.{HaveSameMembers}
 use Rattle.resolver_clause_store.specs.Variables.{AreDistinct}
 use Rattle.resolver_clause_store.specs.declared.VersionSetId.{VersionSetId}
 use Rattle.resolver_clause_store.proofs.SetLemmas.{All-done}
-use Rattle.resolver_encoding.proofs.Lists.{none_in}
 use Rattle.resolver_encoding.proofs.NoteLemmas.{All-grown_at}
 use Rattle.resolver_encoding.proofs.disjuncts.without_repeats.Goals as goal
 

@@ -1,5 +1,3 @@
-use Rattle.std.proofs.Common.{ap, All, Contains, get_or}
-use Rattle.resolver_encoding.specs.Truth.{IsTrueClause}
 use Rattle.resolver_encoding.specs.Values.{kinds_at}
 use Rattle.resolver_encoding.proofs.CoreRules.{core_contradicts, core_explained, core_true}
 use Rattle.resolver_encoding.proofs.laws.core_rules_explain.Goals as goal

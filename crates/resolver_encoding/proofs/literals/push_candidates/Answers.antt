@@ -1,9 +1,7 @@
-use Rattle.std.proofs.Common.{arith, true, refl, sym, ap, ◌∙◌, subst, List, map, take, ◌≡◌}
+use Rattle.std.proofs.Common.{arith, true, refl, sym, ap, ◌∙◌}
 use Rattle.std.proofs.lemmas.List.{take_all}
-use Rattle.resolver_clause_store.specs.Variables.{origins_in}
 use Rattle.resolver_clause_store.specs.declared.Origin.TheVariants.{Solvable}
-use Rattle.resolver_encoding.specs.Atoms.{Atom, atom}
-use Rattle.resolver_encoding.specs.Encodings.{Adds}
+use Rattle.resolver_encoding.specs.Atoms.{atom}
 use Rattle.resolver_encoding.proofs.ClauseLemmas.{Adds-next, Adds-none, Grows-same, Grows-trans}
 use Rattle.resolver_encoding.proofs.literals.push_candidates.Goals as goal
 

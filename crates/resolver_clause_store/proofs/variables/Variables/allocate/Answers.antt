@@ -1,6 +1,4 @@
-use Rattle.std.proofs.Common.{rules, sym, ◌∙◌, subst, List, ◌≡◌, ap, ◌++◌, ◌∷◌, [], ℕ}
-use Rattle.std.specs.Prelude.{Some, slice_get}
-use Rattle.resolver_clause_store.specs.Variables.{AreDistinct, Keeps}
+use Rattle.std.proofs.Common.{rules, sym, ◌∙◌}
 use Rattle.resolver_clause_store.proofs.PlaceLemmas.{AreDistinct-from, AreDistinct-push, Keeps-push, place_last}
 use Rattle.resolver_clause_store.proofs.variables.Variables.allocate.Goals as goal
 

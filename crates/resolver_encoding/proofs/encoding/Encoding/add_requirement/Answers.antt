@@ -1,4 +1,4 @@
-use Rattle.std.proofs.Common.{◌≡◌, ◌≢◌, ◌∙◌, ◌∷◌, ◌++◌, [], refl, inl, inr, sym, ap, subst, arith, All, Contains, List, take, map}
+use Rattle.std.proofs.Common.{◌≡◌, ◌∙◌, ◌∷◌, ◌++◌, [], ap, subst, List, map}
 use Rattle.std.proofs.Common.{ℕ, length, false, true, rules}
 use Rattle.std.proofs.lemmas.List.{map-append}
 use Rattle.resolver_clause_store.specs.Variables.{limit_in, origins_in}
@@ -9,7 +9,7 @@ use Rattle.resolver_clause_store.specs.declared.RequirementClause.{RequirementCl
 use Rattle.resolver_clause_store.specs.declared.VersionSetId.{VersionSetId}
 use Rattle.resolver_encoding.specs.Atoms.{atom}
 use Rattle.resolver_encoding.specs.Encodings.{Adds}
-use Rattle.resolver_encoding.specs.Notes.{IsBounded, notes_in}
+use Rattle.resolver_encoding.specs.Notes.{notes_in}
 use Rattle.resolver_encoding.proofs.ClauseLemmas.{Adds-trans, Adds-zip, Grows-trans, requirement_added}
 use Rattle.resolver_encoding.proofs.encoding.Encoding.add_requirement.Goals as goal
 

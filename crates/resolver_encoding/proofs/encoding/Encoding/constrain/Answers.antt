@@ -1,5 +1,4 @@
-use Rattle.std.proofs.Common.{◌≡◌, ◌≢◌, ◌∙◌, ◌∷◌, ◌++◌, [], refl, inl, inr, sym, ap, subst, arith, All, Contains, List, take, map}
-use Rattle.std.specs.Prelude.{⊤}
+use Rattle.std.proofs.Common.{◌≡◌, ◌∷◌, [], sym, ap, subst}
 use Rattle.std.proofs.Common.{false}
 use Rattle.std.specs.List.{AllZip}
 use Rattle.resolver_clause_store.specs.declared.Origin.{Origin}
@@ -9,7 +8,7 @@ use Rattle.resolver_clause_store.specs.declared.ClauseKind.TheVariants.{Constrai
 use Rattle.resolver_encoding.specs.Atoms.{Atom, atom, origin_by}
 use Rattle.resolver_encoding.specs.Values.{IsAtom}
 use Rattle.resolver_encoding.specs.Encodings.{AddsClause, AsksWithin}
-use Rattle.resolver_encoding.specs.Notes.{IsBounded, notes_in}
+use Rattle.resolver_encoding.specs.Notes.{notes_in}
 use Rattle.resolver_encoding.proofs.ClauseLemmas.{AreAtoms-twice}
 use Rattle.resolver_encoding.proofs.EncodingLemmas.{IsStep-clause, clause_listed}
 use Rattle.resolver_encoding.proofs.NoteLemmas.{IsStep-plain, asks_not}

@@ -1,4 +1,4 @@
-use Rattle.std.proofs.Common.{◌∷◌, [], refl, inl, subst, sym, Contains, ap}
+use Rattle.std.proofs.Common.{◌∷◌, [], inl, subst, sym, Contains}
 use Rattle.std.specs.Prelude.{⊤}
 use Rattle.resolver_clause_store.specs.declared.ClauseKind.TheVariants.{Excluded}
 use Rattle.resolver_encoding.specs.Notes.{notes_in}

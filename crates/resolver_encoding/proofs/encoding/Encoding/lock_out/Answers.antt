@@ -1,8 +1,8 @@
-use Rattle.std.proofs.Common.{◌≡◌, ◌≢◌, ◌∙◌, ◌∷◌, ◌++◌, [], refl, inl, inr, sym, ap, subst, arith, All, Contains, List, take, map}
+use Rattle.std.proofs.Common.{◌≡◌, ◌∷◌, [], sym, subst, Contains}
 use Rattle.std.specs.Prelude.{⊤, Some}
 use Rattle.resolver_clause_store.specs.declared.ClauseKind.TheVariants.{Lock}
-use Rattle.resolver_encoding.specs.Notes.{IsBounded, notes_in}
-use Rattle.resolver_encoding.proofs.Lists.{here, none_in}
+use Rattle.resolver_encoding.specs.Notes.{notes_in}
+use Rattle.resolver_encoding.proofs.Lists.{here}
 use Rattle.resolver_encoding.proofs.EncodingLemmas.{clause_listed}
 use Rattle.resolver_encoding.proofs.NoteLemmas.{IsStep-plain, not_same}
 use Rattle.resolver_encoding.proofs.encoding.Encoding.lock_out.Goals as goal

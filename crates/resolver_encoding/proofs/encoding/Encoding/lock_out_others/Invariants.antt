@@ -1,4 +1,4 @@
-use Rattle.std.proofs.Common.{◌≡◌, ◌≢◌, ◌∙◌, ◌∷◌, ◌++◌, [], refl, inl, inr, sym, ap, subst, arith, All, Contains, List, take, map}
+use Rattle.std.proofs.Common.{◌≡◌, ◌∷◌, [], All, Contains, take}
 use Rattle.std.specs.Prelude.{⊤}
 use Rattle.resolver_clause_store.specs.declared.ClauseKind.TheVariants.{Lock}
 use Rattle.resolver_encoding.specs.Encodings.{IsStepWhile, KeepsLimits}

@@ -1,11 +1,11 @@
-use Rattle.std.proofs.Common.{◌≡◌, ◌≢◌, ◌∙◌, ◌∷◌, ◌++◌, [], refl, inl, inr, sym, ap, subst, arith, All, Contains, List, take, map}
+use Rattle.std.proofs.Common.{◌≡◌, ◌∙◌, refl, subst, arith, List}
 use Rattle.std.proofs.Common.{get_or}
 use Rattle.std.proofs.lemmas.List.Elements.{All-nil}
 use Rattle.resolver_clause_store.specs.Universe.{Demands}
 use Rattle.resolver_clause_store.specs.declared.By.TheVariants.{Root}
 use Rattle.resolver_encoding.specs.Encodings.{AreNeedsRead}
-use Rattle.resolver_encoding.specs.Notes.{IsBounded, notes_in}
-use Rattle.resolver_clause_store.proofs.SetLemmas.{All-done, Contains-item}
+use Rattle.resolver_encoding.specs.Notes.{notes_in}
+use Rattle.resolver_clause_store.proofs.SetLemmas.{All-done}
 use Rattle.resolver_encoding.proofs.EncodingLemmas.{KeepsLimits-trans}
 use Rattle.resolver_encoding.proofs.ReadLemmas.{All-worked, AreDemandsRead-within, AreNeedsRead-within, all_read, seen_fit}
 use Rattle.resolver_encoding.proofs.encoding.Encoding.read_all.Goals as goal

@@ -1,7 +1,6 @@
-use Rattle.std.proofs.Common.{◌≡◌, ◌≢◌, ◌∙◌, ◌∷◌, ◌++◌, [], refl, inl, inr, sym, ap, subst, arith, All, Contains, List, take, map}
+use Rattle.std.proofs.Common.{[]}
 use Rattle.std.specs.Prelude.{⊤}
 use Rattle.resolver_encoding.specs.Encodings.{AsksWithin}
-use Rattle.resolver_encoding.specs.Notes.{IsBounded, notes_in}
 use Rattle.resolver_encoding.proofs.EncodingLemmas.{IsStep-trans, IsStep-weaker}
 use Rattle.resolver_encoding.proofs.encoding.Encoding.read_constraint.Goals as goal
 

@@ -1,5 +1,4 @@
-use Rattle.std.proofs.Common.{◌≡◌, ◌≢◌, ◌∙◌, ◌∷◌, ◌++◌, [], refl, inl, inr, sym, ap, subst, arith, All, Contains, List, take, map}
-use Rattle.std.specs.Prelude.{⊤}
+use Rattle.std.proofs.Common.{[], All, take}
 use Rattle.resolver_clause_store.specs.Caches.{IsTrueCache}
 use Rattle.resolver_encoding.specs.Encodings.{AsksWithin, IsConstraintRead, IsStepWhile, KeepsLimits}
 use Rattle.resolver_encoding.specs.Notes.{IsBounded, notes_in}

@@ -1,11 +1,10 @@
-use Rattle.std.proofs.Common.{◌≡◌, ◌≢◌, ◌∙◌, ◌∷◌, ◌++◌, [], refl, inl, inr, sym, ap, subst, arith, All, Contains, List, take, map}
-use Rattle.std.specs.Prelude.{⊤}
+use Rattle.std.proofs.Common.{◌≡◌, [], sym, subst, All, Contains}
 use Rattle.std.proofs.lemmas.List.Elements.{All-contains_itself, All-weaker}
 use Rattle.resolver_clause_store.specs.Universe.{Demands}
 use Rattle.resolver_report.specs.TrueRules.{demands_by}
 use Rattle.resolver_encoding.specs.Encodings.{AsksFor, AsksWithin}
 use Rattle.resolver_encoding.specs.ReadState.{IsReadRequirement}
-use Rattle.resolver_encoding.specs.Notes.{IsBounded, notes_in}
+use Rattle.resolver_encoding.specs.Notes.{notes_in}
 use Rattle.resolver_encoding.proofs.EncodingLemmas.{IsStep-trans, IsStep-weaker}
 use Rattle.resolver_encoding.proofs.ReadLemmas.{IsReadRequirement-within}
 use Rattle.resolver_encoding.proofs.encoding.Encoding.read_demands.Goals as goal

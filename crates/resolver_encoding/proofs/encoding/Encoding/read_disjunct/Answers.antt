@@ -1,4 +1,4 @@
-use Rattle.std.proofs.Common.{◌≡◌, ◌≢◌, ◌∙◌, ◌∷◌, ◌++◌, [], refl, inl, inr, sym, ap, subst, arith, All, Contains, List, take, map}
+use Rattle.std.proofs.Common.{[], refl, inl, sym, subst, All, Contains, List}
 use Rattle.std.specs.Prelude.{⊤}
 use Rattle.std.proofs.lemmas.List.Elements.{All-contains}
 use Rattle.resolver_clause_store.specs.Candidates.{version_sets}
@@ -6,7 +6,7 @@ use Rattle.resolver_clause_store.specs.declared.VersionSetId.{VersionSetId}
 use Rattle.resolver_clause_store.specs.declared.ClauseKind.{ClauseKind}
 use Rattle.resolver_clause_store.specs.declared.ClauseKind.TheVariants.{Requires}
 use Rattle.resolver_encoding.specs.Encodings.{AsksFor}
-use Rattle.resolver_encoding.specs.Notes.{IsBounded, notes_in}
+use Rattle.resolver_encoding.specs.Notes.{notes_in}
 use Rattle.resolver_encoding.proofs.EncodingLemmas.{Extends-within, IsClauseOf-zip, IsStep-requirement, IsStep-trans, IsStep-weaker, requirement_listed}
 use Rattle.resolver_encoding.proofs.RequirementLemmas.{disjunct_implies}
 use Rattle.resolver_encoding.proofs.encoding.Encoding.read_disjunct.Goals as goal

@@ -1,9 +1,8 @@
-use Rattle.std.proofs.Common.{◌≡◌, ◌≢◌, ◌∙◌, ◌∷◌, ◌++◌, [], refl, inl, inr, sym, ap, subst, arith, All, Contains, List, take, map}
-use Rattle.std.specs.Prelude.{⊤}
+use Rattle.std.proofs.Common.{[], sym, subst, arith, Contains, List, map}
 use Rattle.std.proofs.lemmas.List.Elements.{All-map, All-nil, All-weaker}
 use Rattle.resolver_clause_store.specs.Candidates.{version_sets}
 use Rattle.resolver_encoding.specs.Encodings.{AsksFor, HasDisjunct}
-use Rattle.resolver_encoding.specs.Notes.{IsBounded, notes_in}
+use Rattle.resolver_encoding.specs.Notes.{notes_in}
 use Rattle.resolver_clause_store.proofs.SetLemmas.{All-done, Contains-item}
 use Rattle.resolver_encoding.proofs.EncodingLemmas.{Extends-within, IsStep-same, IsStep-trans, KeepsLimits-same, KeepsLimits-trans}
 use Rattle.resolver_encoding.proofs.NoteLemmas.{All-grown}

@@ -1,9 +1,9 @@
-use Rattle.std.proofs.Common.{◌≡◌, ◌≢◌, ◌∙◌, ◌∷◌, ◌++◌, [], refl, inl, inr, sym, ap, subst, arith, All, Contains, List, take, map}
+use Rattle.std.proofs.Common.{[], subst, All, Contains, List}
 use Rattle.std.specs.Prelude.{⊤}
 use Rattle.std.proofs.lemmas.List.Elements.{All-weaker}
 use Rattle.resolver_clause_store.specs.Candidates.{version_sets}
 use Rattle.resolver_encoding.specs.Encodings.{AsksFor}
-use Rattle.resolver_encoding.specs.Notes.{IsBounded, notes_in}
+use Rattle.resolver_encoding.specs.Notes.{notes_in}
 use Rattle.resolver_encoding.proofs.EncodingLemmas.{IsStep-trans, IsStep-weaker}
 use Rattle.resolver_encoding.proofs.encoding.Encoding.read_requirement.Goals as goal
 

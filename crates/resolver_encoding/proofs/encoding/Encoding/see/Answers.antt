@@ -1,4 +1,4 @@
-use Rattle.std.proofs.Common.{◌≡◌, ◌≢◌, ◌∙◌, ◌∷◌, ◌++◌, [], refl, inl, inr, sym, ap, subst, arith, All, Contains, List, take, map}
+use Rattle.std.proofs.Common.{◌∙◌, [], refl, sym, subst, Contains, List}
 use Rattle.std.specs.Prelude.{⊤}
 use Rattle.std.proofs.lemmas.List.Elements.{All-contains, Contains-push}
 use Rattle.resolver_clause_store.specs.declared.ClauseKind.TheVariants.{ForbidMultipleInstances}
@@ -8,7 +8,7 @@ use Rattle.resolver_clause_store.proofs.PlaceLemmas.{place_in}
 use Rattle.resolver_encoding.specs.Encodings.{Grows}
 use Rattle.resolver_encoding.specs.Groups.{AreGroups, IsNamed}
 use Rattle.resolver_encoding.specs.declared.groups.Groups.{Groups}
-use Rattle.resolver_encoding.specs.Notes.{IsBounded, notes_in}
+use Rattle.resolver_encoding.specs.Notes.{notes_in}
 use Rattle.resolver_encoding.proofs.EncodingLemmas.{IsStep-trans}
 use Rattle.resolver_encoding.proofs.NoteLemmas.{IsStep-origins, IsStep-seen}
 use Rattle.resolver_encoding.proofs.encoding.Encoding.see.Goals as goal

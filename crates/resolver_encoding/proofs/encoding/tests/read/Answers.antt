@@ -1,4 +1,3 @@
-use Rattle.resolver_encoding.specs.TestProvider.{test_universe}
 use Rattle.resolver_encoding.proofs.encoding.tests.read.Goals as goal
 
 pub read_all-requires-clause-is_true : goal.read_all-requires-clause-is_true
