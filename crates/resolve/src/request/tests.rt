@@ -3,6 +3,7 @@
 use super::{InputError, Request, read_request};
 use crate::ids::{NameId, SolvableId};
 use resolver_clause_store::StringId;
+use resolver_report::find;
 use resolvo::{By, Conflict, Problem, Rule, Solver, UnsolvableOrCancelled};
 use std::alloc::Global;
 use std::fmt::Write;
@@ -205,6 +206,35 @@ fn two_hundred_packages_without_part_in_a_conflict_are_not_named(
     assert!(rt; 8 <= conflict.rules().len());
     for rule in conflict.rules() {
         assert!(rt; is_between(rule, 400, 406));
+    }
+    Ok(())
+}
+
+/// Whether the plain search finds no set that obeys the rules of an input's conflict.
+fn is_refuted(alloc: Global, input: &str) -> Result<bool, Fail> {
+    let conflict = conflict_of(alloc, input)?;
+    match find(alloc, conflict.rules()) {
+        Ok(None) => Ok(!conflict.rules().is_empty()),
+        Ok(Some(_set)) => Ok(false),
+        Err(_e) => Err(Fail::from("refused")),
+    }
+}
+
+#[test]
+fn the_plain_search_finds_no_set_for_a_conflict(rt: HostRuntime) -> Result<(), Fail> {
+    let inputs = [
+        CLASH,
+        "require x\n",
+        "package a=1\nexclude a=1 it is bad\nrequire a\n",
+        "package a=1\nconstrains a=1 a@2..3\nrequire a@1\n",
+        "package a=1\npackage a=2\nrequires a=1 x\nrequires a=2 x\nrequire a\n",
+        "package a=1\npackage a=2\nlock a=1\nrequire a@2..3\n",
+        "package a=1\npackage b=1\nrequires a=1 b\nrequire a\nconstrain b@2..3\n",
+        "package a=1\npackage b=1\nrequires a=1 b\nrequires b=1 a\nrequires b=1 missing\nrequire a\n",
+        "package p=1\npackage c=1\nrequires p=1 x if c\nrequire p\nrequire c\n",
+    ];
+    for input in inputs {
+        assert!(rt; is_refuted(rt.alloc(), input)?, "{input}");
     }
     Ok(())
 }
