@@ -1,6 +1,6 @@
 //! The clauses of all that was read.
 
-ghost use Rattle.std.specs.Prelude.{◌≡◌, ◌≤◌, ◌^◌, [], ◌∷◌, ◌++◌, Bool, IfErr, OnOk, length, map};
+ghost use Rattle.std.specs.Prelude.{◌≡◌, ◌≤◌, ◌^◌, [], ◌∷◌, ◌++◌, Bool, IfErr, OnErr, OnOk, length, map};
 ghost use Rattle.resolver_clause_store.specs.Laws.{IsIdentity};
 ghost use Rattle.resolver_clause_store.specs.Variables.{origins_in};
 ghost use Rattle.resolver_encoding.specs.Atoms.{atom};
@@ -78,7 +78,7 @@ impl<N: Copy + Eq + Hash + Drop, S: Copy + Eq + Hash + Drop> Encoding<N, S> {
         }
     }
 
-    /// Adds a clause.
+    /// Adds a clause. Where it is refused, nothing changes.
     fn add_clause(
         &mut self,
         kind: ClauseKind<N, S>,
@@ -87,6 +87,7 @@ impl<N: Copy + Eq + Hash + Drop, S: Copy + Eq + Hash + Drop> Encoding<N, S> {
         requires bounded { IsBounded self.old }
         ensures bounded { IsBounded self.new }
         ensures added { OnOk result (notes_in self.new ≡ record (notes_in self.old) { table = (notes_in self.old).table ++ literals ∷ []; kinds = (notes_in self.old).kinds ++ kind ∷ [] }) }
+        ensures unchanged { OnErr result (notes_in self.new ≡ notes_in self.old) }
         ensures limits { KeepsLimits (notes_in self.old) (notes_in self.new) }
         ensures refusal { IfErr result (IsShortage (IsFull (notes_in self.new))) }
     {
@@ -94,8 +95,13 @@ impl<N: Copy + Eq + Hash + Drop, S: Copy + Eq + Hash + Drop> Encoding<N, S> {
             return Err(Exhausted::Ids);
         }
         self.kinds.push(kind)?;
-        self.literals.push(literals)?;
-        Ok(())
+        match self.literals.push(literals) {
+            Ok(()) => Ok(()),
+            Err(_) => {
+                self.kinds.pop();
+                Err(Exhausted::Memory)
+            }
+        }
     }
 
     /// Adds a clause of one literal.
