@@ -32,7 +32,7 @@ module _ {D C N S : Type 0} where
 
   -- one of the counts stands at its limit
   abbrev pub IsAtLimit : Solver D C N S → Type 0
-  IsAtLimit s = (s.variable_limit ≤ s.variable_count) ⊎ ((s.clause_limit ≤ s.clause_count) ⊎ (s.learnt_limit ≤ s.learnt_count))
+  IsAtLimit s = (s.variable_count ≡ s.variable_limit) ⊎ ((s.clause_limit ≤ s.clause_count) ⊎ (s.learnt_limit ≤ s.learnt_count))
 
   -- what the solver keeps of its provider's answers is true, and a variable's number fits
   pub record IsSound (u : Universe N S) (s : Solver D C N S) : Type 0 where
