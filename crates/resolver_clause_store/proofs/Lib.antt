@@ -17,3 +17,5 @@ pub mod MemberLemmas
 pub mod TrailLemmas
 pub mod FormulaLemmas
 pub mod PlaceLemmas
+pub mod GrowLemmas
+pub mod KeptLemmas

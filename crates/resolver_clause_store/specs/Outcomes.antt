@@ -5,7 +5,6 @@ use Rattle.std.specs.declared.alloc.Global.{Global}
 use Rattle.resolver_clause_store.specs.declared.literals.Literal.{Literal}
 use Rattle.resolver_clause_store.specs.declared.clauses.RequirementClause.{RequirementClause}
 use Rattle.resolver_clause_store.specs.declared.trail.Slot.{Slot}
-use Rattle.resolver_clause_store.specs.declared.trail.Reason.TheVariants.{Decided}
 use Rattle.resolver_clause_store.specs.declared.trail.Trail.{Trail}
 use Rattle.resolver_clause_store.specs.Formula.{clause_at, clause_true, MakesTrue, Satisfies}
 use Rattle.resolver_clause_store.specs.TrailView.{slot_of, literal_value}
@@ -33,15 +32,14 @@ IsForcing trail place literal clause = All (λ other. (other ≡ literal) ⊎ Is
 abbrev pub IsImplied : List (Vec Literal Global) → List Literal → Type 0
 IsImplied clauses clause = (values : ℕ → Bool) → Satisfies values clauses → clause_true values clause ≡ true
 
--- the variable is true, and stands in this clause of a requirement behind literals that were all false before
-pub record IsChosen (clauses : List (Vec Literal Global)) (requirements : List RequirementClause) (trail : Trail) (variable : ℕ) (slot : Slot) (number : ℕ) : Type 0 where
+-- the variable is true, and stands in the clause of a requirement behind literals that were all false before
+pub record IsChosen (clauses : List (Vec Literal Global)) (requirements : List RequirementClause) (trail : Trail) (variable : ℕ) (slot : Slot) : Type 0 where
   pub requirement : RequirementClause
   pub listed : Contains requirements requirement
-  pub number_is : requirement.number ≡ number
   pub value : slot.value ≡ true
   pub before : List Literal
   pub after : List Literal
-  pub clause : clause_at clauses number ≡ before ++ record { variable = variable; positive = true } ∷ after
+  pub clause : clause_at clauses requirement.number ≡ before ++ record { variable = variable; positive = true } ∷ after
   pub false_before : All (IsFalseBefore trail slot.place) before
 
 -- a clause that the clauses imply has forced the variable
@@ -53,7 +51,7 @@ pub record IsForced (clauses : List (Vec Literal Global)) (trail : Trail) (varia
 -- why the variable has its value
 abbrev pub IsReasoned : List (Vec Literal Global) → List RequirementClause → Trail → ℕ → Slot → Type 0
 IsReasoned clauses requirements trail variable slot =
-    ((number : ℕ) × (slot.reason ≡ Decided number) × IsChosen clauses requirements trail variable slot number) ⊎ IsForced clauses trail variable slot
+    IsChosen clauses requirements trail variable slot ⊎ IsForced clauses trail variable slot
 
 -- the clause is not false, and where all its literals but one are false that one is true
 pub record IsPropagated (trail : Trail) (clause : List Literal) : Type 0 where

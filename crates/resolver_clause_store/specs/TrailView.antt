@@ -69,12 +69,25 @@ AdditionIs old new literal level reason Added = (slot_of old literal.variable �
 AdditionIs old new literal level reason Present = (literal_value old literal ≡ Some true) × (new ≡ old)
 AdditionIs old new literal level reason Refused = (literal_value old literal ≡ Some false) × (new ≡ old)
 
+-- there are so many variables, and nothing else has changed: those that were not there have no value
+pub record IsGrown (old new : Trail) (variables : ℕ) : Type 0 where
+  pub size : variable_count new ≡ variables
+  pub slots : (variable : ℕ) → slot_of new variable ≡ slot_of old variable
+  pub order : new.order.items ≡ old.order.items
+
 -- the first places of the old trail are left, and no others
 pub record IsCut (old new : Trail) (count : ℕ) : Type 0 where
   pub size : variable_count new ≡ variable_count old
   pub length : length_of new ≡ count
   pub kept : (variable : ℕ) (slot : Slot) → slot_of old variable ≡ Some slot → slot.place < count → slot_of new variable ≡ Some slot
   pub stays : (variable : ℕ) (slot : Slot) → slot_of new variable ≡ Some slot → slot_of old variable ≡ Some slot
+
+-- so many first places of the trail are as they were: each has its variable, and that its slot
+pub record KeepsPlaces (old new : Trail) (count : ℕ) : Type 0 where
+  pub were : count ≤ length_of old
+  pub are : count ≤ length_of new
+  pub variables : (place : ℕ) → place < count → variable_at new place ≡ variable_at old place
+  pub slots : (variable : ℕ) (slot : Slot) → slot_of old variable ≡ Some slot → slot.place < count → slot_of new variable ≡ Some slot
 
 -- exactly the variables of this level or lower are left
 pub record IsUndone (old new : Trail) (level : ℕ) : Type 0 where

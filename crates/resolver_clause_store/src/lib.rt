@@ -31,6 +31,7 @@ pub use index_sets::{append, is_among, place_of};
 pub use kinds::{ClauseKind, Origin};
 pub use literals::{Literal, Variable};
 pub use provider::{DependencyProvider, Interner};
+pub use questions::check_cancel;
 pub use requirements::requirement_candidates;
 pub use sets::{has, meets};
 pub use trail::{Addition, Reason, Slot, Trail};

@@ -11,7 +11,7 @@ use crate::provider::{DependencyProvider, Interner};
 use std::alloc::Global;
 
 /// Gives the provider the chance to stop the search.
-fn check_cancel<D: DependencyProvider>(provider: &D) -> Result<(), Interrupted<D::Cancel>>
+pub fn check_cancel<D: DependencyProvider>(provider: &D) -> Result<(), Interrupted<D::Cancel>>
     ensures { IfErr result (IsInterruption (D.may_cancel provider.now)) }
 {
     match provider.should_cancel_with_value() {

@@ -53,7 +53,18 @@ impl Trail {
     ghost use Rattle.std.specs.Option.{option_map};
     ghost use Rattle.resolver_clause_store.specs.Slots.{is_decided};
     ghost use Rattle.resolver_clause_store.specs.declared.trail.Reason.TheVariants.{Decided, Forced};
-    ghost use Rattle.resolver_clause_store.specs.TrailView.{AdditionIs, Gains, IsAbove, IsCut, IsSame, IsTop, IsUndone, length_of, level_of, literal_value, slot_of, variable_at, variable_count};
+    ghost use Rattle.resolver_clause_store.specs.TrailView.{AdditionIs, Gains, IsAbove, IsCut, IsGrown, IsSame, IsTop, IsUndone, length_of, level_of, literal_value, slot_of, variable_at, variable_count};
+
+    /// A trail of no variables.
+    pub fn empty(alloc: Global) -> Self
+        ensures size { variable_count result ≡ 0 }
+        ensures none { (variable : ℕ) → slot_of result variable ≡ None }
+    {
+        Trail {
+            slots: Vec::new(alloc),
+            order: Vec::new(alloc),
+        }
+    }
 
     /// A trail of this many variables, none of which has a value.
     pub fn new(alloc: Global, variables: usize) -> Result<Self, AllocError>
@@ -208,6 +219,16 @@ impl Trail {
     {
         let level = self.level();
         self.assign(literal, level, Reason::Forced(number))?;
+        Ok(())
+    }
+
+    /// Adds variables without a value, up to this many.
+    pub fn grow(&mut self, variables: usize) -> Result<(), AllocError>
+        requires { variable_count self.old ≤ variables }
+        ensures ok { OnOk result (IsGrown self.old self.new variables) }
+        ensures err { OnErr result (IsSame self.old self.new) }
+    {
+        self.slots.resize(variables, None)?;
         Ok(())
     }
 

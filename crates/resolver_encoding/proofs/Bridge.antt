@@ -1,51 +1,56 @@
 -- A finished search over variables is a finished trail of what they stand for.
-use Rattle.std.proofs.Common.{◌≡◌, ◌≢◌, ℕ, zero, suc, ◌+◌, ◌<◌, ◌≤◌, ◌⊎◌, List, [], ◌∷◌, ◌++◌, length, get_or, Option, Some, None, Bool, true, false, arith, inl, inr, refl, sym, ap, ◌∙◌, subst, ⊎_elim, Contains, All, Vec, Global}
-use Rattle.std.specs.Prelude.{not, map, slice_get, slice_index_or, Any}
+use Rattle.std.proofs.Common.{◌≡◌, ◌≢◌, ℕ, zero, suc, ◌<◌, ◌≤◌, ◌⊎◌, List, [], ◌∷◌, ◌++◌, length, get_or, Option, Some, None, Bool, true, false, arith, inl, inr, refl, sym, ap, ◌∙◌, subst, ⊎_elim, Contains, All, Vec, Global}
+use Rattle.std.specs.Prelude.{not, map, slice_get, Any}
 use Rattle.std.specs.List.{AllZip}
 use Rattle.std.specs.Option.{option_map, option_map_or}
 use Rattle.std.specs.Bool.{beq}
-use Rattle.std.proofs.lemmas.Bool.{cases_lt, cases_Bool, false≢true}
+use Rattle.std.proofs.lemmas.Bool.{cases_lt, false≢true}
 use Rattle.std.proofs.lemmas.Option.{same_Some, slice_get-get_or}
-use Rattle.std.proofs.lemmas.List.Elements.{All-contains, Contains-get_or, Contains-append_cases, Contains-append_left, Contains-append_right}
-use Rattle.resolver_clause_store.specs.Candidates.{requirement_candidates}
-use Rattle.resolver_clause_store.specs.Formula.{clause_at, clause_true, Satisfies}
+use Rattle.std.proofs.lemmas.List.Elements.{All-contains, All-nil, Contains-get_or, Contains-append_cases, Contains-append_left, Contains-append_right}
+use Rattle.resolver_clause_store.specs.Candidates.{others, requirement_candidates, version_sets}
+use Rattle.resolver_clause_store.specs.Formula.{clause_at}
 use Rattle.resolver_clause_store.specs.Laws.{HasLawfulPackages}
 use Rattle.resolver_clause_store.specs.Lists.{HasNoRepeats}
-use Rattle.resolver_clause_store.specs.Outcomes.{IsFalsified, IsSatisfied, IsFalseBefore, IsForcing, IsImplied, IsChosen, IsForced, IsReasoned, IsPropagated, IsMet, IsFinished}
+use Rattle.resolver_clause_store.specs.Outcomes.{IsFalseBefore, IsImplied, IsChosen, IsForced, IsMet, IsFinished}
 use Rattle.resolver_clause_store.specs.TrailView.{slot_of, variable_at, variable_count, length_of, literal_value}
-use Rattle.resolver_clause_store.specs.Universe.{Universe, Demands}
+use Rattle.resolver_clause_store.specs.Universe.{Universe, Demands, Needs, known, unknown}
+use Rattle.resolver_clause_store.specs.Valid.{demands_of}
 use Rattle.resolver_clause_store.specs.Variables.{AreDistinct}
 use Rattle.resolver_clause_store.specs.declared.By.{By}
+use Rattle.resolver_clause_store.specs.declared.By.TheVariants.{Root as ByRoot, Solvable as BySolvable}
 use Rattle.resolver_clause_store.specs.declared.ClauseKind.{ClauseKind}
-use Rattle.resolver_clause_store.specs.declared.ClauseKind.TheVariants.{InstallRoot, Requires, AnyOf, Constrains, ForbidMultipleInstances, GateRequires, ConstrainsExcluded, ConstrainsParent, HasBit, Lock, Excluded}
+use Rattle.resolver_clause_store.specs.declared.ClauseKind.TheVariants.{InstallRoot, Requires, GateRequires}
 use Rattle.resolver_clause_store.specs.declared.Literal.{Literal}
 use Rattle.resolver_clause_store.specs.declared.Origin.{Origin}
 use Rattle.resolver_clause_store.specs.declared.Origin.TheVariants.{Root, Solvable, Gate, ConditionHelper}
-use Rattle.resolver_clause_store.specs.declared.Reason.TheVariants.{Decided}
 use Rattle.resolver_clause_store.specs.declared.Requirement.{Requirement}
 use Rattle.resolver_clause_store.specs.declared.RequirementClause.{RequirementClause}
 use Rattle.resolver_clause_store.specs.declared.Slot.{Slot}
 use Rattle.resolver_clause_store.specs.declared.Trail.{Trail}
 use Rattle.resolver_clause_store.specs.declared.VersionSetId.{VersionSetId}
 use Rattle.resolver_clause_store.proofs.SlotLemmas.{slot-within}
-use Rattle.resolver_encoding.specs.Atoms.{Atom, atom, origin_by, atoms_of, is_satisfied}
-use Rattle.resolver_encoding.specs.Encodings.{AsksForCandidates, IsDirect, IsEncoding, IsAllRead, Notes}
-use Rattle.resolver_encoding.specs.Read.{IsSettled}
-use Rattle.resolver_encoding.specs.ReadState.{IsRead}
-use Rattle.resolver_encoding.specs.Truth.{AreDue, HasLawfulSolvables, no_codes}
-use Rattle.resolver_encoding.specs.TrailAtoms.{CoversReached, IsAnswerBy, IsChosen as IsChosenBy, Takes, IsEntailed, IsFirstOpen, IsBecause, needed, forced, IsTrail, begun, went_on}
+use Rattle.resolver_encoding.specs.Atoms.{Atom, atom, origin_by, atoms_of}
+use Rattle.resolver_encoding.specs.Encodings.{AreDemandsRead, AreNeedsRead, AsksForCandidates, IsConstraintRead, IsEncoding, IsLeft, Notes}
+use Rattle.resolver_encoding.specs.Read.{IsForbidden, IsSettled}
+use Rattle.resolver_encoding.specs.ReadState.{HasClause, has_direct, has_gate, IsRead, IsReadRequirement}
+use Rattle.resolver_encoding.specs.SoFar.{IsHalfRead, IsReadSoFar}
+use Rattle.resolver_encoding.specs.Truth.{AreDue, HasLawfulSolvables}
+use Rattle.resolver_encoding.specs.TrailAtoms.{CoversReached, IsAnswerBy, IsChosen as IsChosenBy, Takes, IsEntailed, IsFirstOpen, IsBecause, needed, needed_gate, forced, IsTrail, begun, went_on}
 use Rattle.resolver_encoding.specs.Trails.{solvable_if, solvables_before, origin_at, value_of, entry_at, atoms_before, atoms_by}
-use Rattle.resolver_encoding.specs.Values.{IsAtom, AreAtoms, AreEncoded}
+use Rattle.resolver_encoding.specs.Values.{IsAtom, AreInOrder}
 use Rattle.std.proofs.lemmas.List.{get_or_default}
 use Rattle.std.proofs.lemmas.List.Quantifiers.{all_pairs_push}
 use Rattle.std.proofs.Common.{append-nil}
+use Rattle.resolver_report.specs.Rules.{IsPresent}
+use Rattle.resolver_report.specs.TrueRules.{demands_by}
+use Rattle.resolver_encoding.proofs.CodeLemmas.{apart_of_digits}
 use Rattle.resolver_encoding.proofs.Reached.{finished_is_answer}
 use Rattle.resolver_encoding.proofs.Reading.{covers_reached}
 use Rattle.resolver_encoding.proofs.Spared.{Spares-further}
 use Rattle.resolver_encoding.proofs.Extended.{values_by, values_by-origin, table_by_kinds}
-use Rattle.resolver_encoding.proofs.Lists.{here, there, cons_cases, none_in, Contains-map, Contains-map_back, list_any-contains, list_any-witness, beq-true, beq-false, beq-same}
+use Rattle.resolver_encoding.proofs.Lists.{Contains-slice, here, there, cons_cases, none_in, Contains-map, Contains-map_back, list_any-contains, list_any-witness, beq-true, beq-false}
 
-below_or : (n k : ℕ) → k ≤ n → (k < n) ⊎ (k ≡ n)
+pub below_or : (n k : ℕ) → k ≤ n → (k < n) ⊎ (k ≡ n)
 below_or n k h = ⊎_elim (λ (l : k < n). inl l) (λ (g : n ≤ k). inr (omega arith)) (cases_lt k n)
 
 literal_same : (l m : Literal) → l.variable ≡ m.variable → l.positive ≡ m.positive → l ≡ m
@@ -54,12 +59,7 @@ literal_same l m e f = let Made : ℕ → Bool → Literal = λ x b. record { va
 pub any-witness : {X : Type 0} (P : X → Type 0) (xs : List X) → Any P xs → (x : X) × Contains xs x × P x
 any-witness P xs w = (w.1, (w.0, w.2, w.3), w.4)
 
-pub Contains-slice : {X : Type 0} (xs : List X) (n : ℕ) (x : X) → slice_get xs n ≡ Some x → Contains xs x
-Contains-slice [] n x e = absurd cc
-Contains-slice (y ∷ ys) zero x e = let P : _ → Type 0 = λ q. Contains (y ∷ ys) q in subst P (same_Some _ _ e) (here y ys)
-Contains-slice (y ∷ ys) (suc n) x e = there y ys x (Contains-slice ys n x e)
-
-slot_placed : (o : Option Slot) (k : ℕ) → option_map (λ (slot : Slot). slot.place) o ≡ Some k → (slot : Slot) × (o ≡ Some slot) × (slot.place ≡ k)
+pub slot_placed : (o : Option Slot) (k : ℕ) → option_map (λ (slot : Slot). slot.place) o ≡ Some k → (slot : Slot) × (o ≡ Some slot) × (slot.place ≡ k)
 slot_placed None k e = absurd cc
 slot_placed (Some slot) k e = (slot, refl, same_Some _ _ e)
 
@@ -151,29 +151,29 @@ cut_helpers {N} {S} (v ∷ vs) candidates (a ∷ first) middle last positive e =
       middle_is = w.middle_is;
     }
 
--- the same behind the requirer
-record CutBehind {N S : Type 0} (by : By S) (vs : List VersionSetId) (candidates : List S) (first : List (Atom N S)) (middle : Atom N S) : Type 0 where
+-- the same behind the requirer or the gate
+record CutBehind {N S : Type 0} (parent : Origin N S) (vs : List VersionSetId) (candidates : List S) (first : List (Atom N S)) (middle : Atom N S) : Type 0 where
   s : S
   before : List S
   after : List S
   is : candidates ≡ before ++ s ∷ after
-  first_is : first ≡ atom (origin_by by) false ∷ (map (λ v. atom (ConditionHelper v) false) vs ++ map (λ x. atom (Solvable x) true) before)
+  first_is : first ≡ atom parent false ∷ (map (λ v. atom (ConditionHelper v) false) vs ++ map (λ x. atom (Solvable x) true) before)
   middle_is : middle ≡ atom (Solvable s) true
 
-cut_parent : {N S : Type 0} (by : By S) (vs : List VersionSetId) (candidates : List S) (first : List (Atom N S)) (middle : Atom N S) (last : List (Atom N S)) → middle.positive ≡ true →
-    atom (origin_by by) false ∷ (map (λ v. atom (ConditionHelper v) false) vs ++ map (λ x. atom (Solvable x) true) candidates) ≡ first ++ middle ∷ last → CutBehind by vs candidates first middle
-cut_parent {N} {S} by vs candidates [] middle last positive e =
-    let head : atom (origin_by by) false ≡ middle = ap (list_head middle) e in
+cut_parent : {N S : Type 0} (parent : Origin N S) (vs : List VersionSetId) (candidates : List S) (first : List (Atom N S)) (middle : Atom N S) (last : List (Atom N S)) → middle.positive ≡ true →
+    atom parent false ∷ (map (λ v. atom (ConditionHelper v) false) vs ++ map (λ x. atom (Solvable x) true) candidates) ≡ first ++ middle ∷ last → CutBehind parent vs candidates first middle
+cut_parent {N} {S} parent vs candidates [] middle last positive e =
+    let head : atom parent false ≡ middle = ap (list_head middle) e in
     absurd (false≢true (ap (λ (a : Atom N S). a.positive) head ∙ positive))
-cut_parent {N} {S} by vs candidates (a ∷ first) middle last positive e =
+cut_parent {N} {S} parent vs candidates (a ∷ first) middle last positive e =
     let w = cut_helpers vs candidates first middle last positive (ap list_rest e) in
-    let head : atom (origin_by by) false ≡ a = ap (list_head a) e in
+    let head : atom parent false ≡ a = ap (list_head a) e in
     record {
       s = w.s;
       before = w.before;
       after = w.after;
       is = w.is;
-      first_is = ap (λ q. q ∷ first) (sym head) ∙ ap (λ q. atom (origin_by by) false ∷ q) w.first_is;
+      first_is = ap (λ q. q ∷ first) (sym head) ∙ ap (λ q. atom parent false ∷ q) w.first_is;
       middle_is = w.middle_is;
     }
 
@@ -268,52 +268,72 @@ module _ {N S : Type 0} (u : Universe N S) (root : Demands) (notes : Notes N S) 
       (λ off. let P : Atom N S → Type 0 = λ a. Contains (before slot.place) (atom a.origin (not a.positive)) in inr (subst P w.2 (has_negation notes.origins trail size slot.place w.0 off)))
       (each w.0 w.1))
 
-  because_chosen : (x : ℕ) (slot : Slot) (number : ℕ) → slot_of trail x ≡ Some slot → IsChosen notes.table requirements trail x slot number → (by : By S) (disjunct : Vec VersionSetId Global) (r : Requirement) → slice_get notes.kinds number ≡ Some (Requires by disjunct r) → Contains notes.kinds (Requires by disjunct r) →
-      IsBecause u notes.kinds [] [] (before slot.place) (atom (origin_at notes.origins x) slot.value)
-  because_chosen x slot number at chosen by disjunct r is inside =
-      let kind : ClauseKind N S = Requires by disjunct r in
+  -- the first candidate that is left in a clause whose other literals are negative
+  record IsFirstLeft (x : ℕ) (slot : Slot) (parent : Origin N S) (vs : List VersionSetId) (r : Requirement) : Type 0 where
+    s : S
+    is_solvable : origin_at notes.origins x ≡ Solvable s
+    is_true : slot.value ≡ true
+    parent_true : Contains (before slot.place) (atom parent true)
+    helpers_true : All (λ v. Contains (before slot.place) (atom (ConditionHelper v) true)) vs
+    first_open : IsFirstOpen u (before slot.place) r s
+
+  first_left : (x : ℕ) (slot : Slot) → slot_of trail x ≡ Some slot → (chosen : IsChosen notes.table requirements trail x slot) → (parent : Origin N S) (vs : List VersionSetId) (r : Requirement) →
+      AllZip (IsAtom notes.origins) (clause_at notes.table chosen.requirement.number) (atom parent false ∷ (map (λ v. atom (ConditionHelper v) false) vs ++ map (λ s. atom (Solvable s) true) (requirement_candidates u r))) → IsFirstLeft x slot parent vs r
+  first_left x slot at chosen parent vs r zip =
+      let atoms : List (Atom N S) = atom parent false ∷ (map (λ v. atom (ConditionHelper v) false) vs ++ map (λ s. atom (Solvable s) true) (requirement_candidates u r)) in
       let it : Literal = record { variable = x; positive = true } in
-      let Zip : List Literal → Type 0 = λ ls. AllZip (IsAtom notes.origins) ls (atoms_of u kind) in
-      let w = halves (IsAtom notes.origins) chosen.before it chosen.after (atoms_of u kind) (subst Zip chosen.clause (encoding.encoded.each number kind is).in_order) in
-      let after_parent = cut_parent by disjunct.items (requirement_candidates u r) w.first w.middle w.last (sym w.at.positive) w.is in
+      let Zip : List Literal → Type 0 = λ ls. AllZip (IsAtom notes.origins) ls atoms in
+      let w = halves (IsAtom notes.origins) chosen.before it chosen.after atoms (subst Zip chosen.clause zip) in
+      let behind = cut_parent parent vs (requirement_candidates u r) w.first w.middle w.last (sym w.at.positive) w.is in
       let negation : (a : Atom N S) → Contains w.first a → Contains (before slot.place) (atom a.origin (not a.positive)) = zip_negation notes.origins trail size slot.place chosen.before w.first w.front chosen.false_before in
-      let among : (a : Atom N S) → Contains (atom (origin_by by) false ∷ (map (λ v. atom (ConditionHelper v) false) disjunct.items ++ map (λ s. atom (Solvable s) true) after_parent.before)) a → Contains w.first a = λ a inside. let At : List (Atom N S) → Type 0 = λ list. Contains list a in subst At (sym after_parent.first_is) inside in
-      let o : origin_at notes.origins x ≡ Solvable after_parent.s = origin_is notes.origins trail size x w.middle.origin w.at.origin (in_range notes.origins trail size x slot at) ∙ ap (λ (a : Atom N S). a.origin) after_parent.middle_is in
-      let Because : Origin N S → Bool → Type 0 = λ p b. IsBecause u notes.kinds [] [] (before slot.place) (atom p b) in
-      let WithValue : Bool → Type 0 = λ b. Because (Solvable after_parent.s) b in
-      let WithOrigin : Origin N S → Type 0 = λ p. Because p slot.value in
-      subst WithOrigin (sym o) (subst WithValue (sym chosen.value) (needed by disjunct r after_parent.s inside
-      (negation (atom (origin_by by) false) (among _ (here _ _)))
-      (λ k d below. negation (atom (ConditionHelper (get_or disjunct.items k d)) false) (among _ (there _ _ _ (Contains-append_left (map (λ v. atom (ConditionHelper v) false) disjunct.items) (map (λ s. atom (Solvable s) true) after_parent.before) _ (Contains-map (λ v. atom (ConditionHelper v) false) disjunct.items _ (Contains-get_or disjunct.items k d below))))))
-      (record {
-        before = after_parent.before;
-        after = after_parent.after;
-        is = after_parent.is;
-        closed = λ s inside_s. negation (atom (Solvable s) true) (among _ (there _ _ _ (Contains-append_right (map (λ v. atom (ConditionHelper v) false) disjunct.items) (map (λ s. atom (Solvable s) true) after_parent.before) _ (Contains-map (λ s. atom (Solvable s) true) after_parent.before s inside_s))));
-      })))
+      let among : (a : Atom N S) → Contains (atom parent false ∷ (map (λ v. atom (ConditionHelper v) false) vs ++ map (λ s. atom (Solvable s) true) behind.before)) a → Contains w.first a = λ a inside. let At : List (Atom N S) → Type 0 = λ list. Contains list a in subst At (sym behind.first_is) inside in
+      record {
+        s = behind.s;
+        is_solvable = origin_is notes.origins trail size x w.middle.origin w.at.origin (in_range notes.origins trail size x slot at) ∙ ap (λ (a : Atom N S). a.origin) behind.middle_is;
+        is_true = chosen.value;
+        parent_true = negation (atom parent false) (among _ (here _ _));
+        helpers_true = λ k d below. negation (atom (ConditionHelper (get_or vs k d)) false) (among _ (there _ _ _ (Contains-append_left (map (λ v. atom (ConditionHelper v) false) vs) (map (λ s. atom (Solvable s) true) behind.before) _ (Contains-map (λ v. atom (ConditionHelper v) false) vs _ (Contains-get_or vs k d below)))));
+        first_open = record {
+          before = behind.before;
+          after = behind.after;
+          is = behind.is;
+          closed = λ s inside_s. negation (atom (Solvable s) true) (among _ (there _ _ _ (Contains-append_right (map (λ v. atom (ConditionHelper v) false) vs) (map (λ s. atom (Solvable s) true) behind.before) _ (Contains-map (λ s. atom (Solvable s) true) behind.before s inside_s))));
+        };
+      }
+
+  abbrev Because : ℕ → Slot → Atom N S → Type 0
+  Because x slot a = IsBecause u notes.kinds [] [] (before slot.place) a
+
+  because_left : (x : ℕ) (slot : Slot) (parent : Origin N S) (vs : List VersionSetId) (r : Requirement) (left : IsFirstLeft x slot parent vs r) → Because x slot (atom (Solvable left.s) true) → Because x slot (atom (origin_at notes.origins x) slot.value)
+  because_left x slot parent vs r left it =
+      let WithValue : Bool → Type 0 = λ b. Because x slot (atom (Solvable left.s) b) in
+      let WithOrigin : Origin N S → Type 0 = λ p. Because x slot (atom p slot.value) in
+      subst WithOrigin (sym left.is_solvable) (subst WithValue (sym left.is_true) it)
+
+  because_chosen : (x : ℕ) (slot : Slot) → slot_of trail x ≡ Some slot → (chosen : IsChosen notes.table requirements trail x slot) → (kind : ClauseKind N S) → slice_get notes.kinds chosen.requirement.number ≡ Some kind → AsksForCandidates kind → Because x slot (atom (origin_at notes.origins x) slot.value)
+  because_chosen x slot at chosen kind is asks =
+      let In_order : ClauseKind N S → Type 0 = λ k. AreInOrder u notes.origins (clause_at notes.table chosen.requirement.number) k in
+      let Has : ClauseKind N S → Type 0 = λ k. Contains notes.kinds k in
+      let in_order : In_order kind = (encoding.encoded.each chosen.requirement.number kind is).in_order in
+      let inside : Has kind = Contains-slice notes.kinds chosen.requirement.number kind is in
+      ⊎_elim
+      (λ (w : (by : By S) × (disjunct : Vec VersionSetId Global) × (r : Requirement) × (kind ≡ Requires by disjunct r)).
+      let left = first_left x slot at chosen (origin_by w.0) w.1.items w.2 (subst In_order w.3 in_order) in
+      because_left x slot (origin_by w.0) w.1.items w.2 left (needed w.0 w.1 w.2 left.s (subst Has w.3 inside) left.parent_true left.helpers_true left.first_open))
+      (λ (w : (r : Requirement) × (kind ≡ GateRequires r)).
+      let left = first_left x slot at chosen (Gate w.0) [] w.0 (subst In_order w.1 in_order) in
+      because_left x slot (Gate w.0) [] w.0 left (needed_gate w.0 left.s (subst Has w.1 inside) left.parent_true left.first_open))
+      asks
 
   abbrev all : List (Atom N S)
   all = before (length_of trail)
 
-  -- a clause that asks for candidates is direct
-  kind_asks : (kind : ClauseKind N S) → IsDirect kind → AsksForCandidates kind → (by : By S) × (disjunct : Vec VersionSetId Global) × (r : Requirement) × (kind ≡ Requires by disjunct r)
-  kind_asks kind direct asks = ⊎_elim
-      (λ w. w)
-      (λ w. let Direct : ClauseKind N S → Type 0 = λ k. IsDirect k in absurd (subst Direct w.1 direct))
-      asks
-
   because : (x : ℕ) (slot : Slot) → slot_of trail x ≡ Some slot → IsBecause u notes.kinds [] [] (before slot.place) (atom (origin_at notes.origins x) slot.value)
   because x slot at = ⊎_elim
-      (λ w.
-      let chosen = w.2 in
-      let Listed : ℕ → Type 0 = λ n. Contains notes.requirements n in
+      (λ (chosen : IsChosen notes.table requirements trail x slot).
       let Among : List ℕ → Type 0 = λ ns. Contains ns chosen.requirement.number in
-      let listed : Contains notes.requirements w.0 = subst Listed chosen.number_is (subst Among numbers (Contains-map (λ (r : RequirementClause). r.number) requirements chosen.requirement chosen.listed)) in
-      let ask = encoding.ask w.0 listed in
-      let inside : Contains notes.kinds ask.0 = Contains-slice notes.kinds w.0 ask.0 ask.1 in
-      let is = kind_asks ask.0 (All-contains IsDirect notes.kinds ask.0 encoding.each_direct inside) ask.2 in
-      let Has : ClauseKind N S → Type 0 = λ k. Contains notes.kinds k in
-      because_chosen x slot w.0 at chosen is.0 is.1 is.2 (ask.1 ∙ ap Some is.3) (subst Has is.3 inside))
+      let ask = encoding.ask chosen.requirement.number (subst Among numbers (Contains-map (λ (r : RequirementClause). r.number) requirements chosen.requirement chosen.listed)) in
+      because_chosen x slot at chosen ask.0 ask.1 ask.2)
       (λ f. because_forced x slot at f)
       (finished.reasons x slot at)
 
@@ -399,29 +419,29 @@ module _ {N S : Type 0} (u : Universe N S) (root : Demands) (notes : Notes N S) 
       let a = are.each_literal l (Contains-get_or (clause_at notes.table n.0) i d below) in
       false_literal l a.0 a.2 (wrong a.0 a.1))
 
-  -- the requirer and the helpers of a clause that asks for candidates
-  abbrev Depends : By S → Vec VersionSetId Global → Atom N S → Type 0
-  Depends by disjunct a = (a.positive ≡ false) × Contains all (atom a.origin true)
+  -- what a clause asks for candidates that depends on these
+  abbrev asking_atoms : Origin N S → List VersionSetId → Requirement → List (Atom N S)
+  asking_atoms parent vs r = atom parent false ∷ (map (λ v. atom (ConditionHelper v) false) vs ++ map (λ s. atom (Solvable s) true) (requirement_candidates u r))
 
-  atom_cases : (by : By S) (disjunct : Vec VersionSetId Global) (r : Requirement) → Contains all (atom (origin_by by) true) → All (λ v. Contains all (atom (ConditionHelper v) true)) disjunct.items →
-      (a : Atom N S) → Contains (atoms_of u (Requires by disjunct r)) a → ((a.positive ≡ false) × Contains all (atom a.origin true)) ⊎ ((s : S) × Contains (requirement_candidates u r) s × (a ≡ atom (Solvable s) true))
-  atom_cases by disjunct r parent helpers a among =
+  atom_cases : (parent : Origin N S) (vs : List VersionSetId) (r : Requirement) → Contains all (atom parent true) → All (λ v. Contains all (atom (ConditionHelper v) true)) vs →
+      (a : Atom N S) → Contains (asking_atoms parent vs r) a → ((a.positive ≡ false) × Contains all (atom a.origin true)) ⊎ ((s : S) × Contains (requirement_candidates u r) s × (a ≡ atom (Solvable s) true))
+  atom_cases parent vs r on helpers a among =
       let Negative : Atom N S → Type 0 = λ q. (q.positive ≡ false) × Contains all (atom q.origin true) in
       ⊎_elim
-      (λ e. inl (subst Negative e (refl, parent)))
+      (λ e. inl (subst Negative e (refl, on)))
       (λ t. ⊎_elim
-      (λ h. let w = Contains-map_back (λ v. atom (ConditionHelper v) false) disjunct.items a h in inl (subst Negative w.2 (refl, All-contains (λ v. Contains all (atom (ConditionHelper v) true)) disjunct.items w.0 helpers w.1)))
+      (λ h. let w = Contains-map_back (λ v. atom (ConditionHelper v) false) vs a h in inl (subst Negative w.2 (refl, All-contains (λ v. Contains all (atom (ConditionHelper v) true)) vs w.0 helpers w.1)))
       (λ h. let w = Contains-map_back (λ s. atom (Solvable s) true) (requirement_candidates u r) a h in inr (w.0, w.1, sym w.2))
-      (Contains-append_cases (map (λ v. atom (ConditionHelper v) false) disjunct.items) (map (λ s. atom (Solvable s) true) (requirement_candidates u r)) a t))
-      (cons_cases (atom (origin_by by) false) (map (λ v. atom (ConditionHelper v) false) disjunct.items ++ map (λ s. atom (Solvable s) true) (requirement_candidates u r)) a among)
+      (Contains-append_cases (map (λ v. atom (ConditionHelper v) false) vs) (map (λ s. atom (Solvable s) true) (requirement_candidates u r)) a t))
+      (cons_cases (atom parent false) (map (λ v. atom (ConditionHelper v) false) vs ++ map (λ s. atom (Solvable s) true) (requirement_candidates u r)) a among)
 
-  pub decided : (by : By S) (disjunct : Vec VersionSetId Global) (r : Requirement) → Contains notes.kinds (Requires by disjunct r) → Contains all (atom (origin_by by) true) →
-      All (λ v. Contains all (atom (ConditionHelper v) true)) disjunct.items → (s : S) × Contains (requirement_candidates u r) s × Contains all (atom (Solvable s) true)
-  decided by disjunct r inside parent helpers =
-      let kind : ClauseKind N S = Requires by disjunct r in
+  decided_kind : (kind : ClauseKind N S) (parent : Origin N S) (vs : List VersionSetId) (r : Requirement) → atoms_of u kind ≡ asking_atoms parent vs r → AsksForCandidates kind → Contains notes.kinds kind → Contains all (atom parent true) →
+      All (λ v. Contains all (atom (ConditionHelper v) true)) vs → (s : S) × Contains (requirement_candidates u r) s × Contains all (atom (Solvable s) true)
+  decided_kind kind parent vs r same asks inside on helpers =
+      let Among_atoms : Atom N S → List (Atom N S) → Type 0 = λ q list. Contains list q in
       let n = number_of kind inside in
       let are = (encoding.encoded.each n.0 kind n.2).atoms in
-      let listed = encoding.listed n.0 kind n.2 (inl (by, disjunct, r, refl)) in
+      let listed = encoding.listed n.0 kind n.2 asks in
       let Among : List ℕ → Type 0 = λ ns. Contains ns n.0 in
       let w = Contains-map_back (λ (q : RequirementClause). q.number) requirements n.0 (subst Among (sym numbers) listed) in
       let Met : ℕ → Type 0 = λ m. IsMet trail (clause_at notes.table m) in
@@ -437,7 +457,7 @@ module _ {N S : Type 0} (u : Universe N S) (root : Demands) (notes : Notes N S) 
       (λ c.
       let Taken : Atom N S → Type 0 = λ q. Contains all (atom q.origin q.positive) in
       (c.0, c.1, subst Taken c.2 (true_literal l.0 a.0 a.2 l.2)))
-      (atom_cases by disjunct r parent helpers a.0 a.1))
+      (atom_cases parent vs r on helpers a.0 (subst (Among_atoms a.0) same a.1)))
       (λ still.
       let l = any-witness (λ (literal : Literal). (literal_value trail literal ≡ None) × (literal.positive ≡ false)) (clause_at notes.table n.0) still in
       let a = are.each_literal l.0 l.1 in
@@ -447,8 +467,15 @@ module _ {N S : Type 0} (u : Universe N S) (root : Demands) (notes : Notes N S) 
       let same : l.0.variable ≡ v.0 = encoding.distinct.same l.0.variable v.0 a.0.origin a.2.origin v.3 in
       absurd (literal_open _ v.1 l.0.positive l.2.0 (ap (slot_of trail) same ∙ v.2)))
       (λ c. absurd (false≢true (sym l.2.1 ∙ a.2.positive ∙ ap (λ (q : Atom N S). q.positive) c.2)))
-      (atom_cases by disjunct r parent helpers a.0 a.1))
+      (atom_cases parent vs r on helpers a.0 (subst (Among_atoms a.0) same a.1)))
       met
+
+  pub decided : (by : By S) (disjunct : Vec VersionSetId Global) (r : Requirement) → Contains notes.kinds (Requires by disjunct r) → Contains all (atom (origin_by by) true) →
+      All (λ v. Contains all (atom (ConditionHelper v) true)) disjunct.items → (s : S) × Contains (requirement_candidates u r) s × Contains all (atom (Solvable s) true)
+  decided by disjunct r inside on helpers = decided_kind (Requires by disjunct r) (origin_by by) disjunct.items r refl (inl (by, disjunct, r, refl)) inside on helpers
+
+  decided_gate : (r : Requirement) → Contains notes.kinds (GateRequires r) → Contains all (atom (Gate r) true) → (s : S) × Contains (requirement_candidates u r) s × Contains all (atom (Solvable s) true)
+  decided_gate r inside on = decided_kind (GateRequires r) (Gate r) [] r refl (inr (r, refl)) inside on (All-nil (λ v. Contains all (atom (ConditionHelper v) true)))
 
   pub settled : IsSettled u notes.kinds (Takes all)
   settled = record {
@@ -457,19 +484,19 @@ module _ {N S : Type 0} (u : Universe N S) (root : Demands) (notes : Notes N S) 
     no_false = no_false;
     unit = λ k a helper inside among others. unit k a inside among others;
     decided = decided;
-    decided_gate = λ r inside taken. absurd (All-contains IsDirect notes.kinds (GateRequires r) encoding.each_direct inside);
+    decided_gate = decided_gate;
   }
 
 -- the chosen ones are the solvables that the trail makes true
 module _ {N S : Type 0} (origins : List (Origin N S)) (trail : Trail) where
-  solvable_of : (o : Origin N S) (b : Bool) (s : S) → Contains (solvable_if o b) s → atom o b ≡ atom (Solvable s) true
+  pub solvable_of : (o : Origin N S) (b : Bool) (s : S) → Contains (solvable_if o b) s → atom o b ≡ atom (Solvable s) true
   solvable_of (Solvable t) true s h = ⊎_elim (λ e. ap (λ x. atom (Solvable x) true) e) (λ n. absurd (none_in s n)) (cons_cases t [] s h)
   solvable_of o b s h = absurd (none_in s h)
 
   solvable_back : (o : Origin N S) (b : Bool) (s : S) → atom o b ≡ atom (Solvable s) true → Contains (solvable_if o b) s
   solvable_back o b s e = let P : Atom N S → Type 0 = λ a. Contains (solvable_if a.origin a.positive) s in subst P (sym e) (here s [])
 
-  true_before : (n : ℕ) (s : S) → Contains (solvables_before origins trail n) s → Contains (atoms_before origins trail n) (atom (Solvable s) true)
+  pub true_before : (n : ℕ) (s : S) → Contains (solvables_before origins trail n) s → Contains (atoms_before origins trail n) (atom (Solvable s) true)
   true_before zero s h = absurd (none_in s h)
   true_before (suc n) s h = ⊎_elim
       (λ old. there (entry_at origins trail n) (atoms_before origins trail n) (atom (Solvable s) true) (true_before n s old))
@@ -501,7 +528,7 @@ module _ {N S : Type 0} (origins : List (Origin N S)) (trail : Trail) where
         let slots : a.0 ≡ b.0 = same_Some _ _ (sym a.1 ∙ ap (slot_of trail) same ∙ b.1) in
         sym a.2 ∙ ap (λ (q : Slot). q.place) slots ∙ b.2
 
-    not_before : (n : ℕ) (s : S) → n < length_of trail → entry_at origins trail n ≡ atom (Solvable s) true → Contains (solvables_before origins trail n) s → ⊥
+    pub not_before : (n : ℕ) (s : S) → n < length_of trail → entry_at origins trail n ≡ atom (Solvable s) true → Contains (solvables_before origins trail n) s → ⊥
     not_before n s below is inside =
         let w = before-back origins trail size n (atom (Solvable s) true) (true_before n s inside) in
         let e : w.0 ≡ n = one_place w.0 n s (omega (arith, w.1)) below w.2 is in omega (arith, w.1, e)
@@ -517,20 +544,56 @@ module _ {N S : Type 0} (origins : List (Origin N S)) (trail : Trail) where
     pub chosen_once : HasNoRepeats (solvables_before origins trail (length_of trail))
     chosen_once = once_before (length_of trail) (omega arith)
 
--- a finished search over all that was read is an answer
+-- the clauses are all that the rules ask of the root and of what was read, but for what is put off
+module _ {N S : Type 0} (u : Universe N S) (root : Demands) (notes : Notes N S) (half : IsHalfRead u root notes) where
+  needs_read : (s : S) (needs : Needs) → AreNeedsRead u notes s needs → AreDemandsRead u notes (BySolvable s) (demands_of needs)
+  needs_read s (known d) h = h
+  needs_read s (unknown reason) h = record {
+    requirements = All-nil (IsReadRequirement u notes.kinds (IsLeft notes) (BySolvable s));
+    constraints = All-nil (IsConstraintRead u notes.kinds (BySolvable s));
+    packages = All-nil (λ v. Contains notes.asked (u.version_set_name v));
+  }
+
+  demands_read : (by : By S) → IsPresent by notes.read → AreDemandsRead u notes by (demands_by u root by)
+  demands_read ByRoot present = half.root_read
+  demands_read (BySolvable s) present = needs_read s (u.needs s) (half.each_read s present)
+
+  clause_packages : (by : By S) (list : List VersionSetId) (r : Requirement) → HasClause notes.kinds by list r → (v : VersionSetId) → Contains (version_sets u r) v → Contains notes.asked (u.version_set_name v)
+  clause_packages by list r (has_direct disjunct is h) v k = half.encoding.packages by disjunct r h v k
+  clause_packages by list r (has_gate s is none h g) v k = half.encoding.gate_packages r g v k
+
+  clause_candidates : (by : By S) (list : List VersionSetId) (r : Requirement) → HasClause notes.kinds by list r → (s : S) → Contains (requirement_candidates u r) s → Contains notes.seen s
+  clause_candidates by list r (has_direct disjunct is h) s k = half.encoding.candidates by disjunct r h s k
+  clause_candidates by list r (has_gate t is none h g) s k = half.encoding.gate_candidates r g s k
+
+  pub so_far_read : IsRead u root notes.kinds (IsLeft notes) notes.read notes.asked notes.seen notes.exempt
+  so_far_read = record {
+    installs = half.encoding.installs;
+    requirements = λ by r present asks. All-contains (IsReadRequirement u notes.kinds (IsLeft notes) by) (demands_by u root by).requirements r (demands_read by present).requirements asks;
+    constraints = λ by v s present asks other. All-contains (IsForbidden notes.kinds by v) (others u v) s (All-contains (IsConstraintRead u notes.kinds by) (demands_by u root by).constraints v (demands_read by present).constraints asks) other;
+    unknowns = λ s reason h is. let NeedsRead : Needs → Type 0 = λ n. AreNeedsRead u notes s n in subst NeedsRead is (half.each_read s h);
+    helpers = λ by disjunct r h v k s m. half.encoding.follow v (half.encoding.helpers by disjunct r h v k) s m;
+    packages = clause_packages;
+    candidates = clause_candidates;
+    locks = half.encoding.locks;
+    exclusions = half.encoding.exclusions;
+    instances = apart_of_digits u root notes half.encoding;
+  }
+
+-- a finished search over what was read so far is an answer, where all that it chose was read
 pub finished_is_valid : {N S : Type 0} (u : Universe N S) (root : Demands) (notes : Notes N S) (requirements : List RequirementClause) (trail : Trail) →
-    HasLawfulSolvables u → HasLawfulPackages u → IsAllRead u root notes → notes.exempt ≡ [] → map (λ (r : RequirementClause). r.number) requirements ≡ notes.requirements → variable_count trail ≡ length notes.origins → IsFinished notes.table requirements trail →
+    HasLawfulSolvables u → HasLawfulPackages u → IsReadSoFar u root (solvables_before notes.origins trail (length_of trail)) notes → notes.exempt ≡ [] → map (λ (r : RequirementClause). r.number) requirements ≡ notes.requirements → variable_count trail ≡ length notes.origins → IsFinished notes.table requirements trail →
     IsAnswerBy u root (solvables_before notes.origins trail (length_of trail)) [] []
-finished_is_valid {N} {S} u root notes requirements trail lawful packages all_read none numbers size finished =
-    let encoding = all_read.encoding in
+finished_is_valid {N} {S} u root notes requirements trail lawful packages so_far none numbers size finished =
+    let encoding = so_far.half.encoding in
     let atoms : List (Atom N S) = atoms_before notes.origins trail (length_of trail) in
     let chosen : List S = solvables_before notes.origins trail (length_of trail) in
     let Due : List S → Type 0 = λ e. AreDue u notes.asked e notes.kinds in
-    let Read : List S → Type 0 = λ e. IsRead u root notes.kinds [] notes.seen notes.asked notes.seen e in
-    let covers : CoversReached u root notes.kinds chosen [] [] = covers_reached u lawful packages root notes.kinds [] notes.seen notes.asked notes.seen [] (subst Read none all_read.read) chosen []
+    let Read : List S → Type 0 = λ e. IsRead u root notes.kinds (IsLeft notes) notes.read notes.asked notes.seen e in
+    let covers : CoversReached u root notes.kinds chosen [] [] = covers_reached u lawful packages root notes.kinds (IsLeft notes) notes.read notes.asked notes.seen [] (subst Read none (so_far_read u root notes so_far.half)) chosen []
     (record { seed_chosen = λ s h. absurd (none_in s h); seed_registered = λ s h. absurd (none_in s h); seed_free = λ s h. absurd (none_in s h) })
-    (λ s inside registered. registered) (record { none = λ e h. absurd (none_in e h) }) in
-    finished_is_answer u no_codes root notes.kinds atoms chosen [] [] [] lawful (record { named = λ n i s e. absurd (false≢true e) }) encoding.each_true
+    (λ s inside registered. so_far.set_read s inside) so_far.none in
+    finished_is_answer u encoding.codes root notes.kinds atoms chosen [] [] [] lawful encoding.own_codes encoding.each_true
     (Spares-further u notes.asked [] [] notes.kinds (subst Due none encoding.due) (λ s h. absurd (none_in s h)))
     (is_trail u root notes encoding requirements numbers trail size finished) (settled u root notes encoding requirements numbers trail size finished)
     (is_chosen notes.origins trail) covers

@@ -1,5 +1,5 @@
 -- What a core's clauses imply fits them.
-use Rattle.std.proofs.Common.{◌≡◌, ℕ, List, Bool, true, false, sym, ap, ◌∙◌, subst, ⊎_elim, Contains, All}
+use Rattle.std.proofs.Common.{◌≡◌, ◌⊎◌, inl, inr, ℕ, List, Bool, true, false, sym, ap, ◌∙◌, subst, ⊎_elim, Contains, All}
 use Rattle.std.specs.Prelude.{◌&&◌, nat_eq}
 use Rattle.std.proofs.lemmas.Bool.{cases_Bool, both_ways, false≢true, eqb-true}
 use Rattle.std.proofs.lemmas.List.Elements.{All-contains}
@@ -8,6 +8,7 @@ use Rattle.resolver_clause_store.specs.Laws.{IsIdentity}
 use Rattle.resolver_clause_store.specs.Universe.{Universe, Demands}
 use Rattle.resolver_clause_store.specs.Candidates.{matching, others}
 use Rattle.resolver_clause_store.specs.declared.Requirement.{Requirement}
+use Rattle.resolver_clause_store.specs.declared.VersionSetId.{VersionSetId}
 use Rattle.resolver_clause_store.specs.declared.Origin.{Origin}
 use Rattle.resolver_clause_store.specs.declared.Origin.TheVariants.{Root, Solvable, Bit, Gate, ConstraintHelper, ConditionHelper}
 use Rattle.resolver_clause_store.specs.declared.ClauseKind.{ClauseKind}
@@ -39,6 +40,64 @@ module _ {N S : Type 0} (u : Universe N S) (same_name : N → N → Bool) (names
   same_helper-true (ConditionHelper v) (ConditionHelper w) e = of_one (Origin N S) (λ n. ConditionHelper (record { 0 = n })) v.0 w.0 e
   same_helper-true o p e = absurd (false≢true e)
 
+  says-gate : (r : Requirement) (s : S) (k : ClauseKind N S) → says_implies u same_name (Gate r) s k ≡ true → k ≡ AnyOf (Gate r) s
+  says-gate r s (AnyOf helper t) e =
+      let Of : Origin N S → S → ClauseKind N S = λ o x. AnyOf o x in
+      ap (λ o. Of o t) (same_helper-true helper (Gate r) (and_left _ _ e)) ∙ ap (Of (Gate r)) (same.alone t s (and_right _ _ e))
+  says-gate r s (ConstrainsExcluded t v) e = absurd (false≢true e)
+  says-gate r s (HasBit n t i true) e = absurd (false≢true e)
+  says-gate r s k e = absurd (false≢true e)
+
+  says-helper : (v : VersionSetId) (s : S) (k : ClauseKind N S) → says_implies u same_name (ConstraintHelper v) s k ≡ true → (k ≡ ConstrainsExcluded s v) ⊎ (k ≡ AnyOf (ConstraintHelper v) s)
+  says-helper v s (AnyOf helper t) e =
+      let Of : Origin N S → S → ClauseKind N S = λ o x. AnyOf o x in
+      inr (ap (λ o. Of o t) (same_helper-true helper (ConstraintHelper v) (and_left _ _ e)) ∙ ap (Of (ConstraintHelper v)) (same.alone t s (and_right _ _ e)))
+  says-helper v s (ConstrainsExcluded t w) e =
+      let Of : S → ℕ → ClauseKind N S = λ x n. ConstrainsExcluded x (record { 0 = n }) in
+      inl (ap (λ x. Of x w.0) (same.alone t s (and_right _ _ e)) ∙ ap (Of s) (eqb-true w.0 v.0 (and_left _ _ e)))
+  says-helper v s (HasBit n t i true) e = absurd (false≢true e)
+  says-helper v s k e = absurd (false≢true e)
+
+  says-bit : (n : N) (i : ℕ) (s : S) (k : ClauseKind N S) → says_implies u same_name (Bit n i) s k ≡ true → (k ≡ HasBit n s i true) ⊎ (k ≡ AnyOf (Bit n i) s)
+  says-bit n i s (AnyOf helper t) e =
+      let Of : Origin N S → S → ClauseKind N S = λ o x. AnyOf o x in
+      inr (ap (λ o. Of o t) (same_helper-true helper (Bit n i) (and_left _ _ e)) ∙ ap (Of (Bit n i)) (same.alone t s (and_right _ _ e)))
+  says-bit n i s (ConstrainsExcluded t w) e = absurd (false≢true e)
+  says-bit n i s (HasBit m t j true) e =
+      let Of : N → S → ℕ → ClauseKind N S = λ x y k. HasBit x y k true in
+      let named = and_left _ _ e in
+      inl (ap (λ x. Of x t j) (names.alone m n (and_left _ _ named)) ∙ ap (λ y. Of n y j) (same.alone t s (and_right _ _ e)) ∙ ap (Of n s) (eqb-true j i (and_right _ _ named)))
+  says-bit n i s k e = absurd (false≢true e)
+
+  module _ (kinds : List (ClauseKind N S)) where
+    abbrev In : ClauseKind N S → Type 0
+    In k = Contains kinds k
+
+    -- a gate's requirer whose implication is among the clauses
+    pub implied-gate : (r : Requirement) (s : S) → implied_in u same_name kinds (Gate r) s ≡ true → Contains kinds (AnyOf (Gate r) s)
+    implied-gate r s e =
+        let w = list_any-witness (says_implies u same_name (Gate r) s) kinds e in
+        subst In (says-gate r s w.0 w.2) w.1
+
+    -- from what the helper of a constraint follows
+    pub implied-helper : (v : VersionSetId) (s : S) → implied_in u same_name kinds (ConstraintHelper v) s ≡ true → Contains kinds (ConstrainsExcluded s v) ⊎ Contains kinds (AnyOf (ConstraintHelper v) s)
+    implied-helper v s e =
+        let w = list_any-witness (says_implies u same_name (ConstraintHelper v) s) kinds e in
+        ⊎_elim (λ a. inl (subst In a w.1)) (λ b. inr (subst In b w.1)) (says-helper v s w.0 w.2)
+
+    -- from what a bit follows
+    pub implied-bit : (n : N) (i : ℕ) (s : S) → implied_in u same_name kinds (Bit n i) s ≡ true → Contains kinds (HasBit n s i true) ⊎ Contains kinds (AnyOf (Bit n i) s)
+    implied-bit n i s e =
+        let w = list_any-witness (says_implies u same_name (Bit n i) s) kinds e in
+        ⊎_elim (λ a. inl (subst In a w.1)) (λ b. inr (subst In b w.1)) (says-bit n i s w.0 w.2)
+
+    -- a helper follows from the solvables of which the clauses say so
+    pub implied-any : (o : Origin N S) (s : S) → IsHelper o → Contains kinds (AnyOf o s) → implied_in u same_name kinds o s ≡ true
+    implied-any o s helper inside = list_any-contains (says_implies u same_name o s) kinds (AnyOf o s) inside (and_both _ _ (same_helper-same o helper) (same.itself s))
+
+    pub implied-excluded : (v : VersionSetId) (s : S) → Contains kinds (ConstrainsExcluded s v) → implied_in u same_name kinds (ConstraintHelper v) s ≡ true
+    implied-excluded v s inside = list_any-contains (says_implies u same_name (ConstraintHelper v) s) kinds (ConstrainsExcluded s v) inside (and_both _ _ (nat_same v.0) (same.itself s))
+
   module _ (codes : N → ℕ → S → Bool) (root : Demands) (kinds : List (ClauseKind N S)) (are_true : All (IsTrueClause u codes root) kinds) where
     truth : (kind : ClauseKind N S) → Contains kinds kind → IsTrueClause u codes root kind
     truth kind inside = All-contains (IsTrueClause u codes root) kinds kind are_true inside
@@ -68,24 +127,10 @@ module _ {N S : Type 0} (u : Universe N S) (same_name : N → N → Bool) (names
 
     pub defines_core : Defines u implies kinds
     defines_core = record {
-      defined = λ o s inside. list_any-contains (says_implies u same_name o s) kinds (AnyOf o s) inside (and_both _ _ (same_helper-same o (truth (AnyOf o s) inside).0) (same.itself s));
+      defined = λ o s inside. implied-any kinds o s (truth (AnyOf o s) inside).0 inside;
       helper = λ o s inside. (truth (AnyOf o s) inside).0;
       matched = λ v s e. Contains-from_any {K = S} {eq = u.same_solvable} same.alone s (matching u v) (implied-follows (ConditionHelper v) s e);
-      helped = λ v s inside. list_any-contains (says_implies u same_name (ConstraintHelper v) s) kinds (ConstrainsExcluded s v) inside (and_both _ _ (nat_same v.0) (same.itself s));
+      helped = implied-excluded kinds;
       coded = coded;
       different = λ n s t inside. (truth (ForbidMultipleInstances n s t) inside).2;
     }
-
-    says-gate : (r : Requirement) (s : S) (k : ClauseKind N S) → says_implies u same_name (Gate r) s k ≡ true → k ≡ AnyOf (Gate r) s
-    says-gate r s (AnyOf helper t) e =
-        let Of : Origin N S → S → ClauseKind N S = λ o x. AnyOf o x in
-        ap (λ o. Of o t) (same_helper-true helper (Gate r) (and_left _ _ e)) ∙ ap (Of (Gate r)) (same.alone t s (and_right _ _ e))
-    says-gate r s (ConstrainsExcluded t v) e = absurd (false≢true e)
-    says-gate r s (HasBit n t i true) e = absurd (false≢true e)
-    says-gate r s k e = absurd (false≢true e)
-
-    -- a gate's requirer whose implication is among the clauses
-    pub implied-gate : (r : Requirement) (s : S) → implies (Gate r) s ≡ true → Contains kinds (AnyOf (Gate r) s)
-    implied-gate r s e =
-        let w = list_any-witness (says_implies u same_name (Gate r) s) kinds e in
-        let In : ClauseKind N S → Type 0 = λ k. Contains kinds k in subst In (says-gate r s w.0 w.2) w.1

@@ -1,5 +1,5 @@
 -- What an encoding's clauses are for a search.
-use Rattle.std.proofs.Common.{◌≡◌, ℕ, zero, suc, ◌<◌, ◌≤◌, List, [], ◌∷◌, length, get_or, Option, Some, None, arith, refl, sym, ap, ◌∙◌, subst, ⊎_elim, Contains, All, Vec, Global}
+use Rattle.std.proofs.Common.{◌≡◌, ℕ, zero, suc, ◌<◌, ◌≤◌, List, [], ◌∷◌, length, get_or, Some, None, arith, refl, sym, ap, subst, ⊎_elim, Contains, All, Vec, Global}
 use Rattle.std.specs.Prelude.{map, slice_get}
 use Rattle.std.specs.Option.{option_map_or}
 use Rattle.std.proofs.lemmas.Bool.{cases_lt}
@@ -12,8 +12,7 @@ use Rattle.resolver_clause_store.specs.declared.ClauseKind.TheVariants.{InstallR
 use Rattle.resolver_clause_store.specs.declared.Literal.{Literal}
 use Rattle.resolver_clause_store.specs.declared.RequirementClause.{RequirementClause}
 use Rattle.resolver_encoding.specs.Encodings.{IsEncoding, Notes}
-use Rattle.resolver_encoding.proofs.Lists.{Contains-map, none_in}
-use Rattle.resolver_encoding.proofs.Bridge.{Contains-slice}
+use Rattle.resolver_encoding.proofs.Lists.{Contains-map}
 
 slice_past : {X : Type 0} (xs : List X) (n : ℕ) (x : X) → length xs ≤ n → slice_get xs n ≡ Some x → ⊥
 slice_past [] n x h e = absurd cc

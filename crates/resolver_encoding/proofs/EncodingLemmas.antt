@@ -1,6 +1,6 @@
 -- Steps of an encoding: one after another, one more clause, one more solvable, package or helper.
-use Rattle.std.proofs.Common.{◌≡◌, ℕ, ◌+◌, ◌<◌, List, [], ◌∷◌, ◌++◌, length, length-append, refl, sym, ap, ◌∙◌, subst, ⊎_elim, arith, append_assoc, append-nil, Contains, Vec, Global, ◌⊎◌}
-use Rattle.std.specs.Prelude.{Some, ⊤, slice_get}
+use Rattle.std.proofs.Common.{◌≡◌, ℕ, ◌+◌, ◌<◌, Bool, map, List, [], ◌∷◌, ◌++◌, length, length-append, refl, sym, ap, ◌∙◌, subst, ⊎_elim, inl, inr, arith, append_assoc, append-nil, Contains, Vec, Global, ◌⊎◌}
+use Rattle.std.specs.Prelude.{Option, Some, ⊤, slice_get}
 use Rattle.std.specs.Option.{option_map_or}
 use Rattle.std.specs.List.{AllZip}
 use Rattle.std.proofs.lemmas.List.Elements.{All-push, Contains-append_left, Contains-push, Contains-push_cases}
@@ -10,6 +10,7 @@ use Rattle.resolver_clause_store.specs.Lists.{IsWithin}
 use Rattle.resolver_clause_store.specs.Universe.{Universe, Demands, unknown}
 use Rattle.resolver_clause_store.specs.Candidates.{requirement_candidates, version_sets}
 use Rattle.resolver_clause_store.specs.Variables.{AreDistinct, Keeps}
+use Rattle.resolver_clause_store.specs.declared.By.{By}
 use Rattle.resolver_clause_store.specs.declared.ClauseKind.{ClauseKind}
 use Rattle.resolver_clause_store.specs.declared.ClauseKind.TheVariants.{InstallRoot, Requires, AnyOf, GateRequires, Constrains, ForbidMultipleInstances, ConstrainsExcluded, ConstrainsParent, HasBit, Lock, Excluded}
 use Rattle.resolver_clause_store.specs.declared.Literal.{Literal}
@@ -19,9 +20,12 @@ use Rattle.resolver_clause_store.specs.declared.Requirement.{Requirement}
 use Rattle.resolver_clause_store.specs.declared.VersionSetId.{VersionSetId}
 use Rattle.resolver_clause_store.proofs.PlaceLemmas.{Keeps-same, Keeps-trans, place_cases, place_in, place_last, place_left, place_of_member}
 use Rattle.resolver_encoding.specs.Atoms.{Atom, atoms_of}
-use Rattle.resolver_encoding.specs.Encodings.{AddsClause, AddsRequirement, AsksForCandidates, Extends, Grows, IsDirect, IsEncodingWhile, IsStepWhile, KeepsLimits, Notes}
-use Rattle.resolver_encoding.specs.Read.{AreApart, apart_direct, apart_turned, apart_coded}
-use Rattle.resolver_encoding.specs.Truth.{AreDue, IsTrueClause, no_codes}
+use Rattle.resolver_encoding.specs.Encodings.{AddsClause, AddsRequirement, AsksForCandidates, Coding, Doing, Extends, Grows, HasUsualHelper, IsAskStep, IsEncodingOf, IsEncodingWhile, IsReadStep, IsStep, IsStepWhile, KeepsLimits, Notes, idle}
+use Rattle.resolver_encoding.specs.Codes.{bit}
+use Rattle.resolver_encoding.specs.Groups.{IsAt}
+use Rattle.resolver_encoding.specs.Read.{IsForbidden, forbidden_direct, forbidden_helped}
+use Rattle.resolver_encoding.specs.ReadState.{Deferred}
+use Rattle.resolver_encoding.specs.Truth.{AreDue, IsTrueClause}
 use Rattle.resolver_encoding.specs.Values.{AreEncoded, AreInOrder, IsAtom, IsClauseOf}
 use Rattle.resolver_encoding.proofs.ClauseLemmas.{AllZip-keeps, AreAtoms-keeps, AreAtoms-zip}
 
@@ -88,10 +92,9 @@ IsClauseOf-zip u origins ls kind h = record { atoms = AreAtoms-zip origins ls (a
 IsClauseOf-keeps : {N S : Type 0} (u : Universe N S) (old new : List (Origin N S)) (ls : List Literal) (kind : ClauseKind N S) → Keeps old new → IsClauseOf u old ls kind → IsClauseOf u new ls kind
 IsClauseOf-keeps u old new ls kind keeps h = record { atoms = AreAtoms-keeps old new ls (atoms_of u kind) keeps h.atoms; in_order = AreInOrder-keeps u old new ls kind keeps h.in_order }
 
-AreApart-within : {N S : Type 0} (kinds more : List (ClauseKind N S)) → IsWithin kinds more → (n : N) (s t : S) → AreApart kinds n s t → AreApart more n s t
-AreApart-within kinds more within n s t (apart_direct h) = apart_direct (within _ h)
-AreApart-within kinds more within n s t (apart_turned h) = apart_turned (within _ h)
-AreApart-within kinds more within n s t (apart_coded i b h k) = apart_coded i b (within _ h) (within _ k)
+pub IsForbidden-within : {N S : Type 0} (kinds more : List (ClauseKind N S)) → IsWithin kinds more → (by : By S) (v : VersionSetId) (s : S) → IsForbidden kinds by v s → IsForbidden more by v s
+IsForbidden-within kinds more within by v s (forbidden_direct h) = forbidden_direct (within _ h)
+IsForbidden-within kinds more within by v s (forbidden_helped h k) = forbidden_helped (within _ h) (within _ k)
 
 module _ {N S : Type 0} (u : Universe N S) where
   -- one more clause
@@ -150,26 +153,36 @@ module _ {N S : Type 0} (u : Universe N S) where
     pub candidates : (s : S) → Contains (requirement_candidates u r) s → Contains notes.seen s
     pub once : AreDistinct disjunct
 
-  abbrev pub IsPrepared : Notes N S → ClauseKind N S → Type 0
-  IsPrepared notes (Requires by disjunct r) = IsReady notes disjunct.items r
-  IsPrepared notes (Lock s t) = ⊤
-  IsPrepared notes (Excluded s reason) = ⊤
-  IsPrepared notes InstallRoot = ⊤
-  IsPrepared notes (AnyOf helper s) = ⊤
-  IsPrepared notes (Constrains by v s) = ⊤
-  IsPrepared notes (ForbidMultipleInstances n s t) = ⊤
-  IsPrepared notes (GateRequires r) = ⊤
-  IsPrepared notes (ConstrainsExcluded s v) = ⊤
-  IsPrepared notes (ConstrainsParent by v) = ⊤
-  IsPrepared notes (HasBit n s i b) = ⊤
+  -- what the clause of a gate needs to be there before it
+  pub record IsGateReady (notes : Notes N S) (r : Requirement) : Type 0 where
+    pub packages : (v : VersionSetId) → Contains (version_sets u r) v → Contains notes.asked (u.version_set_name v)
+    pub candidates : (s : S) → Contains (requirement_candidates u r) s → Contains notes.seen s
 
-  -- a clause that may be added: it is true, direct, due, and what it brings with it is there
-  pub record IsNext (asking : List N) (root : Demands) (notes : Notes N S) (origins : List (Origin N S)) (literals : List Literal) (kind : ClauseKind N S) : Type 0 where
+  abbrev pub IsPrepared : Doing N S → Notes N S → ClauseKind N S → Type 0
+  IsPrepared doing notes (Requires by disjunct r) = IsReady notes disjunct.items r
+  IsPrepared doing notes (Lock s t) = ⊤
+  IsPrepared doing notes (Excluded s reason) = ⊤
+  IsPrepared doing notes InstallRoot = ⊤
+  IsPrepared doing notes (AnyOf helper s) = ⊤
+  IsPrepared doing notes (Constrains by v s) = ⊤
+  IsPrepared doing notes (ForbidMultipleInstances n s t) = ⊤
+  IsPrepared doing notes (GateRequires r) = IsGateReady notes r
+  IsPrepared doing notes (ConstrainsExcluded s v) = ⊤
+  IsPrepared doing notes (ConstrainsParent by v) = ⊤
+  IsPrepared doing notes (HasBit n s i b) = Contains notes.seen s ⊎ Contains (map (λ (c : Coding N S). c.instance) doing.coding) s
+
+  -- the codes are those of what was met and of what is in progress
+  pub record HasCodes (doing : Doing N S) (notes : Notes N S) (codes : N → ℕ → S → Bool) : Type 0 where
+    pub placed : (n : N) (k : ℕ) (s : S) → IsAt notes.groups n k s → (i : ℕ) → codes n i s ≡ bit k i
+    pub coding : (c : Coding N S) → Contains doing.coding c → (i : ℕ) → codes c.name i c.instance ≡ bit c.number i
+
+  -- a clause that may be added: it is true, due, and what it brings with it is there
+  pub record IsNext (doing : Doing N S) (root : Demands) (notes : Notes N S) (origins : List (Origin N S)) (literals : List Literal) (kind : ClauseKind N S) : Type 0 where
     pub clause : IsClauseOf u origins literals kind
-    pub is_true : IsTrueClause u no_codes root kind
-    pub direct : IsDirect kind
-    pub due : IsDue (asking ++ notes.asked) notes.exempt kind
-    pub prepared : IsPrepared notes kind
+    pub is_true : (codes : N → ℕ → S → Bool) → HasCodes doing notes codes → IsTrueClause u codes root kind
+    pub usual : HasUsualHelper kind
+    pub due : IsDue (doing.asking ++ notes.asked) notes.exempt kind
+    pub prepared : IsPrepared doing notes kind
 
   -- the numbers of the clauses that ask for candidates, after a clause
   pub record AreListed (kinds : List (ClauseKind N S)) (requirements : List ℕ) : Type 0 where
@@ -199,18 +212,20 @@ module _ {N S : Type 0} (u : Universe N S) where
   abbrev pub with_clause : Notes N S → List (Origin N S) → List ℕ → Vec Literal Global → ClauseKind N S → Notes N S
   with_clause notes origins requirements literals kind = record notes { origins = origins; requirements = requirements; table = notes.table ++ literals ∷ []; kinds = notes.kinds ++ kind ∷ [] }
 
-  IsEncoding-clause : (asking : List N) (root : Demands) (notes : Notes N S) (origins : List (Origin N S)) (requirements : List ℕ) (literals : Vec Literal Global) (kind : ClauseKind N S) → Grows notes.origins origins → AreListed (notes.kinds ++ kind ∷ []) requirements →
-      IsNext asking root notes origins literals.items kind → IsEncodingWhile u asking root notes → IsEncodingWhile u asking root (with_clause notes origins requirements literals kind)
-  IsEncoding-clause asking root notes origins requirements literals kind grows listed next before =
+  IsEncoding-clause : (doing : Doing N S) (root : Demands) (notes : Notes N S) (origins : List (Origin N S)) (requirements : List ℕ) (literals : Vec Literal Global) (kind : ClauseKind N S) → Grows notes.origins origins → AreListed (notes.kinds ++ kind ∷ []) requirements →
+      IsNext doing root notes origins literals.items kind → IsEncodingWhile u doing root notes → IsEncodingWhile u doing root (with_clause notes origins requirements literals kind)
+  IsEncoding-clause doing root notes origins requirements literals kind grows listed next before =
       let within = IsWithin-push notes.kinds kind in
-      let Prepared : ClauseKind N S → Type 0 = λ k. IsPrepared notes k in
+      let Prepared : ClauseKind N S → Type 0 = λ k. IsPrepared doing notes k in
       record {
         root_first = grows.keeps.kept 0 Root before.root_first;
         distinct = grows.distinct before.distinct;
         encoded = AreEncoded-push notes.origins origins notes.table notes.kinds literals kind grows.keeps before.encoded next.clause;
-        each_true = All-push (IsTrueClause u no_codes root) notes.kinds kind before.each_true next.is_true;
-        each_direct = All-push IsDirect notes.kinds kind before.each_direct next.direct;
-        due = AreDue-push (asking ++ notes.asked) notes.exempt notes.kinds kind before.due next.due;
+        codes = before.codes;
+        own_codes = before.own_codes;
+        each_true = All-push (IsTrueClause u before.codes root) notes.kinds kind before.each_true (next.is_true before.codes (record { placed = before.placed; coding = before.coding }));
+        each_usual = All-push HasUsualHelper notes.kinds kind before.each_usual next.usual;
+        due = AreDue-push (doing.asking ++ notes.asked) notes.exempt notes.kinds kind before.due next.due;
         installs = within InstallRoot before.installs;
         listed = listed.listed;
         ask = listed.ask;
@@ -218,45 +233,62 @@ module _ {N S : Type 0} (u : Universe N S) where
         packages = λ by disjunct r h. ⊎_elim (λ earlier. before.packages by disjunct r earlier) (λ e. let ready : IsReady notes disjunct.items r = subst Prepared e next.prepared in ready.packages) (Contains-push_cases notes.kinds kind (Requires by disjunct r) h);
         candidates = λ by disjunct r h. ⊎_elim (λ earlier. before.candidates by disjunct r earlier) (λ e. let ready : IsReady notes disjunct.items r = subst Prepared e next.prepared in ready.candidates) (Contains-push_cases notes.kinds kind (Requires by disjunct r) h);
         once = λ by disjunct r h. ⊎_elim (λ earlier. before.once by disjunct r earlier) (λ e. let ready : IsReady notes disjunct.items r = subst Prepared e next.prepared in ready.once) (Contains-push_cases notes.kinds kind (Requires by disjunct r) h);
+        gate_packages = λ r h. ⊎_elim (λ earlier. before.gate_packages r earlier) (λ e. let ready : IsGateReady notes r = subst Prepared e next.prepared in ready.packages) (Contains-push_cases notes.kinds kind (GateRequires r) h);
+        gate_candidates = λ r h. ⊎_elim (λ earlier. before.gate_candidates r earlier) (λ e. let ready : IsGateReady notes r = subst Prepared e next.prepared in ready.candidates) (Contains-push_cases notes.kinds kind (GateRequires r) h);
+        gated = λ r h. within _ (before.gated r h);
+        excluded = λ v h s m. within _ (before.excluded v h s m);
         follow = λ v h s m. within _ (before.follow v h s m);
         locks = λ s t h free lock inside differ. within _ (before.locks s t h free lock inside differ);
         exclusions = λ s reason h free inside. within _ (before.exclusions s reason h free inside);
         registered = λ s h. let at = place_of_member notes.origins (Solvable s) (before.registered s h) in place_in origins at.0 (Solvable s) (grows.keeps.kept at.0 (Solvable s) at.1);
-        instances = λ s t h k same differ. AreApart-within notes.kinds (notes.kinds ++ kind ∷ []) within (u.name s) s t (before.instances s t h k same differ);
+        placed = before.placed;
+        coding = before.coding;
+        coded = λ n s i b h. ⊎_elim (λ earlier. before.coded n s i b earlier) (λ e. subst Prepared e next.prepared) (Contains-push_cases notes.kinds kind (HasBit n s i b) h);
+        digits = λ n j k s t one other i below. within _ (before.digits n j k s t one other i below);
         sound_groups = before.sound_groups;
         grouped = before.grouped;
         members = before.members;
+        left_true = before.left_true;
+        indexed = before.indexed;
+        sound_waiting = before.sound_waiting;
       }
 
-  abbrev IsStep_to : List N → (Demands → Type 0) → Notes N S → Notes N S → Type 0
-  IsStep_to asking Premise old new = IsStepWhile u asking Premise old new
+  abbrev IsStep_to : Doing N S → (Demands → Type 0) → Notes N S → Notes N S → Type 0
+  IsStep_to doing Premise old new = IsStepWhile u doing Premise old new
 
-  IsStep-with_clause : (asking : List N) (Premise : Demands → Type 0) (old : Notes N S) (origins : List (Origin N S)) (requirements : List ℕ) (literals : Vec Literal Global) (kind : ClauseKind N S) → Grows old.origins origins →
+  IsStep-with_clause : (doing : Doing N S) (Premise : Demands → Type 0) (old : Notes N S) (origins : List (Origin N S)) (requirements : List ℕ) (literals : Vec Literal Global) (kind : ClauseKind N S) → Grows old.origins origins → Extends old.requirements requirements →
       (AreListed old.kinds old.requirements → AreListed (old.kinds ++ kind ∷ []) requirements) →
-      ((root : Demands) → Premise root → IsEncodingWhile u asking root old → IsNext asking root old origins literals.items kind) → IsStepWhile u asking Premise old (with_clause old origins requirements literals kind)
-  IsStep-with_clause asking Premise old origins requirements literals kind grows listed next = record {
+      ((root : Demands) → Premise root → IsEncodingWhile u doing root old → IsNext doing root old origins literals.items kind) → IsStepWhile u doing Premise old (with_clause old origins requirements literals kind)
+  IsStep-with_clause doing Premise old origins requirements literals kind grows more listed next = record {
     origins = grows.keeps;
+    table = Extends-push old.table literals;
     kinds = IsWithin-push old.kinds kind;
+    requirements = more;
     seen = Extends-same old.seen;
-    asked = IsWithin-same old.asked;
+    asked = refl;
     helped = IsWithin-same old.helped;
+    gates = IsWithin-same old.gates;
+    constrained = IsWithin-same old.constrained;
+    read = refl;
+    deferred = refl;
+    waiting = refl;
     exempt = refl;
-    keeps = λ root premise before. IsEncoding-clause asking root old origins requirements literals kind grows (listed (record { listed = before.listed; ask = before.ask })) (next root premise before) before;
+    keeps = λ root premise before. IsEncoding-clause doing root old origins requirements literals kind grows (listed (record { listed = before.listed; ask = before.ask })) (next root premise before) before;
   }
 
   -- one more clause, which asks for no candidates
-  pub IsStep-clause : (asking : List N) (Premise : Demands → Type 0) (old new : Notes N S) (kind : ClauseKind N S) (as' : List (Atom N S)) (adds : AddsClause old new kind as') → (AsksForCandidates kind → ⊥) →
-      ((root : Demands) → Premise root → IsEncodingWhile u asking root old → IsNext asking root old new.origins adds.literals.items kind) → IsStepWhile u asking Premise old new
-  IsStep-clause asking Premise old new kind as' adds plain next =
-      let Step : Notes N S → Type 0 = λ n. IsStepWhile u asking Premise old n in
-      subst Step (sym adds.is) (IsStep-with_clause asking Premise old new.origins old.requirements adds.literals kind adds.origins (AreListed-plain old.kinds old.requirements kind plain) next)
+  pub IsStep-clause : (doing : Doing N S) (Premise : Demands → Type 0) (old new : Notes N S) (kind : ClauseKind N S) (as' : List (Atom N S)) (adds : AddsClause old new kind as') → (AsksForCandidates kind → ⊥) →
+      ((root : Demands) → Premise root → IsEncodingWhile u doing root old → IsNext doing root old new.origins adds.literals.items kind) → IsStepWhile u doing Premise old new
+  IsStep-clause doing Premise old new kind as' adds plain next =
+      let Step : Notes N S → Type 0 = λ n. IsStepWhile u doing Premise old n in
+      subst Step (sym adds.is) (IsStep-with_clause doing Premise old new.origins old.requirements adds.literals kind adds.origins (Extends-same old.requirements) (AreListed-plain old.kinds old.requirements kind plain) next)
 
   -- one more clause, which asks for candidates
-  pub IsStep-requirement : (asking : List N) (Premise : Demands → Type 0) (old new : Notes N S) (kind : ClauseKind N S) (as' : List (Atom N S)) (adds : AddsRequirement old new kind as') → AsksForCandidates kind →
-      ((root : Demands) → Premise root → IsEncodingWhile u asking root old → IsNext asking root old new.origins adds.literals.items kind) → IsStepWhile u asking Premise old new
-  IsStep-requirement asking Premise old new kind as' adds asks next =
-      let Step : Notes N S → Type 0 = λ n. IsStepWhile u asking Premise old n in
-      subst Step (sym adds.is) (IsStep-with_clause asking Premise old new.origins (old.requirements ++ length old.kinds ∷ []) adds.literals kind adds.origins (AreListed-asking old.kinds old.requirements kind asks) next)
+  pub IsStep-requirement : (doing : Doing N S) (Premise : Demands → Type 0) (old new : Notes N S) (kind : ClauseKind N S) (as' : List (Atom N S)) (adds : AddsRequirement old new kind as') → AsksForCandidates kind →
+      ((root : Demands) → Premise root → IsEncodingWhile u doing root old → IsNext doing root old new.origins adds.literals.items kind) → IsStepWhile u doing Premise old new
+  IsStep-requirement doing Premise old new kind as' adds asks next =
+      let Step : Notes N S → Type 0 = λ n. IsStepWhile u doing Premise old n in
+      subst Step (sym adds.is) (IsStep-with_clause doing Premise old new.origins (old.requirements ++ length old.kinds ∷ []) adds.literals kind adds.origins (Extends-push old.requirements (length old.kinds)) (AreListed-asking old.kinds old.requirements kind asks) next)
 
   pub clause_listed : (old new : Notes N S) (kind : ClauseKind N S) (as' : List (Atom N S)) → AddsClause old new kind as' → Contains new.kinds kind
   clause_listed old new kind as' adds =
@@ -268,36 +300,178 @@ module _ {N S : Type 0} (u : Universe N S) where
       let Listed : Notes N S → Type 0 = λ n. Contains n.kinds kind in
       subst Listed (sym adds.is) (Contains-push old.kinds kind)
 
-  pub IsStep-same : (asking : List N) (Premise : Demands → Type 0) (notes : Notes N S) → IsStepWhile u asking Premise notes notes
-  IsStep-same asking Premise notes = record {
+  pub IsStep-same : (doing : Doing N S) (Premise : Demands → Type 0) (notes : Notes N S) → IsStepWhile u doing Premise notes notes
+  IsStep-same doing Premise notes = record {
     origins = Keeps-same notes.origins;
+    table = Extends-same notes.table;
     kinds = IsWithin-same notes.kinds;
+    requirements = Extends-same notes.requirements;
     seen = Extends-same notes.seen;
-    asked = IsWithin-same notes.asked;
+    asked = refl;
     helped = IsWithin-same notes.helped;
+    gates = IsWithin-same notes.gates;
+    constrained = IsWithin-same notes.constrained;
+    read = refl;
+    deferred = refl;
+    waiting = refl;
     exempt = refl;
     keeps = λ root premise before. before;
   }
 
-  pub IsStep-trans : (asking : List N) (Premise : Demands → Type 0) (one two three : Notes N S) → IsStepWhile u asking Premise one two → IsStepWhile u asking Premise two three → IsStepWhile u asking Premise one three
-  IsStep-trans asking Premise one two three first second = record {
+  pub IsStep-trans : (doing : Doing N S) (Premise : Demands → Type 0) (one two three : Notes N S) → IsStepWhile u doing Premise one two → IsStepWhile u doing Premise two three → IsStepWhile u doing Premise one three
+  IsStep-trans doing Premise one two three first second = record {
     origins = Keeps-trans one.origins two.origins three.origins first.origins second.origins;
+    table = Extends-trans one.table two.table three.table first.table second.table;
     kinds = IsWithin-trans one.kinds two.kinds three.kinds first.kinds second.kinds;
+    requirements = Extends-trans one.requirements two.requirements three.requirements first.requirements second.requirements;
     seen = Extends-trans one.seen two.seen three.seen first.seen second.seen;
-    asked = IsWithin-trans one.asked two.asked three.asked first.asked second.asked;
+    asked = second.asked ∙ first.asked;
     helped = IsWithin-trans one.helped two.helped three.helped first.helped second.helped;
+    gates = IsWithin-trans one.gates two.gates three.gates first.gates second.gates;
+    constrained = IsWithin-trans one.constrained two.constrained three.constrained first.constrained second.constrained;
+    read = second.read ∙ first.read;
+    deferred = second.deferred ∙ first.deferred;
+    waiting = second.waiting ∙ first.waiting;
     exempt = second.exempt ∙ first.exempt;
     keeps = λ root premise before. second.keeps root premise (first.keeps root premise before);
   }
 
   -- under a premise from which its own follows
-  pub IsStep-weaker : (asking : List N) (Premise Stronger : Demands → Type 0) → ((root : Demands) → Stronger root → Premise root) → (old new : Notes N S) → IsStepWhile u asking Premise old new → IsStepWhile u asking Stronger old new
-  IsStep-weaker asking Premise Stronger follows old new step = record {
+  pub IsStep-weaker : (doing : Doing N S) (Premise Stronger : Demands → Type 0) → ((root : Demands) → Stronger root → Premise root) → (old new : Notes N S) → IsStepWhile u doing Premise old new → IsStepWhile u doing Stronger old new
+  IsStep-weaker doing Premise Stronger follows old new step = record {
     origins = step.origins;
+    table = step.table;
     kinds = step.kinds;
+    requirements = step.requirements;
     seen = step.seen;
     asked = step.asked;
     helped = step.helped;
+    gates = step.gates;
+    constrained = step.constrained;
+    read = step.read;
+    deferred = step.deferred;
+    waiting = step.waiting;
     exempt = step.exempt;
     keeps = λ root premise before. step.keeps root (follows root premise) before;
   }
+
+  -- steps that may ask
+  pub IsAskStep-of : (Called : N → Type 0) (Premise : Demands → Type 0) (old new : Notes N S) → IsStep u Premise old new → IsAskStep u Called Premise old new
+  IsAskStep-of Called Premise old new step =
+      let Asked : List N → Type 0 = λ list. IsWithin old.asked list in
+      let Back : List N → Type 0 = λ list. (n : N) → Contains list n → Contains old.asked n ⊎ Called n in
+      record {
+        origins = step.origins;
+        table = step.table;
+        kinds = step.kinds;
+        requirements = step.requirements;
+        seen = step.seen;
+        asked = subst Asked (sym step.asked) (IsWithin-same old.asked);
+        called = subst Back (sym step.asked) (λ n h. inl h);
+        read = step.read;
+        deferred = step.deferred;
+        waiting = step.waiting;
+        exempt = step.exempt;
+        keeps = step.keeps;
+      }
+
+  pub IsAskStep-same : (Called : N → Type 0) (Premise : Demands → Type 0) (notes : Notes N S) → IsAskStep u Called Premise notes notes
+  IsAskStep-same Called Premise notes = IsAskStep-of Called Premise notes notes (IsStep-same idle Premise notes)
+
+  pub IsAskStep-trans : (Called : N → Type 0) (Premise : Demands → Type 0) (one two three : Notes N S) → IsAskStep u Called Premise one two → IsAskStep u Called Premise two three → IsAskStep u Called Premise one three
+  IsAskStep-trans Called Premise one two three first second = record {
+    origins = Keeps-trans one.origins two.origins three.origins first.origins second.origins;
+    table = Extends-trans one.table two.table three.table first.table second.table;
+    kinds = IsWithin-trans one.kinds two.kinds three.kinds first.kinds second.kinds;
+    requirements = Extends-trans one.requirements two.requirements three.requirements first.requirements second.requirements;
+    seen = Extends-trans one.seen two.seen three.seen first.seen second.seen;
+    asked = IsWithin-trans one.asked two.asked three.asked first.asked second.asked;
+    called = λ n h. ⊎_elim (λ before. first.called n before) (λ called. inr called) (second.called n h);
+    read = second.read ∙ first.read;
+    deferred = second.deferred ∙ first.deferred;
+    waiting = second.waiting ∙ first.waiting;
+    exempt = second.exempt ∙ first.exempt;
+    keeps = λ root premise before. second.keeps root premise (first.keeps root premise before);
+  }
+
+  -- with more packages called, under a premise from which its own follows
+  pub IsAskStep-weaker : (Called More : N → Type 0) → ((n : N) → Called n → More n) → (Premise Stronger : Demands → Type 0) → ((root : Demands) → Stronger root → Premise root) → (old new : Notes N S) → IsAskStep u Called Premise old new → IsAskStep u More Stronger old new
+  IsAskStep-weaker Called More more Premise Stronger follows old new step = record {
+    origins = step.origins;
+    table = step.table;
+    kinds = step.kinds;
+    requirements = step.requirements;
+    seen = step.seen;
+    asked = step.asked;
+    called = λ n h. ⊎_elim (λ before. inl before) (λ called. inr (more n called)) (step.called n h);
+    read = step.read;
+    deferred = step.deferred;
+    waiting = step.waiting;
+    exempt = step.exempt;
+    keeps = λ root premise before. step.keeps root (follows root premise) before;
+  }
+
+  -- steps that may put disjuncts off
+  pub IsReadStep-of : (Defers : Deferred S → Type 0) (Called : N → Type 0) (Premise : Demands → Type 0) (old new : Notes N S) → IsAskStep u Called Premise old new → IsReadStep u Defers Called Premise old new
+  IsReadStep-of Defers Called Premise old new step =
+      let Longer : List (Option (Deferred S)) → Type 0 = λ list. Extends old.deferred list in
+      let Deferred_so : List (Option (Deferred S)) → Type 0 = λ list. (e : Deferred S) → Contains list (Some e) → Contains old.deferred (Some e) ⊎ Defers e in
+      record {
+        origins = step.origins;
+        table = step.table;
+        kinds = step.kinds;
+        requirements = step.requirements;
+        asked = step.asked;
+        called = step.called;
+        read = step.read;
+        deferred = subst Longer (sym step.deferred) (Extends-same old.deferred);
+        defers = subst Deferred_so (sym step.deferred) (λ e h. inl h);
+        exempt = step.exempt;
+        keeps = step.keeps;
+      }
+
+  pub IsReadStep-same : (Defers : Deferred S → Type 0) (Called : N → Type 0) (Premise : Demands → Type 0) (notes : Notes N S) → IsReadStep u Defers Called Premise notes notes
+  IsReadStep-same Defers Called Premise notes = IsReadStep-of Defers Called Premise notes notes (IsAskStep-same Called Premise notes)
+
+  pub IsReadStep-trans : (Defers : Deferred S → Type 0) (Called : N → Type 0) (Premise : Demands → Type 0) (one two three : Notes N S) → IsReadStep u Defers Called Premise one two → IsReadStep u Defers Called Premise two three → IsReadStep u Defers Called Premise one three
+  IsReadStep-trans Defers Called Premise one two three first second = record {
+    origins = Keeps-trans one.origins two.origins three.origins first.origins second.origins;
+    table = Extends-trans one.table two.table three.table first.table second.table;
+    kinds = IsWithin-trans one.kinds two.kinds three.kinds first.kinds second.kinds;
+    requirements = Extends-trans one.requirements two.requirements three.requirements first.requirements second.requirements;
+    asked = IsWithin-trans one.asked two.asked three.asked first.asked second.asked;
+    called = λ n h. ⊎_elim (λ before. first.called n before) (λ called. inr called) (second.called n h);
+    read = second.read ∙ first.read;
+    deferred = Extends-trans one.deferred two.deferred three.deferred first.deferred second.deferred;
+    defers = λ e h. ⊎_elim (λ before. first.defers e before) (λ put_off. inr put_off) (second.defers e h);
+    exempt = second.exempt ∙ first.exempt;
+    keeps = λ root premise before. second.keeps root premise (first.keeps root premise before);
+  }
+
+  pub IsReadStep-weaker : (Defers : Deferred S → Type 0) (Called More : N → Type 0) → ((n : N) → Called n → More n) → (Premise Stronger : Demands → Type 0) → ((root : Demands) → Stronger root → Premise root) → (old new : Notes N S) → IsReadStep u Defers Called Premise old new → IsReadStep u Defers More Stronger old new
+  IsReadStep-weaker Defers Called More more Premise Stronger follows old new step = record {
+    origins = step.origins;
+    table = step.table;
+    kinds = step.kinds;
+    requirements = step.requirements;
+    asked = step.asked;
+    called = λ n h. ⊎_elim (λ before. inl before) (λ called. inr (more n called)) (step.called n h);
+    read = step.read;
+    deferred = step.deferred;
+    defers = step.defers;
+    exempt = step.exempt;
+    keeps = λ root premise before. step.keeps root (follows root premise) before;
+  }
+
+  -- an encoding of the same problem, after a step; of a problem of which another premise holds
+  pub IsEncodingOf-step : (Premise : Demands → Type 0) (old new : Notes N S) → IsEncodingOf u Premise old → IsStep u Premise old new → IsEncodingOf u Premise new
+  IsEncodingOf-step Premise old new before step = record { root = before.root; premise = before.premise; encoding = step.keeps before.root before.premise before.encoding }
+
+  pub IsEncodingOf-asked : (Called : N → Type 0) (Premise : Demands → Type 0) (old new : Notes N S) → IsEncodingOf u Premise old → IsAskStep u Called Premise old new → IsEncodingOf u Premise new
+  IsEncodingOf-asked Called Premise old new before step = record { root = before.root; premise = before.premise; encoding = step.keeps before.root before.premise before.encoding }
+
+  pub IsEncodingOf-read : (Defers : Deferred S → Type 0) (Called : N → Type 0) (Premise : Demands → Type 0) (old new : Notes N S) → IsEncodingOf u Premise old → IsReadStep u Defers Called Premise old new → IsEncodingOf u Premise new
+  IsEncodingOf-read Defers Called Premise old new before step = record { root = before.root; premise = before.premise; encoding = step.keeps before.root before.premise before.encoding }
+
+  pub IsEncodingOf-weaker : (Premise Weaker : Demands → Type 0) → ((root : Demands) → Premise root → Weaker root) → (notes : Notes N S) → IsEncodingOf u Premise notes → IsEncodingOf u Weaker notes
+  IsEncodingOf-weaker Premise Weaker follows notes before = record { root = before.root; premise = follows before.root before.premise; encoding = before.encoding }

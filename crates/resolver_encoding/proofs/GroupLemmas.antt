@@ -1,16 +1,15 @@
 -- Groups to which a solvable was added.
-use Rattle.std.proofs.Common.{◌≡◌, ◌≢◌, ℕ, ◌+◌, ◌<◌, List, [], ◌∷◌, ◌++◌, length, length-append, arith, inl, inr, refl, sym, ap, ◌∙◌, subst, ⊎_elim, Contains, Vec, Global}
+use Rattle.std.proofs.Common.{◌≡◌, ◌≢◌, ℕ, ◌+◌, ◌<◌, ◌≤◌, List, [], ◌∷◌, ◌++◌, get_or, length, length-append, arith, inl, inr, refl, sym, ap, ◌∙◌, subst, ⊎_elim, Contains, Vec, Global}
 use Rattle.std.specs.Prelude.{Some, slice_get}
 use Rattle.std.specs.Option.{option_map_or}
-use Rattle.std.proofs.lemmas.Bool.{cases_eq}
-use Rattle.std.proofs.lemmas.Option.{slice_get_within}
+use Rattle.std.proofs.lemmas.Bool.{cases_eq, cases_lt}
+use Rattle.std.proofs.lemmas.Option.{same_Some, slice_get-get_or, slice_get_within}
 use Rattle.std.proofs.lemmas.List.Elements.{Contains-append_left, Contains-push, Contains-push_cases}
-use Rattle.std.proofs.lemmas.Option.{slice_get-get_or}
 use Rattle.resolver_clause_store.specs.Variables.{AreDistinct}
-use Rattle.resolver_encoding.specs.Groups.{AddsNamed, AreGroups, group_at}
+use Rattle.resolver_encoding.specs.Groups.{AddsNamed, AreGroups, IsAt, IsNamed, group_at}
 use Rattle.resolver_encoding.specs.declared.groups.Groups.{Groups}
 use Rattle.resolver_encoding.proofs.Lists.{none_in}
-use Rattle.resolver_clause_store.proofs.PlaceLemmas.{place_left, place_last, place_cases, AreDistinct-push}
+use Rattle.resolver_clause_store.proofs.PlaceLemmas.{place_in, place_left, place_last, place_cases, place_of_member, AreDistinct-push}
 
 module _ {N S : Type 0} (old new : Groups N S) (n : N) (s : S) where
   -- the group of a new name
@@ -20,6 +19,7 @@ module _ {N S : Type 0} (old new : Groups N S) (n : N) (s : S) where
       let Distinct : List N → Type 0 = λ list. AreDistinct list in
       let At : ℕ → List (Vec S Global) → S → Type 0 = λ k list t. Contains (group_at list k) t in
       let Is : List S → S → Type 0 = λ list t. Contains list t in
+      let Place : List S → ℕ → S → Type 0 = λ list k t. slice_get list k ≡ Some t in
       let same_group : (k : ℕ) → k < length old.members.items → group_at new.members.items k ≡ group_at old.members.items k = λ k below.
       ap (λ list. group_at list k) members ∙ ap (λ o. option_map_or (λ (g : Vec S Global). g.items) o []) (place_left old.members.items (group ∷ []) k _ (slice_get-get_or old.members.items k group below) ∙ sym (slice_get-get_or old.members.items k group below)) in
       let last : group_at new.members.items (length old.names.keys) ≡ s ∷ [] =
@@ -51,6 +51,25 @@ module _ {N S : Type 0} (old new : Groups N S) (n : N) (s : S) where
             (λ (is : s ≡ t). inr (sym end.1, sym is))
             (Contains-push_cases [] s t of_last))
             (place_cases old.names.keys n h.place m (subst (λ list. Names list h.place m) names h.named));
+        number = 0;
+        here_at = record {
+          place = length old.names.keys;
+          named = subst (λ list. Names list (length old.names.keys) n) (sym names) (place_last old.names.keys n);
+          at = subst (λ list. Place list 0 s) (sym last) (place_last [] s);
+        };
+        earlier_at = λ m k t h. record {
+          place = h.place;
+          named = subst (λ list. Names list h.place m) (sym names) (place_left old.names.keys (n ∷ []) h.place m h.named);
+          at = subst (λ list. Place list k t) (sym (same_group h.place (omega (arith, slice_get_within old.names.keys h.place m h.named, sound.count)))) h.at;
+        };
+        only_at = λ m k t h. ⊎_elim
+            (λ (at : slice_get old.names.keys h.place ≡ Some m). inl (record { place = h.place; named = at; at = subst (λ list. Place list k t) (same_group h.place (omega (arith, slice_get_within old.names.keys h.place m at, sound.count))) h.at }))
+            (λ (end : (h.place ≡ length old.names.keys) × (n ≡ m)). ⊎_elim
+            (λ (none : slice_get [] k ≡ Some t). let empty : List S = [] in let impossible : k < length empty = slice_get_within empty k t none in absurd (omega (arith, impossible)))
+            (λ (is : (k ≡ 0) × (s ≡ t)). inr (sym end.1, is.0, sym is.1))
+            (place_cases [] s k t (subst (λ list. Place list k t) (ap (λ q. group_at new.members.items q) end.0 ∙ last) h.at)))
+            (place_cases old.names.keys n h.place m (subst (λ list. Names list h.place m) names h.named));
+        below = λ k t h. absurd (absent (place_in old.names.keys h.place n h.named));
       }
 
   -- one more in the group of a name
@@ -61,6 +80,7 @@ module _ {N S : Type 0} (old new : Groups N S) (n : N) (s : S) where
       let Names : List N → ℕ → N → Type 0 = λ list k m. slice_get list k ≡ Some m in
       let Distinct : List N → Type 0 = λ list. AreDistinct list in
       let Is : List S → S → Type 0 = λ list t. Contains list t in
+      let Place : List S → ℕ → S → Type 0 = λ list k t. slice_get list k ≡ Some t in
       let pushed : group_at new.members.items place ≡ group_at old.members.items place ++ s ∷ [] = here (omega (arith, slice_get_within old.names.keys place n at, sound.count)) in
       record {
         sound = record { count = count ∙ sound.count ∙ sym (ap length names); distinct = subst Distinct (sym names) sound.distinct };
@@ -88,4 +108,71 @@ module _ {N S : Type 0} (old new : Groups N S) (n : N) (s : S) where
             (Contains-push_cases (group_at old.members.items place) s t (subst (λ list. Is list t) (ap (λ k. group_at new.members.items k) e ∙ pushed) h.inside)))
             (λ (differ : h.place ≢ place). inl (record { place = h.place; named = named; inside = subst (λ list. Is list t) (others h.place differ) h.inside }))
             (cases_eq h.place place);
+        number = length (group_at old.members.items place);
+        here_at = record {
+          place = place;
+          named = subst (λ list. Names list place n) (sym names) at;
+          at = subst (λ list. Place list (length (group_at old.members.items place)) s) (sym pushed) (place_last (group_at old.members.items place) s);
+        };
+        earlier_at = λ m k t h. record {
+          place = h.place;
+          named = subst (λ list. Names list h.place m) (sym names) h.named;
+          at = ⊎_elim
+              (λ (e : h.place ≡ place). subst (λ list. Place list k t) (sym (ap (λ q. group_at new.members.items q) e ∙ pushed)) (place_left (group_at old.members.items place) (s ∷ []) k t (subst (λ q. Place (group_at old.members.items q) k t) e h.at)))
+              (λ (differ : h.place ≢ place). subst (λ list. Place list k t) (sym (others h.place differ)) h.at)
+              (cases_eq h.place place);
+        };
+        only_at = λ m k t h.
+            let named : slice_get old.names.keys h.place ≡ Some m = subst (λ list. Names list h.place m) names h.named in
+            ⊎_elim
+            (λ (e : h.place ≡ place). ⊎_elim
+            (λ (before : slice_get (group_at old.members.items place) k ≡ Some t). inl (record { place = h.place; named = named; at = subst (λ q. Place (group_at old.members.items q) k t) (sym e) before }))
+            (λ (is : (k ≡ length (group_at old.members.items place)) × (s ≡ t)).
+            let both : Some m ≡ Some n = sym named ∙ ap (λ q. slice_get old.names.keys q) e ∙ at in
+            inr (same_Some m n both, is.0, sym is.1))
+            (place_cases (group_at old.members.items place) s k t (subst (λ list. Place list k t) (ap (λ q. group_at new.members.items q) e ∙ pushed) h.at)))
+            (λ (differ : h.place ≢ place). inl (record { place = h.place; named = named; at = subst (λ list. Place list k t) (others h.place differ) h.at }))
+            (cases_eq h.place place);
+        below = λ k t h.
+            let same : h.place ≡ place = sound.distinct.same h.place place n h.named at in
+            slice_get_within (group_at old.members.items place) k t (subst (λ q. Place (group_at old.members.items q) k t) same h.at);
       }
+
+-- one that was put there has a number
+pub number_of_named : {N S : Type 0} (g : Groups N S) (n : N) (s : S) → IsNamed g n s → (k : ℕ) × IsAt g n k s
+number_of_named g n s h =
+    let at = place_of_member (group_at g.members.items h.place) s h.inside in
+    (at.0, record { place = h.place; named = h.named; at = at.1 })
+
+-- one that has a number was put there
+pub named_of_number : {N S : Type 0} (g : Groups N S) (n : N) (k : ℕ) (s : S) → IsAt g n k s → IsNamed g n s
+named_of_number g n k s h = record { place = h.place; named = h.named; inside = place_in (group_at g.members.items h.place) k s h.at }
+
+-- no two have one number
+pub same_number : {N S : Type 0} (g : Groups N S) (n : N) (j k : ℕ) (s t : S) → AreGroups g → IsAt g n j s → IsAt g n k t → j ≡ k → s ≡ t
+same_number g n j k s t sound one other e =
+    let places : one.place ≡ other.place = sound.distinct.same one.place other.place n one.named other.named in
+    same_Some s t (sym one.at ∙ ap (λ p. slice_get (group_at g.members.items p) j) places ∙ ap (λ i. slice_get (group_at g.members.items other.place) i) e ∙ other.at)
+
+-- the number of one that was added is how many there were
+pub number_is : {N S : Type 0} (old new : Groups N S) (n : N) (s : S) (list : List S) → (added : AddsNamed old new n s) →
+    ((k : ℕ) (t : S) → slice_get list k ≡ Some t → IsAt old n k t) → ((k : ℕ) (t : S) → IsAt old n k t → slice_get list k ≡ Some t) → added.number ≡ length list
+number_is {N} {S} old new n s list added each every = ⊎_elim
+    (λ (less : added.number < length list).
+    let again = added.below added.number (get_or list added.number s) (each added.number _ (slice_get-get_or list added.number s less)) in
+    absurd (omega (arith, again)))
+    (λ (not_less : length list ≤ added.number). ⊎_elim
+    (λ (more : length list < added.number). absurd (beyond more))
+    (λ (not_more : added.number ≤ length list). omega (arith, not_less, not_more))
+    (cases_lt (length list) added.number))
+    (cases_lt added.number (length list))
+  where
+    beyond : length list < added.number → ⊥
+    beyond more =
+        let within : added.number < length (group_at new.members.items added.here_at.place) = slice_get_within (group_at new.members.items added.here_at.place) added.number s added.here_at.at in
+        let t : S = get_or (group_at new.members.items added.here_at.place) (length list) s in
+        let there : IsAt new n (length list) t = record { place = added.here_at.place; named = added.here_at.named; at = slice_get-get_or (group_at new.members.items added.here_at.place) (length list) s (omega (arith, more, within)) } in
+        ⊎_elim
+        (λ (before : IsAt old n (length list) t). let again : length list < length list = slice_get_within list (length list) t (every (length list) t before) in omega (arith, again))
+        (λ (is : (n ≡ n) × (length list ≡ added.number) × (t ≡ s)). omega (arith, more, is.1))
+        (added.only_at n (length list) t there)

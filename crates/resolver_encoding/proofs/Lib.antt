@@ -1,10 +1,15 @@
+pub mod CodeLemmas
 pub mod Lists
 pub mod GroupLemmas
+pub mod SourceLemmas
+pub mod ListingLemmas
 pub mod ClauseLemmas
 pub mod EncodingLemmas
 pub mod NoteLemmas
+pub mod SeeLemmas
 pub mod RequirementLemmas
 pub mod ReadLemmas
+pub mod FiringLemmas
 pub mod Satisfied
 pub mod Sound
 pub mod Extended
@@ -12,6 +17,8 @@ pub mod Answers
 pub mod Closure
 pub mod Reached
 pub mod Reading
+pub mod SoFarLemmas
+pub mod RoundLemmas
 pub mod Bridge
 pub mod Spared
 pub mod CoreLemmas

@@ -1,28 +1,27 @@
 -- Steps that note a clause of a plain kind, a variable, a solvable, a package or a helper.
-use Rattle.std.proofs.Common.{◌≡◌, ◌≢◌, ℕ, ◌+◌, ◌<◌, length, get_or, take, List, [], ◌∷◌, ◌++◌, refl, sym, ap, ◌∙◌, subst, ⊎_elim, inl, inr, Contains, All, Bool, true, false}
+use Rattle.std.proofs.Common.{◌≡◌, ◌≢◌, ℕ, ◌+◌, ◌<◌, length, get_or, take, List, [], ◌∷◌, ◌++◌, refl, sym, ◌∙◌, subst, ⊎_elim, inl, inr, Contains, All, Bool, true, false}
 use Rattle.std.specs.Prelude.{Option, Some, None, ⊤}
 use Rattle.std.proofs.lemmas.Bool.{true≢false}
-use Rattle.std.proofs.lemmas.List.Elements.{All-contains, All-more, All-weaker, Contains-append_left, Contains-push, Contains-push_cases}
+use Rattle.std.proofs.lemmas.List.Elements.{All-contains, All-contains_itself, All-get_or, All-more, All-weaker, Contains-append_left, Contains-push, Contains-push_cases}
 use Rattle.resolver_clause_store.specs.Laws.{IsIdentity}
 use Rattle.resolver_clause_store.specs.Lists.{IsWithin}
 use Rattle.resolver_clause_store.specs.Universe.{Universe, Demands, Package}
-use Rattle.resolver_clause_store.specs.Candidates.{matching}
+use Rattle.resolver_clause_store.specs.Candidates.{matching, others}
 use Rattle.resolver_clause_store.specs.declared.ClauseKind.{ClauseKind}
 use Rattle.resolver_clause_store.specs.declared.ClauseKind.TheVariants.{InstallRoot, Requires, AnyOf, GateRequires, Constrains, ForbidMultipleInstances, ConstrainsExcluded, ConstrainsParent, HasBit, Lock, Excluded}
 use Rattle.resolver_clause_store.specs.declared.Origin.{Origin}
 use Rattle.resolver_clause_store.specs.declared.Origin.TheVariants.{Root, Solvable, ConditionHelper}
+use Rattle.resolver_clause_store.specs.declared.Requirement.{Requirement}
 use Rattle.resolver_clause_store.specs.declared.StringId.{StringId}
 use Rattle.resolver_clause_store.specs.declared.VersionSetId.{VersionSetId}
 use Rattle.resolver_clause_store.proofs.PlaceLemmas.{Keeps-same, place_in, place_of_member}
 use Rattle.resolver_clause_store.proofs.SetLemmas.{All-next}
 use Rattle.resolver_encoding.specs.Atoms.{atoms_of}
-use Rattle.resolver_encoding.specs.Encodings.{AddsClause, AsksForCandidates, Grows, IsDirect, IsEncodingWhile, IsLockRead, IsStep, IsStepWhile, Notes}
-use Rattle.resolver_encoding.specs.Groups.{AddsNamed, AreGroups, IsNamed}
-use Rattle.resolver_encoding.specs.Read.{AreApart, apart_direct, apart_turned}
-use Rattle.resolver_encoding.specs.Truth.{AreDue, IsTrueClause, no_codes}
-use Rattle.resolver_encoding.specs.declared.groups.Groups.{Groups}
+use Rattle.resolver_encoding.specs.Called.{IsNamedIn}
+use Rattle.resolver_encoding.specs.Encodings.{AddsClause, AsksForCandidates, Doing, Grows, HasUsualHelper, IsAskStep, IsEncodingWhile, IsLockRead, IsStep, IsStepWhile, Notes, asking_for, idle}
+use Rattle.resolver_encoding.specs.Truth.{AreDue, IsTrueClause}
 use Rattle.resolver_encoding.proofs.Lists.{cons_cases, here, there}
-use Rattle.resolver_encoding.proofs.EncodingLemmas.{AreEncoded-keeps, Extends-push, Extends-same, IsClauseOf-zip, IsDue, IsPrepared, IsStep-clause, IsWithin-push, IsWithin-same}
+use Rattle.resolver_encoding.proofs.EncodingLemmas.{AreEncoded-keeps, Extends-same, HasCodes, IsClauseOf-zip, IsDue, IsPrepared, IsStep-clause, IsWithin-push, IsWithin-same}
 
 -- one more element of a list, by facts that grew
 pub All-grown : {X : Type 0} (P P' : X → Type 0) (xs : List X) (i : ℕ) (x : X) → ((y : X) → P y → P' y) → i < length xs → x ≡ get_or xs i x → All P (take i xs) → P' x → All P' (take (i + 1) xs)
@@ -57,30 +56,43 @@ asks_not {N} {S} kind plain asks =
     ⊎_elim (λ w. subst Plain w.3 plain) (λ w. subst Plain w.1 plain) asks
 
 module _ {N S : Type 0} (u : Universe N S) where
+  -- the package of an element of a list
+  pub named_here : (list : List VersionSetId) (i : ℕ) (d : VersionSetId) (n m : N) → i < length list → n ≡ u.version_set_name (get_or list i d) → n ≡ m → IsNamedIn u list m
+  named_here list i d n m below is same = (get_or list i d, All-get_or (Contains list) list i d below (All-contains_itself list), sym is ∙ same)
+
   -- one more clause of a plain kind
-  pub IsStep-plain : (asking : List N) (Premise : Demands → Type 0) (old new : Notes N S) (kind : ClauseKind N S) → AddsClause old new kind (atoms_of u kind) → IsPlain kind →
-      ((root : Demands) → Premise root → IsEncodingWhile u asking root old → IsTrueClause u no_codes root kind) → IsDirect kind → IsDue u (asking ++ old.asked) old.exempt kind → IsPrepared u old kind → IsStepWhile u asking Premise old new
-  IsStep-plain asking Premise old new kind adds plain is_true direct due prepared =
-      IsStep-clause u asking Premise old new kind (atoms_of u kind) adds (asks_not kind plain)
-      (λ root premise before. record { clause = IsClauseOf-zip u new.origins adds.literals.items kind adds.are; is_true = is_true root premise before; direct = direct; due = due; prepared = prepared })
+  pub IsStep-plain : (doing : Doing N S) (Premise : Demands → Type 0) (old new : Notes N S) (kind : ClauseKind N S) → AddsClause old new kind (atoms_of u kind) → IsPlain kind →
+      ((root : Demands) → Premise root → IsEncodingWhile u doing root old → (codes : N → ℕ → S → Bool) → HasCodes u doing old codes → IsTrueClause u codes root kind) → HasUsualHelper kind → IsDue u (doing.asking ++ old.asked) old.exempt kind → IsPrepared u doing old kind → IsStepWhile u doing Premise old new
+  IsStep-plain doing Premise old new kind adds plain is_true usual due prepared =
+      IsStep-clause u doing Premise old new kind (atoms_of u kind) adds (asks_not kind plain)
+      (λ root premise before. record { clause = IsClauseOf-zip u new.origins adds.literals.items kind adds.are; is_true = is_true root premise before; usual = usual; due = due; prepared = prepared })
 
   -- variables were added
-  pub IsStep-origins : (asking : List N) (Premise : Demands → Type 0) (old new : Notes N S) (origins : List (Origin N S)) (limit : ℕ) → Grows old.origins origins → limit ≡ old.variable_limit → new ≡ record old { origins = origins; variable_limit = limit } → IsStepWhile u asking Premise old new
-  IsStep-origins asking Premise old new origins limit grows same is =
-      let Step : Notes N S → Type 0 = λ n. IsStepWhile u asking Premise old n in
+  pub IsStep-origins : (doing : Doing N S) (Premise : Demands → Type 0) (old new : Notes N S) (origins : List (Origin N S)) (limit : ℕ) → Grows old.origins origins → limit ≡ old.variable_limit → new ≡ record old { origins = origins; variable_limit = limit } → IsStepWhile u doing Premise old new
+  IsStep-origins doing Premise old new origins limit grows same is =
+      let Step : Notes N S → Type 0 = λ n. IsStepWhile u doing Premise old n in
       subst Step (sym (is ∙ (λ i. record old { origins = origins; variable_limit = same i }))) (record {
         origins = grows.keeps;
+        table = Extends-same old.table;
         kinds = IsWithin-same old.kinds;
+        requirements = Extends-same old.requirements;
         seen = Extends-same old.seen;
-        asked = IsWithin-same old.asked;
+        asked = refl;
         helped = IsWithin-same old.helped;
+        gates = IsWithin-same old.gates;
+        constrained = IsWithin-same old.constrained;
+        read = refl;
+        deferred = refl;
+        waiting = refl;
         exempt = refl;
         keeps = λ root premise before. record {
           root_first = grows.keeps.kept 0 Root before.root_first;
           distinct = grows.distinct before.distinct;
           encoded = AreEncoded-keeps u old.origins origins old.table old.kinds grows.keeps before.encoded;
+          codes = before.codes;
+          own_codes = before.own_codes;
           each_true = before.each_true;
-          each_direct = before.each_direct;
+          each_usual = before.each_usual;
           due = before.due;
           installs = before.installs;
           listed = before.listed;
@@ -89,85 +101,25 @@ module _ {N S : Type 0} (u : Universe N S) where
           packages = before.packages;
           candidates = before.candidates;
           once = before.once;
+          gate_packages = before.gate_packages;
+          gate_candidates = before.gate_candidates;
+          gated = before.gated;
+          excluded = before.excluded;
           follow = before.follow;
           locks = before.locks;
           exclusions = before.exclusions;
           registered = λ s h. let at = place_of_member old.origins (Solvable s) (before.registered s h) in place_in origins at.0 (Solvable s) (grows.keeps.kept at.0 (Solvable s) at.1);
-          instances = before.instances;
+          placed = before.placed;
+          coding = before.coding;
+          coded = before.coded;
+          digits = before.digits;
           sound_groups = before.sound_groups;
           grouped = before.grouped;
           members = before.members;
+          left_true = before.left_true;
+          indexed = before.indexed;
+          sound_waiting = before.sound_waiting;
         };
-      })
-
-  -- one more solvable, which is kept apart from the others of its name
-  pub IsStep-seen : (old new : Notes N S) (groups : Groups N S) (n : N) (s : S) → n ≡ u.name s → new ≡ record old { seen = old.seen ++ s ∷ []; groups = groups } → (AreGroups old.groups → AddsNamed old.groups groups n s) →
-      Contains old.origins (Solvable s) → (AreGroups old.groups → (t : S) → IsNamed old.groups n t → Contains old.kinds (ForbidMultipleInstances n t s)) → IsStep u (λ root. ⊤) old new
-  IsStep-seen old new groups n s name e adds has apart =
-      let Step : Notes N S → Type 0 = λ m. IsStep u (λ root. ⊤) old m in
-      let seen : List S = old.seen ++ s ∷ [] in
-      subst Step (sym e) (record {
-        origins = Keeps-same old.origins;
-        kinds = IsWithin-same old.kinds;
-        seen = Extends-push old.seen s;
-        asked = IsWithin-same old.asked;
-        helped = IsWithin-same old.helped;
-        exempt = refl;
-        keeps = λ root premise before.
-            let added = adds before.sound_groups in
-            let Kept : N → S → S → Type 0 = λ m t r. AreApart old.kinds m t r in
-            let one_apart : (t : S) → Contains old.seen t → u.name t ≡ u.name s → Contains old.kinds (ForbidMultipleInstances n t s) = λ t h same.
-            let Named : N → Type 0 = λ m. IsNamed old.groups m t in
-            apart before.sound_groups t (subst Named (same ∙ sym name) (before.grouped t h)) in
-            record {
-              root_first = before.root_first;
-              distinct = before.distinct;
-              encoded = before.encoded;
-              each_true = before.each_true;
-              each_direct = before.each_direct;
-              due = before.due;
-              installs = before.installs;
-              listed = before.listed;
-              ask = before.ask;
-              helpers = before.helpers;
-              packages = before.packages;
-              candidates = λ by disjunct r h t k. Contains-append_left old.seen (s ∷ []) t (before.candidates by disjunct r h t k);
-              once = before.once;
-              follow = before.follow;
-              locks = before.locks;
-              exclusions = before.exclusions;
-              registered = λ t h. ⊎_elim
-                  (λ (earlier : Contains old.seen t). before.registered t earlier)
-                  (λ (is : s ≡ t). let Has : S → Type 0 = λ r. Contains old.origins (Solvable r) in subst Has is has)
-                  (Contains-push_cases old.seen s t h);
-              instances = λ t r h k same differ. ⊎_elim
-                  (λ (t_earlier : Contains old.seen t). ⊎_elim
-                  (λ (r_earlier : Contains old.seen r). before.instances t r t_earlier r_earlier same differ)
-                  (λ (is : s ≡ r).
-                  let At : S → Type 0 = λ q. AreApart old.kinds (u.name t) t q in
-                  let Of : N → Type 0 = λ m. Contains old.kinds (ForbidMultipleInstances m t s) in
-                  let names : u.name t ≡ u.name s = same ∙ ap u.name (sym is) in
-                  subst At is (apart_direct (subst Of (name ∙ sym names) (one_apart t t_earlier names))))
-                  (Contains-push_cases old.seen s r k))
-                  (λ (is : s ≡ t). ⊎_elim
-                  (λ (r_earlier : Contains old.seen r).
-                  let At : S → Type 0 = λ q. AreApart old.kinds (u.name q) q r in
-                  let Of : N → Type 0 = λ m. Contains old.kinds (ForbidMultipleInstances m r s) in
-                  let names : u.name r ≡ u.name s = sym same ∙ ap u.name (sym is) in
-                  subst At is (apart_turned (subst Of name (one_apart r r_earlier names))))
-                  (λ (also : s ≡ r). absurd (differ (sym is ∙ also)))
-                  (Contains-push_cases old.seen s r k))
-                  (Contains-push_cases old.seen s t h);
-              sound_groups = added.sound;
-              grouped = λ t h. ⊎_elim
-                  (λ (earlier : Contains old.seen t). added.earlier (u.name t) t (before.grouped t earlier))
-                  (λ (is : s ≡ t). let Named : S → Type 0 = λ q. IsNamed groups (u.name q) q in let At : N → Type 0 = λ m. IsNamed groups m s in subst Named is (subst At name added.here))
-                  (Contains-push_cases old.seen s t h);
-              members = λ m t h. ⊎_elim
-                  (λ (earlier : IsNamed old.groups m t). let w = before.members m t earlier in (w.0, Contains-append_left old.seen (s ∷ []) t w.1))
-                  (λ (is : (m ≡ n) × (t ≡ s)). let Has : S → Type 0 = λ q. Contains (old.seen ++ s ∷ []) q in (ap u.name is.1 ∙ sym name ∙ sym is.0, subst Has (sym is.1) (Contains-push old.seen s)))
-                  (added.only m t h);
-            };
       })
 
   -- the package's locks and exclusions have their clauses
@@ -187,13 +139,15 @@ module _ {N S : Type 0} (u : Universe N S) where
   }
 
   -- a package that is going to be asked
-  opened : (n : N) (root : Demands) (old : Notes N S) → IsEncodingWhile u [] root old → IsEncodingWhile u (n ∷ []) root old
+  opened : (n : N) (root : Demands) (old : Notes N S) → IsEncodingWhile u idle root old → IsEncodingWhile u (asking_for n) root old
   opened n root old start = record {
     root_first = start.root_first;
     distinct = start.distinct;
     encoded = start.encoded;
+    codes = start.codes;
+    own_codes = start.own_codes;
     each_true = start.each_true;
-    each_direct = start.each_direct;
+    each_usual = start.each_usual;
     due = AreDue-within old.asked (n ∷ old.asked) old.exempt old.kinds (λ m h. there n old.asked m h) start.due;
     installs = start.installs;
     listed = start.listed;
@@ -202,26 +156,42 @@ module _ {N S : Type 0} (u : Universe N S) where
     packages = start.packages;
     candidates = start.candidates;
     once = start.once;
+    gate_packages = start.gate_packages;
+    gate_candidates = start.gate_candidates;
+    gated = start.gated;
+    excluded = start.excluded;
     follow = start.follow;
     locks = start.locks;
     exclusions = start.exclusions;
     registered = start.registered;
-    instances = start.instances;
+    placed = start.placed;
+    coding = start.coding;
+    coded = start.coded;
+    digits = start.digits;
     sound_groups = start.sound_groups;
     grouped = start.grouped;
     members = start.members;
+    left_true = start.left_true;
+    indexed = start.indexed;
+    sound_waiting = start.sound_waiting;
   }
 
   -- a package is asked: its locks and exclusions are made, and then it is noted
-  pub IsStep-asked : (old mid new : Notes N S) (n : N) → IsStepWhile u (n ∷ []) (λ root. ⊤) old mid → mid.asked ≡ old.asked → new ≡ record mid { asked = mid.asked ++ n ∷ [] } → IsPackageRead mid.kinds mid.exempt (u.package_named n) → IsStep u (λ root. ⊤) old new
+  pub IsStep-asked : (old mid new : Notes N S) (n : N) → IsStepWhile u (asking_for n) (λ root. ⊤) old mid → mid.asked ≡ old.asked → new ≡ record mid { asked = mid.asked ++ n ∷ [] } → IsPackageRead mid.kinds mid.exempt (u.package_named n) → IsAskStep u (λ m. n ≡ m) (λ root. ⊤) old new
   IsStep-asked old mid new n step same e read =
-      let Step : Notes N S → Type 0 = λ m. IsStep u (λ root. ⊤) old m in
+      let Step : Notes N S → Type 0 = λ m. IsAskStep u (λ m. n ≡ m) (λ root. ⊤) old m in
+      let Was : List N → Type 0 = λ list. (m : N) → Contains list m → Contains old.asked m in
       subst Step (sym e) (record {
         origins = step.origins;
+        table = step.table;
         kinds = step.kinds;
+        requirements = step.requirements;
         seen = step.seen;
-        asked = λ m h. Contains-append_left mid.asked (n ∷ []) m (step.asked m h);
-        helped = step.helped;
+        asked = let Asked : List N → Type 0 = λ list. IsWithin old.asked (list ++ n ∷ []) in subst Asked (sym same) (λ m h. Contains-append_left old.asked (n ∷ []) m h);
+        called = λ m h. ⊎_elim (λ (earlier : Contains mid.asked m). inl (subst Was (sym same) (λ q k. k) m earlier)) (λ (is : n ≡ m). inr is) (Contains-push_cases mid.asked n m h);
+        read = step.read;
+        deferred = step.deferred;
+        waiting = step.waiting;
         exempt = step.exempt;
         keeps = λ root premise start.
             let before = step.keeps root tt (opened n root old start) in
@@ -233,8 +203,10 @@ module _ {N S : Type 0} (u : Universe N S) where
               root_first = before.root_first;
               distinct = before.distinct;
               encoded = before.encoded;
+              codes = before.codes;
+              own_codes = before.own_codes;
               each_true = before.each_true;
-              each_direct = before.each_direct;
+              each_usual = before.each_usual;
               due = AreDue-within (n ∷ mid.asked) (mid.asked ++ n ∷ []) mid.exempt mid.kinds swap before.due;
               installs = before.installs;
               listed = before.listed;
@@ -243,6 +215,10 @@ module _ {N S : Type 0} (u : Universe N S) where
               packages = λ by disjunct r h v k. Contains-append_left mid.asked (n ∷ []) _ (before.packages by disjunct r h v k);
               candidates = before.candidates;
               once = before.once;
+              gate_packages = λ r h v k. Contains-append_left mid.asked (n ∷ []) _ (before.gate_packages r h v k);
+              gate_candidates = before.gate_candidates;
+              gated = before.gated;
+              excluded = before.excluded;
               follow = before.follow;
               locks = λ s t h free lock inside differ. ⊎_elim
                   (λ (earlier : Contains mid.asked (u.name s)). before.locks s t earlier free lock inside differ)
@@ -259,10 +235,16 @@ module _ {N S : Type 0} (u : Universe N S) where
                   All-contains (λ x. (Contains mid.exempt x.0 → ⊥) → Contains mid.kinds (Excluded x.0 x.1)) (u.package_named (u.name s)).excluded (s, reason) r.exclusions inside free)
                   (Contains-push_cases mid.asked n (u.name s) h);
               registered = before.registered;
-              instances = before.instances;
+              placed = before.placed;
+              coding = before.coding;
+              coded = before.coded;
+              digits = before.digits;
               sound_groups = before.sound_groups;
               grouped = before.grouped;
               members = before.members;
+              left_true = before.left_true;
+              indexed = before.indexed;
+              sound_waiting = before.sound_waiting;
             };
       })
 
@@ -289,17 +271,26 @@ module _ {N S : Type 0} (u : Universe N S) where
       let Step : Notes N S → Type 0 = λ m. IsStep u (λ root. ⊤) old m in
       subst Step (sym e) (record {
         origins = Keeps-same old.origins;
+        table = Extends-same old.table;
         kinds = IsWithin-same old.kinds;
+        requirements = Extends-same old.requirements;
         seen = Extends-same old.seen;
-        asked = IsWithin-same old.asked;
+        asked = refl;
         helped = IsWithin-push old.helped v;
+        gates = IsWithin-same old.gates;
+        constrained = IsWithin-same old.constrained;
+        read = refl;
+        deferred = refl;
+        waiting = refl;
         exempt = refl;
         keeps = λ root premise before. record {
           root_first = before.root_first;
           distinct = before.distinct;
           encoded = before.encoded;
+          codes = before.codes;
+          own_codes = before.own_codes;
           each_true = before.each_true;
-          each_direct = before.each_direct;
+          each_usual = before.each_usual;
           due = before.due;
           installs = before.installs;
           listed = before.listed;
@@ -308,6 +299,10 @@ module _ {N S : Type 0} (u : Universe N S) where
           packages = before.packages;
           candidates = before.candidates;
           once = before.once;
+          gate_packages = before.gate_packages;
+          gate_candidates = before.gate_candidates;
+          gated = before.gated;
+          excluded = before.excluded;
           follow = λ w h s m. ⊎_elim
               (λ (earlier : Contains old.helped w). before.follow w earlier s m)
               (λ (is : v ≡ w). let Follows : VersionSetId → Type 0 = λ x. (t : S) → Contains (matching u x) t → Contains old.kinds (AnyOf (ConditionHelper x) t) in subst Follows is follows s m)
@@ -315,9 +310,131 @@ module _ {N S : Type 0} (u : Universe N S) where
           locks = before.locks;
           exclusions = before.exclusions;
           registered = before.registered;
-          instances = before.instances;
+          placed = before.placed;
+          coding = before.coding;
+          coded = before.coded;
+          digits = before.digits;
           sound_groups = before.sound_groups;
           grouped = before.grouped;
           members = before.members;
+          left_true = before.left_true;
+          indexed = before.indexed;
+          sound_waiting = before.sound_waiting;
+        };
+      })
+
+  -- one more gate, whose clause is there
+  pub IsStep-gated : (old new : Notes N S) (r : Requirement) → new ≡ record old { gates = old.gates ++ r ∷ [] } → Contains old.kinds (GateRequires r) → IsStep u (λ root. ⊤) old new
+  IsStep-gated old new r e has =
+      let Step : Notes N S → Type 0 = λ m. IsStep u (λ root. ⊤) old m in
+      subst Step (sym e) (record {
+        origins = Keeps-same old.origins;
+        table = Extends-same old.table;
+        kinds = IsWithin-same old.kinds;
+        requirements = Extends-same old.requirements;
+        seen = Extends-same old.seen;
+        asked = refl;
+        helped = IsWithin-same old.helped;
+        gates = IsWithin-push old.gates r;
+        constrained = IsWithin-same old.constrained;
+        read = refl;
+        deferred = refl;
+        waiting = refl;
+        exempt = refl;
+        keeps = λ root premise before. record {
+          root_first = before.root_first;
+          distinct = before.distinct;
+          encoded = before.encoded;
+          codes = before.codes;
+          own_codes = before.own_codes;
+          each_true = before.each_true;
+          each_usual = before.each_usual;
+          due = before.due;
+          installs = before.installs;
+          listed = before.listed;
+          ask = before.ask;
+          helpers = before.helpers;
+          packages = before.packages;
+          candidates = before.candidates;
+          once = before.once;
+          gate_packages = before.gate_packages;
+          gate_candidates = before.gate_candidates;
+          gated = λ q h. ⊎_elim
+              (λ (earlier : Contains old.gates q). before.gated q earlier)
+              (λ (is : r ≡ q). let Has : Requirement → Type 0 = λ x. Contains old.kinds (GateRequires x) in subst Has is has)
+              (Contains-push_cases old.gates r q h);
+          excluded = before.excluded;
+          follow = before.follow;
+          locks = before.locks;
+          exclusions = before.exclusions;
+          registered = before.registered;
+          placed = before.placed;
+          coding = before.coding;
+          coded = before.coded;
+          digits = before.digits;
+          sound_groups = before.sound_groups;
+          grouped = before.grouped;
+          members = before.members;
+          left_true = before.left_true;
+          indexed = before.indexed;
+          sound_waiting = before.sound_waiting;
+        };
+      })
+
+  -- one more helper of a constraint, which follows from each that it forbids
+  pub IsStep-constrained : (old new : Notes N S) (v : VersionSetId) → new ≡ record old { constrained = old.constrained ++ v ∷ [] } → ((s : S) → Contains (others u v) s → Contains old.kinds (ConstrainsExcluded s v)) → IsStep u (λ root. ⊤) old new
+  IsStep-constrained old new v e follows =
+      let Step : Notes N S → Type 0 = λ m. IsStep u (λ root. ⊤) old m in
+      subst Step (sym e) (record {
+        origins = Keeps-same old.origins;
+        table = Extends-same old.table;
+        kinds = IsWithin-same old.kinds;
+        requirements = Extends-same old.requirements;
+        seen = Extends-same old.seen;
+        asked = refl;
+        helped = IsWithin-same old.helped;
+        gates = IsWithin-same old.gates;
+        constrained = IsWithin-push old.constrained v;
+        read = refl;
+        deferred = refl;
+        waiting = refl;
+        exempt = refl;
+        keeps = λ root premise before. record {
+          root_first = before.root_first;
+          distinct = before.distinct;
+          encoded = before.encoded;
+          codes = before.codes;
+          own_codes = before.own_codes;
+          each_true = before.each_true;
+          each_usual = before.each_usual;
+          due = before.due;
+          installs = before.installs;
+          listed = before.listed;
+          ask = before.ask;
+          helpers = before.helpers;
+          packages = before.packages;
+          candidates = before.candidates;
+          once = before.once;
+          gate_packages = before.gate_packages;
+          gate_candidates = before.gate_candidates;
+          gated = before.gated;
+          excluded = λ w h s m. ⊎_elim
+              (λ (earlier : Contains old.constrained w). before.excluded w earlier s m)
+              (λ (is : v ≡ w). let Follows : VersionSetId → Type 0 = λ x. (t : S) → Contains (others u x) t → Contains old.kinds (ConstrainsExcluded t x) in subst Follows is follows s m)
+              (Contains-push_cases old.constrained v w h);
+          follow = before.follow;
+          locks = before.locks;
+          exclusions = before.exclusions;
+          registered = before.registered;
+          placed = before.placed;
+          coding = before.coding;
+          coded = before.coded;
+          digits = before.digits;
+          sound_groups = before.sound_groups;
+          grouped = before.grouped;
+          members = before.members;
+          left_true = before.left_true;
+          indexed = before.indexed;
+          sound_waiting = before.sound_waiting;
         };
       })

@@ -8,6 +8,7 @@ use Rattle.std.proofs.lemmas.List.Elements.{All-contains, All-cons, All-nil, All
 use Rattle.std.proofs.lemmas.Map.Made.{length-le_from_is_member}
 use Rattle.std.proofs.lemmas.Map.Views.{list_any-from_Contains, Contains-from_any}
 use Rattle.std.proofs.lemmas.Option.{slice_get_within}
+use Rattle.std.proofs.lemmas.Bool.{false≢true}
 use Rattle.resolver_clause_store.specs.Laws.{IsIdentity}
 use Rattle.resolver_clause_store.specs.Lists.{IsWithin}
 use Rattle.resolver_clause_store.specs.Universe.{Universe, Demands, Needs, known, unknown}
@@ -16,7 +17,7 @@ use Rattle.resolver_clause_store.specs.Valid.{demands_of}
 use Rattle.resolver_clause_store.specs.declared.By.{By}
 use Rattle.resolver_clause_store.specs.declared.By.TheVariants.{Root as ByRoot, Solvable as BySolvable}
 use Rattle.resolver_clause_store.specs.declared.ClauseKind.{ClauseKind}
-use Rattle.resolver_clause_store.specs.declared.ClauseKind.TheVariants.{InstallRoot, Requires, GateRequires, Constrains, Lock, Excluded}
+use Rattle.resolver_clause_store.specs.declared.ClauseKind.TheVariants.{InstallRoot, Requires, GateRequires, HasBit, Lock, Excluded}
 use Rattle.resolver_clause_store.specs.declared.ConditionalRequirement.{ConditionalRequirement}
 use Rattle.resolver_clause_store.specs.declared.Literal.{Literal}
 use Rattle.resolver_clause_store.specs.declared.Origin.{Origin}
@@ -26,44 +27,48 @@ use Rattle.resolver_clause_store.specs.declared.VersionSetId.{VersionSetId}
 use Rattle.resolver_report.specs.Rules.{IsPresent}
 use Rattle.resolver_report.specs.TrueRules.{demands_by}
 use Rattle.resolver_encoding.specs.Atoms.{atom}
-use Rattle.resolver_encoding.specs.Encodings.{AsksForCandidates, AreDemandsRead, AreNeedsRead, Extends, HasDisjunct, IsConstraintRead, IsDirect, IsEncoding, IsUnread, Notes}
-use Rattle.resolver_encoding.specs.Read.{forbidden_direct}
-use Rattle.resolver_encoding.specs.ReadState.{HasClause, has_direct, has_gate, IsRead, IsReadRequirement}
+use Rattle.resolver_encoding.specs.Encodings.{AsksForCandidates, AreDemandsRead, AreNeedsRead, Extends, HasUsualHelper, IsConstraintRead, IsEncoding, IsLeft, IsUnread, Notes}
+use Rattle.resolver_encoding.specs.Groups.{IsAt, IsNamed, group_at}
+use Rattle.resolver_encoding.specs.declared.groups.Groups.{Groups}
+use Rattle.resolver_encoding.specs.Read.{IsForbidden}
+use Rattle.resolver_encoding.specs.ReadState.{Deferred, HasClause, has_direct, has_gate, IsRead, IsReadRequirement}
+use Rattle.resolver_encoding.specs.SoFar.{IsHalfRead}
 use Rattle.resolver_encoding.specs.Truth.{IsTrueClause, no_codes}
 use Rattle.resolver_encoding.specs.Values.{IsAtom, IsClauseOf}
 use Rattle.resolver_clause_store.specs.Formula.{clause_at}
 use Rattle.resolver_clause_store.proofs.PlaceLemmas.{place_cases}
-use Rattle.resolver_encoding.proofs.EncodingLemmas.{IsClauseOf-zip}
+use Rattle.resolver_encoding.proofs.EncodingLemmas.{IsClauseOf-zip, IsForbidden-within}
+use Rattle.resolver_encoding.proofs.CodeLemmas.{apart_of_digits}
 use Rattle.resolver_encoding.proofs.NoteLemmas.{All-grown, asks_not}
-use Rattle.resolver_encoding.proofs.Lists.{cons_cases, here, none_in, there}
+use Rattle.resolver_encoding.proofs.Lists.{Contains-slice, cons_cases, here, none_in, there}
 
 module _ {N S : Type 0} (u : Universe N S) (kinds more : List (ClauseKind N S)) (within : IsWithin kinds more) where
-  pub HasDisjunct-within : (by : By S) (r : Requirement) (list : List VersionSetId) → HasDisjunct u kinds by r list → HasDisjunct u more by r list
-  HasDisjunct-within by r list h = record { disjunct = h.disjunct; same = h.same; listed = within _ h.listed }
-
-  HasClause-within : (by : By S) (list : List VersionSetId) (r : Requirement) → HasClause kinds by list r → HasClause more by list r
+  pub HasClause-within : (by : By S) (list : List VersionSetId) (r : Requirement) → HasClause kinds by list r → HasClause more by list r
   HasClause-within by list r (has_direct disjunct is h) = has_direct disjunct is (within _ h)
   HasClause-within by list r (has_gate s is none h k) = has_gate s is none (within _ h) (within _ k)
 
-  pub IsReadRequirement-within : (by : By S) (r : ConditionalRequirement) → IsReadRequirement u kinds [] by r → IsReadRequirement u more [] by r
-  IsReadRequirement-within by r h = record {
+  pub IsReadRequirement-within : (Left More : Deferred S → Type 0) → ((e : Deferred S) → Left e → More e) → (by : By S) (r : ConditionalRequirement) → IsReadRequirement u kinds Left by r → IsReadRequirement u more More by r
+  IsReadRequirement-within Left More stays by r h = record {
     disjuncts = h.disjuncts;
     complete = h.complete;
-    each = λ list k. ⊎_elim (λ has. inl (HasClause-within by list r.requirement has)) (λ later. inr later) (h.each list k);
+    each = λ list k. ⊎_elim (λ has. inl (HasClause-within by list r.requirement has)) (λ later. inr (stays _ later)) (h.each list k);
   }
 
   pub IsConstraintRead-within : (by : By S) (v : VersionSetId) → IsConstraintRead u kinds by v → IsConstraintRead u more by v
-  IsConstraintRead-within by v h = All-weaker (λ s. Contains kinds (Constrains by v s)) (λ s. Contains more (Constrains by v s)) (λ s k. within (Constrains by v s) k) (others u v) h
+  IsConstraintRead-within by v h = All-weaker (IsForbidden kinds by v) (IsForbidden more by v) (λ s k. IsForbidden-within kinds more within by v s k) (others u v) h
 
-  pub AreDemandsRead-within : (by : By S) (demands : Demands) → AreDemandsRead u kinds by demands → AreDemandsRead u more by demands
-  AreDemandsRead-within by demands h = record {
-    requirements = All-weaker (IsReadRequirement u kinds [] by) (IsReadRequirement u more [] by) (λ r k. IsReadRequirement-within by r k) demands.requirements h.requirements;
-    constraints = All-weaker (IsConstraintRead u kinds by) (IsConstraintRead u more by) (λ v k. IsConstraintRead-within by v k) demands.constraints h.constraints;
+-- what was read stays read when the notes grow
+module _ {N S : Type 0} (u : Universe N S) (old new : Notes N S) (kinds : IsWithin old.kinds new.kinds) (left : (e : Deferred S) → IsLeft old e → IsLeft new e) (asked : IsWithin old.asked new.asked) where
+  pub AreDemandsRead-grown : (by : By S) (demands : Demands) → AreDemandsRead u old by demands → AreDemandsRead u new by demands
+  AreDemandsRead-grown by demands h = record {
+    requirements = All-weaker (IsReadRequirement u old.kinds (IsLeft old) by) (IsReadRequirement u new.kinds (IsLeft new) by) (λ r k. IsReadRequirement-within u old.kinds new.kinds kinds (IsLeft old) (IsLeft new) left by r k) demands.requirements h.requirements;
+    constraints = All-weaker (IsConstraintRead u old.kinds by) (IsConstraintRead u new.kinds by) (λ v k. IsConstraintRead-within u old.kinds new.kinds kinds by v k) demands.constraints h.constraints;
+    packages = All-weaker (λ v. Contains old.asked (u.version_set_name v)) (λ v. Contains new.asked (u.version_set_name v)) (λ v k. asked _ k) demands.constraints h.packages;
   }
 
-  pub AreNeedsRead-within : (s : S) (needs : Needs) → AreNeedsRead u kinds s needs → AreNeedsRead u more s needs
-  AreNeedsRead-within s (known d) h = AreDemandsRead-within (BySolvable s) d h
-  AreNeedsRead-within s (unknown reason) h = within (Excluded s reason) h
+  pub AreNeedsRead-grown : (s : S) (needs : Needs) → AreNeedsRead u old s needs → AreNeedsRead u new s needs
+  AreNeedsRead-grown s (known d) h = AreDemandsRead-grown (BySolvable s) d h
+  AreNeedsRead-grown s (unknown reason) h = kinds (Excluded s reason) h
 
 -- one more element of a list that grew
 pub All-worked : {X : Type 0} (P P' : X → Type 0) (xs ys : List X) (i : ℕ) (x : X) → ((y : X) → P y → P' y) → Extends xs ys → i < length xs → x ≡ get_or xs i x → All P (take i xs) → P' x → All P' (take (i + 1) ys)
@@ -108,40 +113,46 @@ module _ {N S : Type 0} where
       let fit = length-le_from_is_member laws seen (solvables_in os) distinct (λ q h. list_any-from_Contains laws q (solvables_in os) (solvable_in os q (each q (Contains-from_any identity.alone q seen h)))) in
       omega (arith, fit, no_more os)
 
+-- a solvable with a number is one of the name
+IsNamed-at : {N S : Type 0} (g : Groups N S) (n : N) (k : ℕ) (s : S) → IsAt g n k s → IsNamed g n s
+IsNamed-at g n k s at = record { place = at.place; named = at.named; inside = Contains-slice (group_at g.members.items at.place) k s at.at }
+
 module _ {N S : Type 0} (u : Universe N S) where
-  demands_read : (root : Demands) (notes : Notes N S) → AreDemandsRead u notes.kinds ByRoot root → All (λ s. AreNeedsRead u notes.kinds s (u.needs s)) notes.seen → (by : By S) → IsPresent by notes.seen → AreDemandsRead u notes.kinds by (demands_by u root by)
-  demands_read root notes root_read seen_read ByRoot present = root_read
-  demands_read root notes root_read seen_read (BySolvable s) present = of_needs (u.needs s) (All-contains (λ t. AreNeedsRead u notes.kinds t (u.needs t)) notes.seen s seen_read present)
-    where
-      of_needs : (needs : Needs) → AreNeedsRead u notes.kinds s needs → AreDemandsRead u notes.kinds (BySolvable s) (demands_of needs)
-      of_needs (known d) h = h
-      of_needs (unknown reason) h = record { requirements = All-nil (IsReadRequirement u notes.kinds [] (BySolvable s)); constraints = All-nil (IsConstraintRead u notes.kinds (BySolvable s)) }
+  needs_demanded : (notes : Notes N S) (s : S) (needs : Needs) → AreNeedsRead u notes s needs → AreDemandsRead u notes (BySolvable s) (demands_of needs)
+  needs_demanded notes s (known d) h = h
+  needs_demanded notes s (unknown reason) h = record { requirements = All-nil (IsReadRequirement u notes.kinds (IsLeft notes) (BySolvable s)); constraints = All-nil (IsConstraintRead u notes.kinds (BySolvable s)); packages = All-nil (λ v. Contains notes.asked (u.version_set_name v)) }
 
-  no_gate : (root : Demands) (notes : Notes N S) → IsEncoding u root notes → (r : Requirement) → Contains notes.kinds (GateRequires r) → ⊥
-  no_gate root notes encoding r h = All-contains IsDirect notes.kinds (GateRequires r) encoding.each_direct h
+  pub demands_read : (root : Demands) (notes : Notes N S) → IsHalfRead u root notes → (by : By S) → IsPresent by notes.read → AreDemandsRead u notes by (demands_by u root by)
+  demands_read root notes half ByRoot present = half.root_read
+  demands_read root notes half (BySolvable s) present = needs_demanded notes s (u.needs s) (half.each_read s present)
 
-  packages_of : (root : Demands) (notes : Notes N S) → IsEncoding u root notes → (by : By S) (list : List VersionSetId) (r : Requirement) → HasClause notes.kinds by list r → (v : VersionSetId) → Contains (version_sets u r) v → Contains notes.asked (u.version_set_name v)
+  pub packages_of : (root : Demands) (notes : Notes N S) → IsEncoding u root notes → (by : By S) (list : List VersionSetId) (r : Requirement) → HasClause notes.kinds by list r → (v : VersionSetId) → Contains (version_sets u r) v → Contains notes.asked (u.version_set_name v)
   packages_of root notes encoding by list r (has_direct disjunct is h) v k = encoding.packages by disjunct r h v k
-  packages_of root notes encoding by list r (has_gate s is none h g) v k = absurd (no_gate root notes encoding r g)
+  packages_of root notes encoding by list r (has_gate s is none h g) v k = encoding.gate_packages r g v k
 
   candidates_of : (root : Demands) (notes : Notes N S) → IsEncoding u root notes → (by : By S) (list : List VersionSetId) (r : Requirement) → HasClause notes.kinds by list r → (s : S) → Contains (requirement_candidates u r) s → Contains notes.seen s
   candidates_of root notes encoding by list r (has_direct disjunct is h) s k = encoding.candidates by disjunct r h s k
-  candidates_of root notes encoding by list r (has_gate t is none h g) s k = absurd (no_gate root notes encoding r g)
+  candidates_of root notes encoding by list r (has_gate t is none h g) s k = encoding.gate_candidates r g s k
 
-  -- all is read when the root is and each that was met
-  pub all_read : (root : Demands) (notes : Notes N S) → IsEncoding u root notes → AreDemandsRead u notes.kinds ByRoot root → All (λ s. AreNeedsRead u notes.kinds s (u.needs s)) notes.seen → IsRead u root notes.kinds [] notes.seen notes.asked notes.seen notes.exempt
-  all_read root notes encoding root_read seen_read = record {
-    installs = encoding.installs;
-    requirements = λ by r present asks. All-contains (IsReadRequirement u notes.kinds [] by) (demands_by u root by).requirements r (demands_read root notes root_read seen_read by present).requirements asks;
-    constraints = λ by v s present asks other. forbidden_direct (All-contains (λ t. Contains notes.kinds (Constrains by v t)) (others u v) s (All-contains (IsConstraintRead u notes.kinds by) (demands_by u root by).constraints v (demands_read root notes root_read seen_read by present).constraints asks) other);
-    unknowns = λ s reason h is. let Read : Needs → Type 0 = λ n. AreNeedsRead u notes.kinds s n in subst Read is (All-contains (λ t. AreNeedsRead u notes.kinds t (u.needs t)) notes.seen s seen_read h);
-    helpers = λ by disjunct r h v k s m. encoding.follow v (encoding.helpers by disjunct r h v k) s m;
-    packages = λ by list r h v k. packages_of root notes encoding by list r h v k;
-    candidates = λ by list r h s k. candidates_of root notes encoding by list r h s k;
-    locks = encoding.locks;
-    exclusions = encoding.exclusions;
-    instances = encoding.instances;
-  }
+  -- the clauses say all that is asked of what was read, but for what is put off
+  pub so_far_read : (root : Demands) (notes : Notes N S) → IsHalfRead u root notes → IsRead u root notes.kinds (IsLeft notes) notes.read notes.asked notes.seen notes.exempt
+  so_far_read root notes half =
+      let encoding = half.encoding in
+      record {
+        installs = encoding.installs;
+        requirements = λ by r present asks. All-contains (IsReadRequirement u notes.kinds (IsLeft notes) by) (demands_by u root by).requirements r (demands_read root notes half by present).requirements asks;
+        constraints = λ by v s present asks other. All-contains (IsForbidden notes.kinds by v) (others u v) s (All-contains (IsConstraintRead u notes.kinds by) (demands_by u root by).constraints v (demands_read root notes half by present).constraints asks) other;
+        unknowns = λ s reason h is. let Read : Needs → Type 0 = λ n. AreNeedsRead u notes s n in subst Read is (half.each_read s h);
+        helpers = λ by disjunct r h v k s m. encoding.follow v (encoding.helpers by disjunct r h v k) s m;
+        packages = λ by list r h v k. packages_of root notes encoding by list r h v k;
+        candidates = λ by list r h s k. candidates_of root notes encoding by list r h s k;
+        locks = encoding.locks;
+        exclusions = encoding.exclusions;
+        instances = apart_of_digits u root notes encoding;
+      }
+
+  none_at : {X : Type 0} (xs : List X) (i : ℕ) (x : X) → xs ≡ [] → slice_get xs i ≡ Some x → ⊥
+  none_at {X} xs i x e at = let below : i < length xs = slice_get_within xs i x at in let nothing : length xs ≡ 0 = ap length e in omega (arith, below, nothing)
 
   none : {X : Type 0} (xs : List X) (x : X) → xs ≡ [] → Contains xs x → ⊥
   none {X} xs x e h = let Has : List X → Type 0 = λ list. Contains list x in none_in x (subst Has e h)
@@ -163,8 +174,10 @@ module _ {N S : Type 0} (u : Universe N S) where
               let At : ℕ → ClauseKind N S → Type 0 = λ m k. IsClauseOf u (Root ∷ []) (clause_at (literals ∷ []) m) k in
               subst (λ k. At n k) w.1 (subst (λ m. At m InstallRoot) (sym w.0) (subst Literals (sym items) (IsClauseOf-zip u (Root ∷ []) (l ∷ []) InstallRoot (is, tt))));
         };
+        codes = no_codes;
+        own_codes = record { named = λ n i s e. absurd (false≢true e) };
         each_true = All-cons (IsTrueClause u no_codes root) InstallRoot [] tt (All-nil (IsTrueClause u no_codes root));
-        each_direct = All-cons IsDirect InstallRoot [] tt (All-nil IsDirect);
+        each_usual = All-cons HasUsualHelper InstallRoot [] tt (All-nil HasUsualHelper);
         due = record { locks = λ s t h. absurd (not_there (Lock s t) (λ q. cc) h); exclusions = λ s reason h. absurd (not_there (Excluded s reason) (λ q. cc) h) };
         installs = here InstallRoot [];
         listed = λ n kind at asks. let Asks : ClauseKind N S → Type 0 = λ k. AsksForCandidates k in absurd (asks_not {N = N} {S = S} InstallRoot tt (subst Asks (sym (is_install n kind at).1) asks));
@@ -173,14 +186,24 @@ module _ {N S : Type 0} (u : Universe N S) where
         packages = λ by disjunct r h. absurd (not_there (Requires by disjunct r) (λ q. cc) h);
         candidates = λ by disjunct r h. absurd (not_there (Requires by disjunct r) (λ q. cc) h);
         once = λ by disjunct r h. absurd (not_there (Requires by disjunct r) (λ q. cc) h);
+        gate_packages = λ r h. absurd (not_there (GateRequires r) (λ q. cc) h);
+        gate_candidates = λ r h. absurd (not_there (GateRequires r) (λ q. cc) h);
+        gated = λ r h. absurd (none old.gates r unread.no_gates h);
+        excluded = λ v h. absurd (none old.constrained v unread.none_constrained h);
         follow = λ v h. absurd (none old.helped v unread.none_helped h);
         locks = λ s t h. absurd (none old.asked (u.name s) unread.none_asked h);
         exclusions = λ s reason h. absurd (none old.asked (u.name s) unread.none_asked h);
         registered = λ s h. absurd (none old.seen s unread.none_seen h);
-        instances = λ s t h. absurd (none old.seen s unread.none_seen h);
+        placed = λ n k s at. absurd (unread.no_groups n s (IsNamed-at old.groups n k s at));
+        coding = λ c h. absurd (none_in c h);
+        coded = λ n s i b h. absurd (not_there (HasBit n s i b) (λ q. cc) h);
+        digits = λ n j k s t at. absurd (unread.no_groups n s (IsNamed-at old.groups n j s at));
         sound_groups = unread.sound_groups;
         grouped = λ s h. absurd (none old.seen s unread.none_seen h);
         members = λ n s h. absurd (unread.no_groups n s h);
+        left_true = λ e h. absurd (none old.deferred (Some e) unread.none_deferred h);
+        indexed = λ i e at. absurd (none_at old.deferred i (Some e) unread.none_deferred at);
+        sound_waiting = unread.sound_waiting;
       })
     where
       not_there : (kind : ClauseKind N S) → (InstallRoot ≡ kind → ⊥) → Contains (InstallRoot ∷ []) kind → ⊥

@@ -88,8 +88,8 @@ module _ {N S : Type 0} (u : Universe N S) (ids : HasLawfulSolvables u) (package
   candidate_matches (Single v) s h = (v, here v [], sorted_back v s h)
   candidate_matches (Union m) s h = in_order_back (u.union_members m) s (Contains-repeats u.same_solvable (sorted_in_order u (u.union_members m)) s h)
 
-  module _ (root : Demands) (kinds : List (ClauseKind N S)) (deferred : List (Deferred S)) (read : List S) (asked : List N) (registered exempt : List S) (state : IsRead u root kinds deferred read asked registered exempt)
-      (chosen seeds : List S) (seeded : AreSeeds u seeds chosen asked registered exempt) (all_read : (s : S) → Contains chosen s → Contains registered s → Contains read s) (quiet : NoneFires u deferred chosen) where
+  module _ (root : Demands) (kinds : List (ClauseKind N S)) (IsLeft : Deferred S → Type 0) (read : List S) (asked : List N) (registered exempt : List S) (state : IsRead u root kinds IsLeft read asked registered exempt)
+      (chosen seeds : List S) (seeded : AreSeeds u seeds chosen asked registered exempt) (all_read : (s : S) → Contains chosen s → Contains registered s → Contains read s) (quiet : NoneFires u IsLeft chosen) where
     -- an active requirement has its clauses under a disjunct that holds
     has_clause : (part : List S) → IsWithin part chosen → (by : By S) (r : ConditionalRequirement) → IsPresent by read → Contains (demands_by u root by).requirements r → IsActive u (Contains part) r →
         (list : List VersionSetId) × AllMeet part (map (matching u) list) × HasClause kinds by list r.requirement

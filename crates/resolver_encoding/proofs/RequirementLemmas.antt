@@ -1,23 +1,33 @@
 -- Requirements that were read.
-use Rattle.std.proofs.Common.{◌≡◌, List, [], ◌∷◌, refl, sym, ap, subst, ⊎_elim, inl, arith, Contains, All, Vec, Global, map}
-use Rattle.std.specs.Prelude.{Option, Some, None}
-use Rattle.std.proofs.lemmas.List.Elements.{All-cons, All-contains, All-contains_itself, All-head, All-map, All-nil, All-tail, All-weaker}
+use Rattle.std.proofs.Common.{◌≡◌, ◌⊎◌, ◌<◌, length, get_or, ℕ, Bool, true, List, [], ◌∷◌, refl, sym, ap, subst, ⊎_elim, inl, inr, arith, Contains, All, Vec, Global, map}
+use Rattle.std.specs.Prelude.{MatchBool, Option, Some, None, false}
+use Rattle.std.proofs.lemmas.List.Elements.{All-cons, All-contains, All-contains_itself, All-get_or, All-head, All-map, All-nil, All-tail, All-weaker}
 use Rattle.resolver_clause_store.specs.Lists.{HaveSameMembers, IsWithin, Meets}
-use Rattle.resolver_clause_store.specs.Universe.{Universe}
-use Rattle.resolver_clause_store.specs.Candidates.{matching}
+use Rattle.resolver_clause_store.specs.Universe.{Universe, Demands}
+use Rattle.resolver_clause_store.specs.Candidates.{matching, others, version_sets}
 use Rattle.resolver_clause_store.specs.Conditions.{OptionalConditionHolds}
 use Rattle.resolver_clause_store.specs.Disjuncts.{IsTaken, SomeHolds}
 use Rattle.resolver_clause_store.proofs.DisjunctLemmas.{condition_holds, disjunct_holds}
+use Rattle.resolver_clause_store.specs.Valid.{demands_of}
 use Rattle.resolver_clause_store.specs.declared.By.{By}
+use Rattle.resolver_clause_store.specs.declared.By.TheVariants.{Solvable as BySolvable}
 use Rattle.resolver_clause_store.specs.declared.ClauseKind.{ClauseKind}
+use Rattle.resolver_clause_store.specs.declared.ClauseKind.TheVariants.{AnyOf, ConstrainsParent}
 use Rattle.resolver_clause_store.specs.declared.ConditionId.{ConditionId}
 use Rattle.resolver_clause_store.specs.declared.ConditionalRequirement.{ConditionalRequirement}
+use Rattle.resolver_clause_store.specs.declared.Origin.TheVariants.{Gate}
 use Rattle.resolver_clause_store.specs.declared.Requirement.{Requirement}
 use Rattle.resolver_clause_store.specs.declared.VersionSetId.{VersionSetId}
-use Rattle.resolver_encoding.specs.Encodings.{AreDisjuncts, HasDisjunct}
-use Rattle.resolver_encoding.specs.ReadState.{HasClause, has_direct, IsReadRequirement}
+use Rattle.resolver_encoding.specs.Called.{IsCalledBy, IsCalledByEach, IsNamedIn, IsPlainlyNamed}
+use Rattle.resolver_encoding.specs.Encodings.{AreDisjuncts, AsksFor, AsksWithin, IsAskStep, IsConstraintRead, IsDisjunctRead, IsEncodingOf, IsLeft, IsReadStep, IsStep, Notes}
+use Rattle.resolver_encoding.specs.Read.{IsForbidden, forbidden_helped}
+use Rattle.resolver_encoding.specs.ReadState.{Deferred, HasClause, has_gate, IsReadRequirement}
 use Rattle.resolver_encoding.specs.Statements.{AllMeet, Implies}
-use Rattle.resolver_encoding.proofs.Lists.{cons_cases, here, none_in, there}
+use Rattle.resolver_encoding.specs.Truth.{follows, is_plain}
+use Rattle.resolver_encoding.proofs.EncodingLemmas.{IsAskStep-weaker, IsEncodingOf-step, IsReadStep-of}
+use Rattle.resolver_encoding.proofs.ReadLemmas.{HasClause-within}
+use Rattle.resolver_encoding.proofs.Lists.{cons_cases, here, list_any-contains, none_in, there}
+use Rattle.resolver_encoding.proofs.Sound.{same_requirement-same}
 
 -- what holds of each image holds of each element
 pub All-unmap : {X Y : Type 0} (P : Y → Type 0) (f : X → Y) (xs : List X) → All P (map f xs) → All (λ x. P (f x)) xs
@@ -30,6 +40,13 @@ All-within P xs ys within all = All-weaker (Contains ys) P (λ x h. All-contains
 nothing_within : {X : Type 0} (ys : List X) → IsWithin ys [] → ys ≡ []
 nothing_within [] within = refl
 nothing_within (y ∷ ys) within = absurd (none_in y (within y (here y ys)))
+
+-- what a test says
+pub holds_if : (b : Bool) (A B : Type 0) → b ≡ true → MatchBool b A B → A
+holds_if b A B is h = let Says : Bool → Type 0 = λ x. MatchBool x A B in subst Says is h
+
+pub fails_if : (b : Bool) (A B : Type 0) → b ≡ false → MatchBool b A B → B
+fails_if b A B is h = let Says : Bool → Type 0 = λ x. MatchBool x A B in subst Says is h
 
 module _ {N S : Type 0} (u : Universe N S) where
   taken_of : (set : List S) (v : VersionSetId) → Meets (matching u v) set → IsTaken u (Contains set) v
@@ -64,48 +81,124 @@ module _ {N S : Type 0} (u : Universe N S) where
       subst Some_holds (sym are) (record { disjunct = []; listed = (0, omega arith, refl); all_taken = All-nil (IsTaken u (Contains set)) })
   disjunct_met set (Some c) lists are holds = disjunct_holds u (Contains set) c lists are holds
 
-  module _ (kinds : List (ClauseKind N S)) (by : By S) (requirement : Requirement) where
-    abbrev Has : List VersionSetId → Type 0
-    Has list = HasDisjunct u kinds by requirement list
+  module _ (notes : Notes N S) (by : By S) (requirement : Requirement) where
+    abbrev Given : List VersionSetId → Type 0
+    Given list = IsDisjunctRead notes by requirement list
 
-    -- the disjuncts of the clauses
-    abbrev chosen : (lists : List (List VersionSetId)) → All (HasDisjunct u kinds by requirement) lists → List (List VersionSetId)
+    -- the disjuncts of the clauses, and those that are put off
+    abbrev chosen : (lists : List (List VersionSetId)) → All (IsDisjunctRead notes by requirement) lists → List (List VersionSetId)
     chosen [] all = []
     chosen (list ∷ lists) all =
-        let first : HasDisjunct u kinds by requirement list = All-head (HasDisjunct u kinds by requirement) list lists all in
-        first.disjunct.items ∷ chosen lists (All-tail (HasDisjunct u kinds by requirement) list lists all)
+        let first : IsDisjunctRead notes by requirement list = All-head (IsDisjunctRead notes by requirement) list lists all in
+        first.kept ∷ chosen lists (All-tail (IsDisjunctRead notes by requirement) list lists all)
 
-    chosen_each : (lists : List (List VersionSetId)) (all : All (HasDisjunct u kinds by requirement) lists) (list : List VersionSetId) → Contains (chosen lists all) list → HasClause kinds by list requirement
+    abbrev Either : List VersionSetId → Type 0
+    Either list = HasClause notes.kinds by list requirement ⊎ IsLeft notes (record { by = by; disjunct = list; requirement = requirement })
+
+    chosen_each : (lists : List (List VersionSetId)) (all : All (IsDisjunctRead notes by requirement) lists) (list : List VersionSetId) → Contains (chosen lists all) list → Either list
     chosen_each [] all list h = absurd (none_in list h)
     chosen_each (one ∷ lists) all list h =
-        let first : HasDisjunct u kinds by requirement one = All-head (HasDisjunct u kinds by requirement) one lists all in
-        let rest = All-tail (HasDisjunct u kinds by requirement) one lists all in
+        let first : IsDisjunctRead notes by requirement one = All-head (IsDisjunctRead notes by requirement) one lists all in
+        let rest = All-tail (IsDisjunctRead notes by requirement) one lists all in
+        let Is : List VersionSetId → Type 0 = λ l. Either l in
         ⊎_elim
-        (λ (is : first.disjunct.items ≡ list). has_direct first.disjunct is first.listed)
+        (λ (is : first.kept ≡ list). subst Is is first.either)
         (λ (later : Contains (chosen lists rest) list). chosen_each lists rest list later)
-        (cons_cases first.disjunct.items (chosen lists rest) list h)
+        (cons_cases first.kept (chosen lists rest) list h)
 
-    chosen_of : (lists : List (List VersionSetId)) (all : All (HasDisjunct u kinds by requirement) lists) (list : List VersionSetId) → Contains lists list → (mine : List VersionSetId) × Contains (chosen lists all) mine × HaveSameMembers mine list
+    chosen_of : (lists : List (List VersionSetId)) (all : All (IsDisjunctRead notes by requirement) lists) (list : List VersionSetId) → Contains lists list → (mine : List VersionSetId) × Contains (chosen lists all) mine × HaveSameMembers mine list
     chosen_of [] all list h = absurd (none_in list h)
     chosen_of (one ∷ lists) all list h =
-        let first : HasDisjunct u kinds by requirement one = All-head (HasDisjunct u kinds by requirement) one lists all in
-        let rest = All-tail (HasDisjunct u kinds by requirement) one lists all in
-        let Same : List VersionSetId → Type 0 = λ l. HaveSameMembers first.disjunct.items l in
+        let first : IsDisjunctRead notes by requirement one = All-head (IsDisjunctRead notes by requirement) one lists all in
+        let rest = All-tail (IsDisjunctRead notes by requirement) one lists all in
+        let Same : List VersionSetId → Type 0 = λ l. HaveSameMembers first.kept l in
         ⊎_elim
-        (λ (is : one ≡ list). (first.disjunct.items, here first.disjunct.items (chosen lists rest), subst Same is first.same))
-        (λ (later : Contains lists list). let w = chosen_of lists rest list later in (w.0, there first.disjunct.items (chosen lists rest) w.0 w.1, w.2))
+        (λ (is : one ≡ list). (first.kept, here first.kept (chosen lists rest), subst Same is first.same))
+        (λ (later : Contains lists list). let w = chosen_of lists rest list later in (w.0, there first.kept (chosen lists rest) w.0 w.1, w.2))
         (cons_cases one lists list h)
 
-  -- a requirement each of whose disjuncts has a clause
-  pub requirement_read : (kinds : List (ClauseKind N S)) (by : By S) (r : ConditionalRequirement) (lists : List (List VersionSetId)) → AreDisjuncts u r.condition lists → All (HasDisjunct u kinds by r.requirement) lists → IsReadRequirement u kinds [] by r
-  requirement_read kinds by r lists are all = record {
-    disjuncts = chosen kinds by r.requirement lists all;
+  -- a requirement each of whose disjuncts has a clause or is put off
+  pub requirement_read : (notes : Notes N S) (by : By S) (r : ConditionalRequirement) (lists : List (List VersionSetId)) → AreDisjuncts u r.condition lists → All (IsDisjunctRead notes by r.requirement) lists → IsReadRequirement u notes.kinds (IsLeft notes) by r
+  requirement_read notes by r lists are all = record {
+    disjuncts = chosen notes by r.requirement lists all;
     complete = λ set active.
         let some = disjunct_met set r.condition lists are active in
-        let mine = chosen_of kinds by r.requirement lists all some.disjunct some.listed in
+        let mine = chosen_of notes by r.requirement lists all some.disjunct some.listed in
         (mine.0, mine.1, all_met set mine.0 (All-within (IsTaken u (Contains set)) some.disjunct mine.0 mine.2.left_within some.all_taken));
-    each = λ list h. inl (chosen_each kinds by r.requirement lists all list h);
+    each = λ list h. chosen_each notes by r.requirement lists all list h;
   }
+
+  -- a disjunct's clause or its place among what is put off stays when the notes grow
+  pub IsDisjunctRead-grown : (old new : Notes N S) → IsWithin old.kinds new.kinds → ((e : Deferred S) → IsLeft old e → IsLeft new e) → (by : By S) (r : Requirement) (list : List VersionSetId) → IsDisjunctRead old by r list → IsDisjunctRead new by r list
+  IsDisjunctRead-grown old new kinds left by r list h = record {
+    kept = h.kept;
+    same = h.same;
+    either = ⊎_elim (λ has. inl (HasClause-within u old.kinds new.kinds kinds by h.kept r has)) (λ later. inr (left _ later)) h.either;
+  }
+
+  -- a requirement without a condition that has its clauses
+  pub plain_read : (kinds : List (ClauseKind N S)) (Left : Deferred S → Type 0) (by : By S) (r : ConditionalRequirement) → HasClause kinds by [] r.requirement → IsReadRequirement u kinds Left by r
+  plain_read kinds Left by r has =
+      let Has : List VersionSetId → Type 0 = λ list. HasClause kinds by list r.requirement in
+      record {
+        disjuncts = [] ∷ [];
+        complete = λ set active. ([], here [] [], All-nil (λ xs. Meets xs set));
+        each = λ list h. inl (subst Has (sym (only_one list ([] ∷ []) refl h)) has);
+      }
+
+  -- what one of the requirements calls for
+  pub called_here : (set : List S) (list : List ConditionalRequirement) (i : ℕ) (d : ConditionalRequirement) (n : N) → i < length list → IsCalledBy u set (get_or list i d) n → IsCalledByEach u set list n
+  called_here set list i d n below called = (get_or list i d, All-get_or (Contains list) list i d below (All-contains_itself list), called)
+
+  pub plainly_here : (list : List ConditionalRequirement) (i : ℕ) (d : ConditionalRequirement) (n : N) → i < length list → IsPlainlyNamed u (get_or list i d) n → (r : ConditionalRequirement) × Contains list r × IsPlainlyNamed u r n
+  plainly_here list i d n below named = (get_or list i d, All-get_or (Contains list) list i d below (All-contains_itself list), named)
+
+  -- a requirement without a condition is active
+  pub plainly_called : (set : List S) (requirements : List ConditionalRequirement) (n : N) → (r : ConditionalRequirement) × Contains requirements r × IsPlainlyNamed u r n → IsCalledByEach u set requirements n
+  plainly_called set requirements n (r, listed, plain) =
+      let Holds : Option ConditionId → Type 0 = λ c. OptionalConditionHolds u (Contains set) c in
+      (r, listed, (subst Holds (sym plain.0) tt, plain.1))
+
+  -- the same for a requirement of a solvable
+  pub plain_has : (kinds : List (ClauseKind N S)) (Left : Deferred S → Type 0) (by : By S) (requirer : S) (r : ConditionalRequirement) → by ≡ BySolvable requirer → HasClause kinds (BySolvable requirer) [] r.requirement → IsReadRequirement u kinds Left by r
+  plain_has kinds Left by requirer r same has =
+      let Read : By S → Type 0 = λ b. IsReadRequirement u kinds Left b r in
+      subst Read (sym same) (plain_read kinds Left (BySolvable requirer) r has)
+
+  pub plain_step : (Defers : Deferred S → Type 0) (set : List S) (by : By S) (requirer : S) (r : ConditionalRequirement) (old new : Notes N S) → by ≡ BySolvable requirer → r.condition ≡ None →
+      IsAskStep u (IsNamedIn u (version_sets u r.requirement)) (AsksFor u (BySolvable requirer) (record { condition = None; requirement = r.requirement })) old new → IsReadStep u Defers (IsCalledBy u set r) (AsksFor u by r) old new
+  plain_step Defers set by requirer r old new same none step =
+      let Holds : Option ConditionId → Type 0 = λ c. OptionalConditionHolds u (Contains set) c in
+      let plain : r ≡ record { condition = None; requirement = r.requirement } = λ i. record { condition = none i; requirement = r.requirement } in
+      let Asks : By S → ConditionalRequirement → Demands → Type 0 = λ b q root. AsksFor u b q root in
+      IsReadStep-of u Defers (IsCalledBy u set r) (AsksFor u by r) old new
+      (IsAskStep-weaker u (IsNamedIn u (version_sets u r.requirement)) (IsCalledBy u set r) (λ n named. (subst Holds (sym none) tt, named))
+      (AsksFor u (BySolvable requirer) (record { condition = None; requirement = r.requirement })) (AsksFor u by r) (λ root asks. subst (λ q. Asks (BySolvable requirer) q root) plain (subst (λ b. Asks b r root) same asks)) old new step)
+
+  -- a condition holds where a disjunct of it is met
+  pub active_where : (set : List S) (when : List (List S)) (c : Option ConditionId) → Implies u when c → AllMeet set when → OptionalConditionHolds u (Contains set) c
+  active_where set when None implies met = tt
+  active_where set when (Some c) implies met = implies set met
+
+  -- a gate follows from a solvable that asks for its requirement
+  pub gate_follows : (codes : N → ℕ → S → Bool) (s : S) (r : Requirement) → Contains (demands_of (u.needs s)).requirements (record { condition = None; requirement = r }) → follows u codes (Gate r) s ≡ true
+  gate_follows codes s r asks =
+      let plain : ConditionalRequirement = record { condition = None; requirement = r } in
+      list_any-contains (is_plain r) (demands_of (u.needs s)).requirements plain asks (same_requirement-same r)
+
+  -- a requirement of a solvable from which its gate follows
+  pub gate_read : (Premise : Demands → Type 0) (old new : Notes N S) (s : S) (r : Requirement) → IsEncodingOf u Premise old → IsStep u Premise old new →
+      Contains new.gates r → Contains new.kinds (AnyOf (Gate r) s) → HasClause new.kinds (BySolvable s) [] r
+  gate_read Premise old new s r before step gate implied =
+      let now = IsEncodingOf-step u Premise old new before step in
+      has_gate s refl refl implied (now.encoding.gated r gate)
+
+  -- a constraint of the root or of a solvable that is apart from its helper
+  pub constraint_read : (old new : Notes N S) (by : By S) (v : VersionSetId) → IsEncodingOf u (AsksWithin u by v) old → IsStep u (AsksWithin u by v) old new →
+      Contains new.constrained v → Contains new.kinds (ConstrainsParent by v) → IsConstraintRead u new.kinds by v
+  constraint_read old new by v before step helped parent =
+      let now = IsEncodingOf-step u (AsksWithin u by v) old new before step in
+      All-weaker (Contains (others u v)) (IsForbidden new.kinds by v) (λ s h. forbidden_helped parent (now.encoding.excluded v helped s h)) (others u v) (All-contains_itself (others u v))
 
 -- the list in a vector
 abbrev pub items_of : {X : Type 0} → Vec X Global → List X

@@ -1,5 +1,5 @@
 -- What an encoding of everything that was read holds.
-use Rattle.std.specs.Prelude.{ℕ, ◌≡◌, ◌≢◌, ◌⊎◌, List, Option, Some, None, [], ◌∷◌, ◌++◌, Contains, All, Vec, length, slice_get, ⊤}
+use Rattle.std.specs.Prelude.{ℕ, ◌≡◌, ◌≢◌, ◌⊎◌, ◌≤◌, ◌^◌, Bool, List, map, Option, Some, None, [], ◌∷◌, ◌++◌, Contains, All, Vec, length, slice_get, ⊤}
 use Rattle.std.specs.List.{AllZip}
 use Rattle.std.specs.declared.alloc.Global.{Global}
 use Rattle.resolver_clause_store.specs.Lists.{HaveSameMembers, IsWithin}
@@ -21,16 +21,21 @@ use Rattle.resolver_clause_store.specs.declared.StringId.{StringId}
 use Rattle.resolver_clause_store.specs.declared.VersionSetId.{VersionSetId}
 use Rattle.resolver_report.specs.TrueRules.{demands_by}
 use Rattle.resolver_encoding.specs.Atoms.{Atom}
-use Rattle.resolver_encoding.specs.Groups.{AreGroups, IsNamed}
-use Rattle.resolver_encoding.specs.Read.{AreApart}
-use Rattle.resolver_encoding.specs.ReadState.{IsRead, IsReadRequirement}
-use Rattle.resolver_encoding.specs.Truth.{AreDue, IsTrueClause, no_codes}
+use Rattle.resolver_encoding.specs.Groups.{AreGroups, IsAt, IsNamed}
+use Rattle.resolver_encoding.specs.Codes.{bit}
+use Rattle.resolver_encoding.specs.Read.{IsForbidden}
+use Rattle.resolver_encoding.specs.ReadState.{Deferred, HasClause, IsReadRequirement}
+use Rattle.resolver_encoding.specs.Statements.{AllMeet, Implies}
+use Rattle.resolver_encoding.specs.Truth.{AreCodes, AreDue, IsTrueClause}
 use Rattle.resolver_encoding.specs.Values.{AreEncoded, IsAtom}
 use Rattle.resolver_encoding.specs.declared.groups.Groups.{Groups}
 
 -- what each variable stands for, the literals and the kind of each clause, the numbers of the clauses that ask for
 -- candidates, the candidates that were met, those by their names, the packages that were asked, the version sets of
--- conditions whose helper has its clauses, the exempt solvables, and how many variables and clauses there may be
+-- conditions whose helper has its clauses, the requirements that have a gate, the version sets of constraints whose
+-- helper has its clauses, the solvables that were read, the disjuncts that were put off, where none is left once it was
+-- taken out, the numbers of these by the packages of their version sets, the exempt solvables, and how many variables and
+-- clauses there may be
 pub record Notes (N S : Type 0) : Type 0 where
   pub origins : List (Origin N S)
   pub table : List (Vec Literal Global)
@@ -40,42 +45,83 @@ pub record Notes (N S : Type 0) : Type 0 where
   pub groups : Groups N S
   pub asked : List N
   pub helped : List VersionSetId
+  pub gates : List Requirement
+  pub constrained : List VersionSetId
+  pub read : List S
+  pub deferred : List (Option (Deferred S))
+  pub waiting : Groups N ℕ
   pub exempt : List S
   pub variable_limit : ℕ
   pub clause_limit : ℕ
+
+-- the disjunct is put off, and was not taken out
+abbrev pub IsLeft : {N S : Type 0} → Notes N S → Deferred S → Type 0
+IsLeft notes e = Contains notes.deferred (Some e)
+
+-- a requirement with a condition that holds where the disjunct is met
+abbrev pub IsTrueUnder : {N S : Type 0} → Universe N S → By S → List VersionSetId → Requirement → Demands → Type 0
+IsTrueUnder u by disjunct requirement root =
+    (r : ConditionalRequirement) × Contains (demands_by u root by).requirements r × (r.requirement ≡ requirement) × Implies u (map (matching u) disjunct) r.condition
+
+-- what a disjunct that is put off stands for
+pub record IsTrueEntry {N S : Type 0} (u : Universe N S) (root : Demands) (e : Deferred S) : Type 0 where
+  pub is_true : IsTrueUnder u e.by e.disjunct e.requirement root
+  pub once : AreDistinct e.disjunct
 
 -- the clause asks for candidates
 abbrev pub AsksForCandidates : {N S : Type 0} → ClauseKind N S → Type 0
 AsksForCandidates {N} {S} kind = ((by : By S) × (disjunct : Vec VersionSetId Global) × (r : Requirement) × (kind ≡ Requires by disjunct r)) ⊎ ((r : Requirement) × (kind ≡ GateRequires r))
 
--- it states a rule by itself, or that a condition's helper follows
-abbrev pub IsDirect : {N S : Type 0} → ClauseKind N S → Type 0
-IsDirect InstallRoot = ⊤
-IsDirect (Requires by disjunct r) = ⊤
-IsDirect (AnyOf (ConditionHelper v) s) = ⊤
-IsDirect (AnyOf Root s) = ⊥
-IsDirect (AnyOf (Solvable t) s) = ⊥
-IsDirect (AnyOf (Bit n i) s) = ⊥
-IsDirect (AnyOf (Gate r) s) = ⊥
-IsDirect (AnyOf (ConstraintHelper v) s) = ⊥
-IsDirect (Constrains by v s) = ⊤
-IsDirect (ForbidMultipleInstances n s t) = ⊤
-IsDirect (GateRequires r) = ⊥
-IsDirect (ConstrainsExcluded s v) = ⊥
-IsDirect (ConstrainsParent by v) = ⊥
-IsDirect (HasBit n s i b) = ⊥
-IsDirect (Lock s t) = ⊤
-IsDirect (Excluded s reason) = ⊤
+-- what follows from a solvable here is a gate or the helper of a condition
+abbrev pub HasUsualHelper : {N S : Type 0} → ClauseKind N S → Type 0
+HasUsualHelper (AnyOf (ConditionHelper v) s) = ⊤
+HasUsualHelper (AnyOf (Gate r) s) = ⊤
+HasUsualHelper (AnyOf Root s) = ⊥
+HasUsualHelper (AnyOf (Solvable t) s) = ⊥
+HasUsualHelper (AnyOf (Bit n i) s) = ⊥
+HasUsualHelper (AnyOf (ConstraintHelper v) s) = ⊥
+HasUsualHelper InstallRoot = ⊤
+HasUsualHelper (Requires by disjunct r) = ⊤
+HasUsualHelper (Constrains by v s) = ⊤
+HasUsualHelper (ForbidMultipleInstances n s t) = ⊤
+HasUsualHelper (GateRequires r) = ⊤
+HasUsualHelper (ConstrainsExcluded s v) = ⊤
+HasUsualHelper (ConstrainsParent by v) = ⊤
+HasUsualHelper (HasBit n s i b) = ⊤
+HasUsualHelper (Lock s t) = ⊤
+HasUsualHelper (Excluded s reason) = ⊤
 
--- The clauses are true, and leave nothing out of what they bring with them. Of the packages that are being asked some
--- locks and exclusions may be there already.
-pub record IsEncodingWhile {N S : Type 0} (u : Universe N S) (asking : List N) (root : Demands) (notes : Notes N S) : Type 0 where
+-- a solvable that gets the clauses of its code: it will be the one with this number under its name
+pub record Coding (N S : Type 0) : Type 0 where
+  pub name : N
+  pub number : ℕ
+  pub instance : S
+
+-- what is in progress: packages that are being asked, and solvables that are getting their codes
+pub record Doing (N S : Type 0) : Type 0 where
+  pub asking : List N
+  pub coding : List (Coding N S)
+
+abbrev pub idle : {N S : Type 0} → Doing N S
+idle = record { asking = []; coding = [] }
+
+abbrev pub asking_for : {N S : Type 0} → N → Doing N S
+asking_for n = record { asking = n ∷ []; coding = [] }
+
+abbrev pub coding_for : {N S : Type 0} → N → ℕ → S → Doing N S
+coding_for n k s = record { asking = []; coding = record { name = n; number = k; instance = s } ∷ [] }
+
+-- The clauses are true, and leave nothing out of what they bring with them. Of what is in progress some clauses may be
+-- there already.
+pub record IsEncodingWhile {N S : Type 0} (u : Universe N S) (doing : Doing N S) (root : Demands) (notes : Notes N S) : Type 0 where
   pub root_first : slice_get notes.origins 0 ≡ Some Root
   pub distinct : AreDistinct notes.origins
   pub encoded : AreEncoded u notes.origins notes.table notes.kinds
-  pub each_true : All (IsTrueClause u no_codes root) notes.kinds
-  pub each_direct : All IsDirect notes.kinds
-  pub due : AreDue u (asking ++ notes.asked) notes.exempt notes.kinds
+  pub codes : N → ℕ → S → Bool
+  pub own_codes : AreCodes u codes
+  pub each_true : All (IsTrueClause u codes root) notes.kinds
+  pub each_usual : All HasUsualHelper notes.kinds
+  pub due : AreDue u (doing.asking ++ notes.asked) notes.exempt notes.kinds
   pub installs : Contains notes.kinds InstallRoot
   -- the numbers are just those of the clauses that ask for candidates
   pub listed : (n : ℕ) (kind : ClauseKind N S) → slice_get notes.kinds n ≡ Some kind → AsksForCandidates kind → Contains notes.requirements n
@@ -85,45 +131,101 @@ pub record IsEncodingWhile {N S : Type 0} (u : Universe N S) (asking : List N) (
   pub packages : (by : By S) (disjunct : Vec VersionSetId Global) (r : Requirement) → Contains notes.kinds (Requires by disjunct r) → (v : VersionSetId) → Contains (version_sets u r) v → Contains notes.asked (u.version_set_name v)
   pub candidates : (by : By S) (disjunct : Vec VersionSetId Global) (r : Requirement) → Contains notes.kinds (Requires by disjunct r) → (s : S) → Contains (requirement_candidates u r) s → Contains notes.seen s
   pub once : (by : By S) (disjunct : Vec VersionSetId Global) (r : Requirement) → Contains notes.kinds (Requires by disjunct r) → AreDistinct disjunct.items
-  -- of each version set that has its helper
+  -- of each gate
+  pub gate_packages : (r : Requirement) → Contains notes.kinds (GateRequires r) → (v : VersionSetId) → Contains (version_sets u r) v → Contains notes.asked (u.version_set_name v)
+  pub gate_candidates : (r : Requirement) → Contains notes.kinds (GateRequires r) → (s : S) → Contains (requirement_candidates u r) s → Contains notes.seen s
+  pub gated : (r : Requirement) → Contains notes.gates r → Contains notes.kinds (GateRequires r)
+  -- of each version set of a constraint that has its helper
+  pub excluded : (v : VersionSetId) → Contains notes.constrained v → (s : S) → Contains (others u v) s → Contains notes.kinds (ConstrainsExcluded s v)
+  -- of each version set of a condition that has its helper
   pub follow : (v : VersionSetId) → Contains notes.helped v → (s : S) → Contains (matching u v) s → Contains notes.kinds (AnyOf (ConditionHelper v) s)
   -- of each package that was asked for
   pub locks : (s t : S) → Contains notes.asked (u.name s) → (Contains notes.exempt s → ⊥) → (u.package_named (u.name s)).locked ≡ Some t → Contains (u.package_named (u.name s)).listed s → s ≢ t → Contains notes.kinds (Lock t s)
   pub exclusions : (s : S) (reason : StringId) → Contains notes.asked (u.name s) → (Contains notes.exempt s → ⊥) → Contains (u.package_named (u.name s)).excluded (s, reason) → Contains notes.kinds (Excluded s reason)
-  -- of each that was met, and of each two
+  -- of each that was met
   pub registered : (s : S) → Contains notes.seen s → Contains notes.origins (Solvable s)
-  pub instances : (s t : S) → Contains notes.seen s → Contains notes.seen t → u.name s ≡ u.name t → s ≢ t → AreApart notes.kinds (u.name s) s t
+  -- the code of a solvable is its number under its name, and it has a clause for each digit that some number there has
+  pub placed : (n : N) (k : ℕ) (s : S) → IsAt notes.groups n k s → (i : ℕ) → codes n i s ≡ bit k i
+  pub coding : (c : Coding N S) → Contains doing.coding c → (i : ℕ) → codes c.name i c.instance ≡ bit c.number i
+  pub coded : (n : N) (s : S) (i : ℕ) (b : Bool) → Contains notes.kinds (HasBit n s i b) → Contains notes.seen s ⊎ Contains (map (λ (c : Coding N S). c.instance) doing.coding) s
+  pub digits : (n : N) (j k : ℕ) (s t : S) → IsAt notes.groups n j s → IsAt notes.groups n k t → (i : ℕ) → 2 ^ i ≤ k → Contains notes.kinds (HasBit n s i (bit j i))
   -- those that were met stand under their names, and no others
   pub sound_groups : AreGroups notes.groups
   pub grouped : (s : S) → Contains notes.seen s → IsNamed notes.groups (u.name s) s
   pub members : (n : N) (s : S) → IsNamed notes.groups n s → (u.name s ≡ n) × Contains notes.seen s
+  -- of each disjunct that is put off
+  pub left_true : (e : Deferred S) → IsLeft notes e → IsTrueEntry u root e
+  pub indexed : (i : ℕ) (e : Deferred S) → slice_get notes.deferred i ≡ Some (Some e) → (v : VersionSetId) → Contains e.disjunct v → IsNamed notes.waiting (u.version_set_name v) i
+  pub sound_waiting : AreGroups notes.waiting
 
--- no package is being asked
+-- nothing is in progress
 abbrev pub IsEncoding : {N S : Type 0} → Universe N S → Demands → Notes N S → Type 0
-IsEncoding u root notes = IsEncodingWhile u [] root notes
+IsEncoding u root notes = IsEncodingWhile u idle root notes
 
--- and all that the root and those that were met ask for has its clauses
-pub record IsAllRead {N S : Type 0} (u : Universe N S) (root : Demands) (notes : Notes N S) : Type 0 where
+-- the notes are an encoding of a problem of which the premise holds
+pub record IsEncodingOf {N S : Type 0} (u : Universe N S) (Premise : Demands → Type 0) (notes : Notes N S) : Type 0 where
+  pub root : Demands
+  pub premise : Premise root
   pub encoding : IsEncoding u root notes
-  pub read : IsRead u root notes.kinds [] notes.seen notes.asked notes.seen notes.exempt
 
 -- the first list, and then others
 pub record Extends {X : Type 0} (xs ys : List X) : Type 0 where
   pub more : List X
   pub is : ys ≡ xs ++ more
 
--- The notes grew, and where the premise holds of the root they are still right. Some packages are being asked.
-pub record IsStepWhile {N S : Type 0} (u : Universe N S) (asking : List N) (Premise : Demands → Type 0) (old new : Notes N S) : Type 0 where
+-- The notes grew, and where the premise holds of the root they are still right. Something may be in progress.
+pub record IsStepWhile {N S : Type 0} (u : Universe N S) (doing : Doing N S) (Premise : Demands → Type 0) (old new : Notes N S) : Type 0 where
   pub origins : Keeps old.origins new.origins
+  pub table : Extends old.table new.table
   pub kinds : IsWithin old.kinds new.kinds
+  pub requirements : Extends old.requirements new.requirements
   pub seen : Extends old.seen new.seen
-  pub asked : IsWithin old.asked new.asked
+  pub asked : new.asked ≡ old.asked
   pub helped : IsWithin old.helped new.helped
+  pub gates : IsWithin old.gates new.gates
+  pub constrained : IsWithin old.constrained new.constrained
+  pub read : new.read ≡ old.read
+  pub deferred : new.deferred ≡ old.deferred
+  pub waiting : new.waiting ≡ old.waiting
   pub exempt : new.exempt ≡ old.exempt
-  pub keeps : (root : Demands) → Premise root → IsEncodingWhile u asking root old → IsEncodingWhile u asking root new
+  pub keeps : (root : Demands) → Premise root → IsEncodingWhile u doing root old → IsEncodingWhile u doing root new
 
 abbrev pub IsStep : {N S : Type 0} → Universe N S → (Demands → Type 0) → Notes N S → Notes N S → Type 0
-IsStep u Premise old new = IsStepWhile u [] Premise old new
+IsStep u Premise old new = IsStepWhile u idle Premise old new
+
+-- The notes grew, and only called packages were asked. Nothing was put off.
+pub record IsAskStep {N S : Type 0} (u : Universe N S) (Called : N → Type 0) (Premise : Demands → Type 0) (old new : Notes N S) : Type 0 where
+  pub origins : Keeps old.origins new.origins
+  pub table : Extends old.table new.table
+  pub kinds : IsWithin old.kinds new.kinds
+  pub requirements : Extends old.requirements new.requirements
+  pub seen : Extends old.seen new.seen
+  pub asked : IsWithin old.asked new.asked
+  pub called : (n : N) → Contains new.asked n → Contains old.asked n ⊎ Called n
+  pub read : new.read ≡ old.read
+  pub deferred : new.deferred ≡ old.deferred
+  pub waiting : new.waiting ≡ old.waiting
+  pub exempt : new.exempt ≡ old.exempt
+  pub keeps : (root : Demands) → Premise root → IsEncoding u root old → IsEncoding u root new
+
+-- a disjunct of a requirement of the root or of the solvable that is not met in the set
+pub record IsUnmet {N S : Type 0} (u : Universe N S) (set : List S) (by : By S) (e : Deferred S) : Type 0 where
+  pub of : e.by ≡ by
+  pub never : AllMeet set (map (matching u) e.disjunct) → ⊥
+
+-- The notes grew, only called packages were asked, and only such disjuncts were put off.
+pub record IsReadStep {N S : Type 0} (u : Universe N S) (Defers : Deferred S → Type 0) (Called : N → Type 0) (Premise : Demands → Type 0) (old new : Notes N S) : Type 0 where
+  pub origins : Keeps old.origins new.origins
+  pub table : Extends old.table new.table
+  pub kinds : IsWithin old.kinds new.kinds
+  pub requirements : Extends old.requirements new.requirements
+  pub asked : IsWithin old.asked new.asked
+  pub called : (n : N) → Contains new.asked n → Contains old.asked n ⊎ Called n
+  pub read : new.read ≡ old.read
+  pub deferred : Extends old.deferred new.deferred
+  pub defers : (e : Deferred S) → IsLeft new e → IsLeft old e ⊎ Defers e
+  pub exempt : new.exempt ≡ old.exempt
+  pub keeps : (root : Demands) → Premise root → IsEncoding u root old → IsEncoding u root new
 
 -- as many variables, and as many clauses, may be there as before
 pub record KeepsLimits {N S : Type 0} (old new : Notes N S) : Type 0 where
@@ -145,6 +247,11 @@ pub record IsUnread {N S : Type 0} (notes : Notes N S) : Type 0 where
   pub no_groups : (n : N) (s : S) → IsNamed notes.groups n s → ⊥
   pub none_asked : notes.asked ≡ []
   pub none_helped : notes.helped ≡ []
+  pub no_gates : notes.gates ≡ []
+  pub none_constrained : notes.constrained ≡ []
+  pub none_read : notes.read ≡ []
+  pub none_deferred : notes.deferred ≡ []
+  pub sound_waiting : AreGroups notes.waiting
 
 -- literals that are these atoms stand behind the old ones
 pub record Adds {N S : Type 0} (origins : List (Origin N S)) (old new : List Literal) (atoms : List (Atom N S)) : Type 0 where
@@ -173,25 +280,26 @@ pub record AddsRequirement {N S : Type 0} (old new : Notes N S) (kind : ClauseKi
 
 -- what is read of a requirement, of a constraint, of the root or a solvable
 module _ {N S : Type 0} (u : Universe N S) (kinds : List (ClauseKind N S)) where
-  -- a clause says it for a disjunct
-  pub record HasDisjunct (by : By S) (requirement : Requirement) (list : List VersionSetId) : Type 0 where
-    pub disjunct : Vec VersionSetId Global
-    pub same : HaveSameMembers disjunct.items list
-    pub listed : Contains kinds (Requires by disjunct requirement)
-
-  -- a clause forbids each candidate that the constraint does not take
+  -- clauses forbid each candidate that the constraint does not take
   abbrev pub IsConstraintRead : By S → VersionSetId → Type 0
-  IsConstraintRead by v = All (λ s. Contains kinds (Constrains by v s)) (others u v)
+  IsConstraintRead by v = All (IsForbidden kinds by v) (others u v)
 
-  -- the clauses say all that the root or a solvable asks for
-  pub record AreDemandsRead (by : By S) (demands : Demands) : Type 0 where
-    pub requirements : All (IsReadRequirement u kinds [] by) demands.requirements
-    pub constraints : All (IsConstraintRead by) demands.constraints
+-- the requirement has its clauses under the disjunct, without repeats, or that is put off
+pub record IsDisjunctRead {N S : Type 0} (notes : Notes N S) (by : By S) (requirement : Requirement) (list : List VersionSetId) : Type 0 where
+  pub kept : List VersionSetId
+  pub same : HaveSameMembers kept list
+  pub either : HasClause notes.kinds by kept requirement ⊎ IsLeft notes (record { by = by; disjunct = kept; requirement = requirement })
 
-  -- the clauses say what a solvable asks for, or that nobody knows it
-  abbrev pub AreNeedsRead : S → Needs → Type 0
-  AreNeedsRead s (known d) = AreDemandsRead (BySolvable s) d
-  AreNeedsRead s (unknown reason) = Contains kinds (Excluded s reason)
+-- the clauses say all that the root or a solvable asks for, but for disjuncts that are put off
+pub record AreDemandsRead {N S : Type 0} (u : Universe N S) (notes : Notes N S) (by : By S) (demands : Demands) : Type 0 where
+  pub requirements : All (IsReadRequirement u notes.kinds (IsLeft notes) by) demands.requirements
+  pub constraints : All (IsConstraintRead u notes.kinds by) demands.constraints
+  pub packages : All (λ v. Contains notes.asked (u.version_set_name v)) demands.constraints
+
+-- the clauses say what a solvable asks for, or that nobody knows it
+abbrev pub AreNeedsRead : {N S : Type 0} → Universe N S → Notes N S → S → Needs → Type 0
+AreNeedsRead u notes s (known d) = AreDemandsRead u notes (BySolvable s) d
+AreNeedsRead u notes s (unknown reason) = Contains notes.kinds (Excluded s reason)
 
 -- a clause forbids each listed candidate other than the locked one, unless it is exempt
 abbrev pub IsLockRead : {N S : Type 0} → List (ClauseKind N S) → List S → Option S → List S → Type 0

@@ -1,5 +1,5 @@
 -- Solvables by the names of their packages.
-use Rattle.std.specs.Prelude.{ℕ, ◌≡◌, ◌⊎◌, List, [], Some, Contains, Vec, length, slice_get}
+use Rattle.std.specs.Prelude.{ℕ, ◌≡◌, ◌<◌, ◌⊎◌, List, [], Some, Contains, Vec, length, slice_get}
 use Rattle.std.specs.Option.{option_map_or}
 use Rattle.std.specs.declared.alloc.Global.{Global}
 use Rattle.resolver_clause_store.specs.Variables.{AreDistinct}
@@ -20,9 +20,21 @@ pub record IsNamed {N S : Type 0} (g : Groups N S) (n : N) (s : S) : Type 0 wher
   pub named : slice_get g.names.keys place ≡ Some n
   pub inside : Contains (group_at g.members.items place) s
 
+-- the solvable has this number in the group of the name
+pub record IsAt {N S : Type 0} (g : Groups N S) (n : N) (number : ℕ) (s : S) : Type 0 where
+  pub place : ℕ
+  pub named : slice_get g.names.keys place ≡ Some n
+  pub at : slice_get (group_at g.members.items place) number ≡ Some s
+
 -- one more solvable is in the group of the name
 pub record AddsNamed {N S : Type 0} (old new : Groups N S) (n : N) (s : S) : Type 0 where
   pub sound : AreGroups new
   pub earlier : (m : N) (t : S) → IsNamed old m t → IsNamed new m t
   pub here : IsNamed new n s
   pub only : (m : N) (t : S) → IsNamed new m t → IsNamed old m t ⊎ ((m ≡ n) × (t ≡ s))
+  -- its number is how many there were, and the others keep theirs
+  pub number : ℕ
+  pub here_at : IsAt new n number s
+  pub earlier_at : (m : N) (k : ℕ) (t : S) → IsAt old m k t → IsAt new m k t
+  pub only_at : (m : N) (k : ℕ) (t : S) → IsAt new m k t → IsAt old m k t ⊎ ((m ≡ n) × (k ≡ number) × (t ≡ s))
+  pub below : (k : ℕ) (t : S) → IsAt old n k t → k < number

@@ -7,9 +7,13 @@ pub mod ReadState
 pub mod TrailAtoms
 pub mod Core
 pub mod Groups
+pub mod Codes
+pub mod Sources
+pub mod Listing
 pub mod Refusals
 pub mod Encodings
 pub mod Trails
-pub mod Stated
 pub mod Notes
+pub mod Called
+pub mod SoFar
 pub mod TestProvider

@@ -1,9 +1,15 @@
 -- What an encoding has noted.
 use Rattle.std.specs.Prelude.{map}
+use Rattle.std.specs.Option.{option_map}
 use Rattle.resolver_clause_store.specs.Variables.{IsBounded as AreBounded, limit_in, origins_in}
 use Rattle.resolver_clause_store.specs.declared.RequirementClause.{RequirementClause}
 use Rattle.resolver_encoding.specs.Encodings.{Notes}
+use Rattle.resolver_encoding.specs.ReadState.{Deferred}
 use Rattle.resolver_encoding.specs.declared.encoding.Encoding.{Encoding}
+use Rattle.resolver_encoding.specs.declared.entries.Entry.{Entry}
+
+abbrev pub entry_of : {S : Type 0} → Entry S → Deferred S
+entry_of entry = record { by = entry.by; disjunct = entry.disjunct.items; requirement = entry.requirement }
 
 abbrev pub notes_in : {N S : Type 0} → Encoding N S → Notes N S
 notes_in e = record {
@@ -15,6 +21,11 @@ notes_in e = record {
   groups = e.groups;
   asked = e.asked.keys;
   helped = e.helped.keys;
+  gates = e.gates.keys;
+  constrained = e.constrained.keys;
+  read = e.read.keys;
+  deferred = map (option_map entry_of) e.deferred.items;
+  waiting = e.waiting;
   exempt = e.exempt.keys;
   variable_limit = limit_in e.variables;
   clause_limit = e.clause_limit;

@@ -30,17 +30,17 @@ pub data HasClause {N S : Type 0} (kinds : List (ClauseKind N S)) (by : By S) (l
   has_gate : (s : S) → by ≡ BySolvable s → list ≡ [] → Contains kinds (AnyOf (Gate r) s) → Contains kinds (GateRequires r) → HasClause kinds by list r
 
 -- the disjuncts of a requirement's condition, each with its clauses or deferred
-pub record IsReadRequirement {N S : Type 0} (u : Universe N S) (kinds : List (ClauseKind N S)) (deferred : List (Deferred S)) (by : By S) (r : ConditionalRequirement) : Type 0 where
+pub record IsReadRequirement {N S : Type 0} (u : Universe N S) (kinds : List (ClauseKind N S)) (IsLeft : Deferred S → Type 0) (by : By S) (r : ConditionalRequirement) : Type 0 where
   pub disjuncts : List (List VersionSetId)
   pub complete : (set : List S) → IsActive u (Contains set) r → (list : List VersionSetId) × Contains disjuncts list × AllMeet set (map (matching u) list)
   pub each : (list : List VersionSetId) → Contains disjuncts list →
-      HasClause kinds by list r.requirement ⊎ Contains deferred (record { by = by; disjunct = list; requirement = r.requirement })
+      HasClause kinds by list r.requirement ⊎ IsLeft (record { by = by; disjunct = list; requirement = r.requirement })
 
 -- the clauses are all that the rules ask of the root and of what was read
-pub record IsRead {N S : Type 0} (u : Universe N S) (root : Demands) (kinds : List (ClauseKind N S)) (deferred : List (Deferred S)) (read : List S) (asked : List N) (registered exempt : List S) : Type 0 where
+pub record IsRead {N S : Type 0} (u : Universe N S) (root : Demands) (kinds : List (ClauseKind N S)) (IsLeft : Deferred S → Type 0) (read : List S) (asked : List N) (registered exempt : List S) : Type 0 where
   pub installs : Contains kinds InstallRoot
   -- of each solvable that was read
-  pub requirements : (by : By S) (r : ConditionalRequirement) → IsPresent by read → Contains (demands_by u root by).requirements r → IsReadRequirement u kinds deferred by r
+  pub requirements : (by : By S) (r : ConditionalRequirement) → IsPresent by read → Contains (demands_by u root by).requirements r → IsReadRequirement u kinds IsLeft by r
   pub constraints : (by : By S) (v : VersionSetId) (s : S) → IsPresent by read → Contains (demands_by u root by).constraints v → Contains (others u v) s → IsForbidden kinds by v s
   pub unknowns : (s : S) (reason : StringId) → Contains read s → u.needs s ≡ unknown reason → Contains kinds (Excluded s reason)
   -- of each requirement that has its clauses
@@ -61,5 +61,5 @@ pub record AreSeeds {N S : Type 0} (u : Universe N S) (seeds chosen : List S) (a
   pub seed_free : (s : S) → Contains seeds s → Contains exempt s ⊎ Contains asked (u.name s)
 
 -- no deferred disjunct holds in the set
-pub record NoneFires {N S : Type 0} (u : Universe N S) (deferred : List (Deferred S)) (set : List S) : Type 0 where
-  pub none : (e : Deferred S) → Contains deferred e → AllMeet set (map (matching u) e.disjunct) → ⊥
+pub record NoneFires {N S : Type 0} (u : Universe N S) (IsLeft : Deferred S → Type 0) (set : List S) : Type 0 where
+  pub none : (e : Deferred S) → IsLeft e → AllMeet set (map (matching u) e.disjunct) → ⊥

@@ -1,13 +1,14 @@
 -- A trail of variables as a trail of what they stand for.
-use Rattle.std.specs.Prelude.{ℕ, zero, suc, ◌≡◌, Bool, true, false, List, [], ◌∷◌, ◌++◌, slice_index_or, map, Option, Some, None}
+use Rattle.std.specs.Prelude.{ℕ, zero, suc, ◌≡◌, ◌<◌, ◌≤◌, Bool, true, false, List, [], ◌∷◌, ◌++◌, length, slice_get, slice_index_or, map, Option, Some, None}
 use Rattle.std.specs.Option.{option_map_or}
-use Rattle.resolver_clause_store.specs.TrailView.{slot_of, variable_at}
+use Rattle.resolver_clause_store.specs.TrailView.{length_of, slot_of, variable_at}
 use Rattle.resolver_clause_store.specs.declared.Literal.{Literal}
 use Rattle.resolver_clause_store.specs.declared.Origin.{Origin}
-use Rattle.resolver_clause_store.specs.declared.Origin.TheVariants.{Root, Solvable, Bit, Gate, ConstraintHelper, ConditionHelper}
+use Rattle.resolver_clause_store.specs.declared.Origin.TheVariants.{Root, Solvable}
 use Rattle.resolver_clause_store.specs.declared.Slot.{Slot}
 use Rattle.resolver_clause_store.specs.declared.Trail.{Trail}
 use Rattle.resolver_encoding.specs.Atoms.{Atom, atom}
+use Rattle.resolver_encoding.specs.declared.chosen.Chosen.{Chosen}
 
 -- what a variable stands for
 abbrev pub origin_at : {N S : Type 0} → List (Origin N S) → ℕ → Origin N S
@@ -44,3 +45,15 @@ solvable_found o = None
 abbrev pub solvables_before : {N S : Type 0} → List (Origin N S) → Trail → ℕ → List S
 solvables_before origins trail zero = []
 solvables_before origins trail (suc place) = solvables_before origins trail place ++ solvable_if (origin_at origins (variable_at trail place)) (value_of trail (variable_at trail place))
+
+-- the solvables in a list of chosen ones
+abbrev pub chosen_in : {S : Type 0} → Chosen S → List S
+chosen_in c = c.solvables.keys
+
+-- so many first places of the trail were followed: it holds the solvables that they make true, and how many of them
+-- stand before each of these places
+pub record Follows {N S : Type 0} (c : Chosen S) (origins : List (Origin N S)) (trail : Trail) (count : ℕ) : Type 0 where
+  pub size : length c.counts.items ≡ count
+  pub inside : count ≤ length_of trail
+  pub is : chosen_in c ≡ solvables_before origins trail count
+  pub counts : (k : ℕ) → k < count → slice_get c.counts.items k ≡ Some (length (solvables_before origins trail k))

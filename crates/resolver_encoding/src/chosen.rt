@@ -1,10 +1,16 @@
 //! The solvables that a trail makes true.
 
-ghost use Rattle.std.specs.Prelude.{IfErr, IfOk, OnOk, length, ◌++◌, ◌<◌, ◌≡◌};
+ghost use Rattle.std.specs.Prelude.{Contains, IfErr, IfOk, List, MatchBool, OnOk, length, ℕ, ◌++◌, ◌+◌, ◌<◌, ◌∷◌, ◌≡◌, ◌≤◌, []};
+ghost use Rattle.std.specs.Option.{option_to_list};
+ghost use Rattle.resolver_clause_store.specs.Laws.{IsIdentity};
 ghost use Rattle.resolver_clause_store.specs.TrailView.{length_of, variable_at, variable_count};
-ghost use Rattle.resolver_clause_store.specs.Variables.{origins_in};
+ghost use Rattle.resolver_clause_store.specs.Variables.{AreDistinct, origins_in};
+ghost use Rattle.resolver_clause_store.specs.declared.Origin.{Origin as OriginOf};
+ghost use Rattle.resolver_clause_store.specs.declared.Trail.{Trail as TrailOf};
+ghost use Rattle.resolver_encoding.specs.Encodings.{Extends};
 ghost use Rattle.resolver_encoding.specs.Trails.{origin_at, solvable_found, solvable_if, solvables_before, value_of};
 
+use indexmap::IndexSet;
 use resolver_clause_store::{Exhausted, Origin, Trail, Variables};
 use std::alloc::Global;
 use std::hash::Hash;
@@ -37,6 +43,159 @@ fn as_solvable<N: Drop, S: Drop>(origin: Option<Origin<N, S>>) -> Option<S>
     }
 }
 
+/// The solvable that a place makes true, if it makes one true.
+fn solvable_at<N: Copy + Eq + Hash + Drop, S: Copy + Eq + Hash + Drop>(
+    variables: &Variables<N, S>,
+    trail: &Trail,
+    place: usize,
+) -> Option<S>
+    requires { place < length_of trail.now }
+    ensures { option_to_list result ≡ solvable_if (origin_at (origins_in variables.now) (variable_at trail.now place)) (value_of trail.now (variable_at trail.now place)) }
+{
+    if !is_true_at(trail, place) {
+        return None;
+    }
+    as_solvable(variables.origin(trail.variable_at(place)))
+}
+
+/// Puts a member behind the others, where it is not among them.
+fn put<T: Copy + Eq + Hash + Drop>(set: &mut IndexSet<T>, member: T) -> Result<(), Exhausted>
+    requires { IsIdentity T.eq }
+    ensures last { OnOk result ((Contains set.old.keys member → ⊥) → set.new.keys ≡ set.old.keys ++ member ∷ []) }
+    ensures more { OnOk result (Extends set.old.keys set.new.keys) }
+    ensures memory { IfErr result (λ e. e ≡ Exhausted.Memory) }
+{
+    set.insert(member)?;
+    Ok(())
+}
+
+/// Puts what was found behind the others, where it is not among them.
+fn put_found<T: Copy + Eq + Hash + Drop>(
+    set: &mut IndexSet<T>,
+    found: Option<T>,
+) -> Result<(), Exhausted>
+    requires { IsIdentity T.eq }
+    ensures last { OnOk result (((t : T) → Contains (option_to_list found) t → Contains set.old.keys t → ⊥) → set.new.keys ≡ set.old.keys ++ option_to_list found) }
+    ensures more { OnOk result (Extends set.old.keys set.new.keys) }
+    ensures memory { IfErr result (λ e. e ≡ Exhausted.Memory) }
+{
+    match found {
+        Some(member) => {
+            put(set, member)?;
+            Ok(())
+        }
+        None => Ok(()),
+    }
+}
+
+/// The solvables that the first places of a trail make true, in the order of the trail.
+///
+/// What was followed once is not read again: where the trail was cut, the places that are left keep what they gave.
+#[derive(Drop)]
+pub struct Chosen<S: Copy + Eq + Hash + Drop> {
+    solvables: IndexSet<S>,
+    /// How many of them stand before each place that was followed.
+    counts: Vec<usize>,
+}
+
+impl<S: Copy + Eq + Hash + Drop> Chosen<S> {
+    ghost use Rattle.resolver_encoding.specs.Trails.{Follows, chosen_in};
+
+    /// None: no place of any trail was followed.
+    pub fn new<N>(alloc: Global) -> Self
+        ensures none { chosen_in result ≡ [] }
+        ensures follows { (origins : List (OriginOf N S)) (trail : TrailOf) → Follows result origins trail 0 }
+    {
+        Chosen {
+            solvables: IndexSet::new(alloc),
+            counts: Vec::new(alloc),
+        }
+    }
+
+    /// How many there are.
+    pub fn len(&self) -> usize
+        ensures { result ≡ length (chosen_in self.now) }
+    {
+        self.solvables.len()
+    }
+
+    /// Whether there are none.
+    pub fn is_empty(&self) -> bool
+        ensures { MatchBool result (chosen_in self.now ≡ []) (0 < length (chosen_in self.now)) }
+    {
+        self.solvables.is_empty()
+    }
+
+    /// The set of them.
+    pub fn solvables(&self) -> &IndexSet<S>
+        ensures { result.now.keys ≡ chosen_in self.now }
+    {
+        &self.solvables
+    }
+
+    /// A list of them.
+    pub fn to_vec(&self, alloc: Global) -> Result<Vec<S>, Exhausted>
+        ensures list { IfOk result (λ list. list.items ≡ chosen_in self.now) }
+        ensures memory { IfErr result (λ e. e ≡ Exhausted.Memory) }
+    {
+        let list = Vec::from_slice(alloc, self.solvables.as_slice())?;
+        Ok(list)
+    }
+
+    /// Forgets what stands at this place and behind it.
+    pub fn cut<N>(&mut self, kept: usize)
+        ensures { (origins : List (OriginOf N S)) (trail : TrailOf) (count : ℕ) → Follows self.old origins trail count → kept ≤ count → Follows self.new origins trail kept }
+    {
+        if kept >= self.counts.len() {
+            return;
+        }
+        let count = self.counts[kept];
+        self.solvables.truncate(count);
+        self.counts.truncate(kept);
+    }
+
+    /// Adds the place behind those that were followed.
+    fn follow_place<N: Copy + Eq + Hash + Drop>(
+        &mut self,
+        variables: &Variables<N, S>,
+        trail: &Trail,
+        place: usize,
+    ) -> Result<(), Exhausted>
+        requires identity { IsIdentity S.eq }
+        requires distinct { AreDistinct (origins_in variables.now) }
+        requires size { variable_count trail.now ≡ length (origins_in variables.now) }
+        requires inside { place < length_of trail.now }
+        ensures follows { OnOk result (Follows self.old (origins_in variables.now) trail.now place → Follows self.new (origins_in variables.now) trail.now (place + 1)) }
+        ensures more { OnOk result (Extends (chosen_in self.old) (chosen_in self.new)) }
+        ensures memory { IfErr result (λ e. e ≡ Exhausted.Memory) }
+    {
+        self.counts.push(self.solvables.len())?;
+        put_found(&mut self.solvables, solvable_at(variables, trail, place))?;
+        Ok(())
+    }
+
+    /// Adds the places of the trail from where it stands up to the last one.
+    ///
+    /// After a refusal it holds some of them, and is of no more use.
+    pub fn follow<N: Copy + Eq + Hash + Drop>(
+        &mut self,
+        variables: &Variables<N, S>,
+        trail: &Trail,
+    ) -> Result<(), Exhausted>
+        requires identity { IsIdentity S.eq }
+        requires distinct { AreDistinct (origins_in variables.now) }
+        requires size { variable_count trail.now ≡ length (origins_in variables.now) }
+        ensures follows { OnOk result ((count : ℕ) → Follows self.old (origins_in variables.now) trail.now count → Follows self.new (origins_in variables.now) trail.now (length_of trail.now)) }
+        ensures more { OnOk result (Extends (chosen_in self.old) (chosen_in self.new)) }
+        ensures memory { IfErr result (λ e. e ≡ Exhausted.Memory) }
+    {
+        for place in self.counts.len()..trail.len() {
+            self.follow_place(variables, trail, place)?;
+        }
+        Ok(())
+    }
+}
+
 /// Adds the solvable of the entry at a place, where it is one that is true.
 fn add_chosen<N: Copy + Eq + Hash + Drop, S: Copy + Eq + Hash + Drop>(
     chosen: &mut Vec<S>,
@@ -48,10 +207,7 @@ fn add_chosen<N: Copy + Eq + Hash + Drop, S: Copy + Eq + Hash + Drop>(
     ensures added { OnOk result (chosen.new.items ≡ chosen.old.items ++ solvable_if (origin_at (origins_in variables.now) (variable_at trail.now place)) (value_of trail.now (variable_at trail.now place))) }
     ensures memory { IfErr result (λ e. e ≡ Exhausted.Memory) }
 {
-    if !is_true_at(trail, place) {
-        return Ok(());
-    }
-    match as_solvable(variables.origin(trail.variable_at(place))) {
+    match solvable_at(variables, trail, place) {
         Some(solvable) => {
             chosen.push(solvable)?;
             Ok(())
@@ -75,3 +231,6 @@ pub fn chosen_solvables<N: Copy + Eq + Hash + Drop, S: Copy + Eq + Hash + Drop>(
     }
     Ok(chosen)
 }
+
+#[cfg(test)]
+mod tests;

@@ -9,16 +9,20 @@ ghost use Rattle.resolver_encoding.specs.Refusals.{IsShortage};
 
 mod asking;
 mod constraining;
+mod deferring;
+mod firing;
+mod gating;
 mod helping;
 mod reading;
 mod requiring;
 mod seeing;
 
+use crate::entries::Entry;
 use crate::groups::Groups;
 use crate::literals::push_literal;
 use indexmap::IndexSet;
 use resolver_clause_store::{
-    ClauseKind, Exhausted, Literal, Origin, RequirementClause, Variables, VersionSetId,
+    ClauseKind, Exhausted, Literal, Origin, Requirement, RequirementClause, Variables, VersionSetId,
 };
 use std::alloc::Global;
 use std::hash::Hash;
@@ -35,6 +39,11 @@ pub struct Encoding<N: Copy + Eq + Hash + Drop, S: Copy + Eq + Hash + Drop> {
     groups: Groups<N, S>,
     asked: IndexSet<N>,
     helped: IndexSet<VersionSetId>,
+    gates: IndexSet<Requirement>,
+    constrained: IndexSet<VersionSetId>,
+    read: IndexSet<S>,
+    deferred: Vec<Option<Entry<S>>>,
+    waiting: Groups<N, usize>,
     exempt: IndexSet<S>,
     clause_limit: usize,
 }
@@ -73,6 +82,11 @@ impl<N: Copy + Eq + Hash + Drop, S: Copy + Eq + Hash + Drop> Encoding<N, S> {
             groups: Groups::new(alloc),
             asked: IndexSet::new(alloc),
             helped: IndexSet::new(alloc),
+            gates: IndexSet::new(alloc),
+            constrained: IndexSet::new(alloc),
+            read: IndexSet::new(alloc),
+            deferred: Vec::new(alloc),
+            waiting: Groups::new(alloc),
             exempt: IndexSet::new(alloc),
             clause_limit,
         }
@@ -166,6 +180,13 @@ impl<N: Copy + Eq + Hash + Drop, S: Copy + Eq + Hash + Drop> Encoding<N, S> {
         ensures { origins_in result.now ≡ (notes_in self.now).origins }
     {
         &self.variables
+    }
+
+    /// The clauses that ask for candidates, in the order of their numbers.
+    pub fn requirements(&self) -> &[RequirementClause]
+        ensures { map (λ r. r.number) result.now ≡ (notes_in self.now).requirements }
+    {
+        &self.requirements
     }
 
     /// How many clauses there are.

@@ -1,18 +1,27 @@
 //! The rules that clauses state.
 
-ghost use Rattle.std.specs.Prelude.{All, IfErr, IfOk, OnOk, length, map, ◌++◌, ◌<◌, ◌≡◌};
+ghost use Rattle.std.specs.Prelude.{All, IfErr, IfOk, OnOk, [], length, map, ◌<◌, ◌≡◌};
 ghost use Rattle.resolver_clause_store.specs.Caches.{IsTrueCache};
-ghost use Rattle.resolver_clause_store.specs.Candidates.{matching};
+ghost use Rattle.resolver_clause_store.specs.Candidates.{matching, requirement_candidates as candidates_of};
 ghost use Rattle.resolver_clause_store.specs.Interruptions.{IsInterruption};
-ghost use Rattle.resolver_encoding.specs.Stated.{stated_by, stated_by_all};
-ghost use Rattle.resolver_encoding.specs.Statements.{statement_of};
+ghost use Rattle.resolver_clause_store.specs.Laws.{IsIdentity};
+ghost use Rattle.resolver_clause_store.specs.declared.By.TheVariants.{Solvable as BySolvable};
+ghost use Rattle.resolver_encoding.specs.Core.{implied_in};
+ghost use Rattle.resolver_encoding.specs.Listing.{AddsRules, Asks, HasMarks, Marks, MarksBit, SomeOf, States};
+ghost use Rattle.resolver_encoding.specs.Sources.{HasGroups};
+ghost use Rattle.resolver_encoding.specs.Statements.{constrains, requires};
+ghost use Rattle.resolver_encoding.specs.Truth.{AreListed, AreStated};
 ghost use Rattle.resolver_encoding.specs.Values.{kinds_at};
 
+use crate::listing::Listing;
+use crate::sources::{Sources, sources_of};
 use resolver_clause_store::{
-    Cache, ClauseKind, DependencyProvider, Interrupted, VersionSetId, requirement_candidates,
+    By, Cache, ClauseKind, DependencyProvider, Exhausted, Interrupted, Origin, Requirement,
+    VersionSetId, requirement_candidates,
 };
 use resolver_report::Rule;
 use std::alloc::Global;
+use std::hash::Hash;
 
 /// What each of the version sets takes.
 fn matching_lists<D: DependencyProvider>(
@@ -34,18 +43,95 @@ fn matching_lists<D: DependencyProvider>(
     Ok(lists)
 }
 
-/// Adds the rules that a clause states by itself: two marks for a clause that keeps two instances apart, none for one that
-/// is about a helper alone.
-fn add_rules<D: DependencyProvider>(
-    alloc: Global,
+/// Adds a requirement that a clause states by itself.
+fn add_requirement<D: DependencyProvider>(
     provider: &D,
     cache: &mut Cache<D::NameId, D::SolvableId>,
-    rules: &mut Vec<Rule<D::NameId, D::SolvableId>>,
+    listing: &mut Listing<D::NameId, D::SolvableId>,
+    by: By<D::SolvableId>,
+    requirement: Requirement,
+    disjunct: &[VersionSetId],
+) -> Result<(), Interrupted<D::Cancel>>
+    requires is_true { IsTrueCache (D.universe provider.now) cache.old }
+    requires marks { HasMarks listing.old }
+    ensures is_true { IsTrueCache (D.universe provider.now) cache.new }
+    ensures added { OnOk result (AddsRules (λ st. st ≡ requires by requirement (candidates_of (D.universe provider.now) requirement) (map (matching (D.universe provider.now)) disjunct.now)) listing.old listing.new) }
+    ensures refusal { IfErr result (IsInterruption (D.may_cancel provider.now)) }
+{
+    let candidates = requirement_candidates(cache, provider, requirement)?;
+    let when = matching_lists(listing.allocator(), provider, cache, disjunct)?;
+    listing.require(by, requirement, candidates, when)?;
+    Ok(())
+}
+
+/// Adds a requirement for each of the solvables that state it.
+fn require_each<N: Copy + Eq + Hash + Drop, S: Copy + Eq + Hash + Drop>(
+    listing: &mut Listing<N, S>,
+    requirers: &[S],
+    requirement: Requirement,
+    candidates: &[S],
+) -> Result<(), Exhausted>
+    requires { HasMarks listing.old }
+    ensures added { OnOk result (AddsRules (SomeOf requirers.now (λ s st. st ≡ requires (BySolvable s) requirement candidates.now [])) listing.old listing.new) }
+    ensures memory { IfErr result (λ e. e ≡ Exhausted.Memory) }
+{
+    let alloc = listing.allocator();
+    for requirer in requirers {
+        let list = Vec::from_slice(alloc, candidates)?;
+        listing.require(By::Solvable(*requirer), requirement, list, Vec::new(alloc))?;
+    }
+    Ok(())
+}
+
+/// Adds the requirement of each solvable from which a gate follows.
+fn add_gate<D: DependencyProvider>(
+    provider: &D,
+    cache: &mut Cache<D::NameId, D::SolvableId>,
+    listing: &mut Listing<D::NameId, D::SolvableId>,
+    requirers: &[D::SolvableId],
+    requirement: Requirement,
+) -> Result<(), Interrupted<D::Cancel>>
+    requires is_true { IsTrueCache (D.universe provider.now) cache.old }
+    requires marks { HasMarks listing.old }
+    ensures is_true { IsTrueCache (D.universe provider.now) cache.new }
+    ensures added { OnOk result (AddsRules (SomeOf requirers.now (λ s st. st ≡ requires (BySolvable s) requirement (candidates_of (D.universe provider.now) requirement) [])) listing.old listing.new) }
+    ensures refusal { IfErr result (IsInterruption (D.may_cancel provider.now)) }
+{
+    let candidates = requirement_candidates(cache, provider, requirement)?;
+    require_each(listing, requirers, requirement, &candidates)?;
+    Ok(())
+}
+
+/// Adds a constraint for each of the candidates that it excludes.
+fn constrain_each<N: Copy + Eq + Hash + Drop, S: Copy + Eq + Hash + Drop>(
+    listing: &mut Listing<N, S>,
+    by: By<S>,
+    version_set: VersionSetId,
+    candidates: &[S],
+) -> Result<(), Exhausted>
+    requires { HasMarks listing.old }
+    ensures added { OnOk result (AddsRules (SomeOf candidates.now (λ s st. st ≡ constrains by version_set s)) listing.old listing.new) }
+    ensures memory { IfErr result (λ e. e ≡ Exhausted.Memory) }
+{
+    for candidate in candidates {
+        listing.constrain(by, version_set, *candidate)?;
+    }
+    Ok(())
+}
+
+/// Adds the rules by which a clause asks something of sets.
+fn add_rules<D: DependencyProvider>(
+    provider: &D,
+    cache: &mut Cache<D::NameId, D::SolvableId>,
+    sources: &Sources<D::SolvableId>,
+    listing: &mut Listing<D::NameId, D::SolvableId>,
     kind: &ClauseKind<D::NameId, D::SolvableId>,
 ) -> Result<(), Interrupted<D::Cancel>>
     requires is_true { IsTrueCache (D.universe provider.now) cache.old }
+    requires groups { HasGroups sources.now }
+    requires marks { HasMarks listing.old }
     ensures is_true { IsTrueCache (D.universe provider.now) cache.new }
-    ensures stated { OnOk result (map statement_of rules.new.items ≡ map statement_of rules.old.items ++ stated_by (D.universe provider.now) kind.now) }
+    ensures added { OnOk result (AddsRules (Asks (D.universe provider.now) sources.now kind.now) listing.old listing.new) }
     ensures refusal { IfErr result (IsInterruption (D.may_cancel provider.now)) }
 {
     match kind {
@@ -54,14 +140,7 @@ fn add_rules<D: DependencyProvider>(
             disjunct,
             requirement,
         } => {
-            let candidates = requirement_candidates(cache, provider, *requirement)?;
-            let when = matching_lists(alloc, provider, cache, disjunct)?;
-            rules.push(Rule::Requires {
-                by: *parent,
-                requirement: *requirement,
-                candidates,
-                when,
-            })?;
+            add_requirement(provider, cache, listing, *parent, *requirement, disjunct)?;
             Ok(())
         }
         ClauseKind::Constrains {
@@ -69,11 +148,78 @@ fn add_rules<D: DependencyProvider>(
             version_set,
             candidate,
         } => {
-            rules.push(Rule::Constrains {
-                by: *parent,
-                version_set: *version_set,
-                candidate: *candidate,
-            })?;
+            listing.constrain(*parent, *version_set, *candidate)?;
+            Ok(())
+        }
+        ClauseKind::GateRequires { requirement } => {
+            add_gate(
+                provider,
+                cache,
+                listing,
+                sources.requirers(*requirement),
+                *requirement,
+            )?;
+            Ok(())
+        }
+        ClauseKind::ConstrainsParent {
+            parent,
+            version_set,
+        } => {
+            constrain_each(
+                listing,
+                *parent,
+                *version_set,
+                sources.excluded(*version_set),
+            )?;
+            Ok(())
+        }
+        ClauseKind::Lock { locked, forbidden } => {
+            listing.lock(*locked, *forbidden)?;
+            Ok(())
+        }
+        ClauseKind::Excluded { solvable, reason } => {
+            listing.exclude(*solvable, *reason)?;
+            Ok(())
+        }
+        _ => Ok(()),
+    }
+}
+
+/// Adds the mark of a solvable from which a bit follows.
+fn mark_bit<N: Copy + Eq + Hash + Drop, S: Copy + Eq + Hash + Drop>(
+    listing: &mut Listing<N, S>,
+    helper: &Origin<N, S>,
+    candidate: S,
+) -> Result<(), Exhausted>
+    requires names { IsIdentity N.eq }
+    requires solvables { IsIdentity S.eq }
+    requires marks { HasMarks listing.old }
+    ensures added { OnOk result (AddsRules (MarksBit helper.now candidate) listing.old listing.new) }
+    ensures memory { IfErr result (λ e. e ≡ Exhausted.Memory) }
+{
+    match helper {
+        Origin::Bit { name, .. } => {
+            listing.mark(*name, candidate)?;
+            Ok(())
+        }
+        _ => Ok(()),
+    }
+}
+
+/// Adds the marks of a clause that tells instances of a name apart.
+fn add_marks<N: Copy + Eq + Hash + Drop, S: Copy + Eq + Hash + Drop>(
+    listing: &mut Listing<N, S>,
+    kind: &ClauseKind<N, S>,
+) -> Result<(), Exhausted>
+    requires names { IsIdentity N.eq }
+    requires solvables { IsIdentity S.eq }
+    requires marks { HasMarks listing.old }
+    ensures added { OnOk result (AddsRules (Marks kind.now) listing.old listing.new) }
+    ensures memory { IfErr result (λ e. e ≡ Exhausted.Memory) }
+{
+    match kind {
+        ClauseKind::AnyOf { helper, candidate } => {
+            mark_bit(listing, helper, *candidate)?;
             Ok(())
         }
         ClauseKind::ForbidMultipleInstances {
@@ -81,40 +227,42 @@ fn add_rules<D: DependencyProvider>(
             first,
             second,
         } => {
-            rules.push(Rule::OnePerPackage {
-                name: *name,
-                instance: *first,
-            })?;
-            rules.push(Rule::OnePerPackage {
-                name: *name,
-                instance: *second,
-            })?;
+            listing.mark(*name, *first)?;
+            listing.mark(*name, *second)?;
             Ok(())
         }
-        ClauseKind::Lock { locked, forbidden } => {
-            rules.push(Rule::Lock {
-                locked: *locked,
-                forbidden: *forbidden,
-            })?;
+        ClauseKind::HasBit { name, instance, .. } => {
+            listing.mark(*name, *instance)?;
             Ok(())
         }
-        ClauseKind::Excluded { solvable, reason } => {
-            rules.push(Rule::Excluded {
-                solvable: *solvable,
-                reason: *reason,
-            })?;
-            Ok(())
-        }
-        ClauseKind::InstallRoot
-        | ClauseKind::AnyOf { .. }
-        | ClauseKind::GateRequires { .. }
-        | ClauseKind::ConstrainsExcluded { .. }
-        | ClauseKind::ConstrainsParent { .. }
-        | ClauseKind::HasBit { .. } => Ok(()),
+        _ => Ok(()),
     }
 }
 
+/// Adds the rules that a clause states.
+fn add_stated<D: DependencyProvider>(
+    provider: &D,
+    cache: &mut Cache<D::NameId, D::SolvableId>,
+    sources: &Sources<D::SolvableId>,
+    listing: &mut Listing<D::NameId, D::SolvableId>,
+    kind: &ClauseKind<D::NameId, D::SolvableId>,
+) -> Result<(), Interrupted<D::Cancel>>
+    requires is_true { IsTrueCache (D.universe provider.now) cache.old }
+    requires groups { HasGroups sources.now }
+    requires marks { HasMarks listing.old }
+    ensures is_true { IsTrueCache (D.universe provider.now) cache.new }
+    ensures added { OnOk result (AddsRules (States (D.universe provider.now) sources.now kind.now) listing.old listing.new) }
+    ensures refusal { IfErr result (IsInterruption (D.may_cancel provider.now)) }
+{
+    add_rules(provider, cache, sources, listing, kind)?;
+    add_marks(listing, kind)?;
+    Ok(())
+}
+
 /// The rules that the clauses with these numbers state, in the order of the numbers.
+///
+/// No rule names a helper: what a gate or the helper of a constraint joins is stated of each solvable from which it
+/// follows by these clauses. A solvable is marked once for a name.
 pub fn rules_of_clauses<D: DependencyProvider>(
     alloc: Global,
     provider: &D,
@@ -125,12 +273,19 @@ pub fn rules_of_clauses<D: DependencyProvider>(
     requires is_true { IsTrueCache (D.universe provider.now) cache.old }
     requires within { All (λ n. n < length kinds.now) numbers.now }
     ensures is_true { IsTrueCache (D.universe provider.now) cache.new }
-    ensures stated { IfOk result (λ rules. map statement_of rules.items ≡ stated_by_all (D.universe provider.now) (kinds_at kinds.now numbers.now)) }
+    ensures listed { let core = kinds_at kinds.now numbers.now in
+        IfOk result (λ rules. AreListed (D.universe provider.now) (implied_in (D.universe provider.now) D.NameId.eq core) core rules.items) }
+    ensures stated { let core = kinds_at kinds.now numbers.now in
+        IfOk result (λ rules. AreStated (D.universe provider.now) (implied_in (D.universe provider.now) D.NameId.eq core) core rules.items) }
     ensures refusal { IfErr result (IsInterruption (D.may_cancel provider.now)) }
 {
-    let mut rules = Vec::new(alloc);
+    let sources = sources_of(alloc, kinds, numbers)?;
+    let mut listing = Listing::new(alloc);
     for number in numbers {
-        add_rules(alloc, provider, cache, &mut rules, &kinds[*number])?;
+        add_stated(provider, cache, &sources, &mut listing, &kinds[*number])?;
     }
-    Ok(rules)
+    Ok(listing.into_rules())
 }
+
+#[cfg(test)]
+mod tests;

@@ -1,6 +1,6 @@
 //! Solvables by the names of their packages.
 
-ghost use Rattle.std.specs.Prelude.{◌≡◌, ◌≢◌, ◌<◌, ℕ, [], ◌∷◌, ◌++◌, All, Contains, IfErr, OnOk, length};
+ghost use Rattle.std.specs.Prelude.{◌≡◌, ◌≢◌, ◌<◌, ℕ, [], ◌∷◌, ◌++◌, All, Contains, IfErr, OnOk, Some, length, slice_get};
 ghost use Rattle.resolver_clause_store.specs.Laws.{IsIdentity};
 
 use indexmap::IndexSet;
@@ -17,7 +17,7 @@ pub(crate) struct Groups<N: Copy + Eq + Hash + Drop, S: Copy + Drop> {
 }
 
 impl<N: Copy + Eq + Hash + Drop, S: Copy + Drop> Groups<N, S> {
-    ghost use Rattle.resolver_encoding.specs.Groups.{AddsNamed, AreGroups, IsNamed, group_at};
+    ghost use Rattle.resolver_encoding.specs.Groups.{AddsNamed, AreGroups, IsAt, IsNamed, group_at};
 
     /// No groups.
     pub(crate) fn new(alloc: Global) -> Self
@@ -46,6 +46,8 @@ impl<N: Copy + Eq + Hash + Drop, S: Copy + Drop> Groups<N, S> {
         requires { IsIdentity N.eq }
         ensures each { All (IsNamed self.now name) result.now }
         ensures every { AreGroups self.now → (s : S) → IsNamed self.now name s → Contains result.now s }
+        ensures each_at { (k : ℕ) (s : S) → slice_get result.now k ≡ Some s → IsAt self.now name k s }
+        ensures every_at { AreGroups self.now → (k : ℕ) (s : S) → IsAt self.now name k s → slice_get result.now k ≡ Some s }
     {
         match place_of(&self.names, &name) {
             Some(place) => self.group(place),

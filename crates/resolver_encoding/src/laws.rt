@@ -1,16 +1,18 @@
 //! What the clauses say of sets of solvables.
 
-ghost use Rattle.std.specs.Prelude.{All, Bool, Contains, List, Vec, length, map, ℕ, ◌<◌, ◌≡◌, []};
+ghost use Rattle.std.specs.Prelude.{All, Bool, Contains, List, Vec, length, map, ℕ, ◌<◌, ◌≡◌, ◌≤◌, []};
 ghost use Rattle.std.specs.declared.alloc.Global.{Global};
 ghost use Rattle.resolver_clause_store.specs.Formula.{MakesTrue, Satisfies};
 ghost use Rattle.resolver_clause_store.specs.Lists.{HasNoRepeats};
 ghost use Rattle.resolver_clause_store.specs.Outcomes.{IsCore, IsFinished};
-ghost use Rattle.resolver_clause_store.specs.TrailView.{length_of, variable_count};
-ghost use Rattle.resolver_clause_store.specs.Variables.{AreDistinct};
+ghost use Rattle.resolver_clause_store.specs.TrailView.{KeepsPlaces, length_of, variable_count};
+ghost use Rattle.resolver_clause_store.specs.Variables.{AreDistinct, Keeps};
 ghost use Rattle.resolver_clause_store.specs.declared.RequirementClause.{RequirementClause};
 ghost use Rattle.resolver_clause_store.specs.declared.Trail.{Trail};
-ghost use Rattle.resolver_encoding.specs.Encodings.{IsAllRead, IsEncoding, Notes};
-ghost use Rattle.resolver_encoding.specs.Trails.{solvables_before};
+ghost use Rattle.resolver_encoding.specs.Encodings.{IsEncoding, Notes};
+ghost use Rattle.resolver_encoding.specs.SoFar.{IsReadSoFar};
+ghost use Rattle.resolver_encoding.specs.Trails.{Follows, solvables_before};
+ghost use Rattle.resolver_encoding.specs.declared.chosen.Chosen.{Chosen};
 ghost use Rattle.resolver_clause_store.specs.Laws.{HasLawfulPackages, IsIdentity};
 ghost use Rattle.resolver_clause_store.specs.Universe.{Demands, Universe};
 ghost use Rattle.resolver_clause_store.specs.Valid.{IsValid};
@@ -22,8 +24,6 @@ ghost use Rattle.resolver_encoding.specs.Atoms.{Atom};
 ghost use Rattle.resolver_encoding.specs.Core.{IsExplained, implied_in};
 ghost use Rattle.resolver_encoding.specs.Read.{IsSettled};
 ghost use Rattle.resolver_encoding.specs.ReadState.{AreSeeds, Deferred, IsRead, NoneFires};
-ghost use Rattle.resolver_encoding.specs.Stated.{stated_by_all};
-ghost use Rattle.resolver_encoding.specs.Statements.{statement_of};
 ghost use Rattle.resolver_encoding.specs.TrailAtoms.{CoversReached, IsAnswerBy, IsChosen, IsTrail, Takes};
 ghost use Rattle.resolver_encoding.specs.Truth.{HasLawfulSolvables, AreCodes, AreListed, AreStated, IsTrueClause, Spares, follows};
 ghost use Rattle.resolver_encoding.specs.Values.{AreEncoded, extension, kinds_at};
@@ -67,18 +67,18 @@ pub fn finished_trails_are_answers<N, S>()
 pub fn read_trails_are_answers<N, S>()
     ensures { (u : Universe N S) (codes : N → ℕ → S → Bool) (root : Demands) (kinds : List (ClauseKind N S)) (deferred : List (Deferred S)) (read : List S) (asked : List N) (registered exempt : List S) (trail : List (Atom N S)) (chosen seeds refused : List S) →
         HasLawfulSolvables u → HasLawfulPackages u → AreCodes u codes → All (IsTrueClause u codes root) kinds → Spares u exempt kinds →
-        IsRead u root kinds deferred read asked registered exempt → AreSeeds u seeds chosen asked registered exempt → ((s : S) → Contains chosen s → Contains registered s → Contains read s) → NoneFires u deferred chosen →
+        IsRead u root kinds (Contains deferred) read asked registered exempt → AreSeeds u seeds chosen asked registered exempt → ((s : S) → Contains chosen s → Contains registered s → Contains read s) → NoneFires u (Contains deferred) chosen →
         IsTrail u kinds seeds refused trail → IsSettled u kinds (Takes trail) → IsChosen trail chosen →
         IsAnswerBy u root chosen seeds exempt }
 {}
 
-/// A search that is finished over all that was read has an answer: the solvables that its trail makes true, each there by
-/// need and none twice.
+/// A search that is finished over what was read so far has an answer, where each solvable that its trail makes true was
+/// read and nothing that is put off holds in them: these solvables, each there by need and none twice.
 ///
 /// The call does nothing: its contract is the law.
 pub fn finished_searches_are_answers<N, S>()
     ensures answer { (u : Universe N S) (root : Demands) (notes : Notes N S) (requirements : List RequirementClause) (trail : Trail) →
-        HasLawfulSolvables u → HasLawfulPackages u → IsAllRead u root notes → notes.exempt ≡ [] →
+        HasLawfulSolvables u → HasLawfulPackages u → IsReadSoFar u root (solvables_before notes.origins trail (length_of trail)) notes → notes.exempt ≡ [] →
         map (λ r. r.number) requirements ≡ notes.requirements → variable_count trail ≡ length notes.origins → IsFinished notes.table requirements trail →
         IsAnswerBy u root (solvables_before notes.origins trail (length_of trail)) [] [] }
     ensures once { (origins : List (Origin N S)) (trail : Trail) → AreDistinct origins → variable_count trail ≡ length origins →
@@ -92,6 +92,15 @@ pub fn finished_searches_are_answers<N, S>()
 pub fn cores_of_encodings_explain<N, S>()
     ensures { (u : Universe N S) (same_name : N → N → Bool) (root : Demands) (notes : Notes N S) (numbers : List ℕ) (rules : List (Rule N S)) →
         HasLawfulSolvables u → IsIdentity same_name → IsEncoding u root notes → IsCore notes.table numbers →
-        map statement_of rules ≡ stated_by_all u (kinds_at notes.kinds numbers) →
+        AreListed u (implied_in u same_name (kinds_at notes.kinds numbers)) (kinds_at notes.kinds numbers) rules → AreStated u (implied_in u same_name (kinds_at notes.kinds numbers)) (kinds_at notes.kinds numbers) rules →
         IsExplained u root rules }
+{}
+
+/// A list of chosen solvables follows a trail whose first places stay, also where variables were added.
+///
+/// The call does nothing: its contract is the law.
+pub fn chosen_lists_stay<N, S>()
+    ensures { (chosen : Chosen S) (origins more : List (Origin N S)) (old new : Trail) (count : ℕ) →
+        Keeps origins more → variable_count old ≤ length origins → KeepsPlaces old new count →
+        Follows chosen origins old count → Follows chosen more new count }
 {}

@@ -3,19 +3,27 @@
 
 mod choices;
 mod chosen;
+mod codes;
 mod disjuncts;
 mod encoding;
+mod entries;
 mod explain;
 mod groups;
 mod laws;
+mod listing;
 mod literals;
+mod met;
+mod progress;
+mod sources;
 #[cfg(test)]
 mod test_provider;
 
-pub use chosen::chosen_solvables;
+pub use chosen::{Chosen, chosen_solvables};
 pub use encoding::{Encoding, EncodingParts};
 pub use explain::rules_of_clauses;
 pub use laws::{
-    answers_satisfy_true_clauses, core_rules_explain, cores_of_encodings_explain,
-    finished_searches_are_answers, finished_trails_are_answers, read_trails_are_answers,
+    answers_satisfy_true_clauses, chosen_lists_stay, core_rules_explain,
+    cores_of_encodings_explain, finished_searches_are_answers, finished_trails_are_answers,
+    read_trails_are_answers,
 };
+pub use progress::Progress;

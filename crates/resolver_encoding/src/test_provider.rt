@@ -1,7 +1,8 @@
 //! A small provider.
 //!
 //! Package n has the solvables 10 n + 1 and 10 n + 4, the later one preferred. Version set 10 n + k takes 10 n + k, and
-//! with k = 0 both. Package 7 is locked to 71, package 8 excludes 84, and nobody knows what 94 needs.
+//! with k = 0 both. Package 7 is locked to 71, package 8 excludes 84, and nobody knows what 94 needs. A condition below
+//! 1000 is a version set, and 1000 n + k joins the conditions n and k: by "or" if k is even, and else by "and".
 
 ghost use Rattle.std.specs.Prelude.{◌≡◌, ℕ, IfErr, IfOk, refl};
 ghost use Rattle.resolver_encoding.specs.TestProvider.{
@@ -30,6 +31,15 @@ pub struct TestProvider {
     pub constraints: Vec<(u32, VersionSetId)>,
     /// Which of the cancel checks to come stops the search: with 1 the next one, with 0 none.
     pub cancelling: Cell<u32>,
+    /// The digits name the packages whose candidates were asked for, in order.
+    pub log: Cell<u32>,
+}
+
+impl TestProvider {
+    fn note(&self, name: u32) {
+        self.log
+            .set(self.log.get().wrapping_mul(10).wrapping_add(name));
+    }
 }
 
 /// What is stated of a solvable.
@@ -93,7 +103,10 @@ impl Interner for TestProvider {
         }
         let left = ConditionId(condition.0 / 1000);
         let right = ConditionId(condition.0 % 1000);
-        Condition::Binary(LogicalOperator::Or, left, right)
+        if condition.0 % 2 == 0 {
+            return Condition::Binary(LogicalOperator::Or, left, right);
+        }
+        Condition::Binary(LogicalOperator::And, left, right)
     }
 
     fn display_name(&self, _name: u32, _out: &mut String) -> Result<(), Exhausted> {
@@ -129,6 +142,7 @@ impl DependencyProvider for TestProvider {
     ghost lawful_packages = { λ it. test_packages_lawful it.requirements.items it.constraints.items };
 
     fn get_candidates(&self, name: u32) -> Result<Option<Candidates<u32>>, Exhausted> {
+        self.note(name);
         if name >= 100 {
             return Ok(None);
         }

@@ -13,7 +13,7 @@ use Rattle.resolver_report.proofs.AskedLemmas.{cases_lt_suc}
 use Rattle.resolver_report.proofs.ListLemmas.{filter-range-pass, filter-range-fail}
 
 module _ {X : Type 0} where
-  lists-set : (vs : List (Vec X Global)) (i : ℕ) (v : Vec X Global) → lists_in (set vs i v) ≡ set (lists_in vs) i v.items
+  pub lists-set : (vs : List (Vec X Global)) (i : ℕ) (v : Vec X Global) → lists_in (set vs i v) ≡ set (lists_in vs) i v.items
   lists-set [] i v = refl
   lists-set (w ∷ vs) zero v = refl
   lists-set (w ∷ vs) (suc i) v = ap (λ xss. w.items ∷ xss) (lists-set vs i v)

@@ -1,7 +1,7 @@
 -- Marking in as many rounds as there are nodes gives the least closed set of marks.
-use Rattle.std.proofs.Common.{◌≡◌, ◌⊎◌, ℕ, zero, suc, ◌+◌, ◌<◌, ◌≤◌, Bool, true, false, cond, List, [], ◌∷◌, length, map, refl, ◌∙◌, ap, inl, inr, arith}
+use Rattle.std.proofs.Common.{◌≡◌, ◌⊎◌, ℕ, zero, suc, ◌+◌, ◌<◌, ◌≤◌, Bool, true, false, cond, List, [], ◌∷◌, length, map, refl, ◌∙◌, inl, inr, arith}
 use Rattle.std.specs.List.{range_with_len}
-use Rattle.std.proofs.lemmas.Bool.{false≢true, cases_lt}
+use Rattle.std.proofs.lemmas.Bool.{false≢true}
 use Rattle.std.proofs.lemmas.List.{length-map}
 use Rattle.std.proofs.lemmas.List.FromFn.{length-range_with_len}
 use Rattle.resolver_report.specs.Shapes.{Shape, places}
@@ -133,7 +133,7 @@ module _ {S : Type 0} (g : Shape S) (rule : List Bool → ℕ → Bool) (monoton
       at_progress (inl stays) = inl (next_within (marked_in g rule (suc rounds)) (marked_in g rule rounds) stays)
       at_progress (inr many) = at_compare many (compare (marked_in g rule rounds) (marked_in g rule (suc rounds)) (grows rounds))
 
-  rounds_long : (rounds : ℕ) → length (marked_in g rule (suc rounds)) ≡ length g.nodes
+  pub rounds_long : (rounds : ℕ) → length (marked_in g rule (suc rounds)) ≡ length g.nodes
   rounds_long rounds = length-map (places g) (rule (marked_in g rule rounds)) ∙ length-range_with_len 0 (length g.nodes)
 
   all_marked_when : (rounds : ℕ) → rounds ≡ length g.nodes → rounds ≤ count (marked_in g rule rounds) → (n : ℕ) → n < length g.nodes → is_marked (marked_in g rule rounds) n ≡ true
@@ -154,12 +154,3 @@ module _ {S : Type 0} (g : Shape S) (rule : List Bool → ℕ → Bool) (monoton
 
   pub marked_least : IsLeastClosed (length g.nodes) rule (marked g rule)
   marked_least = record { closed = closed_by (progress (length g.nodes)); least = λ others closed. rounds_within others closed (length g.nodes) }
-
-  -- where a round adds nothing, later rounds do not either
-  pub stays : (rounds later : ℕ) → rounds ≤ later → marked_in g rule (suc rounds) ≡ marked_in g rule rounds → marked_in g rule later ≡ marked_in g rule rounds
-  stays rounds zero le e = let none : 0 ≡ rounds = omega (arith, le) in ap (marked_in g rule) none
-  stays rounds (suc later) le e = at_cases (cases_lt later rounds) (λ h. stays rounds later h e)
-    where
-      at_cases : (later < rounds) ⊎ (rounds ≤ later) → (rounds ≤ later → marked_in g rule later ≡ marked_in g rule rounds) → marked_in g rule (suc later) ≡ marked_in g rule rounds
-      at_cases (inl lt) before = let same : suc later ≡ rounds = omega (arith, le, lt) in ap (marked_in g rule) same
-      at_cases (inr h) before = ap (λ marks. map (rule marks) (places g)) (before h) ∙ e

@@ -24,7 +24,6 @@ pub mod TreeLemmas
 pub mod CandidateLemmas
 pub mod LeastLemmas
 pub mod MonotoneLemmas
-pub mod FactLemmas
-pub mod TableLemmas
-pub mod SameLemmas
+pub mod WorkLemmas
+pub mod ImpliedLemmas
 pub mod MessageExamples

@@ -16,13 +16,13 @@ or_within true b false d f g e = absurd (false≢true (f refl))
 or_within false b true d f g e = refl
 or_within false b false d f g e = g e
 
-and_within : (a b c d : Bool) → (a ≡ true → c ≡ true) → (b ≡ true → d ≡ true) → (a && b) ≡ true → (c && d) ≡ true
+pub and_within : (a b c d : Bool) → (a ≡ true → c ≡ true) → (b ≡ true → d ≡ true) → (a && b) ≡ true → (c && d) ≡ true
 and_within true b true d f g e = g e
 and_within true b false d f g e = absurd (false≢true (f refl))
 and_within false b c d f g e = absurd (false≢true e)
 
 module _ (xs ys : List Bool) (within : IsWithinMarks xs ys) where
-  some_within : (ns : List NodeId) → some_marked xs ns ≡ true → some_marked ys ns ≡ true
+  pub some_within : (ns : List NodeId) → some_marked xs ns ≡ true → some_marked ys ns ≡ true
   some_within [] e = e
   some_within (n ∷ ns) e = or_within (is_marked xs n.0) (some_marked xs ns) (is_marked ys n.0) (some_marked ys ns) (within n.0) (some_within ns) e
 

@@ -70,6 +70,14 @@ pub first_of_groups_next : (groups : List (Option ℕ)) (xs : List NodeId) (i : 
     → cond (list_any (λ m. same_group_as (group_at groups y.0) (group_at groups m.0)) made) made (made ++ y ∷ []) ≡ without_repeats (λ m n. same_group_as (group_at groups m.0) (group_at groups n.0)) (take (i + 1) xs)
 first_of_groups_next groups xs i y made h is are = without_repeats_next (λ m n. same_group_as (group_at groups m.0) (group_at groups n.0)) (λ z y' x e f. groups_pass (group_at groups z.0) (group_at groups y'.0) (group_at groups x.0) e f) xs i y made h is are
 
+-- a node without a group is of no node's group
+no_group : (groups : List (Option ℕ)) (found : List NodeId) → list_any (λ m. same_group_as None (group_at groups m.0)) found ≡ false
+no_group groups [] = refl
+no_group groups (n ∷ ns) = no_group groups ns
+
+pub add_alone : (groups : List (Option ℕ)) (found : List NodeId) (n : NodeId) → group_at groups n.0 ≡ None → cond (list_any (λ m. same_group_as (group_at groups n.0) (group_at groups m.0)) found) found (found ++ n ∷ []) ≡ found ++ n ∷ []
+add_alone groups found n e = ap (λ o. cond (list_any (λ m. same_group_as o (group_at groups m.0)) found) found (found ++ n ∷ [])) e ∙ ap (λ b. cond b found (found ++ n ∷ [])) (no_group groups found)
+
 none_is : {X : Type 0} (o : Option X) → IsNone o → o ≡ None
 none_is None h = refl
 none_is (Some x) h = absurd cc

@@ -23,7 +23,9 @@ pub mod Causes
 pub mod Runs
 pub mod EdgeRuns
 pub mod Marks
-pub mod EdgeFacts
+pub mod Implications
+pub mod WorkLists
+pub mod NodeImplications
 pub mod Forests
 pub mod Messages
 pub mod Verdicts
@@ -31,7 +33,6 @@ pub mod Stories
 pub mod Tellings
 pub mod Displays
 pub mod Picks
-pub mod Tables
 pub mod Indents
 pub mod ConflictTexts
 pub mod TestTexts

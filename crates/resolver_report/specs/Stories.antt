@@ -1,10 +1,15 @@
 -- What the code that writes a message is given, as the definitions take it.
-use Rattle.std.specs.Prelude.{ℕ, Bool, true, false, not, List, map, Option, Some, None, slice_get}
+use Rattle.std.specs.Prelude.{◌≡◌, ℕ, Bool, true, false, nat_eq, not, List, map, Option, Some, None, slice_get}
+use Rattle.std.specs.List.{list_any}
+use Rattle.std.specs.HashSet.{HashSet, contains}
+use Rattle.std.specs.declared.hash.FoldHasher.{FoldHasher}
+use Rattle.std.specs.declared.hash.BuildHasherDefault.{BuildHasherDefault}
+use Rattle.resolver_report.specs.declared.parts.NodeId.{NodeId}
 use Rattle.resolver_report.specs.declared.story.Findings.{Findings}
 use Rattle.resolver_report.specs.declared.story.RunStory.{RunStory}
 use Rattle.resolver_report.specs.declared.story.NodeStory.{NodeStory}
 use Rattle.resolver_report.specs.ConflictGraphs.{shape_of}
-use Rattle.resolver_report.specs.Messages.{RunTold, Verdict, is_viable, told_of, verdict_of}
+use Rattle.resolver_report.specs.Messages.{RunTold, Verdict, is_viable, same_group_as, told_of, verdict_of}
 use Rattle.resolver_report.specs.Runs.{Run}
 use Rattle.resolver_report.specs.Shapes.{ConflictShape, outgoing}
 use Rattle.resolver_report.specs.Verdicts.{verdict_view}
@@ -41,3 +46,10 @@ node_told g group_of marks n =
 
 abbrev pub node_view : NodeStory → NodeTold
 node_view s = record { group = s.group; verdict = verdict_view s.verdict; runs = map run_told_view s.runs.items }
+
+abbrev pub GroupsTold : Type 0
+GroupsTold = HashSet ℕ (BuildHasherDefault FoldHasher)
+
+-- the set has the groups of these nodes, and nothing else
+abbrev pub HasGroupsOf : List (Option ℕ) → List NodeId → GroupsTold → Type 0
+HasGroupsOf groups found told = (k : ℕ) → contains nat_eq told k ≡ list_any (λ m. same_group_as (Some k) (group_at groups m.0)) found

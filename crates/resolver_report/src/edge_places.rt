@@ -15,7 +15,7 @@ pub struct EdgePlaces {
 }
 
 /// So many empty lists.
-fn empty_lists(alloc: Global, count: usize) -> Result<Vec<Vec<usize>>, Exhausted>
+pub fn empty_lists<X: Drop>(alloc: Global, count: usize) -> Result<Vec<Vec<X>>, Exhausted>
     ensures value { IfOk result (λ v. AreEmpty count (lists_in v.items)) }
     ensures memory { IfErr result (λ e. e ≡ Exhausted.Memory) }
 {
@@ -26,13 +26,13 @@ fn empty_lists(alloc: Global, count: usize) -> Result<Vec<Vec<usize>>, Exhausted
     Ok(lists)
 }
 
-/// Appends a number to one of the lists.
-fn push_at(lists: &mut Vec<Vec<usize>>, place: usize, number: usize) -> Result<(), Exhausted>
+/// Appends an item to one of the lists.
+pub fn push_at<X: Drop>(lists: &mut Vec<Vec<X>>, place: usize, item: X) -> Result<(), Exhausted>
     requires { place < length lists.old.items }
-    ensures ok { OnOk result (lists_in lists.new.items ≡ appended (lists_in lists.old.items) place number) }
+    ensures ok { OnOk result (lists_in lists.new.items ≡ appended (lists_in lists.old.items) place item) }
     ensures memory { IfErr result (λ e. e ≡ Exhausted.Memory) }
 {
-    lists[place].push(number)?;
+    lists[place].push(item)?;
     Ok(())
 }
 

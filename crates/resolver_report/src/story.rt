@@ -6,18 +6,18 @@ ghost use Rattle.std.specs.Option.{option_map};
 ghost use Rattle.resolver_clause_store.specs.Lists.{without_repeats};
 ghost use Rattle.resolver_report.specs.ConflictGraphs.{shape_of};
 ghost use Rattle.resolver_report.specs.EdgeRuns.{run_view};
-ghost use Rattle.resolver_report.specs.Messages.{candidates_of, is_candidate as is_candidate_in, is_unresolved as is_unresolved_in, is_viable as is_viable_in, same_group as same_group_in, same_group_as, told_of, told_of_run};
-ghost use Rattle.resolver_report.specs.Shapes.{outgoing as outgoing_in, places};
-ghost use Rattle.resolver_report.specs.Stories.{group_at as group_at_in, groups_in, has_viability, node_told, node_view, run_told_view};
+ghost use Rattle.resolver_report.specs.Messages.{candidates_of, is_candidate as is_candidate_in, is_unresolved as is_unresolved_in, is_viable as is_viable_in, same_group_as, told_of, told_of_run};
+ghost use Rattle.resolver_report.specs.Shapes.{places};
+ghost use Rattle.resolver_report.specs.Stories.{HasGroupsOf, group_at as group_at_in, groups_in, has_viability, node_told, node_view, run_told_view};
 
 use crate::graph::ConflictGraph;
 use crate::marks::{is_marked, is_place, some_marked};
 use crate::parts::{ConflictNode, Edge, NodeId};
-use crate::runs::{EdgeRun, runs_of};
-use crate::tables::outgoing_table;
+use crate::runs::{EdgeRun, outgoing, runs_of};
 use crate::verdict::{Verdict, verdict_of};
 use resolver_clause_store::{Exhausted, Requirement};
 use std::alloc::Global;
+use std::collections::HashSet;
 
 /// What was found out of the nodes of a graph.
 #[derive(Drop)]
@@ -59,38 +59,26 @@ fn group_at(groups: &[Option<usize>], n: NodeId) -> Option<usize>
     }
 }
 
-/// Whether both are there and the same.
-fn is_same_group(first: Option<usize>, second: Option<usize>) -> bool
-    ensures { result ≡ same_group_as first second }
-{
-    match (first, second) {
-        (Some(first), Some(second)) => first == second,
-        _ => false,
-    }
-}
-
-/// Whether two nodes are of one group.
-fn same_group(groups: &[Option<usize>], first: NodeId, second: NodeId) -> bool
-    ensures { result ≡ same_group_as (group_at_in groups.now first.0) (group_at_in groups.now second.0) }
-{
-    is_same_group(group_at(groups, first), group_at(groups, second))
-}
-
-/// Whether a node is of the group of one of these.
-fn has_group_of(groups: &[Option<usize>], nodes: &[NodeId], n: NodeId) -> bool
-    ensures { result ≡ list_any (λ m. same_group_as (group_at_in groups.now n.0) (group_at_in groups.now m.0)) nodes.now }
-{
-    nodes.iter().any(|m| same_group(groups, n, *m))
-}
-
 /// Adds a node, unless one of its group is there.
-fn add_node(groups: &[Option<usize>], found: &mut Vec<NodeId>, n: NodeId) -> Result<(), Exhausted>
-    ensures ok { OnOk result (found.new.items ≡ (if list_any (λ m. same_group_as (group_at_in groups.now n.0) (group_at_in groups.now m.0)) found.old.items then found.old.items else found.old.items ++ n ∷ [])) }
+fn add_node(
+    groups: &[Option<usize>],
+    told: &mut HashSet<usize>,
+    found: &mut Vec<NodeId>,
+    n: NodeId,
+) -> Result<(), Exhausted>
+    requires { HasGroupsOf groups.now found.old.items told.old }
+    ensures found { OnOk result (found.new.items ≡ (if list_any (λ m. same_group_as (group_at_in groups.now n.0) (group_at_in groups.now m.0)) found.old.items then found.old.items else found.old.items ++ n ∷ [])) }
+    ensures told { OnOk result (HasGroupsOf groups.now found.new.items told.new) }
     ensures memory { IfErr result (λ e. e ≡ Exhausted.Memory) }
 {
-    if has_group_of(groups, found, n) {
+    let Some(group) = group_at(groups, n) else {
+        found.push(n)?;
+        return Ok(());
+    };
+    if told.contains(&group) {
         return Ok(());
     }
+    told.insert(group)?;
     found.push(n)?;
     Ok(())
 }
@@ -105,8 +93,9 @@ fn first_of_groups(
     ensures memory { IfErr result (λ e. e ≡ Exhausted.Memory) }
 {
     let mut found = Vec::new(alloc);
+    let mut told = HashSet::new(alloc);
     for n in nodes {
-        add_node(groups, &mut found, *n)?;
+        add_node(groups, &mut told, &mut found, *n)?;
     }
     Ok(found)
 }
@@ -231,19 +220,19 @@ pub fn stories_of<S: Copy + Drop>(
     Ok(stories)
 }
 
-/// What is told of a node, given the edges from it.
+/// What is told of a node.
 fn node_story<S: Copy + Drop>(
     alloc: Global,
     findings: &Findings<'_, S>,
-    edges: &[Edge<S>],
     n: NodeId,
 ) -> Result<NodeStory, Exhausted>
-    requires { edges.now ≡ outgoing_in findings.now.graph.now.graph.edges n.0 }
+    requires { n.0 < length findings.now.graph.now.graph.nodes }
     ensures value { IfOk result (λ s. node_view s ≡ node_told (shape_of findings.now.graph.now) (groups_in findings.now) findings.now.installable.items n.0) }
     ensures memory { IfErr result (λ e. e ≡ Exhausted.Memory) }
 {
-    let verdict = verdict_of(alloc, edges)?;
-    let runs = stories_of(alloc, findings, edges)?;
+    let edges = outgoing(alloc, &findings.graph.graph, n)?;
+    let verdict = verdict_of(alloc, &edges)?;
+    let runs = stories_of(alloc, findings, &edges)?;
     Ok(NodeStory {
         group: group_at(&findings.groups, n),
         verdict,
@@ -259,10 +248,9 @@ pub fn node_stories<S: Copy + Drop>(
     ensures value { IfOk result (λ v. map node_view v.items ≡ map (node_told (shape_of findings.now.graph.now) (groups_in findings.now) findings.now.installable.items) (places findings.now.graph.now.graph)) }
     ensures memory { IfErr result (λ e. e ≡ Exhausted.Memory) }
 {
-    let table = outgoing_table(alloc, &findings.graph.graph)?;
     let mut stories = Vec::new(alloc);
-    for n in 0..table.len() {
-        stories.push(node_story(alloc, findings, &table[n], NodeId(n))?)?;
+    for n in 0..findings.graph.graph.nodes().len() {
+        stories.push(node_story(alloc, findings, NodeId(n))?)?;
     }
     Ok(stories)
 }

@@ -1,44 +1,34 @@
 -- A clause behind the others, a trail that was undone, and what a finished search has found.
-use Rattle.std.proofs.Common.{◌≡◌, ◌≢◌, ℕ, zero, suc, ◌+◌, ◌-◌, ◌<◌, ◌≤◌, ◌⊎◌, List, [], ◌∷◌, ◌++◌, length, get_or, take, drop, Some, None, Bool, true, arith, inl, inr, refl, sym, ap, ◌∙◌, subst, ⊎_elim, length-append}
+use Rattle.std.proofs.Common.{◌≡◌, ◌≢◌, ℕ, zero, suc, ◌+◌, ◌<◌, ◌≤◌, List, [], ◌∷◌, ◌++◌, length, get_or, take, drop, Some, None, Bool, true, arith, inl, inr, refl, sym, ap, ◌∙◌, subst, ⊎_elim, length-append}
 use Rattle.std.specs.Prelude.{Vec}
 use Rattle.std.specs.Bool.{beq}
-use Rattle.std.specs.Option.{option_map, option_map_or}
+use Rattle.std.specs.Option.{option_map}
 use Rattle.std.specs.List.{All}
 use Rattle.std.specs.declared.alloc.Global.{Global}
-use Rattle.std.proofs.Math.ListN.{get_or-append}
-use Rattle.std.proofs.Math.Seq.{get_or-append_seam}
 use Rattle.std.proofs.lemmas.Bool.{cases_eq, cases_lt}
-use Rattle.std.proofs.lemmas.List.{drop_more, get_or-take, length-take-le, take-append-drop, take-append-le}
+use Rattle.std.proofs.lemmas.List.{drop_more, get_or-take, length-take-le, take-append-drop}
 use Rattle.std.proofs.lemmas.List.Elements.{All-contains}
-use Rattle.std.proofs.lemmas.Option.{same_Some, slice_get-get_or}
+use Rattle.std.proofs.lemmas.Option.{same_Some}
 use Rattle.resolver_clause_store.specs.declared.Literal.{Literal}
 use Rattle.resolver_clause_store.specs.declared.RequirementClause.{RequirementClause}
 use Rattle.resolver_clause_store.specs.declared.Slot.{Slot}
-use Rattle.resolver_clause_store.specs.declared.Reason.{Reason}
-use Rattle.resolver_clause_store.specs.declared.Reason.TheVariants.{Decided, Forced}
+use Rattle.resolver_clause_store.specs.declared.Reason.TheVariants.{Decided}
 use Rattle.resolver_clause_store.specs.declared.Trail.{Trail}
 use Rattle.resolver_clause_store.specs.Formula.{AreBelow, FollowsFrom, IsBelow, MakesTrue, Satisfies, clause_at, clause_true}
-use Rattle.resolver_clause_store.specs.Outcomes.{IsChosen, IsFalseBefore, IsFalsified, IsFinished, IsForcing, IsImplied, IsMet, IsPropagated}
+use Rattle.resolver_clause_store.specs.Outcomes.{IsChosen, IsFalseBefore, IsFalsified, IsForcing, IsImplied}
 use Rattle.resolver_clause_store.specs.TrailView.{Gains, IsUndone, length_of, slot_of, variable_count}
-use Rattle.resolver_clause_store.proofs.FormulaLemmas.{clause_at-get_or, clause_at-last, clause_at-past, clause_at-push, clause_at-take}
+use Rattle.resolver_clause_store.proofs.FormulaLemmas.{clause_at-get_or, clause_at-last, clause_at-past, clause_at-push}
 use Rattle.resolver_clause_store.proofs.SlotLemmas.{none-from, slot-within}
 use Rattle.resolver_clause_store.proofs.TrailLemmas.{false-before, false_before-kept, gains-cases, keeps-gains, value-false}
 use Rattle.resolvo.specs.declared.decide.Choice.{Choice}
 use Rattle.resolvo.specs.ClauseSearches.{Grows}
 use Rattle.resolvo.specs.Decisions.{IsChoice}
-use Rattle.resolvo.specs.Derivations.{IsDerived, causes_at}
-use Rattle.resolvo.specs.Propagation.{AllSettled, AreChosen, IsJustified, IsUnit}
+use Rattle.resolvo.specs.declared.contradiction.Source.{Source}
+use Rattle.resolvo.specs.Derivations.{AreGiven, IsDerived, causes_at, causes_of, given_at, number_of}
+use Rattle.resolvo.specs.Propagation.{AreChosen, IsJustified, IsUnit}
 use Rattle.resolvo.specs.Resolvents.{IsAsserting, IsFalseAt}
-use Rattle.resolvo.proofs.JustifiedLemmas.{chosen-kept, propagated}
-
-pub causes_at-get_or : (table : List (Vec ℕ Global)) (number : ℕ) (d : Vec ℕ Global) → number < length table → causes_at table number ≡ (get_or table number d).items
-causes_at-get_or table number d within = ap (λ o. option_map_or (λ (clause : Vec ℕ Global). clause.items) o []) (slice_get-get_or table number d within)
-
-pub causes_at-push : (table : List (Vec ℕ Global)) (clause : Vec ℕ Global) (number : ℕ) → number < length table → causes_at (table ++ clause ∷ []) number ≡ causes_at table number
-causes_at-push table clause number within = causes_at-get_or (table ++ clause ∷ []) number clause (simp length-append (omega arith)) ∙ ap (λ (c : Vec ℕ Global). c.items) (get_or-append table (clause ∷ []) clause number within) ∙ sym (causes_at-get_or table number clause within)
-
-pub causes_at-last : (table : List (Vec ℕ Global)) (clause : Vec ℕ Global) → causes_at (table ++ clause ∷ []) (length table) ≡ clause.items
-causes_at-last table clause = causes_at-get_or (table ++ clause ∷ []) (length table) clause (simp length-append (omega arith)) ∙ ap (λ (c : Vec ℕ Global). c.items) (get_or-append_seam table clause [] clause)
+use Rattle.resolvo.proofs.JustifiedLemmas.{chosen-kept}
+use Rattle.resolvo.proofs.SourceLemmas.{causes_at-last, causes_at-push, given_at-last, given_at-push, some_or_none}
 
 pub grows-push : (table : List (Vec Literal Global)) (clause : Vec Literal Global) → Grows table (table ++ clause ∷ [])
 grows-push table clause = record { longer = simp length-append (omega arith); same = clause_at-push table clause }
@@ -67,55 +57,57 @@ below-push variables table clause below here = λ n. ⊎_elim
     (cases_eq n (length table)))
     (cases_lt n (length table))
 
-pub derived-push : (given : ℕ) (table : List (Vec Literal Global)) (causes : List (Vec ℕ Global)) (clause : Vec Literal Global) (numbers : Vec ℕ Global) → IsDerived given table causes → All (λ n. n < length table) numbers.items → FollowsFrom table numbers.items clause.items → IsDerived given (table ++ clause ∷ []) (causes ++ numbers ∷ [])
-derived-push given table causes clause numbers derived within follows =
+-- a clause behind the others, given or learnt
+pub derived-push : (table : List (Vec Literal Global)) (sources : List Source) (clause : Vec Literal Global) (source : Source) → IsDerived table sources → All (λ n. n < length table) (causes_of source) → (number_of source ≡ None → FollowsFrom table (causes_of source) clause.items) → IsDerived (table ++ clause ∷ []) (sources ++ source ∷ [])
+derived-push table sources clause source derived within follows =
     let grows = grows-push table clause in
-    let last : (place : ℕ) → place < length (causes ++ numbers ∷ []) → length causes ≤ place → place ≡ length causes = λ place inside more. omega (arith, length-append causes (numbers ∷ [])) in
+    let longer = table ++ clause ∷ [] in
+    let more_sources = sources ++ source ∷ [] in
+    let last : (place : ℕ) → place < length longer → length table ≤ place → place ≡ length sources = λ place inside more. omega (arith, length-append table (clause ∷ []), derived.count) in
     record {
-      count = simp length-append (omega (arith, derived.count));
+      count = omega (arith, length-append sources (source ∷ []), length-append table (clause ∷ []), derived.count);
       earlier = λ place inside. ⊎_elim
-          (λ less. subst (λ ns. All (λ n. n < given + place) ns) (sym (causes_at-push causes numbers place less)) (derived.earlier place less))
-          (λ (more : length causes ≤ place).
+          (λ (less : place < length table). subst (λ ns. All (λ n. n < place) ns) (sym (causes_at-push sources source place (omega (arith, less, derived.count)))) (derived.earlier place less))
+          (λ (more : length table ≤ place).
           let e = last place inside more in
-          let count : given + place ≡ length table = omega (arith, derived.count) in
-          subst (λ p. All (λ n. n < given + place) (causes_at (causes ++ numbers ∷ []) p)) (sym e) (subst (λ ns. All (λ n. n < given + place) ns) (sym (causes_at-last causes numbers)) (subst (λ m. All (λ n. n < m) numbers.items) (sym count) within)))
-          (cases_lt place (length causes));
-      follows = λ place inside. λ values holds. ⊎_elim
-          (λ (less : place < length causes).
-          let h : MakesTrue values (table ++ clause ∷ []) (causes_at causes place) = subst (λ ns. MakesTrue values (table ++ clause ∷ []) ns) (causes_at-push causes numbers place less) holds in
-          let w : All (λ n. n < length table) (causes_at causes place) = λ k d b. omega (arith, derived.earlier place less k d b, derived.count) in
-          subst (λ c. clause_true values c ≡ true) (sym (clause_at-push table clause (given + place) (omega (arith, derived.count)))) (derived.follows place less values (holds-grows table _ values _ grows w h)))
-          (λ (more : length causes ≤ place).
+          let here : All (λ n. n < place) (causes_of source) = λ k d b. omega (arith, within k d b, more) in
+          subst (λ ns. All (λ n. n < place) ns) (sym (ap (λ p. causes_at more_sources p) e ∙ causes_at-last sources source)) here)
+          (cases_lt place (length table));
+      follows = λ place inside learnt. λ values holds. ⊎_elim
+          (λ (less : place < length table).
+          let less_there : place < length sources = omega (arith, less, derived.count) in
+          let h : MakesTrue values longer (causes_at sources place) = subst (λ ns. MakesTrue values longer ns) (causes_at-push sources source place less_there) holds in
+          let w : All (λ n. n < length table) (causes_at sources place) = λ k d b. omega (arith, derived.earlier place less k d b, less) in
+          subst (λ c. clause_true values c ≡ true) (sym (clause_at-push table clause place less)) (derived.follows place less (sym (given_at-push sources source place less_there) ∙ learnt) values (holds-grows table longer values _ grows w h)))
+          (λ (more : length table ≤ place).
           let e = last place inside more in
-          let count : given + place ≡ length table = omega (arith, derived.count) in
-          let h : MakesTrue values (table ++ clause ∷ []) numbers.items = subst (λ ns. MakesTrue values (table ++ clause ∷ []) ns) (ap (λ p. causes_at (causes ++ numbers ∷ []) p) e ∙ causes_at-last causes numbers) holds in
-          subst (λ c. clause_true values c ≡ true) (sym (ap (λ n. clause_at (table ++ clause ∷ []) n) count ∙ clause_at-last table clause)) (follows values (holds-grows table _ values _ grows within h)))
-          (cases_lt place (length causes));
+          let here : place ≡ length table = omega (arith, e, derived.count) in
+          let h : MakesTrue values longer (causes_of source) = subst (λ ns. MakesTrue values longer ns) (ap (λ p. causes_at more_sources p) e ∙ causes_at-last sources source) holds in
+          let none : number_of source ≡ None = sym (given_at-last sources source) ∙ ap (λ p. given_at more_sources p) (sym e) ∙ learnt in
+          subst (λ c. clause_true values c ≡ true) (sym (ap (λ n. clause_at longer n) here ∙ clause_at-last table clause)) (follows none values (holds-grows table longer values _ grows within h)))
+          (cases_lt place (length table));
     }
 
+satisfied-at : (values : ℕ → Bool) (clauses : List (Vec Literal Global)) (n : ℕ) → Satisfies values clauses → n < length clauses → clause_true values (clause_at clauses n) ≡ true
+satisfied-at values [] n holds within = absurd (omega arith)
+satisfied-at values (d ∷ clauses) n holds within = subst (λ c. clause_true values c ≡ true) (sym (clause_at-get_or (d ∷ clauses) n d within)) (holds n d within)
+
 -- values that make the given clauses true make the learnt ones true
-pub derived-below : (given : ℕ) (table : List (Vec Literal Global)) (causes : List (Vec ℕ Global)) (values : ℕ → Bool) → IsDerived given table causes → ((n : ℕ) → n < given → clause_true values (clause_at table n) ≡ true) → (bound n : ℕ) → n < bound → n < length table → clause_true values (clause_at table n) ≡ true
-derived-below given table causes values derived holds zero n below within = absurd (omega arith)
-derived-below given table causes values derived holds (suc bound) n below within = ⊎_elim
-    (λ (less : n < given). holds n less)
-    (λ (more : given ≤ n).
-    let place = n - given in
-    let back : given + place ≡ n = omega arith in
-    let inside : place < length causes = omega (arith, derived.count) in
-    subst (λ m. clause_true values (clause_at table m) ≡ true) back
-    (derived.follows place inside values (λ k d at.
-    let early = derived.earlier place inside k d at in
-    derived-below given table causes values derived holds bound _ (omega (arith, early)) (omega (arith, early)))))
-    (cases_lt n given)
+derived-below : (given table : List (Vec Literal Global)) (sources : List Source) (values : ℕ → Bool) → IsDerived table sources → AreGiven given table sources → Satisfies values given → (bound place : ℕ) → place < bound → place < length table → clause_true values (clause_at table place) ≡ true
+derived-below given table sources values derived are holds zero place below within = absurd (omega arith)
+derived-below given table sources values derived are holds (suc bound) place below within = ⊎_elim
+    (λ (w : (n : ℕ) × (given_at sources place ≡ Some n)). subst (λ c. clause_true values c ≡ true) (sym (are.same place w.0 w.1)) (satisfied-at values given w.0 holds (are.within place w.0 w.1)))
+    (λ learnt. derived.follows place within learnt values (λ k d at.
+    let early = derived.earlier place within k d at in
+    derived-below given table sources values derived are holds bound _ (omega (arith, early)) (omega (arith, early))))
+    (some_or_none (given_at sources place))
 
-forced-decided : (n m : ℕ) → Forced n ≡ Decided m → ⊥
-forced-decided n m e = absurd cc
-
-decided-is : (n m : ℕ) → Decided n ≡ Decided m → n ≡ m
-decided-is n m e = cc
+-- each clause of the table is implied by the given ones
+pub implied : (given table : List (Vec Literal Global)) (sources : List Source) (place : ℕ) → IsDerived table sources → AreGiven given table sources → place < length table → IsImplied given (clause_at table place)
+implied given table sources place derived are within = λ values holds. derived-below given table sources values derived are holds (suc place) place (omega arith) within
 
 -- a choice is a reason for what it decides
-chosen-made : (table : List (Vec Literal Global)) (requirements : List RequirementClause) (old new : Trail) (literal : Literal) (choice : Choice) (level : ℕ) → Gains old new literal level (Decided choice.number) → slot_of old literal.variable ≡ None → literal ≡ get_or (clause_at table choice.number) choice.place literal → IsChoice old table requirements choice → (variable : ℕ) (slot : Slot) → variable ≡ literal.variable → slot.value ≡ literal.positive → slot.place ≡ length_of old → IsChosen table requirements new variable slot choice.number
+chosen-made : (table : List (Vec Literal Global)) (requirements : List RequirementClause) (old new : Trail) (literal : Literal) (choice : Choice) (level : ℕ) → Gains old new literal level (Decided choice.number) → slot_of old literal.variable ≡ None → literal ≡ get_or (clause_at table choice.number) choice.place literal → IsChoice old table requirements choice → (variable : ℕ) (slot : Slot) → variable ≡ literal.variable → slot.value ≡ literal.positive → slot.place ≡ length_of old → IsChosen table requirements new variable slot
 chosen-made table requirements old new literal choice level gains free is chosen variable slot name value place =
     let f = chosen.chosen.first in
     let clause = clause_at table choice.number in
@@ -125,11 +117,10 @@ chosen-made table requirements old new literal choice level gains free is chosen
     record {
       requirement = chosen.requirement;
       listed = chosen.listed;
-      number_is = chosen.chosen.number_is;
       value = value ∙ sign;
       before = take choice.place clause;
       after = drop (choice.place + 1) clause;
-      clause = sym (take-append-drop choice.place clause) ∙ ap (λ (rest : List Literal). take choice.place clause ++ rest) (drop_more clause choice.place literal f.within ∙ ap (λ (l : Literal). l ∷ drop (choice.place + 1) clause) (sym is ∙ made));
+      clause = ap (λ n. clause_at table n) chosen.chosen.number_is ∙ sym (take-append-drop choice.place clause) ∙ ap (λ (rest : List Literal). take choice.place clause ++ rest) (drop_more clause choice.place literal f.within ∙ ap (λ (l : Literal). l ∷ drop (choice.place + 1) clause) (sym is ∙ made));
       false_before = λ k d below.
           let early : k < choice.place = omega (arith, below, length-take-le choice.place clause (omega (arith, f.within))) in
           let was = false-before old _ (f.false_before k d early) in
@@ -139,11 +130,9 @@ chosen-made table requirements old new literal choice level gains free is chosen
 
 pub chosen-decides : (table : List (Vec Literal Global)) (requirements : List RequirementClause) (old new : Trail) (literal : Literal) (choice : Choice) (level : ℕ) → Gains old new literal level (Decided choice.number) → slot_of old literal.variable ≡ None → literal ≡ get_or (clause_at table choice.number) choice.place literal → IsChoice old table requirements choice → AreChosen table requirements old → AreChosen table requirements new
 chosen-decides table requirements old new literal choice level gains free is choice-is chosen = record {
-  each = λ v s n at reason. ⊎_elim
-      (λ w.
-      let same : choice.number ≡ n = decided-is _ _ (sym (ap (λ (t : Slot). t.reason) w.1) ∙ reason) in
-      subst (λ m. IsChosen table requirements new v s m) same (chosen-made table requirements old new literal choice level gains free is choice-is v s w.0 (ap (λ (t : Slot). t.value) w.1) (ap (λ (t : Slot). t.place) w.1)))
-      (λ w. chosen-kept table requirements old new v n s (keeps-gains old new literal level _ gains free) (chosen.each v s n w reason))
+  each = λ v s at decided. ⊎_elim
+      (λ w. chosen-made table requirements old new literal choice level gains free is choice-is v s w.0 (ap (λ (t : Slot). t.value) w.1) (ap (λ (t : Slot). t.place) w.1))
+      (λ w. chosen-kept table requirements old new v s (keeps-gains old new literal level _ gains free) (chosen.each v s w decided))
       (gains-cases old new literal level _ gains v s at);
 }
 
@@ -166,13 +155,12 @@ justified-undone table old new level justified undone = record {
 
 pub chosen-undone : (table : List (Vec Literal Global)) (requirements : List RequirementClause) (old new : Trail) (level : ℕ) → AreChosen table requirements old → IsUndone old new level → AreChosen table requirements new
 chosen-undone table requirements old new level chosen undone = record {
-  each = λ v s n at reason.
+  each = λ v s at decided.
       let was = undone.stays v s at in
-      let c = chosen.each v s n was.0 reason in
+      let c = chosen.each v s was.0 decided in
       record {
         requirement = c.requirement;
         listed = c.listed;
-        number_is = c.number_is;
         value = c.value;
         before = c.before;
         after = c.after;
@@ -183,17 +171,15 @@ chosen-undone table requirements old new level chosen undone = record {
 
 pub chosen-grows : (old new : List (Vec Literal Global)) (requirements : List RequirementClause) (trail : Trail) → Grows old new → All (λ (requirement : RequirementClause). requirement.number < length old) requirements → AreChosen old requirements trail → AreChosen new requirements trail
 chosen-grows old new requirements trail grows inside chosen = record {
-  each = λ v s n at reason.
-      let c = chosen.each v s n at reason in
-      let within : n < length old = omega (arith, c.number_is, All-contains (λ (requirement : RequirementClause). requirement.number < length old) requirements c.requirement inside c.listed) in
+  each = λ v s at decided.
+      let c = chosen.each v s at decided in
       record {
         requirement = c.requirement;
         listed = c.listed;
-        number_is = c.number_is;
         value = c.value;
         before = c.before;
         after = c.after;
-        clause = grows.same n within ∙ c.clause;
+        clause = grows.same _ (All-contains (λ (requirement : RequirementClause). requirement.number < length old) requirements c.requirement inside c.listed) ∙ c.clause;
         false_before = c.false_before;
       };
 }
@@ -215,59 +201,3 @@ asserted-unit old new jump literal literals asserting undone = λ k d below. ⊎
 pub false-below : (trail : Trail) (clause : List Literal) → IsFalsified trail clause → IsBelow (variable_count trail) clause
 false-below trail clause falsified = λ k d below. let v = value-false _ _ (falsified k d below) in
     slot-within trail.slots.items _ v.0.place (ap (λ o. option_map (λ (slot : Slot). slot.place) o) v.1)
-
--- the given clauses of a table that grows
-pub given-push : (table : List (Vec Literal Global)) (clause : Vec Literal Global) (given : ℕ) → given ≤ length table → take given (table ++ clause ∷ []) ≡ take given table
-given-push table clause given inside = take-append-le given table (clause ∷ []) inside
-
-satisfied-at : (values : ℕ → Bool) (clauses : List (Vec Literal Global)) (n : ℕ) → Satisfies values clauses → n < length clauses → clause_true values (clause_at clauses n) ≡ true
-satisfied-at values [] n holds within = absurd (omega arith)
-satisfied-at values (d ∷ clauses) n holds within = subst (λ c. clause_true values c ≡ true) (sym (clause_at-get_or (d ∷ clauses) n d within)) (holds n d within)
-
--- each clause of the table is implied by the given ones
-pub implied : (given : ℕ) (table : List (Vec Literal Global)) (causes : List (Vec ℕ Global)) (number : ℕ) → IsDerived given table causes → number < length table → IsImplied (take given table) (clause_at table number)
-implied given table causes number derived within = λ values holds.
-    let long : given ≤ length table = omega (arith, derived.count) in
-    derived-below given table causes values derived (λ n less. subst (λ c. clause_true values c ≡ true) (clause_at-take table given n long less) (satisfied-at values (take given table) n holds (omega (arith, less, length-take-le given table long)))) (suc number) number (omega arith) within
-
-reason-cases : (r : Reason) → ((n : ℕ) × (r ≡ Decided n)) ⊎ ((n : ℕ) × (r ≡ Forced n))
-reason-cases (Decided n) = inl (n, refl)
-reason-cases (Forced n) = inr (n, refl)
-
-pub finished : (given : ℕ) (table : List (Vec Literal Global)) (causes : List (Vec ℕ Global)) (requirements : List RequirementClause) (trail : Trail) → IsDerived given table causes → IsJustified table trail → AreChosen table requirements trail → All (λ (requirement : RequirementClause). requirement.number < given) requirements → AllSettled trail table → All (λ (requirement : RequirementClause). IsMet trail (clause_at table requirement.number)) requirements → IsFinished (take given table) requirements trail
-finished given table causes requirements trail derived justified chosen inside settled met =
-    let long : given ≤ length table = omega (arith, derived.count) in
-    record {
-      reasons = λ v s at. ⊎_elim
-          (λ w.
-          let c = chosen.each v s w.0 at w.1 in
-          let within : w.0 < given = omega (arith, c.number_is, All-contains (λ (requirement : RequirementClause). requirement.number < given) requirements c.requirement inside c.listed) in
-          inl (
-            w.0,
-            w.1,
-            record {
-              requirement = c.requirement;
-              listed = c.listed;
-              number_is = c.number_is;
-              value = c.value;
-              before = c.before;
-              after = c.after;
-              clause = clause_at-take table given w.0 long within ∙ c.clause;
-              false_before = c.false_before;
-            },
-          ))
-          (λ w. inr (record {
-            clause = clause_at table w.0;
-            implied = implied given table causes w.0 derived (justified.within v s w.0 at w.1);
-            forcing = justified.forced v s w.0 at w.1;
-          }))
-          (reason-cases s.reason);
-      propagated = λ n within.
-          let less : n < given = omega (arith, within, length-take-le given table long) in
-          subst (λ c. IsPropagated trail c) (sym (clause_at-take table given n long less)) (propagated trail (clause_at table n) (settled n (omega (arith, less, long))));
-      met = λ k d below. subst (λ c. IsMet trail c) (sym (clause_at-take table given _ long (inside k d below))) (met k d below);
-    }
-
--- requirements among the given clauses are among all
-pub chosen-given : (given : ℕ) (table : List (Vec Literal Global)) (causes : List (Vec ℕ Global)) (requirements : List RequirementClause) → IsDerived given table causes → All (λ (requirement : RequirementClause). requirement.number < given) requirements → All (λ (requirement : RequirementClause). requirement.number < length table) requirements
-chosen-given given table causes requirements derived inside = λ k d below. omega (arith, inside k d below, derived.count)

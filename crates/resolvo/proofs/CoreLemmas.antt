@@ -1,51 +1,93 @@
 -- Marked clauses that contradict each other.
-use Rattle.std.proofs.Common.{◌≡◌, ℕ, ◌+◌, ◌-◌, ◌<◌, ◌≤◌, List, [], length, set, take, Bool, true, false, arith, sym, ◌∙◌, subst, ⊎_elim, get_or-set_same, get_or-set_other, length-set}
+use Rattle.std.proofs.Common.{◌≡◌, ℕ, ◌+◌, ◌<◌, ◌≤◌, List, [], ◌∷◌, ◌++◌, length, set, Bool, true, false, Some, None, arith, sym, ap, ◌∙◌, subst, ⊎_elim, get_or-set_same, get_or-set_other, length-set}
 use Rattle.std.specs.Prelude.{Vec}
 use Rattle.std.specs.List.{All, Contains}
 use Rattle.std.specs.declared.alloc.Global.{Global}
-use Rattle.std.proofs.lemmas.Bool.{cases_eq, both_ways, cases_lt, false≢true}
-use Rattle.std.proofs.lemmas.List.Elements.{All-contains}
+use Rattle.std.proofs.lemmas.Bool.{cases_Bool, cases_eq, both_ways, false≢true}
+use Rattle.std.proofs.lemmas.List.Elements.{All-contains, All-push, Contains-append_left, Contains-push}
+use Rattle.std.proofs.lemmas.Option.{same_Some}
 use Rattle.resolver_clause_store.specs.declared.Literal.{Literal}
 use Rattle.resolver_clause_store.specs.Formula.{clause_at, clause_true, FollowsFrom}
-use Rattle.resolvo.specs.Resolvents.{is_marked}
 use Rattle.resolver_clause_store.specs.Outcomes.{IsCore}
-use Rattle.resolver_clause_store.proofs.FormulaLemmas.{clause_at-take}
-use Rattle.std.proofs.lemmas.List.{length-take-le}
-use Rattle.resolvo.specs.Derivations.{causes_at, IsDerived, MarksNumbers, MarkedRefute}
+use Rattle.resolvo.specs.declared.contradiction.Source.{Source}
+use Rattle.resolvo.specs.Resolvents.{is_marked}
+use Rattle.resolvo.specs.Derivations.{AddsMarked, AreGiven, causes_at, given_at, IsDerived, ListsMarked, MarksNumbers, MarkedRefute, Replaces, Stands}
+use Rattle.resolvo.proofs.SourceLemmas.{given_within, some_or_none}
 
-pub marked-begin : (table : List (Vec Literal Global)) (old marks : List Bool) (start : List ℕ) → length old ≡ length table → ((k : ℕ) → is_marked old k ≡ false) → MarksNumbers old marks start → All (λ n. n < length table) start → FollowsFrom table start [] → MarkedRefute table marks (length table)
-marked-begin table old marks start size unmarked so within refuted = record {
+pub marked-begin : (table : List (Vec Literal Global)) (sources : List Source) (old marks : List Bool) (start : List ℕ) → length old ≡ length table → ((k : ℕ) → is_marked old k ≡ false) → MarksNumbers old marks start → All (λ n. n < length table) start → FollowsFrom table start [] → MarkedRefute table sources marks (length table)
+marked-begin table sources old marks start size unmarked so within refuted = record {
   size = so.size ∙ size;
   apart = λ values holds. false≢true (refuted values (λ k d below. holds _ (so.all k d below)));
-  none = λ k past. so.only k (unmarked k) (λ i d below. λ e. absurd (omega (arith, within i d below)));
+  given = λ k past m. absurd (both_ways _ (so.only k (unmarked k) (λ i d below. λ e. absurd (omega (arith, within i d below)))) m);
 }
 
-pub marked-replace : (given : ℕ) (table : List (Vec Literal Global)) (causes : List (Vec ℕ Global)) (old new : List Bool) (bound number : ℕ) → bound ≡ number + 1 → given ≤ number → number < length table → IsDerived given table causes → MarkedRefute table old bound → MarksNumbers (set old number false) new (causes_at causes (number - given)) → MarkedRefute table new number
-marked-replace given table causes old new bound number last learnt inside derived refute so =
-    let place = number - given in
-    let place_in : place < length causes = omega (arith, derived.count) in
-    let back : given + place ≡ number = omega arith in
-    record {
-      size = so.size ∙ length-set old number false ∙ refute.size;
-      apart = λ values holds. refute.apart values (λ k m. ⊎_elim
-          (λ e. subst (λ n. clause_true values (clause_at table n) ≡ true) (back ∙ sym e) (derived.follows place place_in values (λ i d below. holds _ (so.all i d below))))
-          (λ ne. holds k (so.kept k (get_or-set_other old number k false false ne ∙ m)))
-          (cases_eq k number));
-      none = λ k past. so.only k
-          (⊎_elim
-          (λ e. subst (λ n. is_marked (set old number false) n ≡ false) (sym e) (get_or-set_same old number false false (omega (arith, refute.size))))
-          (λ ne. get_or-set_other old number k false false ne ∙ refute.none k (omega arith))
-          (cases_eq k number))
-          (λ i d below. λ e. absurd (omega (arith, derived.earlier place place_in i d below)));
-    }
+-- a learnt clause is replaced by its causes
+replaced-learnt : (table : List (Vec Literal Global)) (sources : List Source) (old new : List Bool) (bound place : ℕ) → bound ≡ place + 1 → place < length table → IsDerived table sources → MarkedRefute table sources old bound → given_at sources place ≡ None → MarksNumbers (set old place false) new (causes_at sources place) → MarkedRefute table sources new place
+replaced-learnt table sources old new bound place last inside derived refute learnt so = record {
+  size = so.size ∙ length-set old place false ∙ refute.size;
+  apart = λ values holds. refute.apart values (λ k m. ⊎_elim
+      (λ e. subst (λ n. clause_true values (clause_at table n) ≡ true) (sym e) (derived.follows place inside learnt values (λ i d below. holds _ (so.all i d below))))
+      (λ ne. holds k (so.kept k (get_or-set_other old place k false false ne ∙ m)))
+      (cases_eq k place));
+  given = λ k past m.
+      let early : All (λ other. other ≡ k → ⊥) (causes_at sources place) = λ i d below. λ e. absurd (omega (arith, derived.earlier place inside i d below)) in
+      ⊎_elim
+      (λ (e : k ≡ place).
+      let off : is_marked (set old place false) k ≡ false = subst (λ n. is_marked (set old place false) n ≡ false) (sym e) (get_or-set_same old place false false (omega (arith, refute.size))) in
+      absurd (both_ways _ (so.only k off early) m))
+      (λ (ne : k ≡ place → ⊥). ⊎_elim
+      (λ was. refute.given k (omega (arith, ne)) was)
+      (λ was. absurd (both_ways _ (so.only k (get_or-set_other old place k false false ne ∙ was) early) m))
+      (cases_Bool (is_marked old k)))
+      (cases_eq k place);
+}
 
-pub core-refuted : (given : ℕ) (table : List (Vec Literal Global)) (marks : List Bool) (numbers : List ℕ) (bound : ℕ) → MarkedRefute table marks bound → bound ≤ given → given ≤ length table → All (λ number. number < given) numbers → ((number : ℕ) → number < given → is_marked marks number ≡ true → Contains numbers number) → IsCore (take given table) numbers
-core-refuted given table marks numbers bound refute end long within each = record {
-  within = λ k d below. omega (arith, within k d below, length-take-le given table long);
-  refuted = λ values holds. refute.apart values (λ k m. ⊎_elim
-      (λ (less : k < given).
-      let there : clause_true values (clause_at (take given table) k) ≡ true = All-contains (λ n. clause_true values (clause_at (take given table) n) ≡ true) numbers k holds (each k less m) in
-      subst (λ c. clause_true values c ≡ true) (clause_at-take table given k long less) there)
-      (λ (more : given ≤ k). absurd (both_ways _ (refute.none k (omega arith)) m))
-      (cases_lt k given));
+pub marked-replace : (table : List (Vec Literal Global)) (sources : List Source) (old new : List Bool) (bound place : ℕ) → bound ≡ place + 1 → place < length table → IsDerived table sources → MarkedRefute table sources old bound → Replaces old new sources place → MarkedRefute table sources new place
+marked-replace table sources old new bound place last inside derived refute so = ⊎_elim
+    (λ (w : (n : ℕ) × (given_at sources place ≡ Some n)). subst (λ marks. MarkedRefute table sources marks place) (sym (so.given w.0 w.1)) (record {
+      size = refute.size;
+      apart = refute.apart;
+      given = λ k past m. ⊎_elim
+          (λ (e : k ≡ place). (w.0, ap (λ p. given_at sources p) e ∙ w.1))
+          (λ (ne : k ≡ place → ⊥). refute.given k (omega (arith, ne)) m)
+          (cases_eq k place);
+    }))
+    (λ learnt. replaced-learnt table sources old new bound place last inside derived refute learnt (so.learnt learnt))
+    (some_or_none (given_at sources place))
+
+-- the clause is not marked
+pub marked-passed : (table : List (Vec Literal Global)) (sources : List Source) (marks : List Bool) (bound place : ℕ) → bound ≡ place + 1 → is_marked marks place ≡ false → MarkedRefute table sources marks bound → MarkedRefute table sources marks place
+marked-passed table sources marks bound place last off refute = record {
+  size = refute.size;
+  apart = refute.apart;
+  given = λ k past m. ⊎_elim
+      (λ (e : k ≡ place). absurd (both_ways _ off (ap (λ p. is_marked marks p) (sym e) ∙ m)))
+      (λ (ne : k ≡ place → ⊥). refute.given k (omega (arith, ne)) m)
+      (cases_eq k place);
+}
+
+pub adds-none : (numbers : List ℕ) (sources : List Source) (marks : List Bool) (place : ℕ) → ((number : ℕ) → is_marked marks place ≡ true → given_at sources place ≡ Some number → ⊥) → AddsMarked numbers numbers sources marks place
+adds-none numbers sources marks place none = record { kept = λ number c. c; only = λ all. all; added = λ number m is. absurd (none number m is) }
+
+pub adds-one : (numbers : List ℕ) (number : ℕ) (sources : List Source) (marks : List Bool) (place : ℕ) → given_at sources place ≡ Some number → AddsMarked numbers (numbers ++ number ∷ []) sources marks place
+adds-one numbers number sources marks place is = record {
+  kept = λ n c. Contains-append_left numbers (number ∷ []) n c;
+  only = λ all. All-push (Stands sources) numbers number all (record { place = place; is = is });
+  added = λ n m at. subst (λ x. Contains (numbers ++ number ∷ []) x) (same_Some _ _ (sym is ∙ at)) (Contains-push numbers number);
+}
+
+pub lists-more : (old new : List ℕ) (sources : List Source) (marks : List Bool) (place : ℕ) → AddsMarked old new sources marks place → ListsMarked sources marks old place → ListsMarked sources marks new (place + 1)
+lists-more old new sources marks place adds lists = λ p n below m is. ⊎_elim
+    (λ (e : p ≡ place). adds.added n (ap (λ q. is_marked marks q) (sym e) ∙ m) (ap (λ q. given_at sources q) (sym e) ∙ is))
+    (λ (ne : p ≡ place → ⊥). adds.kept n (lists p n (omega (arith, ne)) m is))
+    (cases_eq p place)
+
+pub core-refuted : (given table : List (Vec Literal Global)) (sources : List Source) (marks : List Bool) (numbers : List ℕ) (bound : ℕ) → IsDerived table sources → MarkedRefute table sources marks bound → bound ≤ 0 → All (Stands sources) numbers → ListsMarked sources marks numbers (length sources) → AreGiven given table sources → IsCore given numbers
+core-refuted given table sources marks numbers bound derived refute end stand lists are = record {
+  within = λ k d below. let s = stand k d below in are.within s.place _ s.is;
+  refuted = λ values holds. refute.apart values (λ p m.
+      let w = refute.given p (omega arith) m in
+      let inside = given_within sources p w.0 w.1 in
+      let there = All-contains (λ n. clause_true values (clause_at given n) ≡ true) numbers w.0 holds (lists p w.0 inside m w.1) in
+      subst (λ c. clause_true values c ≡ true) (sym (are.same p w.0 w.1)) there);
 }

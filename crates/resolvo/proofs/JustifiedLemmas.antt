@@ -102,11 +102,10 @@ extends-trans old mid new first second = record {
 }
 
 -- what is decided stays so where a trail is extended
-pub chosen-kept : (table : List (Vec Literal Global)) (requirements : List RequirementClause) (old new : Trail) (variable number : ℕ) (slot : Slot) → Keeps old new → IsChosen table requirements old variable slot number → IsChosen table requirements new variable slot number
-chosen-kept table requirements old new variable number slot keeps c = record {
+pub chosen-kept : (table : List (Vec Literal Global)) (requirements : List RequirementClause) (old new : Trail) (variable : ℕ) (slot : Slot) → Keeps old new → IsChosen table requirements old variable slot → IsChosen table requirements new variable slot
+chosen-kept table requirements old new variable slot keeps c = record {
   requirement = c.requirement;
   listed = c.listed;
-  number_is = c.number_is;
   value = c.value;
   before = c.before;
   after = c.after;
@@ -116,9 +115,9 @@ chosen-kept table requirements old new variable number slot keeps c = record {
 
 pub chosen-extends : (table : List (Vec Literal Global)) (requirements : List RequirementClause) (old new : Trail) → AreChosen table requirements old → Extends old new → AreChosen table requirements new
 chosen-extends table requirements old new chosen extends = record {
-  each = λ v s n at reason. ⊎_elim
-      (λ was. chosen-kept table requirements old new v n s (record { kept = extends.kept }) (chosen.each v s n was reason))
-      (λ forced. absurd (both_ways _ forced (ap is_decided reason)))
+  each = λ v s at decided. ⊎_elim
+      (λ was. chosen-kept table requirements old new v s (record { kept = extends.kept }) (chosen.each v s was decided))
+      (λ forced. absurd (both_ways _ forced decided))
       (extends.only v s at);
 }
 

@@ -1,6 +1,7 @@
 pub mod RefusalLemmas
 pub mod SeenLemmas
 pub mod JustifiedLemmas
+pub mod SourceLemmas
 pub mod DecisionLemmas
 pub mod MarkLemmas
 pub mod ResolutionLemmas
@@ -8,4 +9,7 @@ pub mod NegationLemmas
 pub mod LevelLemmas
 pub mod CoreLemmas
 pub mod ClauseSearchLemmas
+pub mod LoadLemmas
 pub mod SolveLemmas
+pub mod RoundLemmas
+pub mod OutcomeLemmas

@@ -1,5 +1,5 @@
 -- A search over clauses, and what it finds.
-use Rattle.std.specs.Prelude.{◌≡◌, ℕ, ◌<◌, ◌≤◌, List, length, take, Vec, All}
+use Rattle.std.specs.Prelude.{◌≡◌, ℕ, ◌+◌, ◌<◌, ◌≤◌, Some, List, length, map, slice_index, Vec, All}
 use Rattle.std.specs.declared.alloc.Global.{Global}
 use Rattle.resolver_clause_store.specs.declared.Literal.{Literal}
 use Rattle.resolver_clause_store.specs.declared.RequirementClause.{RequirementClause}
@@ -7,20 +7,13 @@ use Rattle.resolver_clause_store.specs.declared.Reason.TheVariants.{Forced}
 use Rattle.resolver_clause_store.specs.declared.Trail.{Trail}
 use Rattle.resolver_clause_store.specs.Formula.{AreBelow, clause_at}
 use Rattle.resolver_clause_store.specs.Outcomes.{IsCore, IsFinished}
-use Rattle.resolver_clause_store.specs.TrailView.{Gains, IsUndone, level_of, variable_count}
+use Rattle.resolver_clause_store.specs.TrailView.{Gains, IsUndone, KeepsPlaces, length_of, level_of, variable_count}
 use Rattle.resolvo.specs.declared.clause_search.ClauseSearch.{ClauseSearch}
 use Rattle.resolvo.specs.declared.clause_search.Outcome.{Outcome}
 use Rattle.resolvo.specs.declared.clause_search.Outcome.TheVariants.{Finished, Contradiction}
+use Rattle.resolvo.specs.declared.contradiction.Source.{Source}
 use Rattle.resolvo.specs.Propagation.{AreChosen, IsJustified}
-use Rattle.resolvo.specs.Derivations.{IsDerived}
-
--- the clauses that the search was given
-abbrev pub clauses_of : ClauseSearch → List (Vec Literal Global)
-clauses_of it = take it.given it.table.items
-
--- the requirements that it decides
-abbrev pub requirements_of : ClauseSearch → List RequirementClause
-requirements_of it = it.requirements.items
+use Rattle.resolvo.specs.Derivations.{AreGiven, IsDerived, given_at}
 
 -- the values that it has found
 abbrev pub trail_of : ClauseSearch → Trail
@@ -28,30 +21,76 @@ trail_of it = it.trail
 
 -- how many clauses it has learnt
 abbrev pub learnt_count_of : ClauseSearch → ℕ
-learnt_count_of it = length it.causes.items
+learnt_count_of it = it.learnt
 
 -- how many clauses there are, given and learnt
 abbrev pub clause_count_of : ClauseSearch → ℕ
 clause_count_of it = length it.table.items
 
+-- how many first places of the trail are as they were when it was last marked
+abbrev pub kept_of : ClauseSearch → ℕ
+kept_of it = it.kept
+
+-- the numbers of the clauses that ask for candidates
+abbrev pub numbers_of : List RequirementClause → List ℕ
+numbers_of requirements = map (λ (requirement : RequirementClause). requirement.number) requirements
+
+-- the place in the table of the given clause with this number
+abbrev pub place_of : List ℕ → ℕ → ℕ
+place_of places number = slice_index places number
+
+-- the given clauses stand in the table, each at its place
+pub record AreLoaded (given table : List (Vec Literal Global)) (sources : List Source) (places : List ℕ) : Type 0 where
+  pub count : length places ≡ length given
+  pub placed : (number : ℕ) → number < length given → given_at sources (place_of places number) ≡ Some number
+  pub are : AreGiven given table sources
+
+-- The search was given these clauses, of which those with the numbers ask for candidates. It decides just those, by
+-- their places.
+pub record IsLoaded (given : List (Vec Literal Global)) (numbers : List ℕ) (it : ClauseSearch) : Type 0 where
+  pub clauses : AreLoaded given it.table.items it.sources.items it.places.items
+  pub requirements : numbers_of it.requirements.items ≡ map (place_of it.places.items) numbers
+  pub inside : All (λ number. number < length given) numbers
+
 -- what each step of a search keeps
 pub record IsConsistent (it : ClauseSearch) : Type 0 where
   pub below : AreBelow (variable_count it.trail) it.table.items
-  pub derived : IsDerived it.given it.table.items it.causes.items
+  pub derived : IsDerived it.table.items it.sources.items
   pub justified : IsJustified it.table.items it.trail
   pub chosen : AreChosen it.table.items it.requirements.items it.trail
-  pub inside : All (λ (requirement : RequirementClause). requirement.number < it.given) it.requirements.items
+  pub inside : All (λ (requirement : RequirementClause). requirement.number < length it.table.items) it.requirements.items
+  pub places : All (λ place. place < length it.table.items) it.places.items
+  pub count : it.learnt + length it.places.items ≡ length it.table.items
+  pub kept : it.kept ≤ length_of it.trail
 
 -- the clauses that were there stay
 pub record Grows (old new : List (Vec Literal Global)) : Type 0 where
   pub longer : length old ≤ length new
   pub same : (number : ℕ) → number < length old → clause_at new number ≡ clause_at old number
 
--- the search has the same clauses, requirements and variables
+-- the first places that one trail keeps of any other are kept in the next
+abbrev pub KeepsFirst : Trail → ℕ → Trail → ℕ → Type 0
+KeepsFirst old count new left = (base : Trail) → KeepsPlaces base old count → KeepsPlaces base new left
+
+-- so many first places of the trail are still as they were when it was last marked
+abbrev pub KeepsMark : ClauseSearch → ClauseSearch → Type 0
+KeepsMark old new = KeepsFirst (trail_of old) (kept_of old) (trail_of new) (kept_of new)
+
+-- what was loaded stays so
+abbrev pub KeepsLoaded : ClauseSearch → ClauseSearch → Type 0
+KeepsLoaded old new = (given : List (Vec Literal Global)) (numbers : List ℕ) → IsLoaded given numbers old → IsLoaded given numbers new
+
+-- the search has the same given clauses, requirements and variables
 pub record IsSameProblem (old new : ClauseSearch) : Type 0 where
-  pub clauses : clauses_of new ≡ clauses_of old
-  pub requirements : requirements_of new ≡ requirements_of old
-  pub variables : variable_count new.trail ≡ variable_count old.trail
+  pub loaded : KeepsLoaded old new
+  pub variables : variable_count (trail_of new) ≡ variable_count (trail_of old)
+  pub kept : KeepsMark old new
+
+-- more may be loaded, and nothing was learnt
+pub record IsSameSearch (old new : ClauseSearch) : Type 0 where
+  pub variables : variable_count (trail_of new) ≡ variable_count (trail_of old)
+  pub learnt : learnt_count_of new ≡ learnt_count_of old
+  pub kept : KeepsMark old new
 
 -- the levels above this one are undone, and then the clause with this number forces the literal
 pub record IsJump (old new : Trail) (literal : Literal) (jump number : ℕ) : Type 0 where
@@ -59,7 +98,8 @@ pub record IsJump (old new : Trail) (literal : Literal) (jump number : ℕ) : Ty
   pub undone : IsUndone old middle jump
   pub gains : Gains middle new literal (level_of middle) (Forced number)
 
--- values that leave nothing to force and nothing to decide, or clauses that no values make true
-abbrev pub OutcomeIs : List (Vec Literal Global) → List RequirementClause → Trail → Outcome → Type 0
-OutcomeIs clauses requirements trail Finished = IsFinished clauses requirements trail
-OutcomeIs clauses requirements trail (Contradiction numbers) = IsCore clauses numbers.items
+-- Values that leave nothing to force and nothing to decide, for any requirements with these numbers, or given clauses that
+-- no values make true.
+abbrev pub OutcomeIs : List (Vec Literal Global) → List ℕ → Trail → Outcome → Type 0
+OutcomeIs given numbers trail Finished = (requirements : List RequirementClause) → numbers_of requirements ≡ numbers → IsFinished given requirements trail
+OutcomeIs given numbers trail (Contradiction core) = IsCore given core.items

@@ -1,20 +1,46 @@
--- Learnt clauses and what they follow from.
-use Rattle.std.specs.Prelude.{◌≡◌, ◌≢◌, ℕ, ◌+◌, ◌<◌, ◌≤◌, Bool, true, false, List, [], length, Vec, All, slice_get}
+-- Where clauses come from, and what learnt ones follow from.
+use Rattle.std.specs.Prelude.{◌≡◌, ◌≢◌, ℕ, ◌<◌, ◌≤◌, Bool, true, false, Option, Some, None, List, [], length, Vec, All, slice_get, slice_set, Contains}
 use Rattle.std.specs.Option.{option_map_or}
 use Rattle.std.specs.declared.alloc.Global.{Global}
 use Rattle.resolver_clause_store.specs.declared.Literal.{Literal}
 use Rattle.resolver_clause_store.specs.Formula.{clause_at, clause_true, FollowsFrom}
+use Rattle.resolvo.specs.declared.contradiction.Source.{Source}
+use Rattle.resolvo.specs.declared.contradiction.Source.TheVariants.{Given, Learnt}
 use Rattle.resolvo.specs.Resolvents.{is_marked}
 
--- the causes of a learnt clause, by its place among them
-abbrev pub causes_at : List (Vec ℕ Global) → ℕ → List ℕ
-causes_at causes place = option_map_or (λ (numbers : Vec ℕ Global). numbers.items) (slice_get causes place) []
+-- the number of the given clause, if it is one
+abbrev pub number_of : Source → Option ℕ
+number_of (Given number) = Some number
+number_of (Learnt causes) = None
 
--- each clause after the given ones follows from its causes, which stand before it
-pub record IsDerived (given : ℕ) (table : List (Vec Literal Global)) (causes : List (Vec ℕ Global)) : Type 0 where
-  pub count : given + length causes ≡ length table
-  pub earlier : (place : ℕ) → place < length causes → All (λ cause. cause < given + place) (causes_at causes place)
-  pub follows : (place : ℕ) → place < length causes → FollowsFrom table (causes_at causes place) (clause_at table (given + place))
+-- what the clause follows from
+abbrev pub causes_of : Source → List ℕ
+causes_of (Given number) = []
+causes_of (Learnt causes) = causes.items
+
+-- the number of the given clause at this place of the table, if one stands there
+abbrev pub given_at : List Source → ℕ → Option ℕ
+given_at sources place = option_map_or number_of (slice_get sources place) None
+
+-- the causes of the clause at this place of the table
+abbrev pub causes_at : List Source → ℕ → List ℕ
+causes_at sources place = option_map_or causes_of (slice_get sources place) []
+
+-- each learnt clause follows from its causes, which stand before it
+pub record IsDerived (table : List (Vec Literal Global)) (sources : List Source) : Type 0 where
+  pub count : length sources ≡ length table
+  pub earlier : (place : ℕ) → place < length table → All (λ cause. cause < place) (causes_at sources place)
+  pub follows : (place : ℕ) → place < length table → given_at sources place ≡ None → FollowsFrom table (causes_at sources place) (clause_at table place)
+
+-- the clauses of the table that are not learnt are these
+pub record AreGiven (given table : List (Vec Literal Global)) (sources : List Source) : Type 0 where
+  pub within : (place number : ℕ) → given_at sources place ≡ Some number → number < length given
+  pub same : (place number : ℕ) → given_at sources place ≡ Some number → clause_at table place ≡ clause_at given number
+
+-- the given clause with this number stands in the table
+pub record Stands (sources : List Source) (number : ℕ) : Type 0 where
+  pub place : ℕ
+  pub is : given_at sources place ≡ Some number
 
 -- the numbers are marked beside the old ones, and no others
 pub record MarksNumbers (old new : List Bool) (numbers : List ℕ) : Type 0 where
@@ -23,8 +49,24 @@ pub record MarksNumbers (old new : List Bool) (numbers : List ℕ) : Type 0 wher
   pub all : All (λ number. is_marked new number ≡ true) numbers
   pub only : (number : ℕ) → is_marked old number ≡ false → All (λ other. other ≢ number) numbers → is_marked new number ≡ false
 
--- the marked clauses contradict each other, and none of them stands at the bound or above it
-pub record MarkedRefute (table : List (Vec Literal Global)) (marks : List Bool) (bound : ℕ) : Type 0 where
+-- the causes of the learnt clause at this place are marked in its stead, and a given one stays marked
+pub record Replaces (old new : List Bool) (sources : List Source) (place : ℕ) : Type 0 where
+  pub given : (number : ℕ) → given_at sources place ≡ Some number → new ≡ old
+  pub learnt : given_at sources place ≡ None → MarksNumbers (slice_set old place false) new (causes_at sources place)
+
+-- the number of the given clause at this place is listed beside the old ones, if the place is marked
+pub record AddsMarked (old new : List ℕ) (sources : List Source) (marks : List Bool) (place : ℕ) : Type 0 where
+  pub kept : (number : ℕ) → Contains old number → Contains new number
+  pub only : All (Stands sources) old → All (Stands sources) new
+  pub added : (number : ℕ) → is_marked marks place ≡ true → given_at sources place ≡ Some number → Contains new number
+
+-- the numbers of the given clauses that are marked before this place are listed
+abbrev pub ListsMarked : List Source → List Bool → List ℕ → ℕ → Type 0
+ListsMarked sources marks numbers bound =
+    (place number : ℕ) → place < bound → is_marked marks place ≡ true → given_at sources place ≡ Some number → Contains numbers number
+
+-- the marked clauses contradict each other, and those of them at the bound or above it are given ones
+pub record MarkedRefute (table : List (Vec Literal Global)) (sources : List Source) (marks : List Bool) (bound : ℕ) : Type 0 where
   pub size : length marks ≡ length table
-  pub apart : (values : ℕ → Bool) → ((number : ℕ) → is_marked marks number ≡ true → clause_true values (clause_at table number) ≡ true) → ⊥
-  pub none : (number : ℕ) → bound ≤ number → is_marked marks number ≡ false
+  pub apart : (values : ℕ → Bool) → ((place : ℕ) → is_marked marks place ≡ true → clause_true values (clause_at table place) ≡ true) → ⊥
+  pub given : (place : ℕ) → bound ≤ place → is_marked marks place ≡ true → (number : ℕ) × (given_at sources place ≡ Some number)

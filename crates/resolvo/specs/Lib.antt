@@ -10,3 +10,4 @@ pub mod Decisions
 pub mod Resolvents
 pub mod Derivations
 pub mod ClauseSearches
+pub mod RoundStates

@@ -1,10 +1,10 @@
 -- Clauses under a trail, and what propagation does to it.
-use Rattle.std.specs.Prelude.{◌≡◌, ◌≢◌, ℕ, ◌<◌, ◌⊎◌, false, Option, Some, None, List, length, Vec, All, Contains, slice_index_or}
+use Rattle.std.specs.Prelude.{◌≡◌, ◌≢◌, ℕ, ◌<◌, ◌⊎◌, true, false, Option, Some, None, List, length, Vec, All, Contains, slice_index_or}
 use Rattle.std.specs.declared.alloc.Global.{Global}
 use Rattle.resolver_clause_store.specs.declared.Literal.{Literal}
 use Rattle.resolver_clause_store.specs.declared.RequirementClause.{RequirementClause}
 use Rattle.resolver_clause_store.specs.declared.Slot.{Slot}
-use Rattle.resolver_clause_store.specs.declared.Reason.TheVariants.{Decided, Forced}
+use Rattle.resolver_clause_store.specs.declared.Reason.TheVariants.{Forced}
 use Rattle.resolver_clause_store.specs.declared.Trail.{Trail}
 use Rattle.resolver_clause_store.specs.Formula.{clause_at}
 use Rattle.resolver_clause_store.specs.Slots.{is_decided}
@@ -52,7 +52,7 @@ pub record IsJustified (table : List (Vec Literal Global)) (trail : Trail) : Typ
 
 -- each variable that was decided was decided for a requirement
 pub record AreChosen (table : List (Vec Literal Global)) (requirements : List RequirementClause) (trail : Trail) : Type 0 where
-  pub each : (variable : ℕ) (slot : Slot) (number : ℕ) → slot_of trail variable ≡ Some slot → slot.reason ≡ Decided number → IsChosen table requirements trail variable slot number
+  pub each : (variable : ℕ) (slot : Slot) → slot_of trail variable ≡ Some slot → is_decided slot.reason ≡ true → IsChosen table requirements trail variable slot
 
 -- the values stay, and no other variable was decided
 pub record Extends (old new : Trail) : Type 0 where

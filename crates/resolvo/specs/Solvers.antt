@@ -1,7 +1,11 @@
 -- What callers see of a solver.
-use Rattle.std.specs.Prelude.{◌≡◌, ◌≤◌, ◌^◌, ◌⊎◌, ℕ}
+use Rattle.std.specs.Prelude.{◌≡◌, ◌+◌, ◌≤◌, ◌^◌, ◌⊎◌, ℕ, length}
 use Rattle.resolver_clause_store.specs.Universe.{Universe}
 use Rattle.resolver_clause_store.specs.Caches.{IsTrueCache}
+use Rattle.resolver_encoding.specs.SoFar.{left_count}
+use Rattle.resolvo.specs.ClauseSearches.{clause_count_of, learnt_count_of}
+use Rattle.resolvo.specs.RoundStates.{HasAllClauses, notes_of, search_of}
+use Rattle.resolvo.specs.declared.rounds.Rounds.{Rounds}
 use Rattle.resolvo.specs.declared.solver.Solver.{Solver}
 
 module _ {D C N S : Type 0} where
@@ -18,6 +22,10 @@ module _ {D C N S : Type 0} where
   abbrev pub learnt_count_in : Solver D C N S → ℕ
   learnt_count_in s = s.learnt_count
 
+  -- how many disjuncts were put off
+  abbrev pub deferred_count_in : Solver D C N S → ℕ
+  deferred_count_in s = s.deferred_count
+
   -- there may be so many of each
   pub record HasLimits (limit : ℕ) (s : Solver D C N S) : Type 0 where
     pub variables : s.variable_limit ≡ limit
@@ -29,6 +37,28 @@ module _ {D C N S : Type 0} where
     pub variables : new.variable_limit ≡ old.variable_limit
     pub clauses : new.clause_limit ≡ old.clause_limit
     pub learnt : new.learnt_limit ≡ old.learnt_limit
+
+  -- the counts stay
+  pub record KeepsCounts (old new : Solver D C N S) : Type 0 where
+    pub variables : new.variable_count ≡ old.variable_count
+    pub clauses : new.clause_count ≡ old.clause_count
+    pub learnt : new.learnt_count ≡ old.learnt_count
+    pub deferred : new.deferred_count ≡ old.deferred_count
+
+  -- the counts alone change
+  pub record KeepsAllButCounts (old new : Solver D C N S) : Type 0 where
+    pub provider : new.provider ≡ old.provider
+    pub cache : new.cache ≡ old.cache
+    pub limits : KeepsLimits old new
+
+  -- the counts are those of the rounds
+  pub record HasCounted (r : Rounds N S) (s : Solver D C N S) : Type 0 where
+    pub variables : s.variable_count ≡ length (notes_of r).origins
+    pub read : length (notes_of r).kinds ≤ s.clause_count
+    pub searched : clause_count_of (search_of r) ≤ s.clause_count
+    pub all : HasAllClauses r → s.clause_count ≡ length (notes_of r).kinds + s.learnt_count
+    pub learnt : s.learnt_count ≡ learnt_count_of (search_of r)
+    pub deferred : s.deferred_count ≡ left_count (notes_of r)
 
   -- one of the counts stands at its limit
   abbrev pub IsAtLimit : Solver D C N S → Type 0

@@ -1,5 +1,5 @@
--- What the provider of the tests says, and that it keeps the laws. Package n has the solvables 10 n + 1 and 10 n + 4, and version set 10 n + k takes 10 n + k, and with k = 0 both.
-use Rattle.std.specs.Prelude.{◌≡◌, ◌≢◌, ℕ, ◌+◌, ◌*◌, ◌/◌, ◌%◌, Bool, true, false, cond, not, nat_eq, nat_lt, List, [], ◌∷◌, Some, None, All, AllPairs, IfSome, filter, map, reverse, refl, length, ◌<◌, ◌≤◌}
+-- What the provider of the tests says, and that it keeps the laws. Package n has the solvables 10 n + 1 and 10 n + 4, and version set 10 n + k takes 10 n + k, and with k = 0 both. In an endless universe 10 n + 1 requires version set 10 (n + 1).
+use Rattle.std.specs.Prelude.{◌≡◌, ◌≢◌, ℕ, ◌+◌, ◌*◌, ◌/◌, ◌%◌, Bool, true, false, cond, not, nat_eq, nat_lt, List, [], ◌∷◌, ◌++◌, Some, None, All, AllPairs, IfSome, filter, map, reverse, refl, length, ◌<◌, ◌≤◌}
 use Rattle.std.proofs.Common.{arith}
 use Rattle.std.proofs.lemmas.Bool.{eqb-true, eq-eqb}
 use Rattle.std.proofs.lemmas.List.Elements.{All-nil, All-cons, All-contains}
@@ -10,6 +10,7 @@ use Rattle.resolver_clause_store.specs.Universe.{Universe, Package, known, unkno
 use Rattle.resolver_clause_store.specs.Laws.{IsIdentity, HasLawfulIds, IsLawfulPackage, HasLawfulPackages}
 use Rattle.resolver_clause_store.specs.declared.ConditionId.{ConditionId}
 use Rattle.resolver_clause_store.specs.declared.ConditionalRequirement.{ConditionalRequirement}
+use Rattle.resolver_clause_store.specs.declared.Requirement.TheVariants.{Single}
 use Rattle.resolver_clause_store.specs.declared.StringId.{StringId}
 use Rattle.resolver_clause_store.specs.declared.VersionSetId.{VersionSetId}
 use Rattle.resolver_clause_store.specs.declared.Condition.{Condition}
@@ -24,6 +25,18 @@ takes v s = cond (nat_eq (v.0 % 10) 0) true (nat_eq (s % 10) (v.0 % 10))
 -- what is stated of a solvable
 abbrev pub stated_by : {X : Type 0} → List (ℕ × X) → ℕ → List X
 stated_by statements s = map (λ e. e.1) (filter (λ e. nat_eq e.0 s) statements)
+
+-- what an older solvable requires of the package after its own, as far as the ids go
+abbrev pub next_of : ℕ → List ConditionalRequirement
+next_of s = cond (nat_eq (s % 10) 1) (cond (nat_lt (s / 10) 429496728) (record { condition = None; requirement = Single (record { 0 = 10 * (s / 10 + 1) }) } ∷ []) []) []
+
+-- what a solvable requires
+abbrev pub required_by : Bool → List (ℕ × ConditionalRequirement) → ℕ → List ConditionalRequirement
+required_by endless requirements s = cond endless (stated_by requirements s ++ next_of s) (stated_by requirements s)
+
+-- how many packages there are
+abbrev pub package_count : Bool → ℕ
+package_count endless = cond endless 429496729 100
 
 -- a package that the provider knows, and one that it does not
 abbrev pub known_package : ℕ → Package ℕ
@@ -42,8 +55,8 @@ unknown_package = record { listed = []; favored = None; locked = None; excluded 
 abbrev pub condition_of : ConditionId → Condition
 condition_of c = cond (nat_lt c.0 1000) (Requirement (record { 0 = c.0 })) (Binary Or (record { 0 = c.0 / 1000 }) (record { 0 = c.0 % 1000 }))
 
-abbrev pub test_universe : List (ℕ × ConditionalRequirement) → List (ℕ × VersionSetId) → Universe ℕ ℕ
-test_universe requirements constraints = record {
+abbrev pub test_universe : Bool → List (ℕ × ConditionalRequirement) → List (ℕ × VersionSetId) → Universe ℕ ℕ
+test_universe endless requirements constraints = record {
   name = λ s. s / 10;
   version_set_name = λ v. v.0 / 10;
   union_members = λ m. [];
@@ -54,8 +67,8 @@ test_universe requirements constraints = record {
   version_set_text = λ v. [];
   string_text = λ r. [];
   merged_text = λ xs. [];
-  package_named = λ n. cond (nat_lt n 100) (known_package n) unknown_package;
-  needs = λ s. cond (nat_eq s 94) (unknown (record { 0 = 6 })) (known (record { requirements = stated_by requirements s; constraints = stated_by constraints s }));
+  package_named = λ n. cond (nat_lt n (package_count endless)) (known_package n) unknown_package;
+  needs = λ s. cond (nat_eq s 94) (unknown (record { 0 = 6 })) (known (record { requirements = required_by endless requirements s; constraints = stated_by constraints s }));
   matching_of = λ xs v. filter (takes v) xs;
   others_of = λ xs v. filter (λ s. not (takes v s)) xs;
   sorted_of = reverse;
@@ -79,8 +92,8 @@ right_part n false is a b op e =
     let large : 1000 ≤ n = grind arith in
     omega arith
 
-module _ (requirements : List (ℕ × ConditionalRequirement)) (constraints : List (ℕ × VersionSetId)) where
-  pub test_ids_lawful : HasLawfulIds (test_universe requirements constraints)
+module _ (endless : Bool) (requirements : List (ℕ × ConditionalRequirement)) (constraints : List (ℕ × VersionSetId)) where
+  pub test_ids_lawful : HasLawfulIds (test_universe endless requirements constraints)
   test_ids_lawful = record {
     left_lower = λ i a b op e. left_part i.0 (nat_lt i.0 1000) refl a b op e;
     right_lower = λ i a b op e. right_part i.0 (nat_lt i.0 1000) refl a b op e;
@@ -97,7 +110,7 @@ module _ (requirements : List (ℕ × ConditionalRequirement)) (constraints : Li
   no_pairs : (xs : List ℕ) → length xs ≤ 1 → AllPairs ◌≢◌ xs
   no_pairs xs short = λ i j d before below same. omega arith
 
-  known_is_lawful : (n : ℕ) → IsLawfulPackage (test_universe requirements constraints) n (known_package n)
+  known_is_lawful : (n : ℕ) → IsLawfulPackage (test_universe endless requirements constraints) n (known_package n)
   known_is_lawful n =
       let OfThis : ℕ → Type 0 = λ s. s / 10 ≡ n in
       let Apart : ℕ → Type 0 = λ s. 10 * n + 1 ≢ s in
@@ -112,7 +125,7 @@ module _ (requirements : List (ℕ × ConditionalRequirement)) (constraints : Li
         once = AllPairs-cons ◌≢◌ (10 * n + 1) ((10 * n + 4) ∷ []) (All-cons Apart (10 * n + 4) [] apart (All-nil Apart)) (no_pairs ((10 * n + 4) ∷ []) (omega arith));
       }
 
-  package_is_lawful : (n : ℕ) (b : Bool) → IsLawfulPackage (test_universe requirements constraints) n (cond b (known_package n) unknown_package)
+  package_is_lawful : (n : ℕ) (b : Bool) → IsLawfulPackage (test_universe endless requirements constraints) n (cond b (known_package n) unknown_package)
   package_is_lawful n true = known_is_lawful n
   package_is_lawful n false = record {
     listed = λ s h. All-contains (λ t. t / 10 ≡ n) [] s (All-nil _) h;
@@ -122,9 +135,9 @@ module _ (requirements : List (ℕ × ConditionalRequirement)) (constraints : Li
     once = no_pairs [] (omega arith);
   }
 
-  pub test_packages_lawful : HasLawfulPackages (test_universe requirements constraints)
+  pub test_packages_lawful : HasLawfulPackages (test_universe endless requirements constraints)
   test_packages_lawful = record {
-    packages = λ n. package_is_lawful n (nat_lt n 100);
+    packages = λ n. package_is_lawful n (nat_lt n (package_count endless));
     filter_splits = λ xs v. Splits-filter (takes v) xs;
     sort_permutes = λ xs. IsPermutation-reverse xs;
   }

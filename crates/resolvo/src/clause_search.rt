@@ -1,20 +1,27 @@
 //! A search over clauses: it decides and propagates, learns from conflicts and jumps back.
 
-ghost use Rattle.std.specs.Prelude.{◌<◌, ◌≡◌, ◌≤◌, ◌+◌, ◌⊎◌, All, IfErr, IfNone, IfOk, IfSome, List, OnOk, length};
-ghost use Rattle.resolver_clause_store.specs.Formula.{AreBelow, clause_at};
-ghost use Rattle.resolver_clause_store.specs.Outcomes.{IsCore, IsMet};
-ghost use Rattle.resolver_clause_store.specs.TrailView.{open_count, variable_count};
-ghost use Rattle.resolver_clause_store.specs.declared.Exhausted.TheVariants.{Ids};
+ghost use Rattle.std.specs.Prelude.{◌<◌, ◌≡◌, ◌≤◌, ◌+◌, ◌++◌, ◌∷◌, ◌⊎◌, [], ℕ, All, IfErr, IfNone, IfOk, IfSome, List, OnOk, Vec, length};
+ghost use Rattle.std.specs.declared.alloc.Global.{Global};
+ghost use Rattle.resolver_clause_store.specs.Formula.{AreBelow, IsBelow, clause_at};
+ghost use Rattle.resolver_clause_store.specs.Interruptions.{IsInterruption};
+ghost use Rattle.resolver_clause_store.specs.Outcomes.{IsCore, IsFalsified, IsMet};
+ghost use Rattle.resolver_clause_store.specs.TrailView.{IsUndone, KeepsPlaces, length_of, open_count, variable_count};
+ghost use Rattle.resolver_clause_store.specs.declared.Exhausted.TheVariants.{Ids, Memory};
+ghost use Rattle.resolver_clause_store.specs.declared.Literal.{Literal};
 ghost use Rattle.resolver_clause_store.specs.declared.RequirementClause.{RequirementClause};
+ghost use Rattle.resolver_encoding.specs.Refusals.{IsStop};
 ghost use Rattle.resolvo.specs.Decisions.{IsChoice, IsFirst};
 ghost use Rattle.resolvo.specs.Propagation.{AllSettled, AreChosen, IsConflict, IsJustified};
 ghost use Rattle.resolvo.specs.Resolvents.{IsLearnt};
 
 use crate::analyze::{Learnt, Lesson, analyze};
-use crate::contradiction::core;
+use crate::contradiction::{Source, core};
 use crate::decide::{Choice, decide};
-use crate::propagate::propagate;
-use resolver_clause_store::{Exhausted, Literal, RequirementClause, Trail, clause};
+use crate::propagate::{State, examine, propagate};
+use resolver_clause_store::{
+    DependencyProvider, Exhausted, Interrupted, Literal, RequirementClause, Trail, check_cancel,
+    clause,
+};
 use std::alloc::{AllocError, Global};
 
 /// What a search found.
@@ -27,17 +34,21 @@ pub enum Outcome {
     Contradiction(Vec<usize>),
 }
 
-/// A search over clauses.
+/// A search over clauses that come as they are read.
 ///
-/// Given clauses come first in the table, learnt ones behind them, each with the numbers of the clauses that it follows
-/// from.
+/// Given clauses and learnt ones stand in one table, in the order in which they came. The clauses of requirements are known
+/// by their places in it.
 #[derive(Debug, Drop)]
 pub struct ClauseSearch {
     trail: Trail,
     table: Vec<Vec<Literal>>,
-    causes: Vec<Vec<usize>>,
-    given: usize,
+    sources: Vec<Source>,
     requirements: Vec<RequirementClause>,
+    /// The place of each given clause, by its number.
+    places: Vec<usize>,
+    learnt: usize,
+    /// How many first places of the trail are as they were when it was last marked.
+    kept: usize,
 }
 
 /// Takes a choice: a level begins with its candidate.
@@ -50,6 +61,7 @@ pub fn take(trail: &mut Trail, table: &[Vec<Literal>], choice: Choice) -> Result
     ensures chosen { OnOk result ((requirements : List RequirementClause) → IsChoice trail.old table.now requirements choice → AreChosen table.now requirements trail.old → AreChosen table.now requirements trail.new) }
     ensures size { OnOk result (variable_count trail.new ≡ variable_count trail.old) }
     ensures fewer { OnOk result (open_count trail.new < open_count trail.old) }
+    ensures kept { OnOk result (KeepsPlaces trail.old trail.new (length_of trail.old)) }
 {
     let literal = clause(table, choice.number)[choice.place];
     trail.decide(literal, choice.number)?;
@@ -57,11 +69,14 @@ pub fn take(trail: &mut Trail, table: &[Vec<Literal>], choice: Choice) -> Result
 }
 
 /// Propagates and decides until no requirement is left to decide, or a clause is false, whose number is answered.
-pub fn descend(
+///
+/// Before each propagation the provider may stop it.
+pub fn descend<D: DependencyProvider>(
+    provider: &D,
     trail: &mut Trail,
     table: &[Vec<Literal>],
     requirements: &[RequirementClause],
-) -> Result<Option<usize>, AllocError>
+) -> Result<Option<usize>, Interrupted<D::Cancel>>
     requires below { AreBelow (variable_count trail.old) table.now }
     requires inside { All (λ (requirement : RequirementClause). requirement.number < length table.now) requirements.now }
     requires justified { IsJustified table.now trail.old }
@@ -72,8 +87,11 @@ pub fn descend(
     ensures justified { OnOk result (IsJustified table.now trail.new) }
     ensures chosen { OnOk result (AreChosen table.now requirements.now trail.new) }
     ensures size { OnOk result (variable_count trail.new ≡ variable_count trail.old) }
+    ensures kept { OnOk result (KeepsPlaces trail.old trail.new (length_of trail.old)) }
+    ensures refusal { IfErr result (IsInterruption (D.may_cancel provider.now)) }
 {
     'rounds: loop {
+        check_cancel(provider)?;
         if let Some(number) = propagate(trail, table)? {
             return Ok(Some(number));
         }
@@ -84,34 +102,36 @@ pub fn descend(
     }
 }
 
-impl ClauseSearch {
-    ghost use Rattle.resolvo.specs.ClauseSearches.{IsConsistent, IsJump, IsSameProblem, OutcomeIs, clause_count_of, clauses_of, learnt_count_of, requirements_of, trail_of};
+/// The level to go back to where a clause is added: the first one if the clause is false, and else the highest.
+fn level_for(trail: &Trail, literals: &[Literal]) -> usize
+    requires { IsBelow (variable_count trail.now) literals.now }
+    ensures { IsFalsified trail.now literals.now → result ≡ 0 }
+{
+    match examine(trail, literals) {
+        State::Falsified => 0,
+        State::Satisfied | State::Unit(_) | State::Open => trail.level(),
+    }
+}
 
-    /// A search that has found and learnt nothing yet.
-    ///
-    /// The requirements' clauses are among the given ones.
-    pub fn new(
-        alloc: Global,
-        clauses: Vec<Vec<Literal>>,
-        variables: usize,
-        requirements: Vec<RequirementClause>,
-    ) -> Result<Self, AllocError>
-        requires below { AreBelow variables clauses.items }
-        requires inside { All (λ (requirement : RequirementClause). requirement.number < length clauses.items) requirements.items }
-        ensures consistent { IfOk result IsConsistent }
-        ensures clauses { IfOk result (λ it. clauses_of it ≡ clauses.items) }
-        ensures requirements { IfOk result (λ it. requirements_of it ≡ requirements.items) }
-        ensures variables { IfOk result (λ it. variable_count (trail_of it) ≡ variables) }
-        ensures learnt { IfOk result (λ it. learnt_count_of it ≡ 0) }
+impl ClauseSearch {
+    ghost use Rattle.resolvo.specs.ClauseSearches.{IsConsistent, IsJump, IsLoaded, IsSameProblem, IsSameSearch, KeepsLoaded, KeepsMark, OutcomeIs, clause_count_of, kept_of, learnt_count_of, numbers_of, trail_of};
+
+    /// A search without variables and clauses.
+    pub fn new(alloc: Global) -> Self
+        ensures consistent { IsConsistent result }
+        ensures loaded { IsLoaded [] [] result }
+        ensures variables { variable_count (trail_of result) ≡ 0 }
+        ensures learnt { learnt_count_of result ≡ 0 }
     {
-        let trail = Trail::new(alloc, variables)?;
-        Ok(ClauseSearch {
-            trail,
-            given: clauses.len(),
-            table: clauses,
-            causes: Vec::new(alloc),
-            requirements,
-        })
+        ClauseSearch {
+            trail: Trail::empty(alloc),
+            table: Vec::new(alloc),
+            sources: Vec::new(alloc),
+            requirements: Vec::new(alloc),
+            places: Vec::new(alloc),
+            learnt: 0,
+            kept: 0,
+        }
     }
 
     /// The values that were found, with their levels and reasons.
@@ -125,7 +145,7 @@ impl ClauseSearch {
     pub fn learnt_count(&self) -> usize
         ensures { result ≡ learnt_count_of self.now }
     {
-        self.causes.len()
+        self.learnt
     }
 
     /// How many clauses there are, given and learnt.
@@ -133,6 +153,124 @@ impl ClauseSearch {
         ensures { result ≡ clause_count_of self.now }
     {
         self.table.len()
+    }
+
+    /// How many first places of the trail are as they were when it was last marked.
+    pub fn kept(&self) -> usize
+        ensures value { result ≡ kept_of self.now }
+        ensures inside { IsConsistent self.now → result ≤ length_of (trail_of self.now) }
+    {
+        self.kept
+    }
+
+    /// Marks the trail as it is.
+    pub fn mark(&mut self)
+        ensures consistent { IsConsistent self.old → IsConsistent self.new }
+        ensures loaded { KeepsLoaded self.old self.new }
+        ensures trail { trail_of self.new ≡ trail_of self.old }
+        ensures clauses { clause_count_of self.new ≡ clause_count_of self.old }
+        ensures learnt { learnt_count_of self.new ≡ learnt_count_of self.old }
+        ensures count { kept_of self.new ≡ length_of (trail_of self.new) }
+        ensures kept { KeepsPlaces (trail_of self.new) (trail_of self.new) (kept_of self.new) }
+    {
+        self.kept = self.trail.len();
+    }
+
+    /// Puts a given clause behind the others. A clause that is false takes all levels but the first away: if it is still
+    /// false then, the next run finds that.
+    fn load_clause(&mut self, literals: &[Literal]) -> Result<(), AllocError>
+        requires consistent { IsConsistent self.old }
+        requires below { IsBelow (variable_count (trail_of self.old)) literals.now }
+        ensures consistent { OnOk result (IsConsistent self.new) }
+        ensures loaded { OnOk result ((given : List (Vec Literal Global)) (numbers : List ℕ) (copy : Vec Literal Global) → copy.items ≡ literals.now → IsLoaded given numbers self.old → IsLoaded (given ++ copy ∷ []) numbers self.new) }
+        ensures same { OnOk result (IsSameSearch self.old self.new) }
+        ensures count { OnOk result (length self.new.places.items ≡ length self.old.places.items + 1) }
+        ensures start { OnOk result (IsFalsified (trail_of self.old) literals.now → IsUndone (trail_of self.old) (trail_of self.new) 0) }
+    {
+        let number = self.places.len();
+        let place = self.table.len();
+        let level = level_for(&self.trail, literals);
+        let copy = literals.to_vec(*self.table.allocator())?;
+        self.table.push(copy)?;
+        self.sources.push(Source::Given(number))?;
+        self.places.push(place)?;
+        self.trail.undo_until(level);
+        self.kept = self.kept.min(self.trail.len());
+        Ok(())
+    }
+
+    /// Loads the clauses behind those that were loaded.
+    fn load_clauses(&mut self, clauses: &[Vec<Literal>]) -> Result<(), AllocError>
+        requires consistent { IsConsistent self.old }
+        requires below { AreBelow (variable_count (trail_of self.old)) clauses.now }
+        ensures consistent { OnOk result (IsConsistent self.new) }
+        ensures loaded { OnOk result ((given : List (Vec Literal Global)) (numbers : List ℕ) (more : List (Vec Literal Global)) → IsLoaded given numbers self.old → clauses.now ≡ given ++ more → IsLoaded clauses.now numbers self.new) }
+        ensures same { OnOk result (IsSameSearch self.old self.new) }
+        ensures count { OnOk result (length clauses.now ≤ length self.new.places.items) }
+    {
+        'clauses: for number in self.places.len()..clauses.len() {
+            self.load_clause(clause(clauses, number))?;
+        }
+        Ok(())
+    }
+
+    /// Puts a requirement behind the others.
+    fn load_requirement(&mut self, requirement: &RequirementClause) -> Result<(), AllocError>
+        requires consistent { IsConsistent self.old }
+        requires inside { requirement.now.number < length self.old.places.items }
+        ensures consistent { OnOk result (IsConsistent self.new) }
+        ensures loaded { OnOk result ((given : List (Vec Literal Global)) (numbers : List ℕ) → IsLoaded given numbers self.old → IsLoaded given (numbers ++ requirement.now.number ∷ []) self.new) }
+        ensures same { OnOk result (IsSameSearch self.old self.new) }
+        ensures places { OnOk result (self.new.places.items ≡ self.old.places.items) }
+        ensures count { OnOk result (length self.new.requirements.items ≡ length self.old.requirements.items + 1) }
+    {
+        let ends = requirement.ends.clone()?;
+        self.requirements.push(RequirementClause {
+            number: self.places[requirement.number],
+            of_root: requirement.of_root,
+            ends,
+        })?;
+        Ok(())
+    }
+
+    /// Loads the requirements behind those that were loaded.
+    fn load_requirements(&mut self, requirements: &[RequirementClause]) -> Result<(), AllocError>
+        requires consistent { IsConsistent self.old }
+        requires inside { All (λ (requirement : RequirementClause). requirement.number < length self.old.places.items) requirements.now }
+        ensures consistent { OnOk result (IsConsistent self.new) }
+        ensures loaded { OnOk result ((given : List (Vec Literal Global)) (numbers more : List ℕ) → IsLoaded given numbers self.old → numbers_of requirements.now ≡ numbers ++ more → IsLoaded given (numbers_of requirements.now) self.new) }
+        ensures same { OnOk result (IsSameSearch self.old self.new) }
+    {
+        'requirements: for index in self.requirements.len()..requirements.len() {
+            self.load_requirement(&requirements[index])?;
+        }
+        Ok(())
+    }
+
+    /// Loads what is behind what was loaded, of lists that only grow.
+    ///
+    /// The requirements' clauses are among the given ones.
+    pub fn load(
+        &mut self,
+        variables: usize,
+        clauses: &[Vec<Literal>],
+        requirements: &[RequirementClause],
+    ) -> Result<(), Exhausted>
+        requires consistent { IsConsistent self.old }
+        requires below { AreBelow variables clauses.now }
+        requires inside { All (λ (requirement : RequirementClause). requirement.number < length clauses.now) requirements.now }
+        requires room { variable_count (trail_of self.old) ≤ variables }
+        ensures consistent { OnOk result (IsConsistent self.new) }
+        ensures loaded { OnOk result ((given : List (Vec Literal Global)) (numbers : List ℕ) → IsLoaded given numbers self.old → (more : List (Vec Literal Global)) → clauses.now ≡ given ++ more → (more_numbers : List ℕ) → numbers_of requirements.now ≡ numbers ++ more_numbers → IsLoaded clauses.now (numbers_of requirements.now) self.new) }
+        ensures variables { OnOk result (variable_count (trail_of self.new) ≡ variables) }
+        ensures learnt { OnOk result (learnt_count_of self.new ≡ learnt_count_of self.old) }
+        ensures kept { OnOk result (KeepsMark self.old self.new) }
+        ensures memory { IfErr result (λ e. e ≡ Memory) }
+    {
+        self.trail.grow(variables)?;
+        self.load_clauses(clauses)?;
+        self.load_requirements(requirements)?;
+        Ok(())
     }
 
     /// Puts a learnt clause behind the others, jumps back to the highest level of all its literals but one, and sets that one.
@@ -153,8 +291,10 @@ impl ClauseSearch {
         } = learnt;
         let number = self.table.len();
         self.table.push(literals)?;
-        self.causes.push(causes)?;
+        self.sources.push(Source::Learnt(causes))?;
+        self.learnt += 1;
         self.trail.undo_until(jump);
+        self.kept = self.kept.min(self.trail.len());
         self.trail.force(literal, number)?;
         Ok(())
     }
@@ -169,7 +309,7 @@ impl ClauseSearch {
     ) -> Result<Option<Vec<usize>>, Exhausted>
         requires consistent { IsConsistent self.old }
         requires conflict { IsConflict self.old.trail self.old.table.items number }
-        ensures core { IfOk result (λ answer. IfSome answer (λ numbers. IsCore (clauses_of self.old) numbers.items)) }
+        ensures core { IfOk result (λ answer. IfSome answer (λ core. (given : List (Vec Literal Global)) (numbers : List ℕ) → IsLoaded given numbers self.old → IsCore given core.items)) }
         ensures consistent { OnOk result (IsConsistent self.new) }
         ensures same { OnOk result (IsSameProblem self.old self.new) }
         ensures more { IfOk result (λ answer. IfNone answer (learnt_count_of self.new ≡ learnt_count_of self.old + 1)) }
@@ -181,14 +321,13 @@ impl ClauseSearch {
                 let numbers = core(
                     alloc,
                     self.table.as_slice(),
-                    self.causes.as_slice(),
-                    self.given,
+                    self.sources.as_slice(),
                     causes.as_slice(),
                 )?;
                 Ok(Some(numbers))
             }
             Lesson::Clause(learnt) => {
-                if learnt_limit <= self.causes.len() || clause_limit <= self.table.len() {
+                if learnt_limit <= self.learnt || clause_limit <= self.table.len() {
                     return Err(Exhausted::Ids);
                 }
                 self.jump_back(learnt)?;
@@ -200,20 +339,24 @@ impl ClauseSearch {
     /// Searches for values, or for given clauses that no values make true.
     ///
     /// `Ids` is answered where a clause is to be learnt and as many are learnt, or in the table, as the limits allow.
-    pub fn run(
+    pub fn run<D: DependencyProvider>(
         &mut self,
         alloc: Global,
+        provider: &D,
         learnt_limit: usize,
         clause_limit: usize,
-    ) -> Result<Outcome, Exhausted>
+    ) -> Result<Outcome, Interrupted<D::Cancel>>
         requires consistent { IsConsistent self.old }
-        ensures outcome { IfOk result (OutcomeIs (clauses_of self.old) (requirements_of self.old) (trail_of self.new)) }
+        ensures outcome { IfOk result (λ outcome. (given : List (Vec Literal Global)) (numbers : List ℕ) → IsLoaded given numbers self.old → OutcomeIs given numbers (trail_of self.new) outcome) }
         ensures consistent { OnOk result (IsConsistent self.new) }
-        ensures same { OnOk result (IsSameProblem self.old self.new) }
-        ensures ids { IfErr result (λ e. e ≡ Ids → (learnt_limit ≤ learnt_count_of self.new) ⊎ (clause_limit ≤ clause_count_of self.new)) }
+        ensures loaded { OnOk result (KeepsLoaded self.old self.new) }
+        ensures variables { OnOk result (variable_count (trail_of self.new) ≡ variable_count (trail_of self.old)) }
+        ensures kept { OnOk result (KeepsMark self.old self.new) }
+        ensures refusal { IfErr result (IsStop (D.may_cancel provider.now) ((learnt_limit ≤ learnt_count_of self.new) ⊎ (clause_limit ≤ clause_count_of self.new))) }
     {
         'conflicts: loop {
             match descend(
+                provider,
                 &mut self.trail,
                 self.table.as_slice(),
                 self.requirements.as_slice(),

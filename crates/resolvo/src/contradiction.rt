@@ -1,13 +1,24 @@
 //! Given clauses that contradict each other.
 
-ghost use Rattle.std.specs.Prelude.{◌≡◌, ℕ, ◌+◌, ◌<◌, ◌≤◌, ◌-◌, length, IfOk, All, Contains, true, false, slice_set, [], take};
+ghost use Rattle.std.specs.Prelude.{◌≡◌, ℕ, ◌<◌, length, IfOk, OnOk, All, Vec, List, false, []};
+ghost use Rattle.std.specs.declared.alloc.Global.{Global};
+ghost use Rattle.resolver_clause_store.specs.declared.Literal.{Literal};
 ghost use Rattle.resolver_clause_store.specs.Formula.{FollowsFrom};
 ghost use Rattle.resolver_clause_store.specs.Outcomes.{IsCore};
-ghost use Rattle.resolvo.specs.Derivations.{IsDerived, MarksNumbers, causes_at};
+ghost use Rattle.resolvo.specs.Derivations.{AddsMarked, AreGiven, IsDerived, ListsMarked, MarksNumbers, Replaces, Stands, causes_at, given_at};
 ghost use Rattle.resolvo.specs.Resolvents.{is_marked};
 
 use resolver_clause_store::Literal;
 use std::alloc::{AllocError, Global};
+
+/// Where a clause of the table comes from.
+#[derive(Debug, Drop)]
+pub enum Source {
+    /// The number of the given clause.
+    Given(usize),
+    /// The places, in the table, of the clauses that it follows from.
+    Learnt(Vec<usize>),
+}
 
 /// No number is marked.
 pub fn unmarked(alloc: Global, count: usize) -> Result<Vec<bool>, AllocError>
@@ -28,34 +39,64 @@ pub fn mark_numbers(marks: &mut Vec<bool>, numbers: &[usize])
 }
 
 /// Puts the causes of a learnt clause in its place.
-pub fn replace(
-    table: &[Vec<Literal>],
-    causes: &[Vec<usize>],
-    given: usize,
-    marks: &mut Vec<bool>,
-    number: usize,
-)
-    requires learnt { (given ≤ number) × (number < length table.now) }
-    requires count { given + length causes.now ≡ length table.now }
-    requires size { length marks.old.items ≡ length table.now }
-    requires earlier { All (λ cause. cause < number) (causes_at causes.now (number - given)) }
-    ensures { MarksNumbers (slice_set marks.old.items number false) marks.new.items (causes_at causes.now (number - given)) }
+pub fn replace(sources: &[Source], marks: &mut Vec<bool>, place: usize)
+    requires inside { place < length sources.now }
+    requires size { length marks.old.items ≡ length sources.now }
+    requires earlier { All (λ cause. cause < place) (causes_at sources.now place) }
+    ensures { Replaces marks.old.items marks.new.items sources.now place }
 {
-    marks[number] = false;
-    mark_numbers(marks, causes[number - given].as_slice());
+    match &sources[place] {
+        Source::Given(_) => (),
+        Source::Learnt(causes) => {
+            marks[place] = false;
+            mark_numbers(marks, causes.as_slice());
+        }
+    }
 }
 
-/// The numbers of the marked clauses below a bound.
-pub fn marked(alloc: Global, marks: &[bool], bound: usize) -> Result<Vec<usize>, AllocError>
-    requires { bound ≤ length marks.now }
-    ensures within { IfOk result (λ numbers. All (λ number. number < bound) numbers.items) }
-    ensures each { IfOk result (λ numbers. (number : ℕ) → number < bound → is_marked marks.now number ≡ true → Contains numbers.items number) }
+/// The number of the given clause at a place of the table, if one stands there.
+pub fn number_at(sources: &[Source], place: usize) -> Option<usize>
+    requires { place < length sources.now }
+    ensures { result ≡ given_at sources.now place }
+{
+    match &sources[place] {
+        Source::Given(number) => Some(*number),
+        Source::Learnt(_) => None,
+    }
+}
+
+/// Puts the number of the given clause at a place behind the others, if the place is marked and one stands there.
+pub fn add_marked(
+    numbers: &mut Vec<usize>,
+    sources: &[Source],
+    marks: &[bool],
+    place: usize,
+) -> Result<(), AllocError>
+    requires inside { place < length sources.now }
+    requires size { length marks.now ≡ length sources.now }
+    ensures { OnOk result (AddsMarked numbers.old.items numbers.new.items sources.now marks.now place) }
+{
+    if !marks[place] {
+        return Ok(());
+    }
+    match number_at(sources, place) {
+        Some(number) => {
+            numbers.push(number)?;
+            Ok(())
+        }
+        None => Ok(()),
+    }
+}
+
+/// The numbers of the given clauses whose places are marked.
+pub fn marked(alloc: Global, sources: &[Source], marks: &[bool]) -> Result<Vec<usize>, AllocError>
+    requires { length marks.now ≡ length sources.now }
+    ensures stand { IfOk result (λ numbers. All (Stands sources.now) numbers.items) }
+    ensures each { IfOk result (λ numbers. ListsMarked sources.now marks.now numbers.items (length sources.now)) }
 {
     let mut numbers = Vec::new(alloc);
-    'numbers: for number in 0..bound {
-        if marks[number] {
-            numbers.push(number)?;
-        }
+    'places: for place in 0..sources.len() {
+        add_marked(&mut numbers, sources, marks, place)?;
     }
     Ok(numbers)
 }
@@ -64,24 +105,23 @@ pub fn marked(alloc: Global, marks: &[bool], bound: usize) -> Result<Vec<usize>,
 pub fn core(
     alloc: Global,
     table: &[Vec<Literal>],
-    causes: &[Vec<usize>],
-    given: usize,
+    sources: &[Source],
     start: &[usize],
 ) -> Result<Vec<usize>, AllocError>
-    requires derived { IsDerived given table.now causes.now }
+    requires derived { IsDerived table.now sources.now }
     requires within { All (λ number. number < length table.now) start.now }
     requires refuted { FollowsFrom table.now start.now [] }
-    ensures { IfOk result (λ core. IsCore (take given table.now) core.items) }
+    ensures { IfOk result (λ core. (given : List (Vec Literal Global)) → AreGiven given table.now sources.now → IsCore given core.items) }
 {
     let mut marks = unmarked(alloc, table.len())?;
     mark_numbers(&mut marks, start);
-    let mut number = table.len();
-    'numbers: while number > given {
-        number -= 1;
-        if marks[number] {
-            replace(table, causes, given, &mut marks, number);
+    let mut place = table.len();
+    'places: while place > 0 {
+        place -= 1;
+        if marks[place] {
+            replace(sources, &mut marks, place);
         }
     }
-    let numbers = marked(alloc, marks.as_slice(), given)?;
+    let numbers = marked(alloc, sources, marks.as_slice())?;
     Ok(numbers)
 }

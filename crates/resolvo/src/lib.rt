@@ -8,6 +8,7 @@ mod contradiction;
 mod decide;
 mod problem;
 mod propagate;
+mod rounds;
 mod solver;
 #[cfg(test)]
 mod test_provider;

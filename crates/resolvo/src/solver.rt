@@ -1,27 +1,28 @@
 //! The solver.
 
-ghost use Rattle.std.specs.Prelude.{All, IfErr, IfOk, length, ◌<◌, ◌^◌, ◌≡◌, []};
+ghost use Rattle.std.specs.Prelude.{All, IfErr, IfOk, OnOk, length, ◌<◌, ◌^◌, ◌≡◌};
 ghost use Rattle.resolver_clause_store.specs.Caches.{IsTrueCache};
-ghost use Rattle.resolver_clause_store.specs.Formula.{AreBelow};
 ghost use Rattle.resolver_clause_store.specs.Interruptions.{IsInterruption};
 ghost use Rattle.resolver_clause_store.specs.Outcomes.{IsCore};
 ghost use Rattle.resolver_clause_store.specs.Universe.{Demands};
-ghost use Rattle.resolver_encoding.specs.Encodings.{IsAllRead, IsEncoding, Notes};
-ghost use Rattle.resolver_encoding.specs.Notes.{notes_in};
+ghost use Rattle.resolver_encoding.specs.Encodings.{IsEncoding, Notes};
+ghost use Rattle.resolver_encoding.specs.Refusals.{IsStop};
+ghost use Rattle.resolver_encoding.specs.SoFar.{IsReadSoFar};
 ghost use Rattle.resolvo.specs.Answers.{IsPlainAnswer};
 ghost use Rattle.resolvo.specs.Conflicts.{rules_in};
 ghost use Rattle.resolvo.specs.Explanations.{Explains};
 ghost use Rattle.resolvo.specs.Problems.{demands_in};
-ghost use Rattle.resolvo.specs.Refusals.{CountsAllRead, CountsClauses, CountsRefuted, IsCounted, IsRefusal};
-ghost use Rattle.resolvo.specs.Solvers.{HasLimits, IsAtLimit, IsSound, KeepsLimits, clause_count_in, provider_in};
+ghost use Rattle.resolvo.specs.Refusals.{CountsRead, CountsRefuted, IsRefusal};
+ghost use Rattle.resolvo.specs.RoundStates.{HasAllClauses, IsFound, chosen_of, notes_of};
+ghost use Rattle.resolvo.specs.Solvers.{HasCounted, HasLimits, IsAtLimit, IsSound, KeepsAllButCounts, KeepsCounts, KeepsLimits, clause_count_in, deferred_count_in, provider_in};
 
-use crate::clause_search::{ClauseSearch, Outcome};
 use crate::conflict::Conflict;
 use crate::problem::Problem;
+use crate::rounds::{Found, Rounds};
 use resolver_clause_store::{
     Cache, ClauseKind, DependencyProvider, Exhausted, Interner, Interrupted,
 };
-use resolver_encoding::{Encoding, EncodingParts, chosen_solvables, rules_of_clauses};
+use resolver_encoding::rules_of_clauses;
 use resolver_report::keep_reached;
 use std::alloc::Global;
 
@@ -67,6 +68,7 @@ pub struct Solver<D: DependencyProvider> {
     variable_count: usize,
     clause_count: usize,
     learnt_count: usize,
+    deferred_count: usize,
     variable_limit: usize,
     clause_limit: usize,
     learnt_limit: usize,
@@ -78,6 +80,7 @@ impl<D: DependencyProvider> Solver<D> {
     pub fn new(alloc: Global, provider: D) -> Self
         ensures provider { provider_in result ≡ provider }
         ensures no_clauses { clause_count_in result ≡ 0 }
+        ensures none_deferred { deferred_count_in result ≡ 0 }
         ensures limits { HasLimits (2 ^ 31) result }
         ensures sound { IsSound (D.universe (provider_in result)) result }
     {
@@ -88,6 +91,7 @@ impl<D: DependencyProvider> Solver<D> {
             variable_count: 0,
             clause_count: 0,
             learnt_count: 0,
+            deferred_count: 0,
             variable_limit: 1 << 31,
             clause_limit: 1 << 31,
             learnt_limit: 1 << 31,
@@ -109,65 +113,81 @@ impl<D: DependencyProvider> Solver<D> {
         self.clause_count
     }
 
-    /// Searches the clauses of all that was read for an answer. Where they have none, rules of a core are the conflict.
-    fn search(
+    /// How many disjuncts of conditions the last call of `solve` had put off when it ended: no clause speaks of what they
+    /// ask for. Before the first call there are none.
+    pub fn deferred_requirements_count(&self) -> usize
+        ensures { result ≡ deferred_count_in self.now }
+    {
+        self.deferred_count
+    }
+
+    /// Counts what the rounds ended with.
+    fn count(&mut self, rounds: &Rounds<D::NameId, D::SolvableId>)
+        ensures counted { HasCounted rounds.now self.new }
+        ensures rest { KeepsAllButCounts self.old self.new }
+    {
+        self.variable_count = rounds.encoding.variables().len();
+        self.clause_count = rounds.clause_count();
+        self.learnt_count = rounds.learnt_count();
+        self.deferred_count = rounds.encoding.deferred_count();
+    }
+
+    /// The conflict of clauses that no values make true.
+    fn refuse(
         &mut self,
-        encoding: Encoding<D::NameId, D::SolvableId>,
-    ) -> Result<Vec<D::SolvableId>, UnsolvableOrCancelled<D>>
+        kinds: &[ClauseKind<D::NameId, D::SolvableId>],
+        core: &[usize],
+    ) -> UnsolvableOrCancelled<D>
         requires sound { IsSound (D.universe (provider_in self.old)) self.old }
-        requires below { AreBelow (length (notes_in encoding).origins) (notes_in encoding).table }
-        requires inside { All (λ n. n < length (notes_in encoding).table) (notes_in encoding).requirements }
-        requires count { length (notes_in encoding).table ≡ length (notes_in encoding).kinds }
+        requires within { All (λ n. n < length kinds.now) core.now }
         ensures sound { IsSound (D.universe (provider_in self.new)) self.new }
         ensures provider { provider_in self.new ≡ provider_in self.old }
         ensures limits { KeepsLimits self.old self.new }
-        ensures answer { IfOk result (λ chosen. (root : Demands) → IsAllRead (D.universe (provider_in self.old)) root (notes_in encoding) → (notes_in encoding).exempt ≡ [] → IsPlainAnswer (D.universe (provider_in self.old)) root chosen.items) }
-        ensures refusal { IfErr result (λ e. (root : Demands) → IsEncoding (D.universe (provider_in self.old)) root (notes_in encoding) → IsRefusal (D.universe (provider_in self.old)) (D.may_cancel (provider_in self.old)) root (IsAtLimit self.new) e) }
-        ensures counted { IfErr result (IsCounted (length (notes_in encoding).kinds) self.new) }
-        ensures counted_answer { IfOk result (λ _. CountsClauses (length (notes_in encoding).kinds) self.new) }
+        ensures counts { KeepsCounts self.old self.new }
+        ensures refusal { (root : Demands) (notes : Notes D.NameId D.SolvableId) → notes.kinds ≡ kinds.now → IsEncoding (D.universe (provider_in self.old)) root notes → IsCore notes.table core.now → IsRefusal (D.universe (provider_in self.old)) (D.may_cancel (provider_in self.old)) root (IsAtLimit self.new) result }
     {
-        let EncodingParts {
-            variables,
-            kinds,
-            literals,
-            requirements,
-        } = encoding.into_parts();
-        let mut search = match ClauseSearch::new(
-            self.alloc,
-            literals,
-            variables.len(),
-            requirements,
-        ) {
-            Ok(search) => search,
-            Err(_) => return Err(UnsolvableOrCancelled::Exhausted(Exhausted::Memory)),
-        };
-        let found = search.run(self.alloc, self.learnt_limit, self.clause_limit);
-        self.learnt_count = search.learnt_count();
-        self.clause_count = search.clause_count();
+        match explain(self.alloc, &self.provider, &mut self.cache, kinds, core) {
+            Err(Interrupted::Cancelled(value)) => UnsolvableOrCancelled::Cancelled(value),
+            Err(Interrupted::Exhausted(e)) => UnsolvableOrCancelled::Exhausted(e),
+            Ok(conflict) => UnsolvableOrCancelled::Unsolvable(conflict),
+        }
+    }
+
+    /// What the rounds found, as the answer of `solve`.
+    fn outcome(
+        &mut self,
+        rounds: &Rounds<D::NameId, D::SolvableId>,
+        found: Result<Found, Interrupted<D::Cancel>>,
+    ) -> Result<Vec<D::SolvableId>, UnsolvableOrCancelled<D>>
+        requires sound { IsSound (D.universe (provider_in self.old)) self.old }
+        requires counts { HasCounted rounds.now self.old }
+        requires found { IfOk found (IsFound (D.universe (provider_in self.old)) rounds.now) }
+        requires all { OnOk found (HasAllClauses rounds.now) }
+        requires table { OnOk found (length (notes_of rounds.now).table ≡ length (notes_of rounds.now).kinds) }
+        requires stop { IfErr found (IsStop (D.may_cancel (provider_in self.old)) (IsAtLimit self.old)) }
+        ensures sound { IsSound (D.universe (provider_in self.new)) self.new }
+        ensures provider { provider_in self.new ≡ provider_in self.old }
+        ensures limits { KeepsLimits self.old self.new }
+        ensures answer { IfOk result (λ chosen. (root : Demands) → OnOk found (IsReadSoFar (D.universe (provider_in self.old)) root (chosen_of rounds.now) (notes_of rounds.now)) → IsPlainAnswer (D.universe (provider_in self.old)) root chosen.items) }
+        ensures refusal { IfErr result (λ e. (root : Demands) → OnOk found (IsReadSoFar (D.universe (provider_in self.old)) root (chosen_of rounds.now) (notes_of rounds.now)) → IsRefusal (D.universe (provider_in self.old)) (D.may_cancel (provider_in self.old)) root (IsAtLimit self.new) e) }
+        ensures counted { IfErr result (λ e. (root : Demands) → OnOk found (IsReadSoFar (D.universe (provider_in self.old)) root (chosen_of rounds.now) (notes_of rounds.now)) → CountsRefuted (D.universe (provider_in self.old)) root self.new e) }
+        ensures counted_answer { IfOk result (λ chosen. (root : Demands) → OnOk found (IsReadSoFar (D.universe (provider_in self.old)) root (chosen_of rounds.now) (notes_of rounds.now)) → CountsRead (D.universe (provider_in self.old)) root chosen.items self.new) }
+    {
         match found {
-            Err(e) => Err(UnsolvableOrCancelled::Exhausted(e)),
-            Ok(Outcome::Finished) => match chosen_solvables(
-                self.alloc,
-                &variables,
-                search.trail(),
-            ) {
+            Err(Interrupted::Cancelled(value)) => Err(UnsolvableOrCancelled::Cancelled(value)),
+            Err(Interrupted::Exhausted(e)) => Err(UnsolvableOrCancelled::Exhausted(e)),
+            Ok(Found::Answer) => match rounds.chosen.to_vec(self.alloc) {
                 Err(e) => Err(UnsolvableOrCancelled::Exhausted(e)),
                 Ok(chosen) => Ok(chosen),
             },
-            Ok(Outcome::Contradiction(core)) => {
-                match explain(self.alloc, &self.provider, &mut self.cache, &kinds, &core) {
-                    Err(Interrupted::Cancelled(value)) => {
-                        Err(UnsolvableOrCancelled::Cancelled(value))
-                    }
-                    Err(Interrupted::Exhausted(e)) => Err(UnsolvableOrCancelled::Exhausted(e)),
-                    Ok(conflict) => Err(UnsolvableOrCancelled::Unsolvable(conflict)),
-                }
-            }
+            Ok(Found::Contradiction(core)) => Err(self.refuse(rounds.encoding.kinds(), &core)),
         }
     }
 
     /// An answer to the problem, or why there is none. The chosen solvables stand in the order in which they were
     /// chosen.
+    ///
+    /// Solvables are read once a search has chosen them, and a requirement under a condition once the condition holds.
     pub fn solve<S: Iterator<Item = D::SolvableId> + Drop>(
         &mut self,
         problem: Problem<D::SolvableId, S>,
@@ -179,23 +199,22 @@ impl<D: DependencyProvider> Solver<D> {
         ensures answer { IfOk result (λ chosen. IsPlainAnswer (D.universe (provider_in self.old)) (demands_in problem) chosen.items) }
         ensures refusal { IfErr result (IsRefusal (D.universe (provider_in self.old)) (D.may_cancel (provider_in self.old)) (demands_in problem) (IsAtLimit self.new)) }
         ensures counted { IfErr result (CountsRefuted (D.universe (provider_in self.old)) (demands_in problem) self.new) }
-        ensures counted_answer { IfOk result (λ _. CountsAllRead (D.universe (provider_in self.old)) (demands_in problem) self.new) }
+        ensures counted_answer { IfOk result (λ chosen. CountsRead (D.universe (provider_in self.old)) (demands_in problem) chosen.items self.new) }
     {
-        let mut encoding = Encoding::new(self.alloc, self.variable_limit, self.clause_limit);
-        let read = encoding.read_all(
+        let mut rounds = Rounds::new(
+            self.alloc,
+            self.variable_limit,
+            self.clause_limit,
+            self.learnt_limit,
+        );
+        let found = rounds.find(
             &self.provider,
             &mut self.cache,
             problem.root_requirements(),
             problem.root_constraints(),
         );
-        self.variable_count = encoding.variables().len();
-        self.clause_count = encoding.clause_count();
-        self.learnt_count = 0;
-        match read {
-            Err(Interrupted::Cancelled(value)) => Err(UnsolvableOrCancelled::Cancelled(value)),
-            Err(Interrupted::Exhausted(e)) => Err(UnsolvableOrCancelled::Exhausted(e)),
-            Ok(()) => self.search(encoding),
-        }
+        self.count(&rounds);
+        self.outcome(&rounds, found)
     }
 }
 

@@ -1,11 +1,15 @@
 //! A small provider.
 //!
 //! Package n has the solvables 10 n + 1 and 10 n + 4, the later one preferred. Version set 10 n + k takes 10 n + k, and
-//! with k = 0 both. Package 7 is locked to 71, package 8 excludes 84, and nobody knows what 94 needs.
+//! with k = 0 both. Package 7 is locked to 71, package 8 excludes 84, and nobody knows what 94 needs. An endless provider
+//! has packages as far as the ids go, and there 10 n + 1 requires version set 10 (n + 1).
 
-ghost use Rattle.std.specs.Prelude.{◌≡◌, ℕ, IfErr, IfOk, refl};
+ghost use Rattle.std.specs.Prelude.{◌≡◌, ◌++◌, ℕ, IfErr, IfOk, OnOk, refl};
 ghost use Rattle.resolvo.specs.TestProvider.{
+  next_of,
   numbers_are_values,
+  package_count as package_count_in,
+  required_by as required_in,
   stated_by as stated_in,
   takes as takes_in,
   test_ids_lawful,
@@ -15,8 +19,8 @@ ghost use Rattle.resolvo.specs.TestProvider.{
 
 use resolver_clause_store::{
     Candidates, Condition, ConditionId, ConditionalRequirement, Dependencies, DependencyProvider,
-    Exhausted, HintDependenciesAvailable, Interner, KnownDependencies, LogicalOperator, StringId,
-    VersionSetId, VersionSetUnionId,
+    Exhausted, HintDependenciesAvailable, Interner, KnownDependencies, LogicalOperator,
+    Requirement, StringId, VersionSetId, VersionSetUnionId,
 };
 use std::alloc::Global;
 use std::cell::Cell;
@@ -30,6 +34,15 @@ pub struct TestProvider {
     pub constraints: Vec<(u32, VersionSetId)>,
     /// Which of the cancel checks to come stops the search: with 1 the next one, with 0 none.
     pub cancelling: Cell<u32>,
+    /// Whether there are packages as far as the ids go, with each older solvable requiring the next one.
+    pub endless: bool,
+}
+
+/// How many packages there are.
+fn package_count(endless: bool) -> u32
+    ensures { result ≡ package_count_in endless }
+{
+    if endless { 429_496_729 } else { 100 }
 }
 
 /// What is stated of a solvable.
@@ -50,6 +63,42 @@ fn stated_by<T: Copy + Drop>(
     Ok(stated)
 }
 
+/// Adds what an older solvable requires of the package after its own.
+fn push_next(required: &mut Vec<ConditionalRequirement>, solvable: u32) -> Result<(), Exhausted>
+    ensures value { OnOk result (required.new.items ≡ required.old.items ++ next_of solvable) }
+    ensures memory { IfErr result (λ e. e ≡ Exhausted.Memory) }
+{
+    if solvable % 10 != 1 {
+        return Ok(());
+    }
+    if solvable / 10 >= 429_496_728 {
+        return Ok(());
+    }
+    required.push(ConditionalRequirement {
+        condition: None,
+        requirement: Requirement::Single(VersionSetId(10 * (solvable / 10 + 1))),
+    })?;
+    Ok(())
+}
+
+/// What a solvable requires.
+fn required_by(
+    alloc: Global,
+    endless: bool,
+    requirements: &[(u32, ConditionalRequirement)],
+    solvable: u32,
+) -> Result<Vec<ConditionalRequirement>, Exhausted>
+    ensures value { IfOk result (λ required. required.items ≡ required_in endless requirements.now solvable) }
+    ensures memory { IfErr result (λ e. e ≡ Exhausted.Memory) }
+{
+    let mut required = stated_by(alloc, requirements, solvable)?;
+    if !endless {
+        return Ok(required);
+    }
+    push_next(&mut required, solvable)?;
+    Ok(required)
+}
+
 /// Whether a version set takes a solvable of its package.
 fn takes(version_set: VersionSetId, solvable: u32) -> bool
     ensures { result ≡ takes_in version_set solvable }
@@ -65,9 +114,9 @@ impl Interner for TestProvider {
 
     type SolvableId = u32;
 
-    ghost universe = { λ it. test_universe it.requirements.items it.constraints.items };
+    ghost universe = { λ it. test_universe it.endless it.requirements.items it.constraints.items };
 
-    ghost lawful_ids = { λ it. test_ids_lawful it.requirements.items it.constraints.items };
+    ghost lawful_ids = { λ it. test_ids_lawful it.endless it.requirements.items it.constraints.items };
 
     ghost names_are_values = { numbers_are_values };
 
@@ -126,10 +175,10 @@ impl DependencyProvider for TestProvider {
 
     ghost may_cancel = { λ _ value. value ≡ 7 };
 
-    ghost lawful_packages = { λ it. test_packages_lawful it.requirements.items it.constraints.items };
+    ghost lawful_packages = { λ it. test_packages_lawful it.endless it.requirements.items it.constraints.items };
 
     fn get_candidates(&self, name: u32) -> Result<Option<Candidates<u32>>, Exhausted> {
-        if name >= 100 {
+        if name >= package_count(self.endless) {
             return Ok(None);
         }
         let first = 10 * name + 1;
@@ -151,7 +200,7 @@ impl DependencyProvider for TestProvider {
         if solvable == 94 {
             return Ok(Dependencies::Unknown(StringId(6)));
         }
-        let requirements = stated_by(self.alloc, &self.requirements, solvable)?;
+        let requirements = required_by(self.alloc, self.endless, &self.requirements, solvable)?;
         let constrains = stated_by(self.alloc, &self.constraints, solvable)?;
         Ok(Dependencies::Known(KnownDependencies {
             requirements,

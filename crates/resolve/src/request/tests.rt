@@ -1,5 +1,8 @@
 //! Requests as a solver sees them.
 
+mod counts;
+mod sets;
+
 use super::{InputError, Request, read_request};
 use crate::ids::{NameId, SolvableId};
 use resolver_clause_store::StringId;
@@ -18,51 +21,6 @@ fn request(alloc: Global, input: &str) -> Result<Request, Fail> {
             "a bad statement"
         })),
     }
-}
-
-/// How many clauses the solver counts after the problem of an input, and what it chose, if it did.
-fn count(alloc: Global, input: &str) -> Result<(usize, Option<Vec<SolvableId>>), Fail> {
-    let request = request(alloc, input)?;
-    let problem = Problem::new()
-        .requirements(request.requirements)
-        .constraints(request.constraints);
-    let mut solver = Solver::new(alloc, request.catalog);
-    let chosen = solver.solve(problem).ok();
-    Ok((solver.clause_count(), chosen))
-}
-
-#[test]
-fn a_clause_for_each_requirement_and_for_each_two_instances(rt: HostRuntime) -> Result<(), Fail> {
-    assert_eq!(rt; count(rt.alloc(), "")?.0, 1);
-    let input =
-        "package asdf=1\npackage efgh=4\npackage dummy=6\nrequires asdf=1 efgh\nrequire asdf\n";
-    let (clauses, chosen) = count(rt.alloc(), input)?;
-    assert_eq!(rt; clauses, 3);
-    let chosen = chosen.ok_or("no answer")?;
-    assert_eq!(rt;
-        chosen.as_slice(),
-        [SolvableId(0), SolvableId(1)].as_slice()
-    );
-    let input =
-        "package asdf=4\npackage asdf=3\npackage b=1\nrequires asdf=4 b\nrequires b=1 idontexist\nrequire asdf\n";
-    assert_eq!(rt; count(rt.alloc(), input)?.0, 5);
-    Ok(())
-}
-
-#[test]
-fn clauses_for_conditions_exclusions_and_constraints(rt: HostRuntime) -> Result<(), Fail> {
-    let input =
-        "package p=1\npackage c=1\npackage c=2\npackage d=1\nrequires p=1 c | d\nrequires p=1 x if c@2\nexclude c=1 old\nrequire p\n";
-    assert_eq!(rt; count(rt.alloc(), input)?.0, 7);
-    assert_eq!(rt;
-        count(
-            rt.alloc(),
-            "package a=1\nconstrains a=1 a@2..3\nrequire a@1\n"
-        )?
-        .0,
-        3
-    );
-    Ok(())
 }
 
 #[test]

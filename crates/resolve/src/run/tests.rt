@@ -22,6 +22,13 @@ fn expect_answer(rt: &impl Abort, alloc: Global, input: &str, output: &str) {
     expect_run(rt, alloc, input, output, "", 0);
 }
 
+/// Adds the statement of a version of z.
+fn push_package(input: &mut String, version: u32) -> Result<(), Fail> {
+    use std::fmt::Write;
+    write!(input, "package z={version}\n")?;
+    Ok(())
+}
+
 fn expect_conflict(rt: &impl Abort, alloc: Global, input: &str, message: &str) {
     expect_run(rt, alloc, input, message, "", 1);
 }
@@ -99,6 +106,47 @@ fn a_shared_requirement_takes_the_best_version_that_can_be(rt: HostRuntime) {
     let input =
         "package x=1\npackage y=1\npackage z=1\npackage z=2\npackage z=3\npackage z=4\npackage z=5\nrequires x=1 z\nrequires y=1 z\nrequires z=5 missing\nrequire x\nrequire y\n";
     expect_answer(&rt, rt.alloc(), input, "x=1\ny=1\nz=4\n");
+}
+
+#[test]
+fn versions_that_two_packages_forbid_are_left_out(rt: HostRuntime) {
+    let input =
+        "package x=1\npackage y=1\npackage z=1\npackage z=2\npackage z=3\npackage z=4\npackage z=5\nconstrains x=1 z@9\nconstrains y=1 z@9\nrequire x\nrequire y\n";
+    expect_answer(&rt, rt.alloc(), input, "x=1\ny=1\n");
+}
+
+#[test]
+fn the_newest_of_two_hundred_versions(rt: HostRuntime) -> Result<(), Fail> {
+    let mut input = String::new(rt.alloc());
+    for version in 1..201u32 {
+        push_package(&mut input, version)?;
+    }
+    input.push_str("require z\n")?;
+    expect_answer(&rt, rt.alloc(), &input, "z=200\n");
+    Ok(())
+}
+
+#[test]
+fn a_shared_requirement_is_met_again_after_a_jump_back(rt: HostRuntime) {
+    let input =
+        "package x=1\npackage w=1\npackage w=2\npackage z=1\npackage z=2\npackage z=3\npackage z=4\nrequires x=1 z\nconstrains w=2 z@9\nrequire x\nrequire w\n";
+    expect_answer(&rt, rt.alloc(), input, "w=1\nx=1\nz=4\n");
+}
+
+#[test]
+fn a_requirement_and_a_constraint_that_leave_nothing(rt: HostRuntime) {
+    let input =
+        "package x=1\npackage w=2\npackage z=1\npackage z=2\npackage z=3\npackage z=4\nrequires x=1 z\nconstrains w=2 z@9\nrequire x\nrequire w\n";
+    let message = "The following packages are incompatible
+├─ x * can be installed with any of the following options:
+│  └─ x 1 would require
+│     └─ z *, which can be installed with any of the following options:
+│        └─ z 1 | 2 | 3 | 4
+└─ w * cannot be installed because there are no viable options:
+   └─ w 2 would constrain
+      └─ z >=9, <10, which conflicts with any installable versions previously reported
+";
+    expect_conflict(&rt, rt.alloc(), input, message);
 }
 
 #[test]

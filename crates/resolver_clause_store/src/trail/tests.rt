@@ -99,3 +99,28 @@ fn undoing_keeps_the_level_and_the_lower_ones(rt: HostRuntime) -> Result<(), Fai
     assert_eq!(rt; trail.len(), 1);
     Ok(())
 }
+
+/// Adds variables up to this many, if there are no more of them yet.
+fn grow(trail: &mut Trail, variables: usize) -> Result<bool, AllocError> {
+    if trail.variable_count() > variables {
+        return Ok(false);
+    }
+    trail.grow(variables)?;
+    Ok(true)
+}
+
+#[test]
+fn growing_adds_variables_without_a_value(rt: HostRuntime) -> Result<(), Fail> {
+    let mut trail = Trail::new(rt.alloc(), 2)?;
+    assert!(rt; put(&mut trail, 1, true)?);
+    assert!(rt; grow(&mut trail, 4)?);
+    assert_eq!(rt; trail.variable_count(), 4);
+    assert_eq!(rt; trail.len(), 1);
+    assert_eq!(rt; value(&trail, literal(1, true)), Some(true));
+    assert_eq!(rt; value(&trail, literal(3, true)), None);
+    assert!(rt; put(&mut trail, 3, false)?);
+    assert_eq!(rt; trail.len(), 2);
+    assert!(rt; grow(&mut trail, 4)?);
+    assert_eq!(rt; trail.variable_count(), 4);
+    Ok(())
+}

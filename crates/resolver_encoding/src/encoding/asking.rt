@@ -4,7 +4,8 @@ ghost use Rattle.std.specs.Prelude.{◌≡◌, ◌≢◌, ◌⊎◌, [], ◌∷�
 ghost use Rattle.resolver_clause_store.specs.Caches.{IsTrueCache};
 ghost use Rattle.resolver_clause_store.specs.Candidates.{version_sets};
 ghost use Rattle.resolver_clause_store.specs.declared.ClauseKind.TheVariants.{Excluded as ExcludedKind, Lock as LockKind};
-ghost use Rattle.resolver_encoding.specs.Encodings.{IsFull, IsLockRead, IsStep, IsStepWhile, KeepsLimits};
+ghost use Rattle.resolver_encoding.specs.Called.{IsNamedIn};
+ghost use Rattle.resolver_encoding.specs.Encodings.{IsAskStep, IsFull, IsLockRead, IsStepWhile, KeepsLimits, asking_for};
 ghost use Rattle.resolver_encoding.specs.Refusals.{IsShortage, IsStop};
 
 use super::Encoding;
@@ -30,7 +31,7 @@ impl<N: Copy + Eq + Hash + Drop, S: Copy + Eq + Hash + Drop> Encoding<N, S> {
         requires lock { ((D.universe provider.now).package_named name).locked ≡ Some locked }
         requires listed { Contains ((D.universe provider.now).package_named name).listed candidate }
         ensures bounded { IsBounded self.new }
-        ensures step { OnOk result (IsStepWhile (D.universe provider.now) (name ∷ []) (λ root. ⊤) (notes_in self.old) (notes_in self.new)) }
+        ensures step { OnOk result (IsStepWhile (D.universe provider.now) (asking_for name) (λ root. ⊤) (notes_in self.old) (notes_in self.new)) }
         ensures forbidden { OnOk result (candidate ≢ locked → (Contains (notes_in self.old).exempt candidate → ⊥) → Contains (notes_in self.new).kinds (LockKind locked candidate)) }
         ensures asked { OnOk result ((notes_in self.new).asked ≡ (notes_in self.old).asked) }
         ensures limits { KeepsLimits (notes_in self.old) (notes_in self.new) }
@@ -63,7 +64,7 @@ impl<N: Copy + Eq + Hash + Drop, S: Copy + Eq + Hash + Drop> Encoding<N, S> {
         requires listed { listed.now ≡ ((D.universe provider.now).package_named name).listed }
         requires locked { locked ≡ ((D.universe provider.now).package_named name).locked }
         ensures bounded { IsBounded self.new }
-        ensures step { OnOk result (IsStepWhile (D.universe provider.now) (name ∷ []) (λ root. ⊤) (notes_in self.old) (notes_in self.new)) }
+        ensures step { OnOk result (IsStepWhile (D.universe provider.now) (asking_for name) (λ root. ⊤) (notes_in self.old) (notes_in self.new)) }
         ensures read { OnOk result (IsLockRead (notes_in self.new).kinds (notes_in self.old).exempt locked listed.now) }
         ensures asked { OnOk result ((notes_in self.new).asked ≡ (notes_in self.old).asked) }
         ensures limits { KeepsLimits (notes_in self.old) (notes_in self.new) }
@@ -90,7 +91,7 @@ impl<N: Copy + Eq + Hash + Drop, S: Copy + Eq + Hash + Drop> Encoding<N, S> {
         requires named { (D.universe provider.now).name solvable ≡ name }
         requires excluded { Contains ((D.universe provider.now).package_named name).excluded (solvable, reason) }
         ensures bounded { IsBounded self.new }
-        ensures step { OnOk result (IsStepWhile (D.universe provider.now) (name ∷ []) (λ root. ⊤) (notes_in self.old) (notes_in self.new)) }
+        ensures step { OnOk result (IsStepWhile (D.universe provider.now) (asking_for name) (λ root. ⊤) (notes_in self.old) (notes_in self.new)) }
         ensures forbidden { OnOk result ((Contains (notes_in self.old).exempt solvable → ⊥) → Contains (notes_in self.new).kinds (ExcludedKind solvable reason)) }
         ensures asked { OnOk result ((notes_in self.new).asked ≡ (notes_in self.old).asked) }
         ensures limits { KeepsLimits (notes_in self.old) (notes_in self.new) }
@@ -114,7 +115,7 @@ impl<N: Copy + Eq + Hash + Drop, S: Copy + Eq + Hash + Drop> Encoding<N, S> {
         requires bounded { IsBounded self.old }
         requires excluded { excluded.now ≡ ((D.universe provider.now).package_named name).excluded }
         ensures bounded { IsBounded self.new }
-        ensures step { OnOk result (IsStepWhile (D.universe provider.now) (name ∷ []) (λ root. ⊤) (notes_in self.old) (notes_in self.new)) }
+        ensures step { OnOk result (IsStepWhile (D.universe provider.now) (asking_for name) (λ root. ⊤) (notes_in self.old) (notes_in self.new)) }
         ensures read { OnOk result (All (λ e. (Contains (notes_in self.old).exempt e.0 → ⊥) → Contains (notes_in self.new).kinds (ExcludedKind e.0 e.1)) excluded.now) }
         ensures asked { OnOk result ((notes_in self.new).asked ≡ (notes_in self.old).asked) }
         ensures limits { KeepsLimits (notes_in self.old) (notes_in self.new) }
@@ -137,7 +138,7 @@ impl<N: Copy + Eq + Hash + Drop, S: Copy + Eq + Hash + Drop> Encoding<N, S> {
         requires is_true { IsTrueCache (D.universe provider.now) cache.old }
         ensures bounded { IsBounded self.new }
         ensures is_true { IsTrueCache (D.universe provider.now) cache.new }
-        ensures step { OnOk result (IsStep (D.universe provider.now) (λ root. ⊤) (notes_in self.old) (notes_in self.new)) }
+        ensures step { OnOk result (IsAskStep (D.universe provider.now) (λ n. name ≡ n) (λ root. ⊤) (notes_in self.old) (notes_in self.new)) }
         ensures asked { OnOk result (Contains (notes_in self.new).asked name) }
         ensures limits { KeepsLimits (notes_in self.old) (notes_in self.new) }
         ensures refusal { IfErr result (IsStop (D.may_cancel provider.now) (IsFull (notes_in self.new))) }
@@ -154,7 +155,7 @@ impl<N: Copy + Eq + Hash + Drop, S: Copy + Eq + Hash + Drop> Encoding<N, S> {
     }
 
     /// Asks the package of each version set.
-    fn ask_each<D: DependencyProvider<NameId = N, SolvableId = S>>(
+    pub(super) fn ask_each<D: DependencyProvider<NameId = N, SolvableId = S>>(
         &mut self,
         provider: &D,
         cache: &mut Cache<N, S>,
@@ -164,7 +165,7 @@ impl<N: Copy + Eq + Hash + Drop, S: Copy + Eq + Hash + Drop> Encoding<N, S> {
         requires is_true { IsTrueCache (D.universe provider.now) cache.old }
         ensures bounded { IsBounded self.new }
         ensures is_true { IsTrueCache (D.universe provider.now) cache.new }
-        ensures step { OnOk result (IsStep (D.universe provider.now) (λ root. ⊤) (notes_in self.old) (notes_in self.new)) }
+        ensures step { OnOk result (IsAskStep (D.universe provider.now) (IsNamedIn (D.universe provider.now) named.now) (λ root. ⊤) (notes_in self.old) (notes_in self.new)) }
         ensures asked { OnOk result (All (λ v. Contains (notes_in self.new).asked ((D.universe provider.now).version_set_name v)) named.now) }
         ensures limits { KeepsLimits (notes_in self.old) (notes_in self.new) }
         ensures refusal { IfErr result (IsStop (D.may_cancel provider.now) (IsFull (notes_in self.new))) }
@@ -186,7 +187,7 @@ impl<N: Copy + Eq + Hash + Drop, S: Copy + Eq + Hash + Drop> Encoding<N, S> {
         requires is_true { IsTrueCache (D.universe provider.now) cache.old }
         ensures bounded { IsBounded self.new }
         ensures is_true { IsTrueCache (D.universe provider.now) cache.new }
-        ensures step { OnOk result (IsStep (D.universe provider.now) (λ root. ⊤) (notes_in self.old) (notes_in self.new)) }
+        ensures step { OnOk result (IsAskStep (D.universe provider.now) (IsNamedIn (D.universe provider.now) (version_sets (D.universe provider.now) requirement)) (λ root. ⊤) (notes_in self.old) (notes_in self.new)) }
         ensures asked { OnOk result (All (λ v. Contains (notes_in self.new).asked ((D.universe provider.now).version_set_name v)) (version_sets (D.universe provider.now) requirement)) }
         ensures limits { KeepsLimits (notes_in self.old) (notes_in self.new) }
         ensures refusal { IfErr result (IsStop (D.may_cancel provider.now) (IsFull (notes_in self.new))) }

@@ -1,19 +1,52 @@
 //! Constraints.
 
-ghost use Rattle.std.specs.Prelude.{◌≡◌, ◌≢◌, ◌⊎◌, ◌<◌, ◌^◌, [], ◌∷◌, All, Contains, IfErr, IfOk, MatchBool, OnOk, Some, map, ⊤};
+ghost use Rattle.std.specs.Prelude.{◌≡◌, All, Contains, IfErr, IfNone, IfSome, MatchBool, OnOk, ⊤};
 ghost use Rattle.resolver_clause_store.specs.Caches.{IsTrueCache};
 ghost use Rattle.resolver_clause_store.specs.Candidates.{others};
-ghost use Rattle.resolver_clause_store.specs.declared.ClauseKind.TheVariants.{Constrains as ConstrainsKind};
-ghost use Rattle.resolver_encoding.specs.Encodings.{AsksWithin, IsConstraintRead, IsFull, IsStep, KeepsLimits};
+ghost use Rattle.resolver_clause_store.specs.Laws.{IsIdentity};
+ghost use Rattle.resolver_clause_store.specs.declared.By.TheVariants.{Solvable as BySolvable};
+ghost use Rattle.resolver_clause_store.specs.declared.ClauseKind.TheVariants.{Constrains as ConstrainsKind, ConstrainsExcluded as ExcludedKind, ConstrainsParent as ParentKind};
+ghost use Rattle.resolver_encoding.specs.Encodings.{AsksWithin, IsAskStep, IsConstraintRead, IsEncodingOf, IsFull, IsStep, KeepsLimits};
 ghost use Rattle.resolver_encoding.specs.Refusals.{IsShortage, IsStop};
 
 use super::Encoding;
 use crate::literals::{is_by, origin_of};
 use resolver_clause_store::{
     By, Cache, ClauseKind, DependencyProvider, Exhausted, Interner, Interrupted, Origin,
-    VersionSetId,
+    VersionSetId, append, is_among,
 };
 use std::hash::Hash;
+
+/// From how many forbidden solvables on a constraint has a helper.
+const CONSTRAINT_HELPER_THRESHOLD: usize = 4;
+
+/// Whether a solvable is in a list.
+fn is_listed<S: Copy + Eq>(list: &[S], solvable: S) -> bool
+    requires { IsIdentity S.eq }
+    ensures { MatchBool result (Contains list.now solvable) (Contains list.now solvable → ⊥) }
+{
+    list.contains(&solvable)
+}
+
+/// The solvable that has a constraint, where it is one of the package that the constraint is on.
+fn own_parent<D: DependencyProvider>(
+    provider: &D,
+    by: By<D::SolvableId>,
+    version_set: VersionSetId,
+) -> Option<D::SolvableId>
+    ensures is { IfSome result (λ s. by ≡ BySolvable s) }
+    ensures none { IfNone result ((s : D.SolvableId) → by ≡ BySolvable s → (D.universe provider.now).name s ≡ (D.universe provider.now).version_set_name version_set → ⊥) }
+{
+    match by {
+        By::Root => None,
+        By::Solvable(parent) => {
+            if provider.solvable_name(parent) == provider.version_set_name(version_set) {
+                return Some(parent);
+            }
+            None
+        }
+    }
+}
 
 impl<N: Copy + Eq + Hash + Drop, S: Copy + Eq + Hash + Drop> Encoding<N, S> {
     ghost use Rattle.resolver_encoding.specs.Notes.{IsBounded, notes_in};
@@ -70,6 +103,131 @@ impl<N: Copy + Eq + Hash + Drop, S: Copy + Eq + Hash + Drop> Encoding<N, S> {
         Ok(())
     }
 
+    /// The helper of a version set follows from each of those that it does not take.
+    fn imply_helper<D: DependencyProvider<NameId = N, SolvableId = S>>(
+        &mut self,
+        provider: &D,
+        version_set: VersionSetId,
+        forbidden: &[S],
+    ) -> Result<(), Exhausted>
+        requires bounded { IsBounded self.old }
+        requires forbidden { forbidden.now ≡ others (D.universe provider.now) version_set }
+        ensures bounded { IsBounded self.new }
+        ensures step { OnOk result (IsStep (D.universe provider.now) (λ root. ⊤) (notes_in self.old) (notes_in self.new)) }
+        ensures excluded { OnOk result (All (λ s. Contains (notes_in self.new).kinds (ExcludedKind s version_set)) forbidden.now) }
+        ensures constrained { OnOk result ((notes_in self.new).constrained ≡ (notes_in self.old).constrained) }
+        ensures limits { KeepsLimits (notes_in self.old) (notes_in self.new) }
+        ensures refusal { IfErr result (IsShortage (IsFull (notes_in self.new))) }
+    {
+        for candidate in forbidden {
+            let kind = ClauseKind::ConstrainsExcluded {
+                candidate: *candidate,
+                version_set,
+            };
+            let first = (Origin::Solvable(*candidate), false);
+            let helper = Origin::ConstraintHelper(version_set);
+            self.add_pair(kind, first, (helper, true))?;
+        }
+        Ok(())
+    }
+
+    /// Makes the helper of a version set of a constraint, if it has none yet.
+    fn make_helper<D: DependencyProvider<NameId = N, SolvableId = S>>(
+        &mut self,
+        provider: &D,
+        version_set: VersionSetId,
+        forbidden: &[S],
+    ) -> Result<(), Exhausted>
+        requires bounded { IsBounded self.old }
+        requires forbidden { forbidden.now ≡ others (D.universe provider.now) version_set }
+        ensures bounded { IsBounded self.new }
+        ensures step { OnOk result (IsStep (D.universe provider.now) (λ root. ⊤) (notes_in self.old) (notes_in self.new)) }
+        ensures constrained { OnOk result (Contains (notes_in self.new).constrained version_set) }
+        ensures limits { KeepsLimits (notes_in self.old) (notes_in self.new) }
+        ensures refusal { IfErr result (IsShortage (IsFull (notes_in self.new))) }
+    {
+        if is_among(&self.constrained, &version_set) {
+            return Ok(());
+        }
+        self.imply_helper(provider, version_set, forbidden)?;
+        append(&mut self.constrained, version_set)?;
+        Ok(())
+    }
+
+    /// Keeps the root or a solvable that has a constraint apart from the constraint's helper.
+    fn forbid_helper<D: DependencyProvider<NameId = N, SolvableId = S>>(
+        &mut self,
+        provider: &D,
+        by: By<S>,
+        version_set: VersionSetId,
+    ) -> Result<(), Exhausted>
+        requires bounded { IsBounded self.old }
+        ensures bounded { IsBounded self.new }
+        ensures step { OnOk result (IsStep (D.universe provider.now) (AsksWithin (D.universe provider.now) by version_set) (notes_in self.old) (notes_in self.new)) }
+        ensures forbidden { OnOk result (Contains (notes_in self.new).kinds (ParentKind by version_set)) }
+        ensures limits { KeepsLimits (notes_in self.old) (notes_in self.new) }
+        ensures refusal { IfErr result (IsShortage (IsFull (notes_in self.new))) }
+    {
+        let kind = ClauseKind::ConstrainsParent {
+            parent: by,
+            version_set,
+        };
+        let helper = Origin::ConstraintHelper(version_set);
+        self.add_pair(kind, (origin_of(by), false), (helper, false))?;
+        Ok(())
+    }
+
+    /// Forbids a solvable by itself where its own constraint does not take it.
+    fn forbid_itself<D: DependencyProvider<NameId = N, SolvableId = S>>(
+        &mut self,
+        provider: &D,
+        by: By<S>,
+        version_set: VersionSetId,
+        forbidden: &[S],
+    ) -> Result<(), Exhausted>
+        requires bounded { IsBounded self.old }
+        requires forbidden { forbidden.now ≡ others (D.universe provider.now) version_set }
+        ensures bounded { IsBounded self.new }
+        ensures step { OnOk result (IsStep (D.universe provider.now) (AsksWithin (D.universe provider.now) by version_set) (notes_in self.old) (notes_in self.new)) }
+        ensures itself { OnOk result ((s : S) → by ≡ BySolvable s → Contains forbidden.now s → Contains (notes_in self.new).kinds (ConstrainsKind by version_set s)) }
+        ensures limits { KeepsLimits (notes_in self.old) (notes_in self.new) }
+        ensures refusal { IfErr result (IsShortage (IsFull (notes_in self.new))) }
+    {
+        match own_parent(provider, by, version_set) {
+            None => Ok(()),
+            Some(parent) => {
+                if !is_listed(forbidden, parent) {
+                    return Ok(());
+                }
+                self.constrain(provider, by, version_set, parent)?;
+                Ok(())
+            }
+        }
+    }
+
+    /// Forbids all that a version set does not take through its helper.
+    fn constrain_by_helper<D: DependencyProvider<NameId = N, SolvableId = S>>(
+        &mut self,
+        provider: &D,
+        by: By<S>,
+        version_set: VersionSetId,
+        forbidden: &[S],
+    ) -> Result<(), Exhausted>
+        requires bounded { IsBounded self.old }
+        requires forbidden { forbidden.now ≡ others (D.universe provider.now) version_set }
+        requires encoding { IsEncodingOf (D.universe provider.now) (AsksWithin (D.universe provider.now) by version_set) (notes_in self.old) }
+        ensures bounded { IsBounded self.new }
+        ensures step { OnOk result (IsStep (D.universe provider.now) (AsksWithin (D.universe provider.now) by version_set) (notes_in self.old) (notes_in self.new)) }
+        ensures read { OnOk result (IsConstraintRead (D.universe provider.now) (notes_in self.new).kinds by version_set) }
+        ensures limits { KeepsLimits (notes_in self.old) (notes_in self.new) }
+        ensures refusal { IfErr result (IsShortage (IsFull (notes_in self.new))) }
+    {
+        self.make_helper(provider, version_set, forbidden)?;
+        self.forbid_helper(provider, by, version_set)?;
+        self.forbid_itself(provider, by, version_set, forbidden)?;
+        Ok(())
+    }
+
     /// Reads a constraint of the root or of a solvable: its package, and what it forbids.
     pub(super) fn read_constraint<D: DependencyProvider<NameId = N, SolvableId = S>>(
         &mut self,
@@ -80,16 +238,23 @@ impl<N: Copy + Eq + Hash + Drop, S: Copy + Eq + Hash + Drop> Encoding<N, S> {
     ) -> Result<(), Interrupted<D::Cancel>>
         requires bounded { IsBounded self.old }
         requires is_true { IsTrueCache (D.universe provider.now) cache.old }
+        requires encoding { IsEncodingOf (D.universe provider.now) (AsksWithin (D.universe provider.now) by version_set) (notes_in self.old) }
         ensures bounded { IsBounded self.new }
         ensures is_true { IsTrueCache (D.universe provider.now) cache.new }
-        ensures step { OnOk result (IsStep (D.universe provider.now) (AsksWithin (D.universe provider.now) by version_set) (notes_in self.old) (notes_in self.new)) }
+        ensures step { OnOk result (IsAskStep (D.universe provider.now) (λ n. (D.universe provider.now).version_set_name version_set ≡ n) (AsksWithin (D.universe provider.now) by version_set) (notes_in self.old) (notes_in self.new)) }
         ensures read { OnOk result (IsConstraintRead (D.universe provider.now) (notes_in self.new).kinds by version_set) }
+        ensures asked { OnOk result (Contains (notes_in self.new).asked ((D.universe provider.now).version_set_name version_set)) }
         ensures limits { KeepsLimits (notes_in self.old) (notes_in self.new) }
         ensures refusal { IfErr result (IsStop (D.may_cancel provider.now) (IsFull (notes_in self.new))) }
     {
         self.ask(provider, cache, provider.version_set_name(version_set))?;
         cache.ask_non_matching(provider, version_set)?;
-        self.constrain_each(provider, by, version_set, cache.non_matching(version_set))?;
+        let forbidden = cache.non_matching(version_set);
+        if forbidden.len() < CONSTRAINT_HELPER_THRESHOLD {
+            self.constrain_each(provider, by, version_set, forbidden)?;
+            return Ok(());
+        }
+        self.constrain_by_helper(provider, by, version_set, forbidden)?;
         Ok(())
     }
 }

@@ -1,20 +1,41 @@
 //! All that can be needed.
 
-ghost use Rattle.std.specs.Prelude.{◌≡◌, ◌≢◌, ◌⊎◌, ◌<◌, ◌^◌, [], ◌∷◌, All, Contains, IfErr, IfOk, MatchBool, OnOk, Some, map, ⊤};
+ghost use Rattle.std.specs.Prelude.{◌≡◌, ◌≢◌, ◌⊎◌, ◌<◌, ◌≤◌, ◌^◌, [], ◌∷◌, All, Contains, IfErr, IfOk, MatchBool, OnOk, Some, drop, length, map, take, ⊤};
 ghost use Rattle.resolver_clause_store.specs.Caches.{IsTrueCache};
 ghost use Rattle.resolver_clause_store.specs.Universe.{Demands, unknown};
+ghost use Rattle.resolver_clause_store.specs.Valid.{demands_of};
+ghost use Rattle.resolver_clause_store.specs.declared.By.TheVariants.{Solvable as BySolvable};
 ghost use Rattle.resolver_clause_store.specs.declared.ClauseKind.TheVariants.{Excluded as ExcludedKind};
+ghost use Rattle.resolver_clause_store.specs.declared.ConditionalRequirement.{ConditionalRequirement};
+ghost use Rattle.resolver_clause_store.specs.declared.Origin.TheVariants.{Solvable as SolvableOrigin};
 ghost use Rattle.resolver_report.specs.TrueRules.{demands_by};
-ghost use Rattle.resolver_encoding.specs.Encodings.{AreDemandsRead, AreNeedsRead, AsksFor, AsksWithin, IsAllRead, IsConstraintRead, IsEncoding, IsFull, IsStep, IsUnread, KeepsLimits};
+ghost use Rattle.resolver_encoding.specs.Called.{AreAsked, IsCalledByEach, IsCalledFor, IsDemanded, IsNamedIn, IsPlainlyNamed};
+ghost use Rattle.resolver_encoding.specs.Encodings.{AreDemandsRead, AreNeedsRead, AsksFor, AsksWithin, IsAskStep, IsConstraintRead, IsEncoding, IsEncodingOf, IsFull, IsLeft, IsReadStep, IsStep, IsUnmet, IsUnread, KeepsLimits};
 ghost use Rattle.resolver_encoding.specs.ReadState.{IsReadRequirement};
 ghost use Rattle.resolver_encoding.specs.Refusals.{IsShortage, IsStop};
+ghost use Rattle.resolver_encoding.specs.SoFar.{HasRead, IsBare, IsHalfReading, IsMoreOrSame, IsProgress, IsReadMore, IsReadSoFar, IsReading, IsReadingOf, progress_by};
 
 use super::Encoding;
+use crate::progress::Progress;
+use indexmap::IndexSet;
 use resolver_clause_store::{
     By, Cache, ClauseKind, ConditionalRequirement, Dependencies, DependencyProvider, Exhausted,
-    Interner, Interrupted, Literal, Origin, StringId, VersionSetId,
+    Interner, Interrupted, Literal, Origin, StringId, VersionSetId, append, is_among,
 };
 use std::hash::Hash;
+
+/// What one more reading did.
+fn progress_of(read: bool, fired: bool) -> Progress
+    ensures { result ≡ progress_by read fired }
+{
+    if read {
+        return Progress::Read;
+    }
+    if fired {
+        return Progress::Fired;
+    }
+    Progress::Nothing
+}
 
 impl<N: Copy + Eq + Hash + Drop, S: Copy + Eq + Hash + Drop> Encoding<N, S> {
     ghost use Rattle.resolver_encoding.specs.Notes.{IsBounded, notes_in};
@@ -39,25 +60,72 @@ impl<N: Copy + Eq + Hash + Drop, S: Copy + Eq + Hash + Drop> Encoding<N, S> {
         Ok(())
     }
 
-    /// Reads requirements of the root or of a solvable.
-    fn read_requirements<D: DependencyProvider<NameId = N, SolvableId = S>>(
+    /// Asks the packages of a requirement without a condition.
+    fn ask_plain<D: DependencyProvider<NameId = N, SolvableId = S>>(
         &mut self,
         provider: &D,
         cache: &mut Cache<N, S>,
-        by: By<S>,
+        requirement: ConditionalRequirement,
+    ) -> Result<(), Interrupted<D::Cancel>>
+        requires bounded { IsBounded self.old }
+        requires is_true { IsTrueCache (D.universe provider.now) cache.old }
+        ensures bounded { IsBounded self.new }
+        ensures is_true { IsTrueCache (D.universe provider.now) cache.new }
+        ensures step { OnOk result (IsAskStep (D.universe provider.now) (IsPlainlyNamed (D.universe provider.now) requirement) (λ root. ⊤) (notes_in self.old) (notes_in self.new)) }
+        ensures limits { KeepsLimits (notes_in self.old) (notes_in self.new) }
+        ensures refusal { IfErr result (IsStop (D.may_cancel provider.now) (IsFull (notes_in self.new))) }
+    {
+        match requirement.condition {
+            Some(_) => Ok(()),
+            None => {
+                self.ask_named(provider, cache, requirement.requirement)?;
+                Ok(())
+            }
+        }
+    }
+
+    /// Asks the packages of each requirement without a condition.
+    fn ask_plain_each<D: DependencyProvider<NameId = N, SolvableId = S>>(
+        &mut self,
+        provider: &D,
+        cache: &mut Cache<N, S>,
         requirements: &[ConditionalRequirement],
     ) -> Result<(), Interrupted<D::Cancel>>
         requires bounded { IsBounded self.old }
         requires is_true { IsTrueCache (D.universe provider.now) cache.old }
         ensures bounded { IsBounded self.new }
         ensures is_true { IsTrueCache (D.universe provider.now) cache.new }
-        ensures step { OnOk result (IsStep (D.universe provider.now) (λ root. All (λ r. AsksFor (D.universe provider.now) by r root) requirements.now) (notes_in self.old) (notes_in self.new)) }
-        ensures read { OnOk result (All (IsReadRequirement (D.universe provider.now) (notes_in self.new).kinds [] by) requirements.now) }
+        ensures step { OnOk result (IsAskStep (D.universe provider.now) (λ n. (r : ConditionalRequirement) × Contains requirements.now r × IsPlainlyNamed (D.universe provider.now) r n) (λ root. ⊤) (notes_in self.old) (notes_in self.new)) }
         ensures limits { KeepsLimits (notes_in self.old) (notes_in self.new) }
         ensures refusal { IfErr result (IsStop (D.may_cancel provider.now) (IsFull (notes_in self.new))) }
     {
         for requirement in requirements {
-            self.read_requirement(provider, cache, by, *requirement)?;
+            self.ask_plain(provider, cache, *requirement)?;
+        }
+        Ok(())
+    }
+
+    /// Reads requirements of the root or of a solvable.
+    fn read_requirements<D: DependencyProvider<NameId = N, SolvableId = S>>(
+        &mut self,
+        provider: &D,
+        cache: &mut Cache<N, S>,
+        chosen: &IndexSet<S>,
+        by: By<S>,
+        requirements: &[ConditionalRequirement],
+    ) -> Result<(), Interrupted<D::Cancel>>
+        requires bounded { IsBounded self.old }
+        requires is_true { IsTrueCache (D.universe provider.now) cache.old }
+        requires encoding { IsEncodingOf (D.universe provider.now) (λ root. All (λ r. AsksFor (D.universe provider.now) by r root) requirements.now) (notes_in self.old) }
+        ensures bounded { IsBounded self.new }
+        ensures is_true { IsTrueCache (D.universe provider.now) cache.new }
+        ensures step { OnOk result (IsReadStep (D.universe provider.now) (IsUnmet (D.universe provider.now) chosen.now.keys by) (IsCalledByEach (D.universe provider.now) chosen.now.keys requirements.now) (λ root. All (λ r. AsksFor (D.universe provider.now) by r root) requirements.now) (notes_in self.old) (notes_in self.new)) }
+        ensures read { OnOk result (All (IsReadRequirement (D.universe provider.now) (notes_in self.new).kinds (IsLeft (notes_in self.new)) by) requirements.now) }
+        ensures limits { KeepsLimits (notes_in self.old) (notes_in self.new) }
+        ensures refusal { IfErr result (IsStop (D.may_cancel provider.now) (IsFull (notes_in self.new))) }
+    {
+        for requirement in requirements {
+            self.read_requirement(provider, cache, chosen, by, *requirement)?;
         }
         Ok(())
     }
@@ -72,10 +140,12 @@ impl<N: Copy + Eq + Hash + Drop, S: Copy + Eq + Hash + Drop> Encoding<N, S> {
     ) -> Result<(), Interrupted<D::Cancel>>
         requires bounded { IsBounded self.old }
         requires is_true { IsTrueCache (D.universe provider.now) cache.old }
+        requires encoding { IsEncodingOf (D.universe provider.now) (λ root. All (λ v. AsksWithin (D.universe provider.now) by v root) constraints.now) (notes_in self.old) }
         ensures bounded { IsBounded self.new }
         ensures is_true { IsTrueCache (D.universe provider.now) cache.new }
-        ensures step { OnOk result (IsStep (D.universe provider.now) (λ root. All (λ v. AsksWithin (D.universe provider.now) by v root) constraints.now) (notes_in self.old) (notes_in self.new)) }
+        ensures step { OnOk result (IsAskStep (D.universe provider.now) (IsNamedIn (D.universe provider.now) constraints.now) (λ root. All (λ v. AsksWithin (D.universe provider.now) by v root) constraints.now) (notes_in self.old) (notes_in self.new)) }
         ensures read { OnOk result (All (IsConstraintRead (D.universe provider.now) (notes_in self.new).kinds by) constraints.now) }
+        ensures asked { OnOk result (All (λ v. Contains (notes_in self.new).asked ((D.universe provider.now).version_set_name v)) constraints.now) }
         ensures limits { KeepsLimits (notes_in self.old) (notes_in self.new) }
         ensures refusal { IfErr result (IsStop (D.may_cancel provider.now) (IsFull (notes_in self.new))) }
     {
@@ -85,25 +155,30 @@ impl<N: Copy + Eq + Hash + Drop, S: Copy + Eq + Hash + Drop> Encoding<N, S> {
         Ok(())
     }
 
-    /// Reads what the root or a solvable asks for.
+    /// Reads what the root or a solvable asks for: first the packages of what stands there without a condition, then the
+    /// requirements, and then the constraints.
     fn read_demands<D: DependencyProvider<NameId = N, SolvableId = S>>(
         &mut self,
         provider: &D,
         cache: &mut Cache<N, S>,
+        chosen: &IndexSet<S>,
         by: By<S>,
         requirements: &[ConditionalRequirement],
         constraints: &[VersionSetId],
     ) -> Result<(), Interrupted<D::Cancel>>
         requires bounded { IsBounded self.old }
         requires is_true { IsTrueCache (D.universe provider.now) cache.old }
+        requires encoding { IsEncodingOf (D.universe provider.now) (λ root. demands_by (D.universe provider.now) root by ≡ (record { requirements = requirements.now; constraints = constraints.now })) (notes_in self.old) }
         ensures bounded { IsBounded self.new }
         ensures is_true { IsTrueCache (D.universe provider.now) cache.new }
-        ensures step { OnOk result (IsStep (D.universe provider.now) (λ root. demands_by (D.universe provider.now) root by ≡ (record { requirements = requirements.now; constraints = constraints.now })) (notes_in self.old) (notes_in self.new)) }
-        ensures read { OnOk result (AreDemandsRead (D.universe provider.now) (notes_in self.new).kinds by (record { requirements = requirements.now; constraints = constraints.now })) }
+        ensures step { OnOk result (IsReadStep (D.universe provider.now) (IsUnmet (D.universe provider.now) chosen.now.keys by) (IsDemanded (D.universe provider.now) chosen.now.keys (record { requirements = requirements.now; constraints = constraints.now })) (λ root. demands_by (D.universe provider.now) root by ≡ (record { requirements = requirements.now; constraints = constraints.now })) (notes_in self.old) (notes_in self.new)) }
+        ensures read { OnOk result (AreDemandsRead (D.universe provider.now) (notes_in self.new) by (record { requirements = requirements.now; constraints = constraints.now })) }
         ensures limits { KeepsLimits (notes_in self.old) (notes_in self.new) }
         ensures refusal { IfErr result (IsStop (D.may_cancel provider.now) (IsFull (notes_in self.new))) }
     {
-        self.read_requirements(provider, cache, by, requirements)?;
+        self.ask_plain_each(provider, cache, requirements)?;
+        self.ask_each(provider, cache, constraints)?;
+        self.read_requirements(provider, cache, chosen, by, requirements)?;
         self.read_constraints(provider, cache, by, constraints)?;
         Ok(())
     }
@@ -113,14 +188,16 @@ impl<N: Copy + Eq + Hash + Drop, S: Copy + Eq + Hash + Drop> Encoding<N, S> {
         &mut self,
         provider: &D,
         cache: &mut Cache<N, S>,
+        chosen: &IndexSet<S>,
         solvable: S,
     ) -> Result<(), Interrupted<D::Cancel>>
         requires bounded { IsBounded self.old }
         requires is_true { IsTrueCache (D.universe provider.now) cache.old }
+        requires encoding { IsEncodingOf (D.universe provider.now) (λ root. ⊤) (notes_in self.old) }
         ensures bounded { IsBounded self.new }
         ensures is_true { IsTrueCache (D.universe provider.now) cache.new }
-        ensures step { OnOk result (IsStep (D.universe provider.now) (λ root. ⊤) (notes_in self.old) (notes_in self.new)) }
-        ensures read { OnOk result (AreNeedsRead (D.universe provider.now) (notes_in self.new).kinds solvable ((D.universe provider.now).needs solvable)) }
+        ensures step { OnOk result (IsReadStep (D.universe provider.now) (IsUnmet (D.universe provider.now) chosen.now.keys (BySolvable solvable)) (IsDemanded (D.universe provider.now) chosen.now.keys (demands_of ((D.universe provider.now).needs solvable))) (λ root. ⊤) (notes_in self.old) (notes_in self.new)) }
+        ensures read { OnOk result (AreNeedsRead (D.universe provider.now) (notes_in self.new) solvable ((D.universe provider.now).needs solvable)) }
         ensures limits { KeepsLimits (notes_in self.old) (notes_in self.new) }
         ensures refusal { IfErr result (IsStop (D.may_cancel provider.now) (IsFull (notes_in self.new))) }
     {
@@ -134,10 +211,72 @@ impl<N: Copy + Eq + Hash + Drop, S: Copy + Eq + Hash + Drop> Encoding<N, S> {
                 let requirements = Vec::from_slice(self.alloc, &known.requirements)?;
                 let constraints = Vec::from_slice(self.alloc, &known.constrains)?;
                 let by = By::Solvable(solvable);
-                self.read_demands(provider, cache, by, &requirements, &constraints)?;
+                self.read_demands(provider, cache, chosen, by, &requirements, &constraints)?;
                 Ok(())
             }
         }
+    }
+
+    /// Reads a chosen solvable, if it was not read before.
+    fn read_new<D: DependencyProvider<NameId = N, SolvableId = S>>(
+        &mut self,
+        provider: &D,
+        cache: &mut Cache<N, S>,
+        chosen: &IndexSet<S>,
+        solvable: S,
+    ) -> Result<(), Interrupted<D::Cancel>>
+        requires bounded { IsBounded self.old }
+        requires is_true { IsTrueCache (D.universe provider.now) cache.old }
+        requires encoding { IsEncodingOf (D.universe provider.now) (λ root. ⊤) (notes_in self.old) }
+        requires chosen { Contains chosen.now.keys solvable }
+        requires known { Contains (notes_in self.old).origins (SolvableOrigin solvable) }
+        ensures bounded { IsBounded self.new }
+        ensures is_true { IsTrueCache (D.universe provider.now) cache.new }
+        ensures reading { OnOk result (IsReadingOf (D.universe provider.now) chosen.now.keys (notes_in self.old) (notes_in self.new)) }
+        ensures here { OnOk result (Contains (notes_in self.new).read solvable) }
+        ensures more { OnOk result (IsMoreOrSame (notes_in self.old) (notes_in self.new)) }
+        ensures limits { KeepsLimits (notes_in self.old) (notes_in self.new) }
+        ensures refusal { IfErr result (IsStop (D.may_cancel provider.now) (IsFull (notes_in self.new))) }
+    {
+        if is_among(&self.read, &solvable) {
+            return Ok(());
+        }
+        self.read_solvable(provider, cache, chosen, solvable)?;
+        append(&mut self.read, solvable)?;
+        Ok(())
+    }
+
+    /// Reads each new solvable from this place of the set on. Answers whether there was one.
+    fn read_each<D: DependencyProvider<NameId = N, SolvableId = S>>(
+        &mut self,
+        provider: &D,
+        cache: &mut Cache<N, S>,
+        chosen: &IndexSet<S>,
+        from: usize,
+    ) -> Result<bool, Interrupted<D::Cancel>>
+        requires bounded { IsBounded self.old }
+        requires is_true { IsTrueCache (D.universe provider.now) cache.old }
+        requires half { IsHalfReading (D.universe provider.now) (notes_in self.old) }
+        requires known { All (λ s. Contains (notes_in self.old).origins (SolvableOrigin s)) chosen.now.keys }
+        requires within { from ≤ length chosen.now.keys }
+        ensures bounded { IsBounded self.new }
+        ensures is_true { IsTrueCache (D.universe provider.now) cache.new }
+        ensures reading { OnOk result (IsReadingOf (D.universe provider.now) chosen.now.keys (notes_in self.old) (notes_in self.new)) }
+        ensures here { OnOk result (All (Contains (notes_in self.new).read) (drop from chosen.now.keys)) }
+        ensures any_new { IfOk result (HasRead (notes_in self.old) (notes_in self.new)) }
+        ensures fit { OnOk result (((s : S) → Contains (notes_in self.new).read s → Contains (notes_in self.new).origins (SolvableOrigin s)) → length (notes_in self.new).read ≤ length (notes_in self.new).origins) }
+        ensures limits { KeepsLimits (notes_in self.old) (notes_in self.new) }
+        ensures refusal { IfErr result (IsStop (D.may_cancel provider.now) (IsFull (notes_in self.new))) }
+    {
+        let before = self.read.len();
+        for place in from..chosen.len() {
+            let solvable = chosen.as_slice()[place];
+            self.read_new(provider, cache, chosen, solvable)?;
+        }
+        if before < self.read.len() {
+            return Ok(true);
+        }
+        Ok(false)
     }
 
     /// Makes the root's variable, and the clause that it is there.
@@ -149,7 +288,7 @@ impl<N: Copy + Eq + Hash + Drop, S: Copy + Eq + Hash + Drop> Encoding<N, S> {
         requires nothing_read { IsUnread (notes_in self.old) }
         ensures bounded { IsBounded self.new }
         ensures installed { OnOk result ((root : Demands) → IsEncoding (D.universe provider.now) root (notes_in self.new)) }
-        ensures none_seen { OnOk result ((notes_in self.new).seen ≡ []) }
+        ensures nothing { OnOk result (IsBare (notes_in self.new)) }
         ensures exempt { OnOk result ((notes_in self.new).exempt ≡ (notes_in self.old).exempt) }
         ensures limits { KeepsLimits (notes_in self.old) (notes_in self.new) }
         ensures refusal { IfErr result (IsShortage (IsFull (notes_in self.new))) }
@@ -164,8 +303,10 @@ impl<N: Copy + Eq + Hash + Drop, S: Copy + Eq + Hash + Drop> Encoding<N, S> {
         Ok(())
     }
 
-    /// Reads the root and all that can be needed, each solvable once.
-    pub fn read_all<D: DependencyProvider<NameId = N, SolvableId = S>>(
+    /// Reads the root: the clauses of what it asks for, and what is put off.
+    ///
+    /// Of the packages those are asked that its constraints and its requirements without a condition name, and no others.
+    pub fn read_root<D: DependencyProvider<NameId = N, SolvableId = S>>(
         &mut self,
         provider: &D,
         cache: &mut Cache<N, S>,
@@ -177,19 +318,47 @@ impl<N: Copy + Eq + Hash + Drop, S: Copy + Eq + Hash + Drop> Encoding<N, S> {
         requires nothing_read { IsUnread (notes_in self.old) }
         ensures bounded { IsBounded self.new }
         ensures is_true { IsTrueCache (D.universe provider.now) cache.new }
-        ensures read { OnOk result (IsAllRead (D.universe provider.now) (record { requirements = requirements.now; constraints = constraints.now }) (notes_in self.new)) }
+        ensures read { OnOk result (IsReadSoFar (D.universe provider.now) (record { requirements = requirements.now; constraints = constraints.now }) [] (notes_in self.new)) }
+        ensures asked { OnOk result (AreAsked (IsCalledFor (D.universe provider.now) (record { requirements = requirements.now; constraints = constraints.now }) [] []) [] (notes_in self.new).asked) }
+        ensures none_read { OnOk result ((notes_in self.new).read ≡ []) }
         ensures exempt { OnOk result ((notes_in self.new).exempt ≡ (notes_in self.old).exempt) }
         ensures limits { KeepsLimits (notes_in self.old) (notes_in self.new) }
         ensures refusal { IfErr result (IsStop (D.may_cancel provider.now) (IsFull (notes_in self.new))) }
     {
         self.install_root(provider)?;
-        self.read_demands(provider, cache, By::Root, requirements, constraints)?;
-        let mut next = 0;
-        while next < self.seen.len() {
-            let solvable = self.seen.as_slice()[next];
-            self.read_solvable(provider, cache, solvable)?;
-            next += 1;
-        }
+        let none = IndexSet::new(self.alloc);
+        self.read_demands(provider, cache, &none, By::Root, requirements, constraints)?;
         Ok(())
+    }
+
+    /// Reads what was chosen from this place of the set on, and takes out what was put off and holds now.
+    ///
+    /// Each new solvable is read, and no other. Of the packages those are asked that the root or what was read demands in
+    /// this set, and no others.
+    pub fn read_chosen<D: DependencyProvider<NameId = N, SolvableId = S>>(
+        &mut self,
+        provider: &D,
+        cache: &mut Cache<N, S>,
+        chosen: &IndexSet<S>,
+        from: usize,
+    ) -> Result<Progress, Interrupted<D::Cancel>>
+        requires bounded { IsBounded self.old }
+        requires is_true { IsTrueCache (D.universe provider.now) cache.old }
+        requires reading { IsReading (D.universe provider.now) (take from chosen.now.keys) (notes_in self.old) }
+        requires known { All (λ s. Contains (notes_in self.old).origins (SolvableOrigin s)) chosen.now.keys }
+        requires within { from ≤ length chosen.now.keys }
+        ensures bounded { IsBounded self.new }
+        ensures is_true { IsTrueCache (D.universe provider.now) cache.new }
+        ensures read { OnOk result ((root : Demands) → IsReadSoFar (D.universe provider.now) root (take from chosen.now.keys) (notes_in self.old) → IsReadSoFar (D.universe provider.now) root chosen.now.keys (notes_in self.new)) }
+        ensures asked { OnOk result ((root : Demands) → IsReadSoFar (D.universe provider.now) root (take from chosen.now.keys) (notes_in self.old) → AreAsked (IsCalledFor (D.universe provider.now) root (notes_in self.new).read chosen.now.keys) (notes_in self.old).asked (notes_in self.new).asked) }
+        ensures more { OnOk result (IsReadMore (D.universe provider.now) chosen.now.keys (notes_in self.old) (notes_in self.new)) }
+        ensures progress { IfOk result (IsProgress (notes_in self.old) (notes_in self.new)) }
+        ensures fit { OnOk result (length (notes_in self.new).read ≤ (notes_in self.new).variable_limit) }
+        ensures limits { KeepsLimits (notes_in self.old) (notes_in self.new) }
+        ensures refusal { IfErr result (IsStop (D.may_cancel provider.now) (IsFull (notes_in self.new))) }
+    {
+        let read = self.read_each(provider, cache, chosen, from)?;
+        let fired = self.fire_deferred(provider, cache, chosen, from)?;
+        Ok(progress_of(read, fired))
     }
 }

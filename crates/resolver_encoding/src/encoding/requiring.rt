@@ -1,26 +1,71 @@
 //! Requirements.
 
-ghost use Rattle.std.specs.Prelude.{◌≡◌, ◌≢◌, ◌⊎◌, ◌<◌, ◌^◌, [], ◌∷◌, All, Contains, IfErr, IfOk, MatchBool, OnOk, Some, map, ⊤};
+ghost use Rattle.std.specs.Prelude.{◌≡◌, ◌<◌, ◌^◌, [], ◌∷◌, ◌++◌, All, Contains, IfErr, IfOk, IfSome, None, OnOk, length, map, ⊤};
 ghost use Rattle.resolver_clause_store.specs.Caches.{IsTrueCache};
 ghost use Rattle.resolver_clause_store.specs.Candidates.{requirement_candidates as candidates_of, version_sets};
+ghost use Rattle.resolver_clause_store.specs.Variables.{AreDistinct};
+ghost use Rattle.resolver_clause_store.specs.declared.By.TheVariants.{Solvable as BySolvable};
 ghost use Rattle.resolver_clause_store.specs.declared.ClauseKind.TheVariants.{Requires as RequiresKind};
 ghost use Rattle.resolver_encoding.specs.Atoms.{atoms_of};
-ghost use Rattle.resolver_encoding.specs.Encodings.{AddsRequirement, AreDisjuncts, AsksFor, HasDisjunct, IsDisjunctOf, IsFull, IsStep, KeepsLimits};
-ghost use Rattle.resolver_encoding.specs.ReadState.{IsReadRequirement};
+ghost use Rattle.resolver_encoding.specs.Called.{IsCalledBy, IsNamedIn};
+ghost use Rattle.resolver_encoding.specs.Encodings.{AddsRequirement, AreDisjuncts, AsksFor, IsAskStep, IsDisjunctOf, IsDisjunctRead, IsEncodingOf, IsFull, IsLeft, IsReadStep, IsStep, IsTrueUnder, IsUnmet, KeepsLimits};
+ghost use Rattle.resolver_encoding.specs.ReadState.{HasClause, IsReadRequirement};
 ghost use Rattle.resolver_encoding.specs.Refusals.{IsShortage, IsStop};
 
 use super::Encoding;
 use crate::choices::{Choices, choices_of, places_behind};
 use crate::disjuncts::{disjuncts_of, without_repeats};
 use crate::literals::{origin_of, push_candidates, push_helpers, push_literal};
+use crate::met::is_met;
+use indexmap::IndexSet;
 use resolver_clause_store::{
-    By, Cache, ClauseKind, ConditionalRequirement, DependencyProvider, Exhausted, Interner,
-    Interrupted, Requirement, RequirementClause, VersionSetId,
+    By, Cache, ClauseKind, ConditionId, ConditionalRequirement, DependencyProvider, Exhausted,
+    Interner, Interrupted, Literal, Requirement, RequirementClause, VersionSetId, is_among,
 };
 use std::hash::Hash;
 
+/// From how many candidates on a requirement of solvables stands on a gate.
+const GATE_THRESHOLD: usize = 4;
+
+/// The solvable whose requirement may stand on a gate: the root's may not, and none under a condition.
+fn plain_requirer<S: Copy>(by: By<S>, condition: Option<ConditionId>) -> Option<S>
+    ensures { IfSome result (λ s. (by ≡ BySolvable s) × (condition ≡ None)) }
+{
+    match condition {
+        Some(_) => None,
+        None => match by {
+            By::Root => None,
+            By::Solvable(requirer) => Some(requirer),
+        },
+    }
+}
+
 impl<N: Copy + Eq + Hash + Drop, S: Copy + Eq + Hash + Drop> Encoding<N, S> {
     ghost use Rattle.resolver_encoding.specs.Notes.{IsBounded, notes_in};
+
+    /// Adds a clause that asks for candidates.
+    pub(super) fn add_asking(
+        &mut self,
+        kind: ClauseKind<N, S>,
+        literals: Vec<Literal>,
+        of_root: bool,
+        ends: Vec<usize>,
+    ) -> Result<(), Exhausted>
+        requires bounded { IsBounded self.old }
+        ensures bounded { IsBounded self.new }
+        ensures added { OnOk result (notes_in self.new ≡ record (notes_in self.old) { table = (notes_in self.old).table ++ literals ∷ []; kinds = (notes_in self.old).kinds ++ kind ∷ []; requirements = (notes_in self.old).requirements ++ length (notes_in self.old).kinds ∷ [] }) }
+        ensures limits { KeepsLimits (notes_in self.old) (notes_in self.new) }
+        ensures refusal { IfErr result (IsShortage (IsFull (notes_in self.new))) }
+    {
+        let number = self.kinds.len();
+        self.add_clause(kind, literals)?;
+        self.requirements.push(RequirementClause {
+            number,
+            of_root,
+            ends,
+        })?;
+        Ok(())
+    }
 
     /// Adds the clause of a requirement and a disjunct of its condition.
     fn add_requirement<D: DependencyProvider<NameId = N, SolvableId = S>>(
@@ -44,49 +89,121 @@ impl<N: Copy + Eq + Hash + Drop, S: Copy + Eq + Hash + Drop> Encoding<N, S> {
         push_helpers(&mut self.variables, &mut literals, &disjunct)?;
         let ends = places_behind(self.alloc, literals.len(), &choices.counts)?;
         push_candidates(&mut self.variables, &mut literals, &choices.candidates)?;
-        let number = self.kinds.len();
         let of_root = matches!(by, By::Root);
         let kind = ClauseKind::Requires {
             parent: by,
             disjunct,
             requirement,
         };
-        self.add_clause(kind, literals)?;
-        self.requirements.push(RequirementClause {
-            number,
-            of_root,
-            ends,
-        })?;
+        self.add_asking(kind, literals, of_root, ends)?;
         Ok(())
     }
 
-    /// Reads a requirement under one disjunct of its condition.
-    fn read_disjunct<D: DependencyProvider<NameId = N, SolvableId = S>>(
+    /// Encodes a requirement under a disjunct of its condition, with the candidates at hand.
+    fn encode_choices<D: DependencyProvider<NameId = N, SolvableId = S>>(
         &mut self,
         provider: &D,
         cache: &mut Cache<N, S>,
         by: By<S>,
-        requirement: ConditionalRequirement,
+        disjunct: Vec<VersionSetId>,
+        requirement: Requirement,
         choices: &Choices<S>,
+    ) -> Result<(), Interrupted<D::Cancel>>
+        requires bounded { IsBounded self.old }
+        requires is_true { IsTrueCache (D.universe provider.now) cache.old }
+        requires candidates { choices.now.candidates.items ≡ candidates_of (D.universe provider.now) requirement }
+        requires small { All (λ n. n < 2 ^ 63) choices.now.counts.items }
+        requires asked { All (λ v. Contains (notes_in self.old).asked ((D.universe provider.now).version_set_name v)) (version_sets (D.universe provider.now) requirement) }
+        requires seen { All (Contains (notes_in self.old).seen) choices.now.candidates.items }
+        requires once { AreDistinct disjunct.items }
+        ensures bounded { IsBounded self.new }
+        ensures is_true { IsTrueCache (D.universe provider.now) cache.new }
+        ensures step { OnOk result (IsStep (D.universe provider.now) (IsTrueUnder (D.universe provider.now) by disjunct.items requirement) (notes_in self.old) (notes_in self.new)) }
+        ensures read { OnOk result (Contains (notes_in self.new).kinds (RequiresKind by disjunct requirement)) }
+        ensures limits { KeepsLimits (notes_in self.old) (notes_in self.new) }
+        ensures refusal { IfErr result (IsStop (D.may_cancel provider.now) (IsFull (notes_in self.new))) }
+    {
+        self.help_each(provider, cache, &disjunct)?;
+        self.add_requirement(provider, by, disjunct, requirement, choices)?;
+        Ok(())
+    }
+
+    /// The candidates of a requirement, after its packages were asked: from now on they are seen.
+    fn choose<D: DependencyProvider<NameId = N, SolvableId = S>>(
+        &mut self,
+        provider: &D,
+        cache: &mut Cache<N, S>,
+        requirement: Requirement,
+    ) -> Result<Choices<S>, Interrupted<D::Cancel>>
+        requires bounded { IsBounded self.old }
+        requires is_true { IsTrueCache (D.universe provider.now) cache.old }
+        ensures bounded { IsBounded self.new }
+        ensures is_true { IsTrueCache (D.universe provider.now) cache.new }
+        ensures candidates { IfOk result (λ choices. choices.candidates.items ≡ candidates_of (D.universe provider.now) requirement) }
+        ensures small { IfOk result (λ choices. All (λ n. n < 2 ^ 63) choices.counts.items) }
+        ensures step { OnOk result (IsAskStep (D.universe provider.now) (IsNamedIn (D.universe provider.now) (version_sets (D.universe provider.now) requirement)) (λ root. ⊤) (notes_in self.old) (notes_in self.new)) }
+        ensures asked { OnOk result (All (λ v. Contains (notes_in self.new).asked ((D.universe provider.now).version_set_name v)) (version_sets (D.universe provider.now) requirement)) }
+        ensures seen { IfOk result (λ choices. All (Contains (notes_in self.new).seen) choices.candidates.items) }
+        ensures limits { KeepsLimits (notes_in self.old) (notes_in self.new) }
+        ensures refusal { IfErr result (IsStop (D.may_cancel provider.now) (IsFull (notes_in self.new))) }
+    {
+        self.ask_named(provider, cache, requirement)?;
+        let choices = choices_of(self.alloc, provider, cache, requirement)?;
+        self.see_all(provider, &choices.candidates)?;
+        Ok(choices)
+    }
+
+    /// Encodes a requirement under a disjunct of its condition, after its packages were asked.
+    pub(super) fn encode_disjunct<D: DependencyProvider<NameId = N, SolvableId = S>>(
+        &mut self,
+        provider: &D,
+        cache: &mut Cache<N, S>,
+        by: By<S>,
+        disjunct: Vec<VersionSetId>,
+        requirement: Requirement,
+    ) -> Result<(), Interrupted<D::Cancel>>
+        requires bounded { IsBounded self.old }
+        requires is_true { IsTrueCache (D.universe provider.now) cache.old }
+        requires once { AreDistinct disjunct.items }
+        ensures bounded { IsBounded self.new }
+        ensures is_true { IsTrueCache (D.universe provider.now) cache.new }
+        ensures step { OnOk result (IsAskStep (D.universe provider.now) (IsNamedIn (D.universe provider.now) (version_sets (D.universe provider.now) requirement)) (IsTrueUnder (D.universe provider.now) by disjunct.items requirement) (notes_in self.old) (notes_in self.new)) }
+        ensures read { OnOk result (HasClause (notes_in self.new).kinds by disjunct.items requirement) }
+        ensures limits { KeepsLimits (notes_in self.old) (notes_in self.new) }
+        ensures refusal { IfErr result (IsStop (D.may_cancel provider.now) (IsFull (notes_in self.new))) }
+    {
+        let choices = self.choose(provider, cache, requirement)?;
+        self.encode_choices(provider, cache, by, disjunct, requirement, &choices)?;
+        Ok(())
+    }
+
+    /// Encodes a requirement under a disjunct of its condition that is met in the set, and puts off any other.
+    fn read_disjunct<D: DependencyProvider<NameId = N, SolvableId = S>>(
+        &mut self,
+        provider: &D,
+        cache: &mut Cache<N, S>,
+        chosen: &IndexSet<S>,
+        by: By<S>,
+        requirement: ConditionalRequirement,
         disjunct: &[VersionSetId],
     ) -> Result<(), Interrupted<D::Cancel>>
         requires bounded { IsBounded self.old }
         requires is_true { IsTrueCache (D.universe provider.now) cache.old }
-        requires candidates { choices.now.candidates.items ≡ candidates_of (D.universe provider.now) requirement.requirement }
-        requires small { All (λ n. n < 2 ^ 63) choices.now.counts.items }
-        requires asked { All (λ v. Contains (notes_in self.old).asked ((D.universe provider.now).version_set_name v)) (version_sets (D.universe provider.now) requirement.requirement) }
-        requires seen { All (Contains (notes_in self.old).seen) choices.now.candidates.items }
         requires disjunct { IsDisjunctOf (D.universe provider.now) requirement.condition disjunct.now }
         ensures bounded { IsBounded self.new }
         ensures is_true { IsTrueCache (D.universe provider.now) cache.new }
-        ensures step { OnOk result (IsStep (D.universe provider.now) (AsksFor (D.universe provider.now) by requirement) (notes_in self.old) (notes_in self.new)) }
-        ensures read { OnOk result (HasDisjunct (D.universe provider.now) (notes_in self.new).kinds by requirement.requirement disjunct.now) }
+        ensures step { OnOk result (IsReadStep (D.universe provider.now) (IsUnmet (D.universe provider.now) chosen.now.keys by) (IsCalledBy (D.universe provider.now) chosen.now.keys requirement) (AsksFor (D.universe provider.now) by requirement) (notes_in self.old) (notes_in self.new)) }
+        ensures read { OnOk result (IsDisjunctRead (notes_in self.new) by requirement.requirement disjunct.now) }
         ensures limits { KeepsLimits (notes_in self.old) (notes_in self.new) }
         ensures refusal { IfErr result (IsStop (D.may_cancel provider.now) (IsFull (notes_in self.new))) }
     {
         let each_once = without_repeats(self.alloc, disjunct)?;
-        self.help_each(provider, cache, &each_once)?;
-        self.add_requirement(provider, by, each_once, requirement.requirement, choices)?;
+        let met = is_met(provider, cache, chosen, &each_once)?;
+        if met {
+            self.encode_disjunct(provider, cache, by, each_once, requirement.requirement)?;
+            return Ok(());
+        }
+        self.defer(provider, by, each_once, requirement.requirement)?;
         Ok(())
     }
 
@@ -95,36 +212,33 @@ impl<N: Copy + Eq + Hash + Drop, S: Copy + Eq + Hash + Drop> Encoding<N, S> {
         &mut self,
         provider: &D,
         cache: &mut Cache<N, S>,
+        chosen: &IndexSet<S>,
         by: By<S>,
         requirement: ConditionalRequirement,
-        choices: &Choices<S>,
         disjuncts: &[Vec<VersionSetId>],
     ) -> Result<(), Interrupted<D::Cancel>>
         requires bounded { IsBounded self.old }
         requires is_true { IsTrueCache (D.universe provider.now) cache.old }
-        requires candidates { choices.now.candidates.items ≡ candidates_of (D.universe provider.now) requirement.requirement }
-        requires small { All (λ n. n < 2 ^ 63) choices.now.counts.items }
-        requires asked { All (λ v. Contains (notes_in self.old).asked ((D.universe provider.now).version_set_name v)) (version_sets (D.universe provider.now) requirement.requirement) }
-        requires seen { All (Contains (notes_in self.old).seen) choices.now.candidates.items }
         requires disjuncts { AreDisjuncts (D.universe provider.now) requirement.condition (map (λ list. list.items) disjuncts.now) }
         ensures bounded { IsBounded self.new }
         ensures is_true { IsTrueCache (D.universe provider.now) cache.new }
-        ensures step { OnOk result (IsStep (D.universe provider.now) (AsksFor (D.universe provider.now) by requirement) (notes_in self.old) (notes_in self.new)) }
-        ensures read { OnOk result (IsReadRequirement (D.universe provider.now) (notes_in self.new).kinds [] by requirement) }
+        ensures step { OnOk result (IsReadStep (D.universe provider.now) (IsUnmet (D.universe provider.now) chosen.now.keys by) (IsCalledBy (D.universe provider.now) chosen.now.keys requirement) (AsksFor (D.universe provider.now) by requirement) (notes_in self.old) (notes_in self.new)) }
+        ensures read { OnOk result (IsReadRequirement (D.universe provider.now) (notes_in self.new).kinds (IsLeft (notes_in self.new)) by requirement) }
         ensures limits { KeepsLimits (notes_in self.old) (notes_in self.new) }
         ensures refusal { IfErr result (IsStop (D.may_cancel provider.now) (IsFull (notes_in self.new))) }
     {
         for disjunct in disjuncts {
-            self.read_disjunct(provider, cache, by, requirement, choices, disjunct)?;
+            self.read_disjunct(provider, cache, chosen, by, requirement, disjunct)?;
         }
         Ok(())
     }
 
-    /// Reads a requirement of the root or of a solvable: the packages that it names, its candidates, and its clauses.
-    pub(super) fn read_requirement<D: DependencyProvider<NameId = N, SolvableId = S>>(
+    /// Reads a requirement with clauses of its own, and without a gate.
+    fn read_direct<D: DependencyProvider<NameId = N, SolvableId = S>>(
         &mut self,
         provider: &D,
         cache: &mut Cache<N, S>,
+        chosen: &IndexSet<S>,
         by: By<S>,
         requirement: ConditionalRequirement,
     ) -> Result<(), Interrupted<D::Cancel>>
@@ -132,16 +246,78 @@ impl<N: Copy + Eq + Hash + Drop, S: Copy + Eq + Hash + Drop> Encoding<N, S> {
         requires is_true { IsTrueCache (D.universe provider.now) cache.old }
         ensures bounded { IsBounded self.new }
         ensures is_true { IsTrueCache (D.universe provider.now) cache.new }
-        ensures step { OnOk result (IsStep (D.universe provider.now) (AsksFor (D.universe provider.now) by requirement) (notes_in self.old) (notes_in self.new)) }
-        ensures read { OnOk result (IsReadRequirement (D.universe provider.now) (notes_in self.new).kinds [] by requirement) }
+        ensures step { OnOk result (IsReadStep (D.universe provider.now) (IsUnmet (D.universe provider.now) chosen.now.keys by) (IsCalledBy (D.universe provider.now) chosen.now.keys requirement) (AsksFor (D.universe provider.now) by requirement) (notes_in self.old) (notes_in self.new)) }
+        ensures read { OnOk result (IsReadRequirement (D.universe provider.now) (notes_in self.new).kinds (IsLeft (notes_in self.new)) by requirement) }
         ensures limits { KeepsLimits (notes_in self.old) (notes_in self.new) }
         ensures refusal { IfErr result (IsStop (D.may_cancel provider.now) (IsFull (notes_in self.new))) }
     {
-        self.ask_named(provider, cache, requirement.requirement)?;
-        let choices = choices_of(self.alloc, provider, cache, requirement.requirement)?;
-        self.see_all(provider, &choices.candidates)?;
         let disjuncts = disjuncts_of(self.alloc, provider, requirement.condition)?;
-        self.read_disjuncts(provider, cache, by, requirement, &choices, &disjuncts)?;
+        self.read_disjuncts(provider, cache, chosen, by, requirement, &disjuncts)?;
         Ok(())
+    }
+
+    /// Reads a requirement of a solvable that stands without a condition: on its gate, where there are many candidates.
+    fn read_plain<D: DependencyProvider<NameId = N, SolvableId = S>>(
+        &mut self,
+        provider: &D,
+        cache: &mut Cache<N, S>,
+        requirer: S,
+        requirement: Requirement,
+    ) -> Result<(), Interrupted<D::Cancel>>
+        requires bounded { IsBounded self.old }
+        requires is_true { IsTrueCache (D.universe provider.now) cache.old }
+        requires encoding { IsEncodingOf (D.universe provider.now) (AsksFor (D.universe provider.now) (BySolvable requirer) (record { condition = None; requirement = requirement })) (notes_in self.old) }
+        ensures bounded { IsBounded self.new }
+        ensures is_true { IsTrueCache (D.universe provider.now) cache.new }
+        ensures step { OnOk result (IsAskStep (D.universe provider.now) (IsNamedIn (D.universe provider.now) (version_sets (D.universe provider.now) requirement)) (AsksFor (D.universe provider.now) (BySolvable requirer) (record { condition = None; requirement = requirement })) (notes_in self.old) (notes_in self.new)) }
+        ensures read { OnOk result (HasClause (notes_in self.new).kinds (BySolvable requirer) [] requirement) }
+        ensures limits { KeepsLimits (notes_in self.old) (notes_in self.new) }
+        ensures refusal { IfErr result (IsStop (D.may_cancel provider.now) (IsFull (notes_in self.new))) }
+    {
+        if is_among(&self.gates, &requirement) {
+            self.imply_gate(provider, requirer, requirement)?;
+            return Ok(());
+        }
+        let choices = self.choose(provider, cache, requirement)?;
+        if choices.candidates.len() < GATE_THRESHOLD {
+            let by = By::Solvable(requirer);
+            let none = Vec::new(self.alloc);
+            self.encode_choices(provider, cache, by, none, requirement, &choices)?;
+            return Ok(());
+        }
+        self.make_gate(provider, requirement, &choices)?;
+        self.imply_gate(provider, requirer, requirement)?;
+        Ok(())
+    }
+
+    /// Reads a requirement of the root or of a solvable: its clauses, and what is put off of it.
+    pub(super) fn read_requirement<D: DependencyProvider<NameId = N, SolvableId = S>>(
+        &mut self,
+        provider: &D,
+        cache: &mut Cache<N, S>,
+        chosen: &IndexSet<S>,
+        by: By<S>,
+        requirement: ConditionalRequirement,
+    ) -> Result<(), Interrupted<D::Cancel>>
+        requires bounded { IsBounded self.old }
+        requires is_true { IsTrueCache (D.universe provider.now) cache.old }
+        requires encoding { IsEncodingOf (D.universe provider.now) (AsksFor (D.universe provider.now) by requirement) (notes_in self.old) }
+        ensures bounded { IsBounded self.new }
+        ensures is_true { IsTrueCache (D.universe provider.now) cache.new }
+        ensures step { OnOk result (IsReadStep (D.universe provider.now) (IsUnmet (D.universe provider.now) chosen.now.keys by) (IsCalledBy (D.universe provider.now) chosen.now.keys requirement) (AsksFor (D.universe provider.now) by requirement) (notes_in self.old) (notes_in self.new)) }
+        ensures read { OnOk result (IsReadRequirement (D.universe provider.now) (notes_in self.new).kinds (IsLeft (notes_in self.new)) by requirement) }
+        ensures limits { KeepsLimits (notes_in self.old) (notes_in self.new) }
+        ensures refusal { IfErr result (IsStop (D.may_cancel provider.now) (IsFull (notes_in self.new))) }
+    {
+        match plain_requirer(by, requirement.condition) {
+            Some(requirer) => {
+                self.read_plain(provider, cache, requirer, requirement.requirement)?;
+                Ok(())
+            }
+            None => {
+                self.read_direct(provider, cache, chosen, by, requirement)?;
+                Ok(())
+            }
+        }
     }
 }

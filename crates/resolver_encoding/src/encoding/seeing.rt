@@ -1,12 +1,14 @@
 //! Candidates that are met.
 
-ghost use Rattle.std.specs.Prelude.{◌≡◌, ◌≢◌, ◌⊎◌, [], ◌∷◌, All, Contains, IfErr, OnOk, Some, map, ⊤};
-ghost use Rattle.resolver_clause_store.specs.declared.ClauseKind.TheVariants.{ForbidMultipleInstances as Apart};
-ghost use Rattle.resolver_encoding.specs.Encodings.{IsFull, IsStep, KeepsLimits};
-ghost use Rattle.resolver_encoding.specs.Groups.{IsNamed};
+ghost use Rattle.std.specs.Prelude.{◌≡◌, ◌<◌, ◌≤◌, ◌^◌, ℕ, All, Contains, IfErr, OnOk, Some, false, slice_get, ⊤};
+ghost use Rattle.resolver_clause_store.specs.declared.ClauseKind.TheVariants.{HasBit as HasBitKind};
+ghost use Rattle.resolver_encoding.specs.Codes.{bit};
+ghost use Rattle.resolver_encoding.specs.Encodings.{IsFull, IsStep, IsStepWhile, KeepsLimits, coding_for};
+ghost use Rattle.resolver_encoding.specs.Groups.{AreGroups, IsAt};
 ghost use Rattle.resolver_encoding.specs.Refusals.{IsShortage};
 
 use super::Encoding;
+use crate::codes::{digit_count, has_digit, new_digit};
 use resolver_clause_store::{
     ClauseKind, DependencyProvider, Exhausted, Interner, Origin, append, is_among,
 };
@@ -15,34 +17,98 @@ use std::hash::Hash;
 impl<N: Copy + Eq + Hash + Drop, S: Copy + Eq + Hash + Drop> Encoding<N, S> {
     ghost use Rattle.resolver_encoding.specs.Notes.{IsBounded, notes_in};
 
-    /// Keeps a solvable apart from the others of its name.
-    fn keep_apart<D: DependencyProvider<NameId = N, SolvableId = S>>(
+    /// Gives each of these a digit that is not set.
+    fn open_digit<D: DependencyProvider<NameId = N, SolvableId = S>>(
         &mut self,
         provider: &D,
         name: N,
-        earlier: &[S],
+        number: usize,
         solvable: S,
+        index: u32,
+        earlier: &[S],
     ) -> Result<(), Exhausted>
         requires bounded { IsBounded self.old }
-        requires name { name ≡ (D.universe provider.now).name solvable }
-        requires earlier { All (IsNamed (notes_in self.old).groups name) earlier.now }
-        requires absent { Contains (notes_in self.old).seen solvable → ⊥ }
+        requires number { number ≡ 2 ^ index }
+        requires below { AreGroups (notes_in self.old).groups → (k : ℕ) (t : S) → IsAt (notes_in self.old).groups name k t → k < number }
+        requires earlier { (k : ℕ) (t : S) → slice_get earlier.now k ≡ Some t → IsAt (notes_in self.old).groups name k t }
         ensures bounded { IsBounded self.new }
-        ensures step { OnOk result (IsStep (D.universe provider.now) (λ root. ⊤) (notes_in self.old) (notes_in self.new)) }
-        ensures apart { OnOk result (All (λ t. Contains (notes_in self.new).kinds (Apart name t solvable)) earlier.now) }
+        ensures step { OnOk result (IsStepWhile (D.universe provider.now) (coding_for name number solvable) (λ root. ⊤) (notes_in self.old) (notes_in self.new)) }
+        ensures begun { OnOk result (All (λ t. Contains (notes_in self.new).kinds (HasBitKind name t index false)) earlier.now) }
         ensures groups { OnOk result ((notes_in self.new).groups ≡ (notes_in self.old).groups) }
         ensures seen { OnOk result ((notes_in self.new).seen ≡ (notes_in self.old).seen) }
         ensures limits { KeepsLimits (notes_in self.old) (notes_in self.new) }
         ensures refusal { IfErr result (IsShortage (IsFull (notes_in self.new))) }
     {
         for other in earlier {
-            let kind = ClauseKind::ForbidMultipleInstances {
+            let kind = ClauseKind::HasBit {
                 name,
-                first: *other,
-                second: solvable,
+                instance: *other,
+                index,
+                value: false,
             };
             let first = (Origin::Solvable(*other), false);
-            let second = (Origin::Solvable(solvable), false);
+            let second = (Origin::Bit { name, index }, false);
+            self.add_pair(kind, first, second)?;
+        }
+        Ok(())
+    }
+
+    /// Gives those that were met under the name a new digit, if the number needs one that no smaller number has.
+    fn begin_digit<D: DependencyProvider<NameId = N, SolvableId = S>>(
+        &mut self,
+        provider: &D,
+        name: N,
+        number: usize,
+        solvable: S,
+    ) -> Result<(), Exhausted>
+        requires bounded { IsBounded self.old }
+        requires below { AreGroups (notes_in self.old).groups → (k : ℕ) (t : S) → IsAt (notes_in self.old).groups name k t → k < number }
+        ensures bounded { IsBounded self.new }
+        ensures step { OnOk result (IsStepWhile (D.universe provider.now) (coding_for name number solvable) (λ root. ⊤) (notes_in self.old) (notes_in self.new)) }
+        ensures begun { OnOk result ((i : ℕ) → number ≡ 2 ^ i → AreGroups (notes_in self.old).groups → (k : ℕ) (t : S) → IsAt (notes_in self.old).groups name k t → Contains (notes_in self.new).kinds (HasBitKind name t i (bit k i))) }
+        ensures groups { OnOk result ((notes_in self.new).groups ≡ (notes_in self.old).groups) }
+        ensures seen { OnOk result ((notes_in self.new).seen ≡ (notes_in self.old).seen) }
+        ensures limits { KeepsLimits (notes_in self.old) (notes_in self.new) }
+        ensures refusal { IfErr result (IsShortage (IsFull (notes_in self.new))) }
+    {
+        match new_digit(number) {
+            Some(index) => {
+                let earlier = Vec::from_slice(self.alloc, self.groups.named(name))?;
+                self.open_digit(provider, name, number, solvable, index, &earlier)?;
+                Ok(())
+            }
+            None => Ok(()),
+        }
+    }
+
+    /// Gives a solvable the digits of its number.
+    fn add_code<D: DependencyProvider<NameId = N, SolvableId = S>>(
+        &mut self,
+        provider: &D,
+        name: N,
+        number: usize,
+        solvable: S,
+    ) -> Result<(), Exhausted>
+        requires bounded { IsBounded self.old }
+        requires name { name ≡ (D.universe provider.now).name solvable }
+        ensures bounded { IsBounded self.new }
+        ensures step { OnOk result (IsStepWhile (D.universe provider.now) (coding_for name number solvable) (λ root. ⊤) (notes_in self.old) (notes_in self.new)) }
+        ensures code { OnOk result ((i : ℕ) → 2 ^ i ≤ number → Contains (notes_in self.new).kinds (HasBitKind name solvable i (bit number i))) }
+        ensures groups { OnOk result ((notes_in self.new).groups ≡ (notes_in self.old).groups) }
+        ensures seen { OnOk result ((notes_in self.new).seen ≡ (notes_in self.old).seen) }
+        ensures limits { KeepsLimits (notes_in self.old) (notes_in self.new) }
+        ensures refusal { IfErr result (IsShortage (IsFull (notes_in self.new))) }
+    {
+        for index in 0..digit_count(number) {
+            let value = has_digit(number, index);
+            let kind = ClauseKind::HasBit {
+                name,
+                instance: solvable,
+                index,
+                value,
+            };
+            let first = (Origin::Solvable(solvable), false);
+            let second = (Origin::Bit { name, index }, value);
             self.add_pair(kind, first, second)?;
         }
         Ok(())
@@ -66,8 +132,9 @@ impl<N: Copy + Eq + Hash + Drop, S: Copy + Eq + Hash + Drop> Encoding<N, S> {
         }
         let name = provider.solvable_name(solvable);
         self.variables.intern(Origin::Solvable(solvable))?;
-        let earlier = Vec::from_slice(self.alloc, self.groups.named(name))?;
-        self.keep_apart(provider, name, &earlier, solvable)?;
+        let number = self.groups.named(name).len();
+        self.begin_digit(provider, name, number, solvable)?;
+        self.add_code(provider, name, number, solvable)?;
         self.groups.add(name, solvable)?;
         append(&mut self.seen, solvable)?;
         Ok(())

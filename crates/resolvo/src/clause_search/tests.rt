@@ -6,7 +6,9 @@ ghost use Rattle.resolver_clause_store.specs.declared.RequirementClause.{Require
 ghost use Rattle.resolvo.specs.ClauseSearches.{IsConsistent};
 
 use super::*;
+use crate::test_provider::TestProvider;
 use resolver_clause_store::{Reason, Slot, Variable};
+use std::cell::Cell;
 use std::test::Fail;
 
 /// Whether each variable of the clause is below the number.
@@ -95,7 +97,45 @@ fn first_decision(
     }
 }
 
-/// A search whose clauses with a positive literal are requirements.
+/// A provider of nothing, which stops at the cancel check with this number, counted from 1; with 0 at none.
+fn provider(alloc: Global, cancelling: u32) -> TestProvider {
+    TestProvider {
+        alloc,
+        requirements: Vec::new(alloc),
+        constraints: Vec::new(alloc),
+        cancelling: Cell::new(cancelling),
+        endless: false,
+    }
+}
+
+/// Loads these clauses, all of them as requirements, and tells whether they could be loaded.
+fn load_all(
+    alloc: Global,
+    search: &mut ClauseSearch,
+    clauses: &[Vec<Literal>],
+    variables: usize,
+) -> Result<bool, AllocError>
+    requires { IsConsistent search.old }
+    ensures { IfOk result (λ loaded. IsTrue loaded → IsConsistent search.new) }
+{
+    let mut requirements = Vec::new(alloc);
+    for number in 0..clauses.len() {
+        demand(alloc, &mut requirements, number, true, &[])?;
+    }
+    if !are_below(clauses, variables) {
+        return Ok(false);
+    }
+    if !are_inside(requirements.as_slice(), clauses.len()) {
+        return Ok(false);
+    }
+    if variables < search.trail().variable_count() {
+        return Ok(false);
+    }
+    let loaded = search.load(variables, clauses, requirements.as_slice());
+    Ok(loaded.is_ok())
+}
+
+/// A search whose clauses are all requirements.
 fn search_of(
     alloc: Global,
     clauses: Vec<Vec<Literal>>,
@@ -103,17 +143,34 @@ fn search_of(
 ) -> Result<Option<ClauseSearch>, AllocError>
     ensures { IfOk result (λ made. IfSome made IsConsistent) }
 {
-    let mut requirements = Vec::new(alloc);
-    for number in 0..clauses.len() {
-        demand(alloc, &mut requirements, number, true, &[])?;
-    }
-    if are_below(clauses.as_slice(), variables)
-        && are_inside(requirements.as_slice(), clauses.len())
-    {
-        let made = ClauseSearch::new(alloc, clauses, variables, requirements)?;
-        return Ok(Some(made));
+    let mut search = ClauseSearch::new(alloc);
+    if load_all(alloc, &mut search, clauses.as_slice(), variables)? {
+        return Ok(Some(search));
     }
     Ok(None)
+}
+
+/// Whether a run finds values.
+fn finishes(alloc: Global, search: &mut ClauseSearch) -> bool
+    requires { IsConsistent search.old }
+    ensures { IsTrue result → IsConsistent search.new }
+{
+    match search.run(alloc, &provider(alloc, 0), 100, 100) {
+        Ok(Outcome::Finished) => true,
+        Ok(Outcome::Contradiction(_)) => false,
+        Err(_) => false,
+    }
+}
+
+/// The clauses that contradict each other, where a run finds some.
+fn core_of(alloc: Global, search: &mut ClauseSearch) -> Option<Vec<usize>>
+    requires { IsConsistent search.old }
+{
+    match search.run(alloc, &provider(alloc, 0), 100, 100) {
+        Ok(Outcome::Finished) => None,
+        Ok(Outcome::Contradiction(core)) => Some(core),
+        Err(_) => None,
+    }
 }
 
 /// The next number of a sequence that looks random.
@@ -243,7 +300,7 @@ fn random_clauses_agree_with_trying_all_values(rt: HostRuntime) -> Result<(), Fa
         let expected = some_values(clauses.as_slice());
         let mut found = None;
         if let Some(mut search) = search_of(rt.alloc(), random(rt.alloc(), seed)?, 10)? {
-            match search.run(rt.alloc(), 100000, 100000) {
+            match search.run(rt.alloc(), &provider(rt.alloc(), 0), 100000, 100000) {
                 Ok(Outcome::Finished) => {
                     assert!(rt; all_true(values_on(search.trail()), clauses.as_slice()));
                     found = Some(true);
@@ -273,11 +330,17 @@ fn six_pigeons_do_not_fit_into_five_holes(rt: HostRuntime) -> Result<(), Fail> {
     let count = clauses.len();
     let mut found = 0;
     if let Some(mut search) = search_of(rt.alloc(), clauses, 30)? {
-        if let Ok(Outcome::Contradiction(core)) = search.run(rt.alloc(), 100000, 100000) {
+        if let Ok(Outcome::Contradiction(core)) = search.run(
+            rt.alloc(),
+            &provider(rt.alloc(), 0),
+            100000,
+            100000,
+        ) {
             found = core.len();
         }
         assert!(rt; 0 < search.learnt_count());
-        assert_eq!(rt; search.clause_count(), count + search.learnt_count());
+        let learnt = search.learnt_count();
+        assert_eq!(rt; search.clause_count(), count.wrapping_add(learnt));
     }
     assert_eq!(rt; count, 81);
     assert_eq!(rt; found, count);
@@ -291,7 +354,12 @@ fn limited(
     clause_limit: usize,
 ) -> Result<Option<(Exhausted, usize)>, AllocError> {
     if let Some(mut search) = search_of(alloc, pigeons(alloc, 5)?, 30)? {
-        if let Err(why) = search.run(alloc, learnt_limit, clause_limit) {
+        if let Err(Interrupted::Exhausted(why)) = search.run(
+            alloc,
+            &provider(alloc, 0),
+            learnt_limit,
+            clause_limit,
+        ) {
             return Ok(Some((why, search.learnt_count())));
         }
     }
@@ -384,7 +452,7 @@ fn reasons_and_levels_stand_on_the_trail(rt: HostRuntime) -> Result<(), Fail> {
     add(rt.alloc(), &mut table, &[-2, -4])?;
     let mut done = false;
     if let Some(mut search) = search_of(rt.alloc(), table, 5)? {
-        if let Ok(Outcome::Finished) = search.run(rt.alloc(), 10, 10) {
+        if let Ok(Outcome::Finished) = search.run(rt.alloc(), &provider(rt.alloc(), 0), 10, 10) {
             done = true;
         }
         assert_eq!(rt; search.learnt_count(), 1);
@@ -412,5 +480,115 @@ fn reasons_and_levels_stand_on_the_trail(rt: HostRuntime) -> Result<(), Fail> {
         assert_eq!(rt; slot_of(&search, 4), None);
     }
     assert!(rt; done);
+    Ok(())
+}
+
+/// How many clauses a first run learns, and the core that a second one finds when one more clause has come.
+fn core_through_learnt(alloc: Global) -> Result<Option<(usize, Vec<usize>)>, AllocError> {
+    let mut table = Vec::new(alloc);
+    add(alloc, &mut table, &[1])?;
+    add(alloc, &mut table, &[-1, 2, 3])?;
+    add(alloc, &mut table, &[-2, 4])?;
+    add(alloc, &mut table, &[-2, -4])?;
+    let mut search = ClauseSearch::new(alloc);
+    if !load_all(alloc, &mut search, table.as_slice(), 4)? {
+        return Ok(None);
+    }
+    if !finishes(alloc, &mut search) {
+        return Ok(None);
+    }
+    let learnt = search.learnt_count();
+    add(alloc, &mut table, &[-3, 5])?;
+    add(alloc, &mut table, &[-5])?;
+    if !load_all(alloc, &mut search, table.as_slice(), 5)? {
+        return Ok(None);
+    }
+    match core_of(alloc, &mut search) {
+        Some(core) => Ok(Some((learnt, core))),
+        None => Ok(None),
+    }
+}
+
+#[test]
+fn a_core_names_given_clauses_whenever_they_came(rt: HostRuntime) -> Result<(), Fail> {
+    match core_through_learnt(rt.alloc())? {
+        Some((learnt, core)) => {
+            assert_eq!(rt; learnt, 1);
+            assert_eq!(rt; core.as_slice(), [0, 1, 2, 3, 4, 5].as_slice());
+        }
+        None => assert!(rt; false),
+    }
+    Ok(())
+}
+
+/// The places of a search's trail: how many were marked, how many of them and how many in all are left when more clauses
+/// have come, and how many of the marked ones after the next run.
+type Places = (usize, usize, usize, usize);
+
+/// The places of a search that decides 1 and then 3, before these clauses come.
+fn places_through(alloc: Global, more: &[&[i32]]) -> Result<Option<Places>, AllocError> {
+    let mut table = Vec::new(alloc);
+    add(alloc, &mut table, &[1, 2])?;
+    add(alloc, &mut table, &[3, 4])?;
+    let mut search = ClauseSearch::new(alloc);
+    if !load_all(alloc, &mut search, table.as_slice(), 4)? {
+        return Ok(None);
+    }
+    if !finishes(alloc, &mut search) {
+        return Ok(None);
+    }
+    search.mark();
+    let marked = search.kept();
+    for numbers in more {
+        add(alloc, &mut table, numbers)?;
+    }
+    if !load_all(alloc, &mut search, table.as_slice(), 5)? {
+        return Ok(None);
+    }
+    let kept = search.kept();
+    let length = search.trail().len();
+    if !finishes(alloc, &mut search) {
+        return Ok(None);
+    }
+    Ok(Some((marked, kept, length, search.kept())))
+}
+
+#[test]
+fn places_are_kept_as_far_as_the_trail_stays(rt: HostRuntime) -> Result<(), Fail> {
+    let gained = places_through(rt.alloc(), &[&[5]])?;
+    assert_eq!(rt; gained, Some((2, 2, 2, 2)));
+    let jumped = places_through(rt.alloc(), &[&[-1, -3, 5], &[-1, -3, -5]])?;
+    assert_eq!(rt; jumped, Some((2, 2, 2, 1)));
+    Ok(())
+}
+
+#[test]
+fn a_clause_that_is_false_when_it_comes_sends_the_trail_to_its_start(
+    rt: HostRuntime,
+) -> Result<(), Fail> {
+    let places = places_through(rt.alloc(), &[&[-1, -3]])?;
+    assert_eq!(rt; places, Some((2, 0, 0, 0)));
+    Ok(())
+}
+
+/// Whether a search that decides once is cancelled by the check with this number.
+fn is_cancelled(alloc: Global, check: u32) -> Result<Option<bool>, AllocError> {
+    let mut table = Vec::new(alloc);
+    add(alloc, &mut table, &[1, 2])?;
+    if let Some(mut search) = search_of(alloc, table, 2)? {
+        match search.run(alloc, &provider(alloc, check), 10, 10) {
+            Ok(_) => return Ok(Some(false)),
+            Err(Interrupted::Cancelled(_)) => return Ok(Some(true)),
+            Err(Interrupted::Exhausted(_)) => return Ok(None),
+        }
+    }
+    Ok(None)
+}
+
+#[test]
+fn each_propagation_may_be_cancelled(rt: HostRuntime) -> Result<(), Fail> {
+    assert_eq!(rt; is_cancelled(rt.alloc(), 1)?, Some(true));
+    assert_eq!(rt; is_cancelled(rt.alloc(), 2)?, Some(true));
+    assert_eq!(rt; is_cancelled(rt.alloc(), 3)?, Some(false));
     Ok(())
 }

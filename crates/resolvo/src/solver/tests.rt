@@ -27,7 +27,7 @@ fn solver_over(
     required: &[(u32, u32)],
     constrained: &[(u32, u32)],
 ) -> Result<Solver<TestProvider>, Fail>
-    ensures { IfOk result (λ solver. IsSound (test_universe (provider_in solver).requirements.items (provider_in solver).constraints.items) solver) }
+    ensures { IfOk result (λ solver. IsSound (test_universe (provider_in solver).endless (provider_in solver).requirements.items (provider_in solver).constraints.items) solver) }
 {
     let mut requirements = Vec::new(alloc);
     for (solvable, version_set) in required {
@@ -42,15 +42,30 @@ fn solver_over(
         requirements,
         constraints,
         cancelling: Cell::new(0),
+        endless: false,
     };
     Ok(Solver::new(alloc, provider))
 }
 
+/// A solver over an endless provider of which nothing is stated.
+fn endless_solver(alloc: Global) -> Solver<TestProvider>
+    ensures { IsSound (test_universe (provider_in result).endless (provider_in result).requirements.items (provider_in result).constraints.items) result }
+{
+    let provider = TestProvider {
+        alloc,
+        requirements: Vec::new(alloc),
+        constraints: Vec::new(alloc),
+        cancelling: Cell::new(0),
+        endless: true,
+    };
+    Solver::new(alloc, provider)
+}
+
 /// Sets how many variables there may be.
 fn limit_variables(solver: &mut Solver<TestProvider>, limit: usize)
-    requires sound { IsSound (test_universe (provider_in solver.old).requirements.items (provider_in solver.old).constraints.items) solver.old }
+    requires sound { IsSound (test_universe (provider_in solver.old).endless (provider_in solver.old).requirements.items (provider_in solver.old).constraints.items) solver.old }
     requires fits { limit ≤ 2 ^ 31 }
-    ensures { IsSound (test_universe (provider_in solver.new).requirements.items (provider_in solver.new).constraints.items) solver.new }
+    ensures { IsSound (test_universe (provider_in solver.new).endless (provider_in solver.new).requirements.items (provider_in solver.new).constraints.items) solver.new }
 {
     solver.variable_limit = limit;
 }
@@ -102,13 +117,13 @@ fn an_older_version_is_taken_where_the_newer_one_fails(rt: HostRuntime) -> Resul
     let mut solver = solver_over(rt.alloc(), &[(14, 23)], &[])?;
     let outcome = solver.solve(problem(rt.alloc(), &[10])?);
     assert!(rt; is_answer(&outcome, &[11]));
-    assert_eq!(rt; solver.clause_count(), 4);
+    assert_eq!(rt; solver.clause_count(), 5);
     Ok(())
 }
 
 #[test]
 fn locks_exclusions_and_unknown_needs_are_kept(rt: HostRuntime) -> Result<(), Fail> {
-    for (version_set, wanted, count) in [(10, 14, 3), (70, 71, 4), (80, 81, 4), (90, 91, 4)] {
+    for (version_set, wanted, count) in [(10, 14, 4), (70, 71, 5), (80, 81, 5), (90, 91, 5)] {
         let mut solver = solver_over(rt.alloc(), &[], &[])?;
         let outcome = solver.solve(problem(rt.alloc(), &[version_set])?);
         assert!(rt; is_answer(&outcome, &[wanted]), "version set {version_set}");
@@ -122,13 +137,16 @@ fn constraints_are_kept(rt: HostRuntime) -> Result<(), Fail> {
     let mut solver = solver_over(rt.alloc(), &[], &[(11, 21)])?;
     let outcome = solver.solve(problem(rt.alloc(), &[11, 20])?);
     assert!(rt; is_answer(&outcome, &[11, 21]));
-    assert_eq!(rt; solver.clause_count(), 5);
+    assert_eq!(rt; solver.clause_count(), 6);
     Ok(())
 }
 
 #[test]
 fn a_condition_activates_a_requirement(rt: HostRuntime) -> Result<(), Fail> {
-    for (version_set, wanted) in [(11, [11, 34].as_slice()), (14, [14].as_slice())] {
+    for (version_set, wanted, clauses, deferred) in [
+        (11, [11, 34].as_slice(), 4, 1),
+        (14, [14].as_slice(), 2, 2),
+    ] {
         let mut solver = solver_over(rt.alloc(), &[], &[])?;
         let mut required = requirements(rt.alloc(), &[version_set])?;
         required.push(ConditionalRequirement {
@@ -137,7 +155,12 @@ fn a_condition_activates_a_requirement(rt: HostRuntime) -> Result<(), Fail> {
         })?;
         let outcome = solver.solve(Problem::new().requirements(required));
         assert!(rt; is_answer(&outcome, wanted), "version set {version_set}");
-        assert_eq!(rt; solver.clause_count(), 6, "version set {version_set}");
+        assert_eq!(rt; solver.clause_count(), clauses, "version set {version_set}");
+        assert_eq!(rt;
+            solver.deferred_requirements_count(),
+            deferred,
+            "version set {version_set}"
+        );
     }
     Ok(())
 }
@@ -174,6 +197,18 @@ fn variables_run_out_at_the_limit(rt: HostRuntime) -> Result<(), Fail> {
 }
 
 #[test]
+fn an_endless_universe_is_read_as_far_as_it_is_needed(rt: HostRuntime) -> Result<(), Fail> {
+    let mut solver = endless_solver(rt.alloc());
+    limit_variables(&mut solver, 50);
+    let outcome = solver.solve(problem(rt.alloc(), &[0])?);
+    assert!(rt; is_answer(&outcome, &[4]));
+    let held = problem(rt.alloc(), &[0])?.constraints(constraints(rt.alloc(), 1)?);
+    let outcome = solver.solve(held);
+    assert!(rt; is_answer(&outcome, &[1, 14]));
+    Ok(())
+}
+
+#[test]
 fn what_is_set_again_is_replaced(rt: HostRuntime) -> Result<(), Fail> {
     let mut solver = solver_over(rt.alloc(), &[], &[])?;
     let replaced = problem(rt.alloc(), &[14])?
@@ -182,7 +217,7 @@ fn what_is_set_again_is_replaced(rt: HostRuntime) -> Result<(), Fail> {
         .constraints(constraints(rt.alloc(), 21)?);
     let outcome = solver.solve(replaced);
     assert!(rt; is_answer(&outcome, &[21]));
-    assert_eq!(rt; solver.clause_count(), 4);
+    assert_eq!(rt; solver.clause_count(), 5);
     Ok(())
 }
 
@@ -193,7 +228,7 @@ fn each_problem_starts_afresh(rt: HostRuntime) -> Result<(), Fail> {
     assert!(rt; is_answer(&outcome, &[11, 24]));
     let outcome = solver.solve(problem(rt.alloc(), &[20])?);
     assert!(rt; is_answer(&outcome, &[24]));
-    assert_eq!(rt; solver.clause_count(), 3);
+    assert_eq!(rt; solver.clause_count(), 4);
     let outcome = solver.solve(Problem::<u32, EmptySolvables<u32>>::default());
     assert!(rt; is_answer(&outcome, &[]));
     assert_eq!(rt; solver.clause_count(), 1);

@@ -1,4 +1,4 @@
-use Rattle.std.proofs.Common.{◌≡◌, ◌∙◌}
+use Rattle.std.proofs.Common.{◌∙◌}
 use Rattle.resolver_report.specs.Messages.{message}
 use Rattle.resolve.specs.Catalogs.{catalog_universe}
 use Rattle.resolve.proofs.run.conflict_text.Goals as goal

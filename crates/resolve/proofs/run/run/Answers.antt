@@ -1,4 +1,4 @@
-use Rattle.std.proofs.Common.{◌≡◌, sym, subst}
+use Rattle.std.proofs.Common.{sym, subst}
 use Rattle.resolve.specs.declared.run.Outcome.{Outcome}
 use Rattle.resolve.specs.Outcomes.{IsMessageOf, IsOutcomeOf}
 use Rattle.resolve.proofs.run.run.Goals as goal

@@ -1,4 +1,4 @@
-use Rattle.std.proofs.Common.{◌≡◌, ◌∙◌, rules, ap, subst, sym}
+use Rattle.std.proofs.Common.{◌≡◌, ◌∙◌, ap, subst}
 use Rattle.resolver_clause_store.specs.Universe.{Demands}
 use Rattle.resolvo.specs.Conflicts.{rules_in}
 use Rattle.resolvo.specs.Explanations.{Explains}

@@ -1,5 +1,5 @@
-use Rattle.resolver_encoding.proofs.StatedLemmas.{direct_core_explained}
+use Rattle.resolver_encoding.proofs.StatedLemmas.{encoding_core_explained}
 use Rattle.resolver_encoding.proofs.laws.cores_of_encodings_explain.Goals as goal
 
 pub returns : goal.returns
-returns g c = direct_core_explained
+returns g c = encoding_core_explained

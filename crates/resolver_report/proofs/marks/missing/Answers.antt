@@ -1,16 +1,19 @@
-use Rattle.std.proofs.Common.{◌≡◌, ◌∙◌, ap, arith, length, map, suc, sym}
+use Rattle.std.proofs.Common.{◌∙◌, ◌<◌, All, ap, length, map, subst, sym, ℕ}
 use Rattle.resolver_report.specs.ConflictGraphs.{shape_of}
-use Rattle.resolver_report.specs.Marks.{must_be_missing, marked_in}
-use Rattle.resolver_report.specs.Shapes.{places}
-use Rattle.resolver_report.proofs.LeastLemmas.{stays}
-use Rattle.resolver_report.proofs.MonotoneLemmas.{missing_monotone}
+use Rattle.resolver_report.specs.Implications.{implied}
+use Rattle.resolver_report.specs.NodeImplications.{missing_by}
+use Rattle.resolver_report.proofs.ImpliedLemmas.{missing_is, missing_own, nodes_below}
 use Rattle.resolver_report.proofs.marks.missing.Goals as goal
 
-pub returns-then-is_same-clause-value : goal.returns-then-is_same-clause-value
-returns-then-is_same-clause-value g c =
-    let g' = shape_of c.args.graph.now in
-    let round = marked_in g'.shape (must_be_missing g') in
-    let same = rw c.if-is_same.true at c.is_same.ensures in
-    let next : c.in_ok-next.next.items ≡ round (suc c.loop-round._round) = c.in_ok-next.ensures.value ∙ ap (λ marks. map (must_be_missing g' marks) (places g'.shape)) (c.deref-in-loop-round.ensures.value ∙ c.loop-round.invariant) in
-    let still : round (suc c.loop-round._round) ≡ round c.loop-round._round = sym next ∙ sym c.deref-in-loop-round-2.ensures.value ∙ same ∙ c.deref-in-loop-round-3.ensures.value ∙ c.loop-round.invariant in
-    c.loop-round.invariant ∙ sym (stays g'.shape (must_be_missing g') (missing_monotone g') c.loop-round._round (length g'.shape.nodes) (omega (arith, ap length c.nodes-round-end.ensures.value)) still)
+pub least_marks-requires : goal.least_marks-requires
+least_marks-requires g c =
+    let shape = shape_of c.args.graph.now in
+    let same = ap (map implied) c.deref.ensures.value ∙ c.in_ok-implications.ensures.value in
+    let Below : ℕ → Type 0 = λ count. All (λ i. i.node.0 < count) c.deref.result.now in
+    subst Below (sym (ap length c.nodes.ensures.value)) (nodes_below (missing_by shape) (missing_own shape) shape c.deref.result.now same)
+
+pub returns-clause-value : goal.returns-clause-value
+returns-clause-value g c =
+    let shape = shape_of c.args.graph.now in
+    let same = ap (map implied) c.deref.ensures.value ∙ c.in_ok-implications.ensures.value in
+    missing_is shape c.in_ok-marks.marks.items (rw (ap length c.nodes.ensures.value, same) at c.in_ok-marks.ensures.value)

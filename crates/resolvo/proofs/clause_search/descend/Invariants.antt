@@ -1,10 +1,15 @@
 use Rattle.std.proofs.Common.{◌≡◌}
-use Rattle.resolver_clause_store.specs.TrailView.{open_count, variable_count}
+use Rattle.resolver_clause_store.specs.TrailView.{KeepsPlaces, length_of, open_count, variable_count}
 use Rattle.resolvo.specs.Propagation.{IsJustified, AreChosen}
 use Rattle.resolvo.proofs.clause_search.descend.Given as goal
 
 abbrev pub invariant-rounds : goal.invariant-rounds
-invariant-rounds l = IsJustified l.table l.trail × AreChosen l.table l.requirements l.trail × (variable_count l.trail ≡ variable_count l.initial.trail)
+invariant-rounds g l = record {
+  justified : IsJustified l.table l.trail;
+  chosen : AreChosen l.table l.requirements l.trail;
+  size : variable_count l.trail ≡ variable_count l.initial.trail;
+  kept : KeepsPlaces l.initial.trail l.trail (length_of l.initial.trail);
+}
 
 abbrev pub decreases-rounds : goal.decreases-rounds
-decreases-rounds l = open_count l.trail
+decreases-rounds g l = open_count l.trail

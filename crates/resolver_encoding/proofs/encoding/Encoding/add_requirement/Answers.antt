@@ -1,11 +1,9 @@
-use Rattle.std.proofs.Common.{◌≡◌, ◌∙◌, ◌∷◌, ◌++◌, [], ap, subst, List, map}
-use Rattle.std.proofs.Common.{ℕ, length, false, true, rules}
-use Rattle.std.proofs.lemmas.List.{map-append}
+use Rattle.std.proofs.Common.{◌∙◌, ◌∷◌, [], subst, List, map}
+use Rattle.std.proofs.Common.{false, true}
 use Rattle.resolver_clause_store.specs.Variables.{limit_in, origins_in}
 use Rattle.resolver_clause_store.specs.declared.Origin.{Origin}
 use Rattle.resolver_clause_store.specs.declared.Origin.TheVariants.{ConditionHelper, Solvable}
 use Rattle.resolver_clause_store.specs.declared.ClauseKind.TheVariants.{Requires}
-use Rattle.resolver_clause_store.specs.declared.RequirementClause.{RequirementClause}
 use Rattle.resolver_clause_store.specs.declared.VersionSetId.{VersionSetId}
 use Rattle.resolver_encoding.specs.Atoms.{atom}
 use Rattle.resolver_encoding.specs.Encodings.{Adds}
@@ -15,19 +13,15 @@ use Rattle.resolver_encoding.proofs.encoding.Encoding.add_requirement.Goals as g
 
 pub returns-clause-added : goal.returns-clause-added
 returns-clause-added g c =
-    let u = g.D.Interner.universe c.args.provider.now in
     let old = notes_in c.args.self.now in
     let parent = c.push_literal.ensures.grows in
     let helpers = c.push_helpers.ensures.grows in
     let candidates = c.push_candidates.ensures.grows in
-    let number : RequirementClause → ℕ = λ r. r.number in
     let Parent : Origin g.row.N.Denot g.row.S.Denot → Type 0 = λ o. Adds (origins_in c.push_literal.new.variables) c.new-literals.result.items c.push_literal.new.literals.items (atom o false ∷ []) in
     let Helpers : List VersionSetId → Type 0 = λ list. Adds (origins_in c.push_helpers.new.variables) c.push_literal.new.literals.items c.push_helpers.new.literals.items (map (λ v. atom (ConditionHelper v) false) list) in
     let Candidates : List g.row.S.Denot → Type 0 = λ list. Adds (origins_in c.push_candidates.new.variables) c.push_helpers.new.literals.items c.push_candidates.new.literals.items (map (λ s. atom (Solvable s) true) list) in
-    let counted : c.len-number.result ≡ length old.kinds = search rules in
-    let requirements : map number c.push.new.self.items ≡ old.requirements ++ length old.kinds ∷ [] = ap (map number) c.in_ok-push.ensures.items ∙ map-append number c.add_clause.new.self.requirements.items (_ ∷ []) ∙ (λ i. ap (λ n. n.requirements) c.in_ok-add_clause.ensures.added i ++ counted i ∷ []) in
     requirement_added old (origins_in c.push_candidates.new.variables) (limit_in c.push_candidates.new.variables) _ (Requires c.args.by c.args.disjunct c.args.requirement) c.push_candidates.new.literals _
     (Grows-trans _ _ _ parent (Grows-trans _ _ _ helpers candidates)) (c.push_candidates.ensures.limit ∙ c.push_helpers.ensures.limit ∙ c.push_literal.ensures.limit)
     (Adds-zip _ _ _ _ c.new-literals.ensures.items (Adds-trans _ _ _ _ _ _ _ (Grows-trans _ _ _ helpers candidates) (subst Parent c.origin_of.ensures c.in_ok-push_literal.ensures.added)
     (Adds-trans _ _ _ _ _ _ _ candidates (subst Helpers c.deref.ensures.value c.in_ok-push_helpers.ensures.added) (subst Candidates (c.deref-3.ensures.value ∙ c.requires.candidates) c.in_ok-push_candidates.ensures.added))))
-    (λ i. record (c.in_ok-add_clause.ensures.added i) { requirements = requirements i })
+    c.in_ok-add_asking.ensures.added

@@ -1,7 +1,8 @@
-use Rattle.std.proofs.Common.{◌∙◌, ◌∷◌, [], sym, ap, subst, All, Contains, List}
+use Rattle.std.proofs.Common.{◌∙◌, sym, ap, subst, All, Contains, List}
 use Rattle.std.specs.Prelude.{⊤}
 use Rattle.std.proofs.lemmas.List.Elements.{Contains-push}
 use Rattle.resolver_clause_store.specs.declared.ClauseKind.TheVariants.{Excluded}
+use Rattle.resolver_encoding.specs.Encodings.{asking_for}
 use Rattle.resolver_encoding.specs.Notes.{notes_in}
 use Rattle.resolver_encoding.proofs.EncodingLemmas.{IsStep-trans}
 use Rattle.resolver_encoding.proofs.NoteLemmas.{IsPackageRead-found, IsStep-asked}
@@ -19,7 +20,7 @@ returns-clause-step g c =
     let mid = notes_in c.exclude_each.new.self in
     let answer = c.candidates-package.ensures u c.ask_candidates.ensures.is_true in
     let AllFree : List g.row.S.Denot → Type 0 = λ xs. All (λ e. (Contains xs e.0 → ⊥) → Contains mid.kinds (Excluded e.0 e.1)) c.deref-2.result.now in
-    IsStep-asked u (notes_in c.args.self.now) mid _ n (IsStep-trans u (n ∷ []) (λ root. ⊤) _ _ _ c.in_ok-lock_out_others.ensures.step c.in_ok-exclude_each.ensures.step)
+    IsStep-asked u (notes_in c.args.self.now) mid _ n (IsStep-trans u (asking_for n) (λ root. ⊤) _ _ _ c.in_ok-lock_out_others.ensures.step c.in_ok-exclude_each.ensures.step)
     (c.in_ok-exclude_each.ensures.asked ∙ c.in_ok-lock_out_others.ensures.asked)
     (λ i. record mid { asked = c.in_ok-append.ensures.keys i })
     (IsPackageRead-found u (notes_in c.lock_out_others.new.self).kinds mid.kinds (notes_in c.args.self.now).exempt mid.exempt c.in_ok-exclude_each.ensures.step.kinds (c.in_ok-exclude_each.ensures.step.exempt ∙ c.in_ok-lock_out_others.ensures.step.exempt) (u.package_named n) _ _ _

@@ -7,7 +7,7 @@ use Rattle.resolver_clause_store.specs.declared.ClauseKind.{ClauseKind}
 use Rattle.resolver_clause_store.specs.declared.ClauseKind.TheVariants.{Constrains}
 use Rattle.resolver_encoding.specs.Atoms.{Atom, atom, origin_by}
 use Rattle.resolver_encoding.specs.Values.{IsAtom}
-use Rattle.resolver_encoding.specs.Encodings.{AddsClause, AsksWithin}
+use Rattle.resolver_encoding.specs.Encodings.{AddsClause, AsksWithin, idle}
 use Rattle.resolver_encoding.specs.Notes.{notes_in}
 use Rattle.resolver_encoding.proofs.ClauseLemmas.{AreAtoms-twice}
 use Rattle.resolver_encoding.proofs.EncodingLemmas.{IsStep-clause, clause_listed}
@@ -25,8 +25,8 @@ returns-then-is_by-clause-step g c =
     let second : Atom g.row.N.Denot g.row.S.Denot = atom (Solvable s) false in
     let same : atom (origin_by by) false ≡ second = ap (λ b. atom (origin_by b) false) c.if-is_by.ensures in
     let Twice : Atom g.row.N.Denot g.row.S.Denot → Type 0 = λ a. AllZip (IsAtom (notes_in c.add_unit.new.self).origins) adds.literals.items (a ∷ []) in
-    IsStep-clause u [] (AsksWithin u by v) (notes_in c.args.self.now) (notes_in c.add_unit.new.self) kind _ adds (asks_not kind tt)
-    (λ root asks before. record { clause = record { atoms = AreAtoms-twice (notes_in c.add_unit.new.self).origins adds.literals.items (atom (origin_by by) false) second same (subst Twice (sym same) adds.are); in_order = tt }; is_true = (asks, c.requires.other); direct = tt; due = tt; prepared = tt })
+    IsStep-clause u idle (AsksWithin u by v) (notes_in c.args.self.now) (notes_in c.add_unit.new.self) kind _ adds (asks_not kind tt)
+    (λ root asks before. record { clause = record { atoms = AreAtoms-twice (notes_in c.add_unit.new.self).origins adds.literals.items (atom (origin_by by) false) second same (subst Twice (sym same) adds.are); in_order = tt }; is_true = λ codes _. (asks, c.requires.other); usual = tt; due = tt; prepared = tt })
 
 pub returns-then-is_by-clause-forbidden : goal.returns-then-is_by-clause-forbidden
 returns-then-is_by-clause-forbidden g c = clause_listed (g.D.Interner.universe c.args.provider.now) (notes_in c.args.self.now) _ _ _ c.in_ok-add_unit.ensures.added
@@ -39,8 +39,8 @@ returns-clause-step g c =
     let by = c.args.by in
     let kind : ClauseKind g.row.N.Denot g.row.S.Denot = Constrains by v s in
     let Adds_of : Origin g.row.N.Denot g.row.S.Denot → Type 0 = λ o. AddsClause (notes_in c.args.self.now) (notes_in c.add_pair.new.self) kind (atom o false ∷ atom (Solvable s) false ∷ []) in
-    IsStep-plain u [] (AsksWithin u by v) (notes_in c.args.self.now) (notes_in c.add_pair.new.self) kind (subst Adds_of c.origin_of.ensures c.in_ok-add_pair.ensures.added) tt
-    (λ root asks _. (asks, c.requires.other)) tt tt tt
+    IsStep-plain u idle (AsksWithin u by v) (notes_in c.args.self.now) (notes_in c.add_pair.new.self) kind (subst Adds_of c.origin_of.ensures c.in_ok-add_pair.ensures.added) tt
+    (λ root asks _ codes _. (asks, c.requires.other)) tt tt tt
 
 pub returns-clause-forbidden : goal.returns-clause-forbidden
 returns-clause-forbidden g c = clause_listed (g.D.Interner.universe c.args.provider.now) (notes_in c.args.self.now) _ _ _ c.in_ok-add_pair.ensures.added

@@ -1,10 +1,10 @@
-use Rattle.std.proofs.Common.{[], sym, subst, arith, Contains, List}
+use Rattle.std.proofs.Common.{sym, subst, arith, Contains, List}
 use Rattle.std.proofs.lemmas.List.Elements.{All-nil, All-same}
-use Rattle.resolver_clause_store.specs.declared.ClauseKind.TheVariants.{Constrains}
-use Rattle.resolver_encoding.specs.Encodings.{AsksWithin}
+use Rattle.resolver_encoding.specs.Encodings.{AsksWithin, idle}
 use Rattle.resolver_encoding.specs.Notes.{notes_in}
+use Rattle.resolver_encoding.specs.Read.{IsForbidden, forbidden_direct}
 use Rattle.resolver_clause_store.proofs.SetLemmas.{All-done, Contains-item}
-use Rattle.resolver_encoding.proofs.EncodingLemmas.{IsStep-same, IsStep-trans, KeepsLimits-same, KeepsLimits-trans}
+use Rattle.resolver_encoding.proofs.EncodingLemmas.{IsForbidden-within, IsStep-same, IsStep-trans, KeepsLimits-same, KeepsLimits-trans}
 use Rattle.resolver_encoding.proofs.NoteLemmas.{All-grown}
 use Rattle.resolver_encoding.proofs.encoding.Encoding.constrain_each.Goals as goal
 
@@ -14,8 +14,8 @@ loop-candidate-init g c =
     record {
       bounded = c.requires.bounded;
       limits = KeepsLimits-same _;
-      step = IsStep-same u [] (AsksWithin u c.args.by c.args.version_set) (notes_in c.args.self.now);
-      read = All-nil (λ s. Contains (notes_in c.args.self.now).kinds (Constrains c.args.by c.args.version_set s));
+      step = IsStep-same u idle (AsksWithin u c.args.by c.args.version_set) (notes_in c.args.self.now);
+      read = All-nil (IsForbidden (notes_in c.args.self.now).kinds c.args.by c.args.version_set);
     }
 
 pub constrain-requires-clause-other : goal.constrain-requires-clause-other
@@ -31,11 +31,12 @@ loop-candidate-preserved g c =
     record {
       bounded = c.constrain.ensures.bounded;
       limits = KeepsLimits-trans _ _ _ before.limits c.constrain.ensures.limits;
-      step = IsStep-trans u [] (AsksWithin u c.args.by c.args.version_set) _ _ _ before.step step;
-      read = All-grown (λ s. Contains (notes_in c.loop-candidate.self).kinds (Constrains c.args.by c.args.version_set s)) (λ s. Contains (notes_in c.constrain.new.self).kinds (Constrains c.args.by c.args.version_set s)) c.args.forbidden.now c.loop-candidate.candidate-index c.candidate-item.result (λ y h. step.kinds _ h) (omega arith) c.candidate-item.is before.read c.in_ok-constrain.ensures.forbidden;
+      step = IsStep-trans u idle (AsksWithin u c.args.by c.args.version_set) _ _ _ before.step step;
+      read = All-grown (IsForbidden (notes_in c.loop-candidate.self).kinds c.args.by c.args.version_set) (IsForbidden (notes_in c.constrain.new.self).kinds c.args.by c.args.version_set) c.args.forbidden.now c.loop-candidate.candidate-index c.candidate-item.result
+          (λ y h. IsForbidden-within _ _ step.kinds c.args.by c.args.version_set y h) (omega arith) c.candidate-item.is before.read (forbidden_direct c.in_ok-constrain.ensures.forbidden);
     }
 
 pub returns-clause-read : goal.returns-clause-read
 returns-clause-read g c =
-    let Forbidden : g.row.S.Denot → Type 0 = λ s. Contains (notes_in c.loop-candidate.self).kinds (Constrains c.args.by c.args.version_set s) in
+    let Forbidden : g.row.S.Denot → Type 0 = IsForbidden (notes_in c.loop-candidate.self).kinds c.args.by c.args.version_set in
     All-same Forbidden _ c.args.forbidden.now (sym c.requires.forbidden) (All-done Forbidden c.args.forbidden.now c.loop-candidate.candidate-index (omega arith) c.loop-candidate.invariant.read)

@@ -1,6 +1,7 @@
-use Rattle.std.proofs.Common.{◌∷◌, [], inl, subst, sym, Contains}
+use Rattle.std.proofs.Common.{◌∷◌, inl, subst, sym, Contains}
 use Rattle.std.specs.Prelude.{⊤}
 use Rattle.resolver_clause_store.specs.declared.ClauseKind.TheVariants.{Excluded}
+use Rattle.resolver_encoding.specs.Encodings.{asking_for}
 use Rattle.resolver_encoding.specs.Notes.{notes_in}
 use Rattle.resolver_encoding.proofs.Lists.{here}
 use Rattle.resolver_encoding.proofs.EncodingLemmas.{clause_listed}
@@ -12,8 +13,8 @@ returns-clause-step g c =
     let u = g.D.Interner.universe c.args.provider.now in
     let Names : g.row.N.Denot → Type 0 = λ n. Contains (u.package_named n).excluded (c.args.solvable, c.args.reason) in
     let Asks : g.row.N.Denot → Type 0 = λ n. Contains (c.args.name ∷ (notes_in c.args.self.now).asked) n in
-    IsStep-plain u (c.args.name ∷ []) (λ root. ⊤) (notes_in c.args.self.now) _ (Excluded c.args.solvable c.args.reason) c.in_ok-add_unit.ensures.added tt
-    (λ root _ _. inl (subst Names (sym c.requires.named) c.requires.excluded)) tt (inl (subst Asks (sym c.requires.named) (here c.args.name _), c.if-is_among.ensures)) tt
+    IsStep-plain u (asking_for c.args.name) (λ root. ⊤) (notes_in c.args.self.now) _ (Excluded c.args.solvable c.args.reason) c.in_ok-add_unit.ensures.added tt
+    (λ root _ _ codes _. inl (subst Names (sym c.requires.named) c.requires.excluded)) tt (inl (subst Asks (sym c.requires.named) (here c.args.name _), c.if-is_among.ensures)) tt
 
 pub returns-clause-forbidden : goal.returns-clause-forbidden
 returns-clause-forbidden g c = λ free. clause_listed (g.D.Interner.universe c.args.provider.now) (notes_in c.args.self.now) _ _ _ c.in_ok-add_unit.ensures.added

@@ -1,7 +1,8 @@
-use Rattle.std.proofs.Common.{◌≡◌, ◌∙◌, ◌∷◌, [], refl, subst, arith, Contains, List}
+use Rattle.std.proofs.Common.{◌≡◌, ◌∙◌, refl, subst, arith, Contains, List}
 use Rattle.std.specs.Prelude.{⊤}
 use Rattle.std.proofs.lemmas.List.Elements.{All-contains, All-nil}
 use Rattle.resolver_clause_store.specs.declared.ClauseKind.TheVariants.{Excluded}
+use Rattle.resolver_encoding.specs.Encodings.{asking_for}
 use Rattle.resolver_encoding.specs.Notes.{notes_in}
 use Rattle.resolver_clause_store.proofs.SetLemmas.{All-done, Contains-item}
 use Rattle.resolver_encoding.proofs.EncodingLemmas.{IsStep-same, IsStep-trans, KeepsLimits-same, KeepsLimits-trans}
@@ -12,7 +13,7 @@ pub loop-solvable-init : goal.loop-solvable-init
 loop-solvable-init g c = record {
   bounded = c.requires.bounded;
   limits = KeepsLimits-same _;
-  step = IsStep-same (g.D.Interner.universe c.args.provider.now) (c.args.name ∷ []) (λ root. ⊤) (notes_in c.args.self.now);
+  step = IsStep-same (g.D.Interner.universe c.args.provider.now) (asking_for c.args.name) (λ root. ⊤) (notes_in c.args.self.now);
   read = All-nil (λ e. (Contains (notes_in c.args.self.now).exempt e.0 → ⊥) → Contains (notes_in c.args.self.now).kinds (Excluded e.0 e.1));
   asked = refl;
 }
@@ -39,7 +40,7 @@ loop-solvable-preserved g c =
     record {
       bounded = c.exclude.ensures.bounded;
       limits = KeepsLimits-trans _ _ _ before.limits c.exclude.ensures.limits;
-      step = IsStep-trans u (c.args.name ∷ []) (λ root. ⊤) _ _ _ before.step step;
+      step = IsStep-trans u (asking_for c.args.name) (λ root. ⊤) _ _ _ before.step step;
       read = All-grown (λ e. (Contains (notes_in c.args.self.now).exempt e.0 → ⊥) → Contains (notes_in c.loop-solvable.self).kinds (Excluded e.0 e.1)) (λ e. (Contains (notes_in c.args.self.now).exempt e.0 → ⊥) → Contains (notes_in c.exclude.new.self).kinds (Excluded e.0 e.1)) c.args.excluded.now c.loop-solvable.solvable-index c.loop-solvable-item.result (λ y h free. step.kinds _ (h free)) (omega arith) c.loop-solvable-item.is before.read (subst Free before.step.exempt c.in_ok-exclude.ensures.forbidden);
       asked = c.in_ok-exclude.ensures.asked ∙ before.asked;
     }

@@ -1,10 +1,11 @@
-use Rattle.std.proofs.Common.{[], sym, subst, All, Contains, List}
+use Rattle.std.proofs.Common.{sym, subst, All, Contains, List}
 use Rattle.std.specs.Prelude.{⊤}
 use Rattle.std.proofs.lemmas.List.Elements.{All-contains, Contains-push}
 use Rattle.resolver_clause_store.specs.Candidates.{matching}
 use Rattle.resolver_clause_store.specs.declared.VersionSetId.{VersionSetId}
 use Rattle.resolver_clause_store.specs.declared.ClauseKind.TheVariants.{AnyOf}
 use Rattle.resolver_clause_store.specs.declared.Origin.TheVariants.{ConditionHelper}
+use Rattle.resolver_encoding.specs.Encodings.{idle}
 use Rattle.resolver_encoding.specs.Notes.{notes_in}
 use Rattle.resolver_encoding.proofs.EncodingLemmas.{IsStep-trans}
 use Rattle.resolver_encoding.proofs.NoteLemmas.{IsStep-helped}
@@ -22,7 +23,7 @@ returns-clause-step g c =
     let mid = notes_in c.imply_each.new.self in
     let answer = c.matching.ensures u c.ask_matching.ensures.is_true in
     let AllFollow : List g.row.S.Denot → Type 0 = λ list. All (λ s. Contains mid.kinds (AnyOf (ConditionHelper v) s)) list in
-    IsStep-trans u [] (λ root. ⊤) _ _ _ c.in_ok-imply_each.ensures.step
+    IsStep-trans u idle (λ root. ⊤) _ _ _ c.in_ok-imply_each.ensures.step
     (IsStep-helped u mid _ v (λ i. record mid { helped = c.in_ok-append.ensures.keys i }) (λ s h. All-contains (λ t. Contains mid.kinds (AnyOf (ConditionHelper v) t)) (matching u v) s (subst AllFollow answer c.in_ok-imply_each.ensures.follow) h))
 
 pub returns-clause-helped : goal.returns-clause-helped

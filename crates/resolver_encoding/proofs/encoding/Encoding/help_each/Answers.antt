@@ -1,6 +1,7 @@
-use Rattle.std.proofs.Common.{[], arith, Contains}
+use Rattle.std.proofs.Common.{arith, Contains}
 use Rattle.std.specs.Prelude.{⊤}
 use Rattle.std.proofs.lemmas.List.Elements.{All-nil}
+use Rattle.resolver_encoding.specs.Encodings.{idle}
 use Rattle.resolver_encoding.specs.Notes.{notes_in}
 use Rattle.resolver_clause_store.proofs.SetLemmas.{All-done}
 use Rattle.resolver_encoding.proofs.EncodingLemmas.{IsStep-same, IsStep-trans, KeepsLimits-same, KeepsLimits-trans}
@@ -13,7 +14,7 @@ loop-version_set-init g c =
     record {
       bounded = c.requires.bounded;
       limits = KeepsLimits-same _;
-      step = IsStep-same u [] (λ root. ⊤) (notes_in c.args.self.now);
+      step = IsStep-same u idle (λ root. ⊤) (notes_in c.args.self.now);
       helped = All-nil (Contains (notes_in c.args.self.now).helped);
       is_true = c.requires.is_true;
     }
@@ -25,7 +26,7 @@ loop-version_set-preserved g c =
     record {
       bounded = c.help.ensures.bounded;
       limits = KeepsLimits-trans _ _ _ before.limits c.help.ensures.limits;
-      step = IsStep-trans u [] (λ root. ⊤) _ _ _ before.step c.in_ok-help.ensures.step;
+      step = IsStep-trans u idle (λ root. ⊤) _ _ _ before.step c.in_ok-help.ensures.step;
       helped = All-grown_at (Contains c.loop-version_set.self.helped.keys) (Contains c.help.new.self.helped.keys) c.args.disjunct.now c.loop-version_set.version_set-index _ (λ y h. c.in_ok-help.ensures.step.helped _ h) (omega arith) before.helped c.in_ok-help.ensures.helped;
       is_true = c.help.ensures.is_true;
     }

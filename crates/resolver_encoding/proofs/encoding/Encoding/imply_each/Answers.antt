@@ -1,4 +1,4 @@
-use Rattle.std.proofs.Common.{◌∙◌, [], refl, sym, ap, subst, arith, Contains, List}
+use Rattle.std.proofs.Common.{◌∙◌, refl, sym, ap, subst, arith, Contains, List}
 use Rattle.std.specs.Prelude.{⊤}
 use Rattle.std.proofs.Common.{Bool}
 use Rattle.std.proofs.lemmas.List.Elements.{All-nil}
@@ -6,6 +6,7 @@ use Rattle.resolver_clause_store.specs.Laws.{IsIdentity}
 use Rattle.resolver_clause_store.specs.Candidates.{matching}
 use Rattle.resolver_clause_store.specs.declared.ClauseKind.TheVariants.{AnyOf}
 use Rattle.resolver_clause_store.specs.declared.Origin.TheVariants.{ConditionHelper}
+use Rattle.resolver_encoding.specs.Encodings.{idle}
 use Rattle.resolver_encoding.specs.Notes.{notes_in}
 use Rattle.resolver_clause_store.proofs.SetLemmas.{All-done, Contains-item}
 use Rattle.resolver_encoding.proofs.Lists.{list_any-contains}
@@ -17,7 +18,7 @@ pub loop-candidate-init : goal.loop-candidate-init
 loop-candidate-init g c = record {
   bounded = c.requires.bounded;
   limits = KeepsLimits-same _;
-  step = IsStep-same (g.D.Interner.universe c.args.provider.now) [] (λ root. ⊤) (notes_in c.args.self.now);
+  step = IsStep-same (g.D.Interner.universe c.args.provider.now) idle (λ root. ⊤) (notes_in c.args.self.now);
   follow = All-nil (λ s. Contains (notes_in c.args.self.now).kinds (AnyOf (ConditionHelper c.args.version_set) s));
   helped = refl;
 }
@@ -33,11 +34,11 @@ loop-candidate-preserved g c =
     let Identity : (g.row.S.Denot → g.row.S.Denot → Bool) → Type 0 = λ same. IsIdentity same in
     let identity = subst Identity (sym (g.met.D.Interner.solvables_compare c.args.provider.now)) g.met.D.Interner.solvables_are_values in
     let adds = c.in_ok-add_pair.ensures.added in
-    let step = IsStep-plain u [] (λ root. ⊤) (notes_in c.loop-candidate.self) (notes_in c.add_pair.new.self) (AnyOf (ConditionHelper v) s) adds tt (λ root _ _. (tt, list_any-contains (u.same_solvable s) (matching u v) s matches (identity.itself s))) tt tt tt in
+    let step = IsStep-plain u idle (λ root. ⊤) (notes_in c.loop-candidate.self) (notes_in c.add_pair.new.self) (AnyOf (ConditionHelper v) s) adds tt (λ root _ _ codes _. (tt, list_any-contains (u.same_solvable s) (matching u v) s matches (identity.itself s))) tt tt tt in
     record {
       bounded = c.add_pair.ensures.bounded;
       limits = KeepsLimits-trans _ _ _ before.limits c.add_pair.ensures.limits;
-      step = IsStep-trans u [] (λ root. ⊤) _ _ _ before.step step;
+      step = IsStep-trans u idle (λ root. ⊤) _ _ _ before.step step;
       follow = All-grown (λ t. Contains (notes_in c.loop-candidate.self).kinds (AnyOf (ConditionHelper v) t)) (λ t. Contains (notes_in c.add_pair.new.self).kinds (AnyOf (ConditionHelper v) t)) c.args.candidates.now c.loop-candidate.candidate-index s (λ y h. step.kinds _ h) (omega arith) c.candidate-item.is before.follow (clause_listed u (notes_in c.loop-candidate.self) (notes_in c.add_pair.new.self) _ _ adds);
       helped = ap (λ n. n.helped) adds.is ∙ before.helped;
     }

@@ -21,8 +21,14 @@ returns-clause-installed g c =
     (c.in_ok-push.ensures.items ∙ ap (λ list. list ++ l ∷ []) c.new-literals.ensures.items)
     (c.in_ok-add_clause.ensures.added ∙ (λ i. record old { origins = only i; variable_limit = limit_in c.intern.new.self; table = c.requires.nothing_read.no_table i ++ c.push.new.self ∷ []; kinds = c.requires.nothing_read.no_kinds i ++ InstallRoot ∷ [] }))
 
-pub returns-clause-none_seen : goal.returns-clause-none_seen
-returns-clause-none_seen g c = ap (λ n. n.seen) c.in_ok-add_clause.ensures.added ∙ c.requires.nothing_read.none_seen
+pub returns-clause-nothing : goal.returns-clause-nothing
+returns-clause-nothing g c =
+    let added = c.in_ok-add_clause.ensures.added in
+    record {
+      none_asked = ap (λ n. n.asked) added ∙ c.requires.nothing_read.none_asked;
+      none_read = ap (λ n. n.read) added ∙ c.requires.nothing_read.none_read;
+      none_deferred = ap (λ n. n.deferred) added ∙ c.requires.nothing_read.none_deferred;
+    }
 
 pub returns-clause-exempt : goal.returns-clause-exempt
 returns-clause-exempt g c = ap (λ n. n.exempt) c.in_ok-add_clause.ensures.added

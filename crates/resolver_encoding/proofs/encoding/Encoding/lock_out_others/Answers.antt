@@ -1,7 +1,8 @@
-use Rattle.std.proofs.Common.{◌≡◌, ◌∙◌, ◌∷◌, [], refl, sym, subst, arith, Contains, List}
+use Rattle.std.proofs.Common.{◌≡◌, ◌∙◌, refl, sym, subst, arith, Contains, List}
 use Rattle.std.specs.Prelude.{⊤}
 use Rattle.std.proofs.lemmas.List.Elements.{All-nil}
 use Rattle.resolver_clause_store.specs.declared.ClauseKind.TheVariants.{Lock}
+use Rattle.resolver_encoding.specs.Encodings.{asking_for}
 use Rattle.resolver_encoding.specs.Notes.{notes_in}
 use Rattle.resolver_clause_store.proofs.SetLemmas.{All-done, Contains-item}
 use Rattle.resolver_encoding.proofs.EncodingLemmas.{IsStep-same, IsStep-trans, KeepsLimits-same, KeepsLimits-trans}
@@ -12,7 +13,7 @@ pub loop-candidate-init : goal.loop-candidate-init
 loop-candidate-init g c = record {
   bounded = c.requires.bounded;
   limits = KeepsLimits-same _;
-  step = IsStep-same (g.D.Interner.universe c.args.provider.now) (c.args.name ∷ []) (λ root. ⊤) (notes_in c.args.self.now);
+  step = IsStep-same (g.D.Interner.universe c.args.provider.now) (asking_for c.args.name) (λ root. ⊤) (notes_in c.args.self.now);
   forbidden = All-nil (λ s. (s ≡ c.in-Some.locked → ⊥) → (Contains (notes_in c.args.self.now).exempt s → ⊥) → Contains (notes_in c.args.self.now).kinds (Lock c.in-Some.locked s));
   asked = refl;
 }
@@ -41,7 +42,7 @@ loop-candidate-preserved g c =
     record {
       bounded = c.lock_out.ensures.bounded;
       limits = KeepsLimits-trans _ _ _ before.limits c.lock_out.ensures.limits;
-      step = IsStep-trans u (c.args.name ∷ []) (λ root. ⊤) _ _ _ before.step step;
+      step = IsStep-trans u (asking_for c.args.name) (λ root. ⊤) _ _ _ before.step step;
       forbidden = All-grown (λ s. (s ≡ t → ⊥) → (Contains (notes_in c.args.self.now).exempt s → ⊥) → Contains (notes_in c.loop-candidate.self).kinds (Lock t s)) (λ s. (s ≡ t → ⊥) → (Contains (notes_in c.args.self.now).exempt s → ⊥) → Contains (notes_in c.lock_out.new.self).kinds (Lock t s)) c.args.listed.now c.loop-candidate.candidate-index c.candidate-item.result (λ y h apart free. step.kinds _ (h apart free)) (omega arith) c.candidate-item.is before.forbidden (subst Free before.step.exempt c.in_ok-lock_out.ensures.forbidden);
       asked = c.in_ok-lock_out.ensures.asked ∙ before.asked;
     }

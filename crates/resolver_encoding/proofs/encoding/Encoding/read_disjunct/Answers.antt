@@ -1,48 +1,40 @@
-use Rattle.std.proofs.Common.{[], refl, inl, sym, subst, All, Contains, List}
-use Rattle.std.specs.Prelude.{⊤}
-use Rattle.std.proofs.lemmas.List.Elements.{All-contains}
-use Rattle.resolver_clause_store.specs.Candidates.{version_sets}
-use Rattle.resolver_clause_store.specs.declared.VersionSetId.{VersionSetId}
-use Rattle.resolver_clause_store.specs.declared.ClauseKind.{ClauseKind}
-use Rattle.resolver_clause_store.specs.declared.ClauseKind.TheVariants.{Requires}
-use Rattle.resolver_encoding.specs.Encodings.{AsksFor}
-use Rattle.resolver_encoding.specs.Notes.{notes_in}
-use Rattle.resolver_encoding.proofs.EncodingLemmas.{Extends-within, IsClauseOf-zip, IsStep-requirement, IsStep-trans, IsStep-weaker, requirement_listed}
-use Rattle.resolver_encoding.proofs.RequirementLemmas.{disjunct_implies}
+use Rattle.std.proofs.Common.{refl, inl, inr}
+use Rattle.std.specs.Prelude.{map}
+use Rattle.resolver_clause_store.specs.Candidates.{matching, version_sets}
+use Rattle.resolver_encoding.specs.Called.{IsCalledBy, IsNamedIn}
+use Rattle.resolver_encoding.specs.Encodings.{AsksFor, IsTrueUnder, IsUnmet}
+use Rattle.resolver_encoding.specs.Statements.{Implies}
+use Rattle.resolver_encoding.proofs.EncodingLemmas.{IsAskStep-weaker, IsReadStep-of}
+use Rattle.resolver_encoding.proofs.FiringLemmas.{IsReadStep-deferral, deferral_left}
+use Rattle.resolver_encoding.proofs.RequirementLemmas.{active_where, disjunct_implies, fails_if, holds_if}
 use Rattle.resolver_encoding.proofs.encoding.Encoding.read_disjunct.Goals as goal
+
+pub returns-then-met-clause-step : goal.returns-then-met-clause-step
+returns-then-met-clause-step g c =
+    let u = g.D.Interner.universe c.args.provider.now in
+    let r = c.args.requirement in
+    let by = c.args.by in
+    let set = c.args.chosen.now.keys in
+    let list = c.in_ok-each_once.each_once.items in
+    let implies : Implies u (map (matching u) list) r.condition = disjunct_implies u r.condition c.requires.disjunct.lists c.args.disjunct.now list c.requires.disjunct.are c.requires.disjunct.listed c.in_ok-each_once.ensures.same in
+    let met = holds_if c.in_ok-met.met _ _ c.if-met.true (rw c.deref.ensures.value at c.in_ok-met.ensures.met) in
+    IsReadStep-of u (IsUnmet u set by) (IsCalledBy u set r) (AsksFor u by r) _ _
+    (IsAskStep-weaker u (IsNamedIn u (version_sets u r.requirement)) (IsCalledBy u set r) (λ n named. (active_where u set (map (matching u) list) r.condition implies met, named))
+    (IsTrueUnder u by list r.requirement) (AsksFor u by r) (λ root asks. (r, asks, refl, implies)) _ _ c.in_ok-encode_disjunct.ensures.step)
+
+pub returns-then-met-clause-read : goal.returns-then-met-clause-read
+returns-then-met-clause-read g c = record { kept = c.in_ok-each_once.each_once.items; same = c.in_ok-each_once.ensures.same; either = inl c.in_ok-encode_disjunct.ensures.read }
 
 pub returns-clause-step : goal.returns-clause-step
 returns-clause-step g c =
     let u = g.D.Interner.universe c.args.provider.now in
     let r = c.args.requirement in
     let by = c.args.by in
-    let Premise = AsksFor u by r in
-    let mid = notes_in c.help_each.new.self in
-    let kind : ClauseKind g.row.N.Denot g.row.S.Denot = Requires by c.in_ok-each_once.each_once r.requirement in
-    let adds = c.in_ok-add_requirement.ensures.added in
-    let grown = c.in_ok-help_each.ensures.step in
-    let AllHelped : List VersionSetId → Type 0 = λ list. All (Contains mid.helped) list in
-    let helped = subst AllHelped c.deref.ensures.value c.in_ok-help_each.ensures.helped in
-    IsStep-trans u [] Premise _ _ _ (IsStep-weaker u [] (λ root. ⊤) Premise (λ root _. tt) _ _ grown)
-    (IsStep-requirement u [] Premise mid (notes_in c.add_requirement.new.self) kind _ adds (inl (by, c.in_ok-each_once.each_once, r.requirement, refl))
-    (λ root asks before. record {
-      clause = IsClauseOf-zip u (notes_in c.add_requirement.new.self).origins adds.literals.items kind adds.are;
-      is_true = (r, asks, refl, disjunct_implies u r.condition c.requires.disjunct.lists c.args.disjunct.now c.in_ok-each_once.each_once.items c.requires.disjunct.are c.requires.disjunct.listed c.in_ok-each_once.ensures.same);
-      direct = tt;
-      due = tt;
-      prepared = record {
-        helpers = λ v h. All-contains (Contains mid.helped) c.in_ok-each_once.each_once.items v helped h;
-        packages = λ v h. grown.asked _ (All-contains (λ w. Contains (notes_in c.args.self.now).asked (u.version_set_name w)) (version_sets u r.requirement) v c.requires.asked h);
-        candidates = λ s h. let Has : List g.row.S.Denot → Type 0 = λ list. Contains list s in Extends-within _ _ grown.seen s (All-contains (Contains (notes_in c.args.self.now).seen) c.args.choices.now.candidates.items s c.requires.seen (subst Has (sym c.requires.candidates) h));
-        once = c.in_ok-each_once.ensures.once;
-      };
-    }))
+    let set = c.args.chosen.now.keys in
+    let list = c.in_ok-each_once.each_once.items in
+    let implies : Implies u (map (matching u) list) r.condition = disjunct_implies u r.condition c.requires.disjunct.lists c.args.disjunct.now list c.requires.disjunct.are c.requires.disjunct.listed c.in_ok-each_once.ensures.same in
+    let unmet = fails_if c.in_ok-met.met _ _ c.if-met.false (rw c.deref.ensures.value at c.in_ok-met.ensures.met) in
+    IsReadStep-deferral u (IsUnmet u set by) (IsCalledBy u set r) (AsksFor u by r) _ _ _ c.in_ok-defer.ensures.deferred (record { of = refl; never = unmet }) (λ root asks. record { is_true = (r, asks, refl, implies); once = c.in_ok-each_once.ensures.once })
 
 pub returns-clause-read : goal.returns-clause-read
-returns-clause-read g c =
-    let u = g.D.Interner.universe c.args.provider.now in
-    record {
-      disjunct = c.in_ok-each_once.each_once;
-      same = c.in_ok-each_once.ensures.same;
-      listed = requirement_listed u (notes_in c.help_each.new.self) (notes_in c.add_requirement.new.self) _ _ c.in_ok-add_requirement.ensures.added;
-    }
+returns-clause-read g c = record { kept = c.in_ok-each_once.each_once.items; same = c.in_ok-each_once.ensures.same; either = inr (deferral_left (g.D.Interner.universe c.args.provider.now) _ _ _ c.in_ok-defer.ensures.deferred) }

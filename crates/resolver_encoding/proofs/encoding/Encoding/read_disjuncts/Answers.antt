@@ -1,36 +1,27 @@
-use Rattle.std.proofs.Common.{[], sym, subst, arith, Contains, List, map}
-use Rattle.std.proofs.lemmas.List.Elements.{All-map, All-nil, All-weaker}
-use Rattle.resolver_clause_store.specs.Candidates.{version_sets}
-use Rattle.resolver_encoding.specs.Encodings.{AsksFor, HasDisjunct}
+use Rattle.std.proofs.Common.{sym, subst, arith, Contains, List, map}
+use Rattle.std.proofs.lemmas.List.Elements.{All-map, All-nil}
+use Rattle.resolver_encoding.specs.Called.{IsCalledBy}
+use Rattle.resolver_encoding.specs.Encodings.{AsksFor, IsDisjunctRead, IsUnmet}
 use Rattle.resolver_encoding.specs.Notes.{notes_in}
 use Rattle.resolver_clause_store.proofs.SetLemmas.{All-done, Contains-item}
-use Rattle.resolver_encoding.proofs.EncodingLemmas.{Extends-within, IsStep-same, IsStep-trans, KeepsLimits-same, KeepsLimits-trans}
+use Rattle.resolver_encoding.proofs.EncodingLemmas.{Extends-within, IsReadStep-same, IsReadStep-trans, KeepsLimits-same, KeepsLimits-trans}
 use Rattle.resolver_encoding.proofs.NoteLemmas.{All-grown}
 use Rattle.resolver_clause_store.specs.declared.VersionSetId.{VersionSetId}
 use Rattle.resolver_encoding.proofs.Lists.{Contains-map}
-use Rattle.resolver_encoding.proofs.ReadLemmas.{HasDisjunct-within}
-use Rattle.resolver_encoding.proofs.RequirementLemmas.{items_of, requirement_read}
+use Rattle.resolver_encoding.proofs.RequirementLemmas.{IsDisjunctRead-grown, items_of, requirement_read}
 use Rattle.resolver_encoding.proofs.encoding.Encoding.read_disjuncts.Goals as goal
 
 pub loop-disjunct-init : goal.loop-disjunct-init
 loop-disjunct-init g c =
     let u = g.D.Interner.universe c.args.provider.now in
+    let set = c.args.chosen.now.keys in
     record {
       bounded = c.requires.bounded;
       limits = KeepsLimits-same _;
-      step = IsStep-same u [] (AsksFor u c.args.by c.args.requirement) (notes_in c.args.self.now);
-      read = All-nil (λ list. HasDisjunct u (notes_in c.args.self.now).kinds c.args.by c.args.requirement.requirement list.items);
+      step = IsReadStep-same u (IsUnmet u set c.args.by) (IsCalledBy u set c.args.requirement) (AsksFor u c.args.by c.args.requirement) (notes_in c.args.self.now);
+      read = All-nil (λ list. IsDisjunctRead (notes_in c.args.self.now) c.args.by c.args.requirement.requirement list.items);
       is_true = c.requires.is_true;
     }
-
-pub read_disjunct-requires-clause-asked : goal.read_disjunct-requires-clause-asked
-read_disjunct-requires-clause-asked g c =
-    let u = g.D.Interner.universe c.args.provider.now in
-    All-weaker (λ v. Contains (notes_in c.args.self.now).asked (u.version_set_name v)) (λ v. Contains (notes_in c.loop-disjunct.self).asked (u.version_set_name v)) (λ v h. c.loop-disjunct.invariant.step.asked _ h) (version_sets u c.args.requirement.requirement) c.requires.asked
-
-pub read_disjunct-requires-clause-seen : goal.read_disjunct-requires-clause-seen
-read_disjunct-requires-clause-seen g c =
-    All-weaker (Contains (notes_in c.args.self.now).seen) (Contains (notes_in c.loop-disjunct.self).seen) (λ s h. Extends-within _ _ c.loop-disjunct.invariant.step.seen s h) c.args.choices.now.candidates.items c.requires.seen
 
 pub read_disjunct-requires-clause-disjunct : goal.read_disjunct-requires-clause-disjunct
 read_disjunct-requires-clause-disjunct g c =
@@ -42,14 +33,15 @@ pub loop-disjunct-preserved : goal.loop-disjunct-preserved
 loop-disjunct-preserved g c =
     let u = g.D.Interner.universe c.args.provider.now in
     let r = c.args.requirement in
+    let set = c.args.chosen.now.keys in
     let before = c.loop-disjunct.invariant in
     let step = c.in_ok-read_disjunct.ensures.step in
     record {
       bounded = c.read_disjunct.ensures.bounded;
       limits = KeepsLimits-trans _ _ _ before.limits c.read_disjunct.ensures.limits;
-      step = IsStep-trans u [] (AsksFor u c.args.by r) _ _ _ before.step step;
-      read = All-grown (λ list. HasDisjunct u (notes_in c.loop-disjunct.self).kinds c.args.by r.requirement list.items) (λ list. HasDisjunct u (notes_in c.read_disjunct.new.self).kinds c.args.by r.requirement list.items) c.args.disjuncts.now c.loop-disjunct.disjunct-index c.disjunct-item.result
-          (λ list h. HasDisjunct-within u _ _ step.kinds c.args.by r.requirement list.items h) (omega arith) c.disjunct-item.is before.read (rw c.deref.ensures.value at c.in_ok-read_disjunct.ensures.read);
+      step = IsReadStep-trans u (IsUnmet u set c.args.by) (IsCalledBy u set r) (AsksFor u c.args.by r) _ _ _ before.step step;
+      read = All-grown (λ list. IsDisjunctRead (notes_in c.loop-disjunct.self) c.args.by r.requirement list.items) (λ list. IsDisjunctRead (notes_in c.read_disjunct.new.self) c.args.by r.requirement list.items) c.args.disjuncts.now c.loop-disjunct.disjunct-index c.disjunct-item.result
+          (λ list h. IsDisjunctRead-grown u _ _ step.kinds (λ e k. Extends-within _ _ step.deferred _ k) c.args.by r.requirement list.items h) (omega arith) c.disjunct-item.is before.read (rw c.deref.ensures.value at c.in_ok-read_disjunct.ensures.read);
       is_true = c.read_disjunct.ensures.is_true;
     }
 
@@ -57,6 +49,6 @@ pub returns-clause-read : goal.returns-clause-read
 returns-clause-read g c =
     let u = g.D.Interner.universe c.args.provider.now in
     let r = c.args.requirement in
-    let kinds = (notes_in c.loop-disjunct.self).kinds in
-    requirement_read u kinds c.args.by r (map items_of c.args.disjuncts.now) c.requires.disjuncts
-    (All-map (HasDisjunct u kinds c.args.by r.requirement) items_of c.args.disjuncts.now (All-done (λ list. HasDisjunct u kinds c.args.by r.requirement list.items) c.args.disjuncts.now c.loop-disjunct.disjunct-index (omega arith) c.loop-disjunct.invariant.read))
+    let notes = notes_in c.loop-disjunct.self in
+    requirement_read u notes c.args.by r (map items_of c.args.disjuncts.now) c.requires.disjuncts
+    (All-map (IsDisjunctRead notes c.args.by r.requirement) items_of c.args.disjuncts.now (All-done (λ list. IsDisjunctRead notes c.args.by r.requirement list.items) c.args.disjuncts.now c.loop-disjunct.disjunct-index (omega arith) c.loop-disjunct.invariant.read))

@@ -1,10 +1,13 @@
-use Rattle.std.proofs.Common.{◌≡◌, [], sym, ◌∙◌, refl, subst}
+use Rattle.std.proofs.Common.{◌≡◌, sym, ◌∙◌, refl, subst}
 use Rattle.std.specs.Prelude.{⊤}
 use Rattle.resolver_clause_store.specs.Universe.{Demands, Needs, known}
 use Rattle.resolver_clause_store.specs.Valid.{demands_of}
 use Rattle.resolver_clause_store.specs.declared.By.TheVariants.{Solvable}
 use Rattle.resolver_report.specs.TrueRules.{demands_by}
-use Rattle.resolver_encoding.proofs.EncodingLemmas.{IsStep-weaker}
+use Rattle.resolver_encoding.specs.Called.{IsDemanded}
+use Rattle.resolver_encoding.specs.Encodings.{IsUnmet}
+use Rattle.resolver_encoding.specs.Notes.{notes_in}
+use Rattle.resolver_encoding.proofs.EncodingLemmas.{IsAskStep-of, IsEncodingOf-weaker, IsReadStep-of, IsReadStep-weaker}
 use Rattle.resolver_encoding.proofs.encoding.Encoding.read_solvable.Goals as goal
 
 demands_known : (d : Demands) (needs : Needs) → known d ≡ needs → demands_of needs ≡ d
@@ -12,12 +15,33 @@ demands_known d needs is =
     let Says : Needs → Type 0 = λ n. demands_of n ≡ d in
     subst Says is refl
 
-pub returns-in_ok-read_demands-in-Known-clause-step : goal.returns-in_ok-read_demands-in-Known-clause-step
-returns-in_ok-read_demands-in-Known-clause-step g c =
+pub read_demands-requires-clause-encoding : goal.read_demands-requires-clause-encoding
+read_demands-requires-clause-encoding g c =
     let u = g.D.Interner.universe c.args.provider.now in
     let answer = rw c.in-Known.is at (c.dependencies.ensures u c.ask_dependencies.ensures.is_true) in
     let copied_requirements = c.deref-in-Known-2.ensures.value ∙ c.in_ok-requirements-in-Known.ensures.items ∙ c.deref.ensures.value in
     let copied_constraints = c.deref-in-Known-3.ensures.value ∙ c.in_ok-constraints-in-Known.ensures.items ∙ c.deref-in-Known.ensures.value in
     let copied : record { requirements = c.deref-in-Known-2.result.now; constraints = c.deref-in-Known-3.result.now } ≡ record { requirements = c.in-Known.known.requirements.items; constraints = c.in-Known.known.constrains.items } = λ i. record { requirements = copied_requirements i; constraints = copied_constraints i } in
-    IsStep-weaker u [] (λ root. demands_by u root (Solvable c.args.solvable) ≡ record { requirements = c.deref-in-Known-2.result.now; constraints = c.deref-in-Known-3.result.now }) (λ root. ⊤)
-    (λ root _. demands_known _ _ answer ∙ sym copied) _ _ c.in_ok-read_demands-in-Known.ensures.step
+    IsEncodingOf-weaker u (λ root. ⊤) (λ root. demands_by u root (Solvable c.args.solvable) ≡ record { requirements = c.deref-in-Known-2.result.now; constraints = c.deref-in-Known-3.result.now })
+    (λ root _. demands_known _ _ answer ∙ sym copied) (notes_in c.args.self.now) c.requires.encoding
+
+pub returns-in_ok-forbid_unknown-in-Unknown-clause-step : goal.returns-in_ok-forbid_unknown-in-Unknown-clause-step
+returns-in_ok-forbid_unknown-in-Unknown-clause-step g c =
+    let u = g.D.Interner.universe c.args.provider.now in
+    let set = c.args.chosen.now.keys in
+    let Demanded = IsDemanded u set (demands_of (u.needs c.args.solvable)) in
+    IsReadStep-of u (IsUnmet u set (Solvable c.args.solvable)) Demanded (λ root. ⊤) _ _ (IsAskStep-of u Demanded (λ root. ⊤) _ _ c.in_ok-forbid_unknown-in-Unknown.ensures.step)
+
+pub returns-in_ok-read_demands-in-Known-clause-step : goal.returns-in_ok-read_demands-in-Known-clause-step
+returns-in_ok-read_demands-in-Known-clause-step g c =
+    let u = g.D.Interner.universe c.args.provider.now in
+    let set = c.args.chosen.now.keys in
+    let answer = rw c.in-Known.is at (c.dependencies.ensures u c.ask_dependencies.ensures.is_true) in
+    let copied_requirements = c.deref-in-Known-2.ensures.value ∙ c.in_ok-requirements-in-Known.ensures.items ∙ c.deref.ensures.value in
+    let copied_constraints = c.deref-in-Known-3.ensures.value ∙ c.in_ok-constraints-in-Known.ensures.items ∙ c.deref-in-Known.ensures.value in
+    let demands : Demands = record { requirements = c.deref-in-Known-2.result.now; constraints = c.deref-in-Known-3.result.now } in
+    let copied : demands ≡ record { requirements = c.in-Known.known.requirements.items; constraints = c.in-Known.known.constrains.items } = λ i. record { requirements = copied_requirements i; constraints = copied_constraints i } in
+    let same : demands_of (u.needs c.args.solvable) ≡ demands = demands_known _ _ answer ∙ sym copied in
+    let Demanded : g.row.N.Denot → Demands → Type 0 = λ n d. IsDemanded u set d n in
+    IsReadStep-weaker u (IsUnmet u set (Solvable c.args.solvable)) (IsDemanded u set demands) (IsDemanded u set (demands_of (u.needs c.args.solvable))) (λ n h. subst (Demanded n) (sym same) h)
+    (λ root. demands_by u root (Solvable c.args.solvable) ≡ demands) (λ root. ⊤) (λ root _. same) _ _ c.in_ok-read_demands-in-Known.ensures.step

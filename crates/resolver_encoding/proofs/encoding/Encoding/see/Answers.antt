@@ -1,16 +1,17 @@
-use Rattle.std.proofs.Common.{◌∙◌, [], refl, sym, subst, Contains, List}
+use Rattle.std.proofs.Common.{◌∙◌, refl, sym, subst, Contains, List, length}
+use Rattle.std.proofs.lemmas.Option.{slice_get_within}
 use Rattle.std.specs.Prelude.{⊤}
-use Rattle.std.proofs.lemmas.List.Elements.{All-contains, Contains-push}
-use Rattle.resolver_clause_store.specs.declared.ClauseKind.TheVariants.{ForbidMultipleInstances}
+use Rattle.std.proofs.lemmas.List.Elements.{Contains-push}
 use Rattle.resolver_clause_store.specs.declared.Origin.TheVariants.{Solvable}
 use Rattle.resolver_clause_store.specs.Variables.{limit_in, origins_in}
 use Rattle.resolver_clause_store.proofs.PlaceLemmas.{place_in}
-use Rattle.resolver_encoding.specs.Encodings.{Grows}
-use Rattle.resolver_encoding.specs.Groups.{AreGroups, IsNamed}
+use Rattle.resolver_encoding.specs.Encodings.{Grows, coding_for, idle}
+use Rattle.resolver_encoding.specs.Groups.{AreGroups}
 use Rattle.resolver_encoding.specs.declared.groups.Groups.{Groups}
 use Rattle.resolver_encoding.specs.Notes.{notes_in}
 use Rattle.resolver_encoding.proofs.EncodingLemmas.{IsStep-trans}
-use Rattle.resolver_encoding.proofs.NoteLemmas.{IsStep-origins, IsStep-seen}
+use Rattle.resolver_encoding.proofs.NoteLemmas.{IsStep-origins}
+use Rattle.resolver_encoding.proofs.SeeLemmas.{IsStep-seen}
 use Rattle.resolver_encoding.proofs.encoding.Encoding.see.Goals as goal
 
 pub returns-clause-step : goal.returns-clause-step
@@ -18,20 +19,27 @@ returns-clause-step g c =
     let u = g.D.Interner.universe c.args.provider.now in
     let s = c.args.solvable in
     let n = c.solvable_name-name.result in
+    let list = c.named-number.result.now in
+    let k = length list in
     let old = notes_in c.args.self.now in
-    let mid = notes_in c.keep_apart.new.self in
+    let mid = notes_in c.add_code.new.self in
+    let begun = c.in_ok-begin_digit.ensures in
+    let code = c.in_ok-add_code.ensures in
     let grows : Grows old.origins (origins_in c.intern.new.self) = record { keeps = c.intern.ensures.kept; distinct = c.intern.ensures.distinct } in
-    let kept = c.in_ok-keep_apart.ensures in
-    let Named : Groups g.row.N.Denot g.row.S.Denot → g.row.S.Denot → Type 0 = λ gs t. IsNamed gs n t in
     let Sound : Groups g.row.N.Denot g.row.S.Denot → Type 0 = λ gs. AreGroups gs in
-    let Has : List g.row.S.Denot → g.row.S.Denot → Type 0 = λ list t. Contains list t in
-    IsStep-trans u [] (λ root. ⊤) _ _ _ (IsStep-trans u [] (λ root. ⊤) _ _ _ (IsStep-origins u [] (λ root. ⊤) old _ (origins_in c.intern.new.self) (limit_in c.intern.new.self) grows c.intern.ensures.limit refl) kept.step)
-    (IsStep-seen u mid _ c.add.new.self n s c.solvable_name-name.ensures (λ i. record mid { seen = c.in_ok-append.ensures.keys i; groups = c.add.new.self }) c.in_ok-add.ensures.added
-    (place_in mid.origins _ (Solvable s) (kept.step.origins.kept _ (Solvable s) c.in_ok-intern.ensures.here))
-    (λ sound t named. All-contains (λ x. Contains mid.kinds (ForbidMultipleInstances n x s)) c.deref.result.now t kept.apart
-    (subst (λ list. Has list t) (sym (c.deref.ensures.value ∙ c.in_ok-earlier.ensures.items)) (c.named.ensures.every (subst Sound kept.groups sound) t (subst (λ gs. Named gs t) kept.groups named)))))
+    let same_groups = code.groups ∙ begun.groups in
+    let step = IsStep-trans u (coding_for n k s) (λ root. ⊤) _ _ _ begun.step code.step in
+    IsStep-trans u idle (λ root. ⊤) _ _ _ (IsStep-origins u idle (λ root. ⊤) old _ (origins_in c.intern.new.self) (limit_in c.intern.new.self) grows c.intern.ensures.limit refl)
+    (IsStep-seen u g.N.PartialEq.eq g.S.PartialEq.eq g.met.D.Interner.names_are_values g.met.D.Interner.solvables_are_values n k s _ mid _ c.add.new.self list (sym c.solvable_name-name.ensures) c.if-is_among.ensures
+    step same_groups (code.seen ∙ begun.seen) (λ i. record mid { seen = c.in_ok-append.ensures.keys i; groups = c.add.new.self }) c.in_ok-add.ensures.added
+    (place_in mid.origins _ (Solvable s) (step.origins.kept _ (Solvable s) c.in_ok-intern.ensures.here))
+    c.named-number.ensures.each_at c.named-number.ensures.every_at refl code.code
+    (λ i begins sound j t at. code.step.kinds _ (begun.begun i begins sound j t at)))
+
+pub begin_digit-requires-clause-below : goal.begin_digit-requires-clause-below
+begin_digit-requires-clause-below g c = λ sound k t at. slice_get_within c.named-number.result.now k t (c.named-number.ensures.every_at sound k t at)
 
 pub returns-clause-seen : goal.returns-clause-seen
 returns-clause-seen g c =
     let Has : List g.row.S.Denot → Type 0 = λ list. Contains list c.args.solvable in
-    subst Has (sym c.in_ok-append.ensures.keys) (Contains-push c.keep_apart.new.self.seen.keys c.args.solvable)
+    subst Has (sym c.in_ok-append.ensures.keys) (Contains-push c.add_code.new.self.seen.keys c.args.solvable)

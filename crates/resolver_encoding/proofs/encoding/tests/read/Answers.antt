@@ -1,4 +1,4 @@
 use Rattle.resolver_encoding.proofs.encoding.tests.read.Goals as goal
 
-pub read_all-requires-clause-is_true : goal.read_all-requires-clause-is_true
-read_all-requires-clause-is_true c = c.new-cache.ensures _
+pub read_root-requires-clause-is_true : goal.read_root-requires-clause-is_true
+read_root-requires-clause-is_true c = c.new-cache.ensures _

@@ -1,9 +1,13 @@
-use Rattle.std.proofs.Common.{rules, arith, ◌∙◌, ◌≡◌, ◌++◌, ◌∷◌, [], length, length-append}
+use Rattle.std.proofs.Common.{rules, arith, refl, ap, subst, sym, ◌∙◌, ◌≡◌, ◌+◌, ◌++◌, ◌∷◌, ℕ, min, [], length, length-append}
 use Rattle.resolver_clause_store.specs.Formula.{clause_at}
-use Rattle.resolver_clause_store.specs.TrailView.{variable_count}
+use Rattle.resolver_clause_store.specs.TrailView.{KeepsPlaces, length_of, variable_count}
 use Rattle.resolver_clause_store.proofs.FormulaLemmas.{clause_at-last}
+use Rattle.resolver_clause_store.proofs.KeptLemmas.{keeps_all}
+use Rattle.resolver_clause_store.proofs.TrailLemmas.{keeps-gains}
+use Rattle.resolvo.specs.declared.contradiction.Source.TheVariants.{Learnt}
 use Rattle.resolvo.proofs.JustifiedLemmas.{justified-gains, extends-gains, chosen-extends}
-use Rattle.resolvo.proofs.ClauseSearchLemmas.{asserted-free, asserted-unit, below-push, chosen-given, chosen-grows, chosen-undone, derived-push, false-below, grows-push, justified-grows, justified-undone}
+use Rattle.resolvo.proofs.ClauseSearchLemmas.{asserted-free, asserted-unit, below-push, chosen-grows, chosen-undone, derived-push, false-below, grows-push, justified-grows, justified-undone}
+use Rattle.resolvo.proofs.LoadLemmas.{first-after, first-undone, loaded-learnt}
 use Rattle.resolvo.proofs.clause_search.ClauseSearch.jump_back.Goals as goal
 
 pub returns-clause-consistent : goal.returns-clause-consistent
@@ -19,14 +23,38 @@ returns-clause-consistent c =
     let unit = asserted-unit _ c.undo_until.new.self _ _ _ learnt.asserting c.undo_until.ensures in
     let size : variable_count c.force.new.self ≡ variable_count c.args.self.now.trail = c.in_ok-force.ensures.ok.size ∙ c.undo_until.ensures.size in
     let grows = grows-push table c.args.learnt.literals in
+    let long : length longer ≡ length table + 1 = length-append table (c.args.learnt.literals ∷ []) in
     let justified = justified-grows table longer c.undo_until.new.self grows (justified-undone _ _ _ _ it.justified c.undo_until.ensures) in
-    let chosen = chosen-grows table longer _ c.undo_until.new.self grows (chosen-given _ _ _ _ it.derived it.inside) (chosen-undone _ _ _ _ _ it.chosen c.undo_until.ensures) in
+    let chosen = chosen-grows table longer _ c.undo_until.new.self grows it.inside (chosen-undone _ _ _ _ _ it.chosen c.undo_until.ensures) in
     record {
       below = rw (items, size) (below-push _ table _ it.below (false-below c.args.self.now.trail _ learnt.falsified));
-      derived = rw (items, c.in_ok-push-2.ensures.items) (derived-push _ _ _ _ _ it.derived learnt.within learnt.follows);
+      derived = rw (items, c.in_ok-push-2.ensures.items) (derived-push table _ _ (Learnt c.args.learnt.causes) it.derived learnt.within (λ none. learnt.follows));
       justified = rw items (justified-gains longer _ _ _ _ _ justified c.in_ok-force.ensures.ok free (rw here (simp length-append (omega arith))) (rw last unit));
       chosen = rw items (chosen-extends longer _ _ _ chosen (extends-gains _ _ _ _ _ c.in_ok-force.ensures.ok free));
-      inside = it.inside;
+      inside = rw items (λ k d b. omega (arith, it.inside k d b, long));
+      places = rw items (λ k d b. omega (arith, it.places k d b, long));
+      count = rw items (omega (arith, it.count, long));
+      kept = omega (arith, c.min-self.ensures, c.len.ensures, c.in_ok-force.ensures.ok.count);
+    }
+
+pub returns-clause-same : goal.returns-clause-same
+returns-clause-same c =
+    let it = c.requires.consistent in
+    let old = c.args.self.now in
+    let gains = c.in_ok-force.ensures.ok in
+    let middle = c.undo_until.new.self in
+    let free = asserted-free _ middle _ _ _ c.requires.learnt.asserting c.undo_until.ensures in
+    let count : c.min-self.result ≡ min old.kept (length_of middle) = c.min-self.ensures ∙ ap (min old.kept) c.len.ensures in
+    record {
+      loaded = λ given numbers loaded. record {
+        clauses = rw (c.in_ok-push.ensures.items, c.in_ok-push-2.ensures.items) (loaded-learnt given old.table.items old.sources.items old.places.items c.args.learnt.literals (Learnt c.args.learnt.causes) it.derived.count refl loaded.clauses);
+        requirements = loaded.requirements;
+        inside = loaded.inside;
+      };
+      variables = gains.size ∙ c.undo_until.ensures.size;
+      kept = λ base keeps.
+          let Keeps : ℕ → Type 0 = λ n. KeepsPlaces base c.force.new.self n in
+          subst Keeps (sym count) (first-after middle c.force.new.self _ (keeps_all middle c.force.new.self (keeps-gains _ _ _ _ _ gains free)) base (first-undone old.trail middle old.kept _ c.undo_until.ensures base keeps));
     }
 
 pub returns-clause-jump : goal.returns-clause-jump

@@ -1,14 +1,37 @@
-use Rattle.resolvo.proofs.ClauseSearchLemmas.{finished}
+use Rattle.resolvo.proofs.LoadLemmas.{finished_for, loaded-trail, problem-descended, problem-trans}
 use Rattle.resolvo.proofs.clause_search.ClauseSearch.run.Goals as goal
 
 pub returns-in-None-clause-outcome : goal.returns-in-None-clause-outcome
-returns-in-None-clause-outcome c =
+returns-in-None-clause-outcome g c = λ given numbers before requirements are.
+    let found = c.conflicts.self in
     let it = c.conflicts.invariant.0 in
-    let same = c.conflicts.invariant.1 in
+    let loaded = c.conflicts.invariant.1.loaded given numbers before in
     let table = c.as_slice.ensures.value in
-    let requirements = c.as_slice-in-conflicts.ensures.value in
+    let wanted = c.as_slice-in-conflicts.ensures.value in
     let settled = rw (c.in-None.is, table) at c.in_ok-descend.ensures.settled in
-    let met = rw (c.in-None.is, table, requirements) at c.in_ok-descend.ensures.met in
+    let met = rw (c.in-None.is, table, wanted) at c.in_ok-descend.ensures.met in
     let justified = rw table at c.in_ok-descend.ensures.justified in
-    let chosen = rw (table, requirements) at c.in_ok-descend.ensures.chosen in
-    rw (← same.clauses, ← same.requirements) (finished _ _ _ _ c.descend.new.trail it.derived justified chosen it.inside settled met)
+    let chosen = rw (table, wanted) at c.in_ok-descend.ensures.chosen in
+    finished_for given found.table.items found.sources.items found.places.items found.requirements.items requirements numbers c.descend.new.trail are it.derived justified chosen loaded.clauses loaded.requirements loaded.inside settled met
+
+pub returns-in-None-clause-loaded : goal.returns-in-None-clause-loaded
+returns-in-None-clause-loaded g c = λ given numbers before. loaded-trail c.conflicts.self _ given numbers (c.conflicts.invariant.1.loaded given numbers before)
+
+pub returns-in-Some-2-clause-outcome : goal.returns-in-Some-2-clause-outcome
+returns-in-Some-2-clause-outcome g c = λ given numbers before.
+    let core = rw c.in-Some-2.is at c.in_ok-numbers-in-Some.ensures.core in
+    core given numbers (loaded-trail c.conflicts.self _ given numbers (c.conflicts.invariant.1.loaded given numbers before))
+
+pub returns-in-Some-2-clause-loaded : goal.returns-in-Some-2-clause-loaded
+returns-in-Some-2-clause-loaded g c = λ given numbers before.
+    c.in_ok-numbers-in-Some.ensures.same.loaded given numbers (loaded-trail c.conflicts.self _ given numbers (c.conflicts.invariant.1.loaded given numbers before))
+
+pub returns-in-Some-2-clause-kept : goal.returns-in-Some-2-clause-kept
+returns-in-Some-2-clause-kept g c = λ base keeps.
+    let step = problem-descended _ c.conflicts.self _ c.conflicts.invariant.1 c.in_ok-descend.ensures.size c.in_ok-descend.ensures.kept in
+    c.in_ok-numbers-in-Some.ensures.same.kept base (step.kept base keeps)
+
+pub conflicts-preserved : goal.conflicts-preserved
+conflicts-preserved g c =
+    let step = c.in_ok-numbers-in-Some.ensures in
+    (step.consistent, problem-trans _ _ _ (problem-descended _ c.conflicts.self _ c.conflicts.invariant.1 c.in_ok-descend.ensures.size c.in_ok-descend.ensures.kept) step.same)

@@ -3,7 +3,7 @@ use Rattle.resolvo.specs.ClauseSearches.{IsConsistent, IsSameProblem, learnt_cou
 use Rattle.resolvo.proofs.clause_search.ClauseSearch.run.Given as goal
 
 abbrev pub invariant-conflicts : goal.invariant-conflicts
-invariant-conflicts l = IsConsistent l.self × IsSameProblem l.initial.self l.self
+invariant-conflicts g l = IsConsistent l.self × IsSameProblem l.initial.self l.self
 
 abbrev pub decreases-conflicts : goal.decreases-conflicts
-decreases-conflicts l = l.learnt_limit - learnt_count_of l.self
+decreases-conflicts g l = l.learnt_limit - learnt_count_of l.self

@@ -1,4 +1,4 @@
-use Rattle.std.proofs.Common.{arith, rules}
+use Rattle.std.proofs.Common.{rules}
 use Rattle.resolvo.proofs.solver.Solver.new.Goals as goal
 
 pub returns-clause-sound : goal.returns-clause-sound

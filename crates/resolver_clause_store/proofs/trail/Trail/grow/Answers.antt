@@ -1,0 +1,13 @@
+use Rattle.resolver_clause_store.proofs.GrowLemmas.{AreSame, counted-same, listed-same, placed-same, rising-same, slots-resized}
+use Rattle.resolver_clause_store.proofs.trail.Trail.grow.Goals as goal
+
+same : (c : goal.After-resize) → AreSame c.args.self.now.slots.items c.resize.new.self.items
+same c = record { each = slots-resized _ _ _ _ _ c.requires c.resize.ensures.items }
+
+pub invariant_of-self : goal.invariant_of-self
+invariant_of-self c = record {
+  placed = placed-same _ _ _ (same c) c.args.self.now.placed;
+  listed = listed-same _ _ _ (same c) c.args.self.now.listed;
+  rising = rising-same _ _ (same c) c.args.self.now.rising;
+  counted = counted-same _ _ (same c) c.args.self.now.counted;
+}

@@ -1,0 +1,399 @@
+-- Disjuncts that are put off, taken out and fired.
+use Rattle.std.proofs.Common.{◌≡◌, ◌≢◌, ℕ, zero, suc, ◌+◌, ◌-◌, ◌<◌, ◌≤◌, Bool, true, false, MatchBool, List, [], ◌∷◌, ◌++◌, length, get_or, take, drop, map, refl, ap, sym, ◌∙◌, subst, ⊎_elim, inl, inr, arith, Contains, All, cond}
+use Rattle.std.specs.Prelude.{⊤, Option, Some, None, IfSome, IfNone, count_by, is_some, slice_get, slice_set, ◌||◌}
+use Rattle.std.specs.Option.{option_map}
+use Rattle.std.proofs.lemmas.Bool.{cases_eq, cases_lt}
+use Rattle.std.proofs.lemmas.List.{get_or-drop, length-drop, length-map, map-append}
+use Rattle.std.proofs.lemmas.List.Elements.{All-contains, All-nil, Contains-get_or, Contains-push, Contains-push_cases}
+use Rattle.std.proofs.lemmas.List.Recursion.{is_count_by}
+use Rattle.std.proofs.lemmas.List.Sums.{sum_by-cons, sum_by-set}
+use Rattle.std.proofs.lemmas.Option.{get_or_from_slice_get, none-some, same_Some, slice_get-get_or, slice_get_within}
+use Rattle.resolver_clause_store.specs.Lists.{Meets}
+use Rattle.resolver_clause_store.specs.Universe.{Universe, Demands}
+use Rattle.resolver_clause_store.specs.Candidates.{matching, version_sets}
+use Rattle.resolver_clause_store.specs.declared.VersionSetId.{VersionSetId}
+use Rattle.resolver_clause_store.proofs.PlaceLemmas.{Keeps-same, Keeps-trans, place_cases, place_in, place_of_member}
+use Rattle.resolver_encoding.specs.Called.{IsNamedIn}
+use Rattle.resolver_encoding.specs.Encodings.{IsAskStep, IsEncoding, IsEncodingOf, IsLeft, IsReadStep, IsTrueEntry, IsTrueUnder, Notes}
+use Rattle.resolver_encoding.specs.Groups.{AddsNamed, AreGroups, IsNamed}
+use Rattle.resolver_encoding.specs.Notes.{entry_of}
+use Rattle.resolver_encoding.specs.ReadState.{Deferred, HasClause}
+use Rattle.resolver_encoding.specs.SoFar.{HasFired, HasMet, IsDeferral, IsFiring, IsIndexing, IsQuietAt, IsQuietUnder, IsTakenOut, left_count}
+use Rattle.resolver_encoding.specs.Statements.{AllMeet}
+use Rattle.resolver_encoding.specs.declared.entries.Entry.{Entry}
+use Rattle.resolver_encoding.specs.declared.groups.Groups.{Groups}
+use Rattle.resolver_encoding.proofs.EncodingLemmas.{Extends-push, Extends-same, Extends-trans, IsWithin-same, IsWithin-trans}
+use Rattle.resolver_encoding.proofs.Lists.{Contains-map}
+use Rattle.resolver_encoding.proofs.NoteLemmas.{All-grown_at}
+use Rattle.resolver_encoding.proofs.ReadLemmas.{HasClause-within}
+
+-- what a test says that answers yes, or no
+match_true : (P Q : Type 0) (b : Bool) → b ≡ true → MatchBool b P Q → P
+match_true P Q true is fact = fact
+match_true P Q false is fact = absurd cc
+
+match_false : (P Q : Type 0) (b : Bool) → b ≡ false → MatchBool b P Q → Q
+match_false P Q true is fact = absurd cc
+match_false P Q false is fact = fact
+
+pub met_if : {S : Type 0} (candidates set : List S) (b : Bool) → b ≡ true → MatchBool b (Meets candidates set) (Meets candidates set → ⊥) → Meets candidates set
+met_if candidates set b is fact = match_true (Meets candidates set) (Meets candidates set → ⊥) b is fact
+
+pub unmet_if : {S : Type 0} (candidates set : List S) (b : Bool) → b ≡ false → MatchBool b (Meets candidates set) (Meets candidates set → ⊥) → Meets candidates set → ⊥
+unmet_if candidates set b is fact = match_false (Meets candidates set) (Meets candidates set → ⊥) b is fact
+
+-- a version set that is not met
+pub unmet_at : {N S : Type 0} (u : Universe N S) (set : List S) (list : List VersionSetId) (i : ℕ) (d : VersionSetId) → i < length list → (Meets (matching u (get_or list i d)) set → ⊥) → AllMeet set (map (matching u) list) → ⊥
+unmet_at u set list i d below unmet all =
+    let inside : Contains list (get_or list i d) = Contains-get_or list i d below in
+    unmet (All-contains (λ xs. Meets xs set) (map (matching u) list) (matching u (get_or list i d)) all (Contains-map (matching u) list (get_or list i d) inside))
+
+-- a place of a list from which an element was taken
+kept : {X : Type 0} (xs : List (Option X)) (n i : ℕ) (x : X) → slice_get (slice_set xs n None) i ≡ Some (Some x) → slice_get xs i ≡ Some (Some x)
+kept [] n i x at = at
+kept (y ∷ ys) zero zero x at = absurd (none-some x (same_Some _ _ at))
+kept (y ∷ ys) zero (suc i) x at = at
+kept (y ∷ ys) (suc n) zero x at = at
+kept (y ∷ ys) (suc n) (suc i) x at = kept ys n i x at
+
+stays_there : {X : Type 0} (xs : List (Option X)) (n i : ℕ) (x : Option X) → i ≢ n → slice_get xs i ≡ Some x → slice_get (slice_set xs n None) i ≡ Some x
+stays_there [] n i x differ at = at
+stays_there (y ∷ ys) zero zero x differ at = absurd (differ refl)
+stays_there (y ∷ ys) zero (suc i) x differ at = at
+stays_there (y ∷ ys) (suc n) zero x differ at = at
+stays_there (y ∷ ys) (suc n) (suc i) x differ at = stays_there ys n i x (λ e. differ (ap (λ k. suc k) e)) at
+
+gone : {X : Type 0} (xs : List (Option X)) (n : ℕ) (x : X) → slice_get (slice_set xs n None) n ≡ Some (Some x) → ⊥
+gone [] n x at = none-some (Some x) at
+gone (y ∷ ys) zero x at = none-some x (same_Some _ _ at)
+gone (y ∷ ys) (suc n) x at = gone ys n x at
+
+-- one fewer is left
+fewer : {X : Type 0} (xs : List (Option X)) (n : ℕ) (x : X) → slice_get xs n ≡ Some (Some x) → count_by is_some (slice_set xs n None) < count_by is_some xs
+fewer {X} xs n x at =
+    let one : Option X → ℕ = λ o. cond (is_some o) 1 0 in
+    let there : one (get_or xs n None) ≡ 1 = ap one (get_or_from_slice_get xs n (Some x) None at) in
+    let sums = sum_by-set one xs n None None (slice_get_within xs n (Some x) at) in
+    omega (arith, sums, there)
+
+pub map_set : {X Y : Type 0} (f : X → Y) (xs : List X) (n : ℕ) (x : X) → map f (slice_set xs n x) ≡ slice_set (map f xs) n (f x)
+map_set f [] n x = refl
+map_set f (y ∷ ys) zero x = refl
+map_set f (y ∷ ys) (suc n) x = ap (λ list. f y ∷ list) (map_set f ys n x)
+
+pub get_map : {X Y : Type 0} (f : X → Y) (xs : List X) (n : ℕ) (x : X) → slice_get xs n ≡ Some x → slice_get (map f xs) n ≡ Some (f x)
+get_map f [] n x at = absurd (none-some x at)
+get_map f (y ∷ ys) zero x at = ap (λ z. Some (f z)) (same_Some y x at)
+get_map f (y ∷ ys) (suc n) x at = get_map f ys n x at
+
+-- as many are there as in the view
+pub count_map : {X Y : Type 0} (f : X → Y) (xs : List (Option X)) → count_by is_some (map (option_map f) xs) ≡ count_by is_some xs
+count_map {X} {Y} f xs = is_count_by (λ (list : List (Option X)). count_by is_some (map (option_map f) list)) is_some refl one_more xs
+  where
+    one_more : (o : Option X) (rest : List (Option X)) → count_by is_some (map (option_map f) (o ∷ rest)) ≡ cond (is_some o) (1 + count_by is_some (map (option_map f) rest)) (count_by is_some (map (option_map f) rest))
+    one_more None rest = refl
+    one_more (Some x) rest = sum_by-cons (λ (z : Option Y). cond (is_some z) 1 0) (Some (f x)) (map (option_map f) rest)
+
+-- what is there now of the one that was taken
+pub taken_some : {N S : Type 0} (notes : Notes N S) (items : List (Option (Entry S))) (number : ℕ) (d result after : Option (Entry S)) → notes.deferred ≡ map (option_map entry_of) items → number < length items → result ≡ get_or items number d → after ≡ None →
+    IfSome result (λ entry. IsTakenOut number (entry_of entry) notes (record notes { deferred = map (option_map entry_of) (slice_set items number after) }))
+taken_some notes items number d None after view below is none = tt
+taken_some {N} {S} notes items number d (Some entry) after view below is none =
+    let At : List (Option (Deferred S)) → Type 0 = λ xs. slice_get xs number ≡ Some (Some (entry_of entry)) in
+    let now : map (option_map entry_of) (slice_set items number after) ≡ slice_set notes.deferred number None =
+    ap (λ (a : Option (Entry S)). map (option_map entry_of) (slice_set items number a)) none ∙ map_set (option_map entry_of) items number None ∙ ap (λ (xs : List (Option (Deferred S))). slice_set xs number None) (sym view) in
+    record {
+      was = subst At (sym view) (get_map (option_map entry_of) items number (Some entry) (slice_get-get_or items number d below ∙ ap Some (sym is)));
+      is = λ i. record notes { deferred = now i };
+    }
+
+pub taken_none : {S : Type 0} (items : List (Option (Entry S))) (number : ℕ) (d result : Option (Entry S)) → number < length items → result ≡ get_or items number d →
+    IfNone result ((e : Deferred S) → slice_get (map (option_map entry_of) items) number ≡ Some (Some e) → ⊥)
+taken_none items number d (Some entry) below is = tt
+taken_none items number d None below is = λ e at. none-some e (same_Some _ _ (sym (get_map (option_map entry_of) items number None (slice_get-get_or items number d below ∙ ap Some (sym is))) ∙ at))
+
+pub pushed_entry : {S : Type 0} (old new : List (Option (Entry S))) (entry : Entry S) → new ≡ old ++ Some entry ∷ [] → map (option_map entry_of) new ≡ map (option_map entry_of) old ++ Some (entry_of entry) ∷ []
+pushed_entry {S} old new entry is = ap (λ (xs : List (Option (Entry S))). map (option_map entry_of) xs) is ∙ map-append (option_map entry_of) old (Some entry ∷ [])
+
+module _ {N S : Type 0} (u : Universe N S) (set : List S) (notes : Notes N S) (items : List (Option (Entry S))) (view : notes.deferred ≡ map (option_map entry_of) items) (number : ℕ) where
+  seen_at : (o : Option (Entry S)) → slice_get items number ≡ Some o → slice_get notes.deferred number ≡ Some (option_map entry_of o)
+  seen_at o at = let At : List (Option (Deferred S)) → Type 0 = λ xs. slice_get xs number ≡ Some (option_map entry_of o) in subst At (sym view) (get_map (option_map entry_of) items number o at)
+
+  -- whether a disjunct that is put off is due
+  pub due_of : (entry : Entry S) (b : Bool) → slice_get items number ≡ Some (Some entry) → MatchBool b (AllMeet set (map (matching u) entry.disjunct.items)) (AllMeet set (map (matching u) entry.disjunct.items) → ⊥) → MatchBool b (HasMet u set notes number) (IsQuietAt u set notes number)
+  due_of entry true at met = record { entry = entry_of entry; is = seen_at (Some entry) at; met = met }
+  due_of entry false at unmet = record {
+    quiet = λ e there met.
+        let Met : Deferred S → Type 0 = λ x. AllMeet set (map (matching u) x.disjunct) in
+        unmet (subst Met (same_Some _ _ (same_Some _ _ (sym there ∙ seen_at (Some entry) at))) met);
+  }
+
+  pub quiet_taken : slice_get items number ≡ Some None → IsQuietAt u set notes number
+  quiet_taken at = record { quiet = λ e there met. none-some e (same_Some _ _ (sym (seen_at None at) ∙ there)) }
+
+  pub quiet_past : slice_get items number ≡ None → IsQuietAt u set notes number
+  quiet_past at = record {
+    quiet = λ e there met.
+        let within : number < length notes.deferred = slice_get_within notes.deferred number (Some e) there in
+        let same : length notes.deferred ≡ length items = ap length view ∙ length-map items (option_map entry_of) in
+        let d : Option (Entry S) = None in
+        none-some (get_or items number d) (sym at ∙ slice_get-get_or items number d (omega (arith, within, same)));
+  }
+
+module _ {N S : Type 0} (u : Universe N S) where
+  pub IsIndexing-same : (number : ℕ) (notes : Notes N S) → IsIndexing u number [] notes notes
+  IsIndexing-same number notes = record { waiting = notes.waiting; is = refl; sound = λ h. h; earlier = λ h n i m. m; here = λ h. All-nil (λ v. IsNamed notes.waiting (u.version_set_name v) number) }
+
+  -- the package of one more version set
+  pub IsIndexing-more : (number : ℕ) (list : List VersionSetId) (i : ℕ) (d : VersionSetId) (old mid new : Notes N S) (n : N) → n ≡ u.version_set_name (get_or list i d) → i < length list → IsIndexing u number (take i list) old mid →
+      (AreGroups mid.waiting → AddsNamed mid.waiting new.waiting n number) → new ≡ record mid { waiting = new.waiting } → IsIndexing u number (take (i + 1) list) old new
+  IsIndexing-more number list i d old mid new n named below before adds is =
+      let same : mid.waiting ≡ before.waiting = ap (λ (m : Notes N S). m.waiting) before.is in
+      let Sound : Groups N ℕ → Type 0 = λ g. AreGroups g in
+      let ready : AreGroups old.waiting → AreGroups mid.waiting = λ h. subst Sound (sym same) (before.sound h) in
+      let Here : Groups N ℕ → Type 0 = λ g. All (λ v. IsNamed g (u.version_set_name v) number) (take i list) in
+      let Named : N → Type 0 = λ m. IsNamed new.waiting m number in
+      record {
+        waiting = new.waiting;
+        is = is ∙ ap (λ (m : Notes N S). record m { waiting = new.waiting }) before.is;
+        sound = λ h. (adds (ready h)).sound;
+        earlier = λ h m k at. let Is : Groups N ℕ → Type 0 = λ g. IsNamed g m k in (adds (ready h)).earlier m k (subst Is (sym same) (before.earlier h m k at));
+        here = λ h. All-grown_at (λ v. IsNamed mid.waiting (u.version_set_name v) number) (λ v. IsNamed new.waiting (u.version_set_name v) number) list i d
+            (λ v at. (adds (ready h)).earlier (u.version_set_name v) number at) below (subst Here (sym same) (before.here h)) (subst Named named (adds (ready h)).here);
+      }
+
+  pub IsDeferral-from : (number : ℕ) (e : Deferred S) (old mid new : Notes N S) → number ≡ length old.deferred → IsIndexing u number e.disjunct old mid → new ≡ record mid { deferred = mid.deferred ++ Some e ∷ [] } → IsDeferral u e old new
+  IsDeferral-from number e old mid new last before is =
+      let Here : ℕ → Type 0 = λ k. All (λ v. IsNamed before.waiting (u.version_set_name v) k) e.disjunct in
+      record {
+        waiting = before.waiting;
+        is = is ∙ ap (λ (m : Notes N S). record m { deferred = m.deferred ++ Some e ∷ [] }) before.is;
+        sound = before.sound;
+        earlier = before.earlier;
+        here = λ h. subst Here last (before.here h);
+      }
+
+  -- an encoding with other disjuncts that are put off
+  encoding_deferred : (root : Demands) (old : Notes N S) (deferred : List (Option (Deferred S))) (waiting : Groups N ℕ) → IsEncoding u root old → ((e : Deferred S) → Contains deferred (Some e) → IsTrueEntry u root e) →
+      ((i : ℕ) (e : Deferred S) → slice_get deferred i ≡ Some (Some e) → (v : VersionSetId) → Contains e.disjunct v → IsNamed waiting (u.version_set_name v) i) → AreGroups waiting →
+      IsEncoding u root (record old { deferred = deferred; waiting = waiting })
+  encoding_deferred root old deferred waiting before left_true indexed sound = record {
+    root_first = before.root_first;
+    distinct = before.distinct;
+    encoded = before.encoded;
+    codes = before.codes;
+    own_codes = before.own_codes;
+    each_true = before.each_true;
+    each_usual = before.each_usual;
+    due = before.due;
+    installs = before.installs;
+    listed = before.listed;
+    ask = before.ask;
+    helpers = before.helpers;
+    packages = before.packages;
+    candidates = before.candidates;
+    once = before.once;
+    gate_packages = before.gate_packages;
+    gate_candidates = before.gate_candidates;
+    gated = before.gated;
+    excluded = before.excluded;
+    follow = before.follow;
+    locks = before.locks;
+    exclusions = before.exclusions;
+    registered = before.registered;
+    placed = before.placed;
+    coding = before.coding;
+    coded = before.coded;
+    digits = before.digits;
+    sound_groups = before.sound_groups;
+    grouped = before.grouped;
+    members = before.members;
+    left_true = left_true;
+    indexed = indexed;
+    sound_waiting = sound;
+  }
+
+  -- it is put off from then on
+  pub deferral_left : (e : Deferred S) (old new : Notes N S) → IsDeferral u e old new → IsLeft new e
+  deferral_left e old new deferral =
+      let Left : Notes N S → Type 0 = λ n. IsLeft n e in
+      subst Left (sym deferral.is) (Contains-push old.deferred (Some e))
+
+  -- one more disjunct is put off
+  pub IsReadStep-deferral : (Defers : Deferred S → Type 0) (Called : N → Type 0) (Premise : Demands → Type 0) (e : Deferred S) (old new : Notes N S) → IsDeferral u e old new → Defers e → ((root : Demands) → Premise root → IsTrueEntry u root e) →
+      IsReadStep u Defers Called Premise old new
+  IsReadStep-deferral Defers Called Premise e old new deferral defers is_true =
+      let Step : Notes N S → Type 0 = λ n. IsReadStep u Defers Called Premise old n in
+      subst Step (sym deferral.is) (record {
+        origins = Keeps-same old.origins;
+        table = Extends-same old.table;
+        kinds = IsWithin-same old.kinds;
+        requirements = Extends-same old.requirements;
+        asked = IsWithin-same old.asked;
+        called = λ n h. inl h;
+        read = refl;
+        deferred = Extends-push old.deferred (Some e);
+        defers = λ x h. ⊎_elim (λ (earlier : IsLeft old x). inl earlier) (λ (is : Some e ≡ Some x). inr (subst Defers (same_Some e x is) defers)) (Contains-push_cases old.deferred (Some e) (Some x) h);
+        exempt = refl;
+        keeps = λ root premise before. encoding_deferred root old (old.deferred ++ Some e ∷ []) deferral.waiting before
+            (λ x h.
+            let True : Deferred S → Type 0 = λ y. IsTrueEntry u root y in
+            ⊎_elim (λ (earlier : IsLeft old x). before.left_true x earlier) (λ (is : Some e ≡ Some x). subst True (same_Some e x is) (is_true root premise)) (Contains-push_cases old.deferred (Some e) (Some x) h))
+            (λ i x at v h.
+            let Has : Deferred S → Type 0 = λ y. Contains y.disjunct v in
+            let Named : ℕ → Type 0 = λ k. IsNamed deferral.waiting (u.version_set_name v) k in
+            ⊎_elim
+            (λ (earlier : slice_get old.deferred i ≡ Some (Some x)). deferral.earlier before.sound_waiting (u.version_set_name v) i (before.indexed i x earlier v h))
+            (λ (last : (i ≡ length old.deferred) × (Some e ≡ Some x)).
+            subst Named (sym last.0) (All-contains (λ w. IsNamed deferral.waiting (u.version_set_name w) (length old.deferred)) e.disjunct v (deferral.here before.sound_waiting) (subst Has (sym (same_Some e x last.1)) h)))
+            (place_cases old.deferred (Some e) i (Some x) at))
+            (deferral.sound before.sound_waiting);
+      })
+
+  -- fewer disjuncts are left
+  pub IsEncoding-taken : (root : Demands) (number : ℕ) (e : Deferred S) (old mid : Notes N S) → IsTakenOut number e old mid → IsEncoding u root old → IsEncoding u root mid
+  IsEncoding-taken root number e old mid out before =
+      let Right : Notes N S → Type 0 = λ n. IsEncoding u root n in
+      subst Right (sym out.is) (encoding_deferred root old (slice_set old.deferred number None) old.waiting before
+      (λ x h. let at = place_of_member (slice_set old.deferred number None) (Some x) h in before.left_true x (place_in old.deferred at.0 (Some x) (kept old.deferred number at.0 x at.1)))
+      (λ i x at. before.indexed i x (kept old.deferred number i x at))
+      before.sound_waiting)
+
+  module _ (set : List S) where
+    pub IsFiring-same : (notes : Notes N S) → IsFiring u set notes notes
+    IsFiring-same notes = record {
+      origins = Keeps-same notes.origins;
+      table = Extends-same notes.table;
+      kinds = IsWithin-same notes.kinds;
+      requirements = Extends-same notes.requirements;
+      asked = IsWithin-same notes.asked;
+      called = λ n h. inl h;
+      read = refl;
+      waiting = refl;
+      stays = λ i e at. at;
+      taken = λ i e at. inl at;
+      exempt = refl;
+      keeps = λ root before. before;
+    }
+
+    pub IsFiring-trans : (one two three : Notes N S) → IsFiring u set one two → IsFiring u set two three → IsFiring u set one three
+    IsFiring-trans one two three first second = record {
+      origins = Keeps-trans one.origins two.origins three.origins first.origins second.origins;
+      table = Extends-trans one.table two.table three.table first.table second.table;
+      kinds = IsWithin-trans one.kinds two.kinds three.kinds first.kinds second.kinds;
+      requirements = Extends-trans one.requirements two.requirements three.requirements first.requirements second.requirements;
+      asked = IsWithin-trans one.asked two.asked three.asked first.asked second.asked;
+      called = λ n h. ⊎_elim
+          (λ (earlier : Contains two.asked n). first.called n earlier)
+          (λ (later : (e : Deferred S) × IsLeft two e × AllMeet set (map (matching u) e.disjunct) × IsNamedIn u (version_sets u e.requirement) n).
+          let at = place_of_member two.deferred (Some later.0) later.1 in
+          inr (later.0, place_in one.deferred at.0 (Some later.0) (first.stays at.0 later.0 at.1), later.2, later.3))
+          (second.called n h);
+      read = second.read ∙ first.read;
+      waiting = second.waiting ∙ first.waiting;
+      stays = λ i e at. first.stays i e (second.stays i e at);
+      taken = λ i e at. ⊎_elim
+          (λ (there : slice_get two.deferred i ≡ Some (Some e)). second.taken i e there)
+          (λ (fired : AllMeet set (map (matching u) e.disjunct) × HasClause two.kinds e.by e.disjunct e.requirement). inr (fired.0, HasClause-within u two.kinds three.kinds second.kinds e.by e.disjunct e.requirement fired.1))
+          (first.taken i e at);
+      exempt = second.exempt ∙ first.exempt;
+      keeps = λ root before. second.keeps root (first.keeps root before);
+    }
+
+    -- the disjunct at hand was met
+    pub met_entry : (number : ℕ) (e : Deferred S) (old mid : Notes N S) → HasMet u set old number → IsTakenOut number e old mid → AllMeet set (map (matching u) e.disjunct)
+    met_entry number e old mid has out =
+        let Met : Deferred S → Type 0 = λ x. AllMeet set (map (matching u) x.disjunct) in
+        subst Met (same_Some _ _ (same_Some _ _ (sym has.is ∙ out.was))) has.met
+
+    module _ (number : ℕ) (e : Deferred S) (old mid new : Notes N S) (out : IsTakenOut number e old mid) (step : IsAskStep u (IsNamedIn u (version_sets u e.requirement)) (IsTrueUnder u e.by e.disjunct e.requirement) mid new) where
+      left_now : new.deferred ≡ slice_set old.deferred number None
+      left_now = step.deferred ∙ ap (λ (n : Notes N S). n.deferred) out.is
+
+      pub fired_fewer : HasFired old new true
+      fired_fewer =
+          let Fewer : List (Option (Deferred S)) → Type 0 = λ xs. count_by is_some xs < count_by is_some old.deferred in
+          subst Fewer (sym left_now) (fewer old.deferred number e out.was)
+
+      pub fired_quiet : IsQuietAt u set new number
+      fired_quiet = record { quiet = λ x at met. let At : List (Option (Deferred S)) → Type 0 = λ xs. slice_get xs number ≡ Some (Some x) in gone old.deferred number x (subst At left_now at) }
+
+      -- a disjunct was taken out, and its requirement encoded
+      pub IsFiring-taken : AllMeet set (map (matching u) e.disjunct) → HasClause new.kinds e.by e.disjunct e.requirement → IsFiring u set old new
+      IsFiring-taken met clause =
+          let Step : Notes N S → Type 0 = λ n. IsAskStep u (IsNamedIn u (version_sets u e.requirement)) (IsTrueUnder u e.by e.disjunct e.requirement) n new in
+          let plain = subst Step out.is step in
+          record {
+            origins = plain.origins;
+            table = plain.table;
+            kinds = plain.kinds;
+            requirements = plain.requirements;
+            asked = plain.asked;
+            called = λ n h. ⊎_elim (λ (earlier : Contains old.asked n). inl earlier) (λ (named : IsNamedIn u (version_sets u e.requirement) n). inr (e, place_in old.deferred number (Some e) out.was, met, named)) (plain.called n h);
+            read = plain.read;
+            waiting = plain.waiting;
+            stays = λ i x at. let At : List (Option (Deferred S)) → Type 0 = λ xs. slice_get xs i ≡ Some (Some x) in kept old.deferred number i x (subst At left_now at);
+            taken = λ i x at.
+                let At : List (Option (Deferred S)) → Type 0 = λ xs. slice_get xs i ≡ Some (Some x) in
+                let Fired : Deferred S → Type 0 = λ y. AllMeet set (map (matching u) y.disjunct) × HasClause new.kinds y.by y.disjunct y.requirement in
+                ⊎_elim
+                (λ (same : i ≡ number).
+                let is : e ≡ x = same_Some e x (same_Some _ _ (sym out.was ∙ ap (λ k. slice_get old.deferred k) (sym same) ∙ at)) in
+                inr (subst Fired is (met, clause)))
+                (λ (differ : i ≢ number). inl (subst At (sym left_now) (stays_there old.deferred number i (Some x) differ at)))
+                (cases_eq i number);
+            exempt = plain.exempt;
+            keeps = λ root before. step.keeps root (before.left_true e (place_in old.deferred number (Some e) out.was)).is_true (IsEncoding-taken root number e old mid out before);
+          }
+
+    module _ (old new : Notes N S) (firing : IsFiring u set old new) where
+      -- what is quiet stays quiet
+      pub IsQuietAt-kept : (i : ℕ) → IsQuietAt u set old i → IsQuietAt u set new i
+      IsQuietAt-kept i before = record { quiet = λ e at. before.quiet e (firing.stays i e at) }
+
+      pub IsQuietUnder-kept : (n : N) → IsQuietUnder u set old n → IsQuietUnder u set new n
+      IsQuietUnder-kept n before = record { quiet = λ i named. let Named : Groups N ℕ → Type 0 = λ g. IsNamed g n i in IsQuietAt-kept i (before.quiet i (subst Named firing.waiting named)) }
+
+      -- all of a group are
+      pub IsQuietUnder-all : (n : N) (numbers : List ℕ) → ((i : ℕ) → IsNamed old.waiting n i → Contains numbers i) → All (IsQuietAt u set new) numbers → IsQuietUnder u set new n
+      IsQuietUnder-all n numbers every quiet = record { quiet = λ i named. let Named : Groups N ℕ → Type 0 = λ g. IsNamed g n i in All-contains (IsQuietAt u set new) numbers i quiet (every i (subst Named firing.waiting named)) }
+
+      pub groups_kept : AreGroups old.waiting → AreGroups new.waiting
+      groups_kept sound = let Sound : Groups N ℕ → Type 0 = λ g. AreGroups g in subst Sound (sym firing.waiting) sound
+
+      pub IsEncodingOf-fired : IsEncodingOf u (λ root. ⊤) old → IsEncodingOf u (λ root. ⊤) new
+      IsEncodingOf-fired before = record { root = before.root; premise = tt; encoding = firing.keeps before.root before.encoding }
+
+  -- all that wait for the package of a solvable between these places
+  pub record AreQuiet (set : List S) (notes : Notes N S) (from place : ℕ) : Type 0 where
+    pub each : (k : ℕ) (s : S) → from ≤ k → k < place → slice_get set k ≡ Some s → IsQuietUnder u set notes (u.name s)
+
+  pub AreQuiet-none : (set : List S) (notes : Notes N S) (from : ℕ) → AreQuiet set notes from from
+  AreQuiet-none set notes from = record { each = λ k s low high. absurd (omega (arith, low, high)) }
+
+  pub AreQuiet-more : (set : List S) (old new : Notes N S) (from place : ℕ) (s : S) → IsFiring u set old new → slice_get set place ≡ Some s → AreQuiet set old from place → IsQuietUnder u set new (u.name s) → AreQuiet set new from (place + 1)
+  AreQuiet-more set old new from place s firing at before here = record {
+    each = λ k t low high is. ⊎_elim
+        (λ (same : k ≡ place).
+        let Quiet : S → Type 0 = λ r. IsQuietUnder u set new (u.name r) in
+        subst Quiet (same_Some s t (sym at ∙ ap (λ j. slice_get set j) (sym same) ∙ is)) here)
+        (λ (differ : k ≢ place). IsQuietUnder-kept set old new firing (u.name t) (before.each k t low (below_of k place high differ) is))
+        (cases_eq k place);
+  }
+    where
+      below_of : (k n : ℕ) → k < n + 1 → k ≢ n → k < n
+      below_of k n high differ = ⊎_elim (λ (less : k < n). less) (λ (more : n ≤ k). absurd (differ (omega (arith, high, more)))) (cases_lt k n)
+
+  pub AreQuiet-done : (set : List S) (notes : Notes N S) (from place : ℕ) → length set ≤ place → AreQuiet set notes from place → All (λ s. IsQuietUnder u set notes (u.name s)) (drop from set)
+  AreQuiet-done set notes from place end all k d below =
+      let Quiet : S → Type 0 = λ s. IsQuietUnder u set notes (u.name s) in
+      let shorter : length (drop from set) ≡ length set - from = length-drop from set in
+      let inside : from + k < length set = omega (arith, shorter, below) in
+      subst Quiet (sym (get_or-drop from set k d)) (all.each (from + k) (get_or set (from + k) d) (omega arith) (omega (arith, inside, end)) (slice_get-get_or set (from + k) d inside))
+
+-- after one reading and another
+pub HasFired-trans : {N S : Type 0} (one two three : Notes N S) (a b : Bool) → HasFired one two a → HasFired two three b → HasFired one three (a || b)
+HasFired-trans one two three true true first second = omega (arith, first, second)
+HasFired-trans {N} {S} one two three true false first second = let Fewer : Notes N S → Type 0 = λ n. left_count n < left_count one in subst Fewer (sym second) first
+HasFired-trans {N} {S} one two three false true first second = let Fewer : Notes N S → Type 0 = λ n. left_count three < left_count n in subst Fewer first second
+HasFired-trans one two three false false first second = second ∙ first

@@ -1,0 +1,307 @@
+-- A solvable gets its code, and is then noted.
+use Rattle.std.proofs.Common.{◌≡◌, ◌≢◌, ℕ, ◌+◌, ◌-◌, ◌^◌, ◌<◌, ◌≤◌, length, List, [], ◌∷◌, ◌++◌, arith, refl, sym, ap, ◌∙◌, subst, ⊎_elim, inl, inr, Contains, All, Bool, true, false, get_or}
+use Rattle.std.specs.Prelude.{Some, slice_get, map, ⊤}
+use Rattle.std.proofs.lemmas.Bool.{cases_Bool, cases_eq}
+use Rattle.std.proofs.lemmas.Option.{slice_get-get_or}
+use Rattle.std.proofs.lemmas.List.Elements.{All-contains, Contains-append_left, Contains-get_or, Contains-push, Contains-push_cases}
+use Rattle.resolver_clause_store.specs.Laws.{IsIdentity}
+use Rattle.resolver_clause_store.specs.Lists.{IsWithin}
+use Rattle.resolver_clause_store.specs.Universe.{Universe, Demands}
+use Rattle.resolver_clause_store.specs.declared.ClauseKind.{ClauseKind}
+use Rattle.resolver_clause_store.specs.declared.ClauseKind.TheVariants.{InstallRoot, Requires, AnyOf, GateRequires, Constrains, ForbidMultipleInstances, ConstrainsExcluded, ConstrainsParent, HasBit, Lock, Excluded}
+use Rattle.resolver_clause_store.specs.declared.Origin.TheVariants.{Root, Solvable, Bit, Gate, ConstraintHelper, ConditionHelper}
+use Rattle.resolver_clause_store.proofs.PlaceLemmas.{place_in}
+use Rattle.resolver_encoding.specs.Codes.{bit}
+use Rattle.resolver_encoding.specs.Encodings.{AddsClause, Coding, HasUsualHelper, IsEncoding, IsEncodingWhile, IsStep, IsStepWhile, Notes, coding_for}
+use Rattle.resolver_encoding.specs.Groups.{AddsNamed, AreGroups, IsAt, IsNamed}
+use Rattle.resolver_encoding.specs.declared.groups.Groups.{Groups}
+use Rattle.resolver_encoding.specs.Truth.{AreCodes, IsTrueClause}
+use Rattle.resolver_encoding.proofs.EncodingLemmas.{Extends-push, Extends-trans, IsClauseOf-zip, IsStep-clause}
+use Rattle.resolver_encoding.proofs.GroupLemmas.{named_of_number, number_is}
+use Rattle.resolver_encoding.proofs.Lists.{cons_cases, here, none_in}
+use Rattle.resolver_encoding.proofs.CodeLemmas.{no_digit, pow_same}
+use Rattle.resolver_encoding.proofs.NoteLemmas.{IsStep-plain, asks_not}
+use Rattle.resolver_encoding.specs.Atoms.{atoms_of}
+
+-- the first where the test says so, and else the second
+abbrev pick : Bool → Bool → Bool → Bool
+pick true a b = a
+pick false a b = b
+
+pick_first : (test a b : Bool) → test ≡ true → pick test a b ≡ a
+pick_first true a b e = refl
+pick_first false a b e = absurd cc
+
+pick_second : (test a b : Bool) → test ≡ false → pick test a b ≡ b
+pick_second true a b e = absurd cc
+pick_second false a b e = refl
+
+pub place_of_item : {X : Type 0} (xs : List X) (i : ℕ) (x : X) → i < length xs → x ≡ get_or xs i x → slice_get xs i ≡ Some x
+place_of_item xs i x below is = slice_get-get_or xs i x below ∙ ap Some (sym is)
+
+-- each one of a list has the digit that begins with the number
+pub digit_begun : {N S : Type 0} (kinds : List (ClauseKind N S)) (n : N) (list : List S) (number index i k : ℕ) (t : S) → All (λ r. Contains kinds (HasBit n r index false)) list → number ≡ 2 ^ index → number ≡ 2 ^ i →
+    slice_get list k ≡ Some t → k < number → Contains kinds (HasBit n t i (bit k i))
+digit_begun {N} {S} kinds n list number index i k t all one other at below =
+    let Has : ℕ → Bool → Type 0 = λ j b. Contains kinds (HasBit n t j b) in
+    let same : index ≡ i = pow_same index i (sym one ∙ other) in
+    subst (λ b. Has i b) (sym (no_digit k i (omega (arith, below, other)))) (subst (λ j. Has j false) same (All-contains (λ r. Contains kinds (HasBit n r index false)) list t all (place_in list k t at)))
+
+-- one more digit has its clause
+pub more_digits : {N S : Type 0} (kinds more : List (ClauseKind N S)) (n : N) (k : ℕ) (s : S) (count : ℕ) (b : Bool) → IsWithin kinds more → ((i : ℕ) → i < count → Contains kinds (HasBit n s i (bit k i))) →
+    b ≡ bit k count → Contains more (HasBit n s count b) → (i : ℕ) → i < count + 1 → Contains more (HasBit n s i (bit k i))
+more_digits {N} {S} kinds more n k s count b within before is added i below =
+    let Has : ℕ → Bool → Type 0 = λ j d. Contains more (HasBit n s j d) in
+    ⊎_elim
+    (λ (same : i ≡ count). subst (λ j. Has j (bit k j)) (sym same) (subst (λ d. Has count d) is added))
+    (λ (differ : i ≢ count). within _ (before i (omega (arith, below, differ))))
+    (cases_eq i count)
+
+module _ {N S : Type 0} (u : Universe N S) where
+  module _ (same_name : N → N → Bool) (same_solvable : S → S → Bool) (names : IsIdentity same_name) (solvables : IsIdentity same_solvable) (n : N) (k : ℕ) (s : S) where
+    -- the codes, with one for one more solvable
+    abbrev coded_also : (N → ℕ → S → Bool) → N → ℕ → S → Bool
+    coded_also codes m i t = pick (same_name m n) (pick (same_solvable t s) (bit k i) (codes m i t)) (codes m i t)
+
+    coded_here : (codes : N → ℕ → S → Bool) (i : ℕ) → coded_also codes n i s ≡ bit k i
+    coded_here codes i = pick_first (same_name n n) _ _ (names.itself n) ∙ pick_first (same_solvable s s) _ _ (solvables.itself s)
+
+    coded_as_before : (codes : N → ℕ → S → Bool) (m : N) (i : ℕ) (t : S) → (t ≡ s → ⊥) → coded_also codes m i t ≡ codes m i t
+    coded_as_before codes m i t differ =
+        let other : same_solvable t s ≡ false = ⊎_elim (λ (e : same_solvable t s ≡ true). absurd (differ (solvables.alone t s e))) (λ (e : same_solvable t s ≡ false). e) (cases_Bool (same_solvable t s)) in
+        ⊎_elim
+        (λ (e : same_name m n ≡ true). pick_first (same_name m n) _ _ e ∙ pick_second (same_solvable t s) _ _ other)
+        (λ (e : same_name m n ≡ false). pick_second (same_name m n) _ _ e)
+        (cases_Bool (same_name m n))
+
+    coded_own : (codes : N → ℕ → S → Bool) → u.name s ≡ n → AreCodes u codes → AreCodes u (coded_also codes)
+    coded_own codes name own = record {
+      named = λ m i t is. ⊎_elim
+          (λ (at : same_name m n ≡ true). ⊎_elim
+          (λ (of_s : same_solvable t s ≡ true). ap u.name (solvables.alone t s of_s) ∙ name ∙ sym (names.alone m n at))
+          (λ (other : same_solvable t s ≡ false). own.named m i t (sym (pick_first (same_name m n) _ _ at ∙ pick_second (same_solvable t s) _ _ other) ∙ is))
+          (cases_Bool (same_solvable t s)))
+          (λ (apart : same_name m n ≡ false). own.named m i t (sym (pick_second (same_name m n) _ _ apart) ∙ is))
+          (cases_Bool (same_name m n));
+    }
+
+    -- a clause that says nothing of the solvable's bits is still true
+    still_true : (codes : N → ℕ → S → Bool) (root : Demands) (kind : ClauseKind N S) → HasUsualHelper kind → ((m : N) (t : S) (i : ℕ) (b : Bool) → kind ≡ HasBit m t i b → t ≡ s → ⊥) → IsTrueClause u codes root kind → IsTrueClause u (coded_also codes) root kind
+    still_true codes root InstallRoot usual apart h = tt
+    still_true codes root (Requires by disjunct r) usual apart h = h
+    still_true codes root (AnyOf (ConditionHelper v) t) usual apart h = h
+    still_true codes root (AnyOf (Gate r) t) usual apart h = h
+    still_true codes root (AnyOf Root t) usual apart h = absurd usual
+    still_true codes root (AnyOf (Solvable r) t) usual apart h = absurd usual
+    still_true codes root (AnyOf (Bit m i) t) usual apart h = absurd usual
+    still_true codes root (AnyOf (ConstraintHelper v) t) usual apart h = absurd usual
+    still_true codes root (Constrains by v t) usual apart h = h
+    still_true codes root (ForbidMultipleInstances m t r) usual apart h = h
+    still_true codes root (GateRequires r) usual apart h = tt
+    still_true codes root (ConstrainsExcluded t v) usual apart h = h
+    still_true codes root (ConstrainsParent by v) usual apart h = h
+    still_true codes root (HasBit m t i b) usual apart h = (h.0, coded_as_before codes m i t (apart m t i b refl) ∙ h.1)
+    still_true codes root (Lock t r) usual apart h = h
+    still_true codes root (Excluded t reason) usual apart h = h
+
+    -- a solvable that is going to get its code
+    pub coding_opened : (root : Demands) (old : Notes N S) → u.name s ≡ n → (Contains old.seen s → ⊥) → IsEncoding u root old → IsEncodingWhile u (coding_for n k s) root old
+    coding_opened root old name absent start =
+        let Seen : S → Type 0 = λ t. Contains old.seen t in
+        record {
+          root_first = start.root_first;
+          distinct = start.distinct;
+          encoded = start.encoded;
+          codes = coded_also start.codes;
+          own_codes = coded_own start.codes name start.own_codes;
+          each_true = λ p d below.
+              let inside = Contains-get_or old.kinds p d below in
+              still_true start.codes root (get_or old.kinds p d) (start.each_usual p d below)
+              (λ m t i b is same.
+              let Has : ClauseKind N S → Type 0 = λ q. Contains old.kinds q in
+              ⊎_elim
+              (λ (seen : Contains old.seen t). absent (subst Seen same seen))
+              (λ (none : Contains (map (λ (c : Coding N S). c.instance) []) t). none_in t none)
+              (start.coded m t i b (subst Has is inside)))
+              (start.each_true p d below);
+          each_usual = start.each_usual;
+          due = start.due;
+          installs = start.installs;
+          listed = start.listed;
+          ask = start.ask;
+          helpers = start.helpers;
+          packages = start.packages;
+          candidates = start.candidates;
+          once = start.once;
+          gate_packages = start.gate_packages;
+          gate_candidates = start.gate_candidates;
+          gated = start.gated;
+          excluded = start.excluded;
+          follow = start.follow;
+          locks = start.locks;
+          exclusions = start.exclusions;
+          registered = start.registered;
+          placed = λ m j t at i.
+              let member = start.members m t (named_of_number old.groups m j t at) in
+              coded_as_before start.codes m i t (λ same. absent (subst Seen same member.1)) ∙ start.placed m j t at i;
+          coding = λ c h i. ⊎_elim
+              (λ (is : record { name = n; number = k; instance = s } ≡ c).
+              let Coded : Coding N S → Type 0 = λ q. coded_also start.codes q.name i q.instance ≡ bit q.number i in
+              subst Coded is (coded_here start.codes i))
+              (λ (none : Contains [] c). absurd (none_in c none))
+              (cons_cases (record { name = n; number = k; instance = s }) [] c h);
+          coded = λ m t i b h. ⊎_elim
+              (λ (seen : Contains old.seen t). inl seen)
+              (λ (none : Contains (map (λ (c : Coding N S). c.instance) []) t). absurd (none_in t none))
+              (start.coded m t i b h);
+          digits = start.digits;
+          sound_groups = start.sound_groups;
+          grouped = start.grouped;
+          members = start.members;
+          left_true = start.left_true;
+          indexed = start.indexed;
+          sound_waiting = start.sound_waiting;
+        }
+
+    -- one more clause of the solvable's code
+    pub IsStep-own : (old new : Notes N S) (i : ℕ) (b : Bool) → AddsClause old new (HasBit n s i b) (atoms_of u (HasBit n s i b)) → u.name s ≡ n → b ≡ bit k i → IsStepWhile u (coding_for n k s) (λ root. ⊤) old new
+    IsStep-own old new i b adds name is =
+        let one : Coding N S = record { name = n; number = k; instance = s } in
+        IsStep-plain u (coding_for n k s) (λ root. ⊤) old new (HasBit n s i b) adds tt
+        (λ root _ before codes has. (name, has.coding one (here one []) i ∙ sym is)) tt tt (inr (here s []))
+
+    -- an earlier one has the digit that begins with the solvable's number, and it is not set
+    pub IsStep-begun : (old new : Notes N S) (i j : ℕ) (t : S) → AddsClause old new (HasBit n t i false) (atoms_of u (HasBit n t i false)) → k ≡ 2 ^ i → (AreGroups old.groups → j < k) → IsAt old.groups n j t → IsStepWhile u (coding_for n k s) (λ root. ⊤) old new
+    IsStep-begun old new i j t adds begins below at =
+        let kind : ClauseKind N S = HasBit n t i false in
+        IsStep-clause u (coding_for n k s) (λ root. ⊤) old new kind (atoms_of u kind) adds (asks_not kind tt)
+        (λ root _ before.
+        let member = before.members n t (named_of_number old.groups n j t at) in
+        let less : j < 2 ^ i = omega (arith, begins, below before.sound_groups) in
+        record {
+          clause = IsClauseOf-zip u new.origins adds.literals.items kind adds.are;
+          is_true = λ codes has. (member.0, has.placed n j t at i ∙ no_digit j i less);
+          usual = tt;
+          due = tt;
+          prepared = inl member.1;
+        })
+
+    -- A solvable gets its code while no others come, and is then noted. The list has those of its name, by their numbers.
+    pub IsStep-seen : (old mid new : Notes N S) (groups : Groups N S) (list : List S) → u.name s ≡ n → (Contains old.seen s → ⊥) →
+        IsStepWhile u (coding_for n k s) (λ root. ⊤) old mid → mid.groups ≡ old.groups → mid.seen ≡ old.seen → new ≡ record mid { seen = mid.seen ++ s ∷ []; groups = groups } →
+        (AreGroups mid.groups → AddsNamed mid.groups groups n s) → Contains mid.origins (Solvable s) →
+        ((j : ℕ) (t : S) → slice_get list j ≡ Some t → IsAt old.groups n j t) → (AreGroups old.groups → (j : ℕ) (t : S) → IsAt old.groups n j t → slice_get list j ≡ Some t) → k ≡ length list →
+        ((i : ℕ) → 2 ^ i ≤ k → Contains mid.kinds (HasBit n s i (bit k i))) → ((i : ℕ) → k ≡ 2 ^ i → AreGroups old.groups → (j : ℕ) (t : S) → IsAt old.groups n j t → Contains mid.kinds (HasBit n t i (bit j i))) → IsStep u (λ root. ⊤) old new
+    IsStep-seen old mid new groups list name absent step same_groups same_seen e adds has each every count own begun =
+        let Step : Notes N S → Type 0 = λ m. IsStep u (λ root. ⊤) old m in
+        subst Step (sym e) (record {
+          origins = step.origins;
+          table = step.table;
+          kinds = step.kinds;
+          requirements = step.requirements;
+          seen = Extends-trans old.seen mid.seen (mid.seen ++ s ∷ []) step.seen (Extends-push mid.seen s);
+          asked = step.asked;
+          helped = step.helped;
+          gates = step.gates;
+          constrained = step.constrained;
+          read = step.read;
+          deferred = step.deferred;
+          waiting = step.waiting;
+          exempt = step.exempt;
+          keeps = λ root premise start.
+              let before = step.keeps root tt (coding_opened root old name absent start) in
+              let added = adds before.sound_groups in
+              let sound : AreGroups old.groups = subst Sound same_groups before.sound_groups in
+              let number : added.number ≡ k = number_is mid.groups groups n s list added
+              (λ j t at. subst (λ gs. At gs n j t) (sym same_groups) (each j t at))
+              (λ j t at. every sound j t (subst (λ gs. At gs n j t) same_groups at)) ∙ sym count in
+              record {
+                root_first = before.root_first;
+                distinct = before.distinct;
+                encoded = before.encoded;
+                codes = before.codes;
+                own_codes = before.own_codes;
+                each_true = before.each_true;
+                each_usual = before.each_usual;
+                due = before.due;
+                installs = before.installs;
+                listed = before.listed;
+                ask = before.ask;
+                helpers = before.helpers;
+                packages = before.packages;
+                candidates = λ by disjunct r h t c. Contains-append_left mid.seen (s ∷ []) t (before.candidates by disjunct r h t c);
+                once = before.once;
+                gate_packages = before.gate_packages;
+                gate_candidates = λ r h t c. Contains-append_left mid.seen (s ∷ []) t (before.gate_candidates r h t c);
+                gated = before.gated;
+                excluded = before.excluded;
+                follow = before.follow;
+                locks = before.locks;
+                exclusions = before.exclusions;
+                registered = λ t h. ⊎_elim
+                    (λ (earlier : Contains mid.seen t). before.registered t earlier)
+                    (λ (is : s ≡ t). let Has : S → Type 0 = λ r. Contains mid.origins (Solvable r) in subst Has is has)
+                    (Contains-push_cases mid.seen s t h);
+                placed = λ m j t at i. ⊎_elim
+                    (λ (earlier : IsAt mid.groups m j t). before.placed m j t earlier i)
+                    (λ (is : (m ≡ n) × (j ≡ added.number) × (t ≡ s)).
+                    let Coded : N → ℕ → S → Type 0 = λ q a r. before.codes q i r ≡ bit a i in
+                    let here_coded : before.codes n i s ≡ bit k i = before.coding (record { name = n; number = k; instance = s }) (here (record { name = n; number = k; instance = s }) []) i in
+                    subst (λ q. Coded q j t) (sym is.0) (subst (λ a. Coded n a t) (sym (is.1 ∙ number)) (subst (λ r. Coded n k r) (sym is.2) here_coded)))
+                    (added.only_at m j t at);
+                coding = λ c h i. absurd (none_in c h);
+                coded = λ m t i b h. ⊎_elim
+                    (λ (seen : Contains mid.seen t). inl (Contains-append_left mid.seen (s ∷ []) t seen))
+                    (λ (own_one : Contains (s ∷ []) t). inl (⊎_elim
+                    (λ (is : s ≡ t). let Has : S → Type 0 = λ r. Contains (mid.seen ++ s ∷ []) r in subst Has is (Contains-push mid.seen s))
+                    (λ (none : Contains [] t). absurd (none_in t none))
+                    (cons_cases s [] t own_one)))
+                    (before.coded m t i b h);
+                digits = λ m j p t r at to i reached. ⊎_elim
+                    (λ (t_before : IsAt mid.groups m j t). ⊎_elim
+                    (λ (r_before : IsAt mid.groups m p r). before.digits m j p t r t_before r_before i reached)
+                    (λ (is : (m ≡ n) × (p ≡ added.number) × (r ≡ s)).
+                    let Has : N → Type 0 = λ q. Contains mid.kinds (HasBit q t i (bit j i)) in
+                    let up_to : 2 ^ i ≤ k = omega (arith, reached, is.1, number) in
+                    subst Has (sym is.0) (earlier_digit before j t (subst (λ q. At mid.groups q j t) is.0 t_before) i up_to))
+                    (added.only_at m p r to))
+                    (λ (is : (m ≡ n) × (j ≡ added.number) × (t ≡ s)).
+                    let Has : N → ℕ → S → Type 0 = λ q a x. Contains mid.kinds (HasBit q x i (bit a i)) in
+                    let largest : p ≤ k = ⊎_elim
+                    (λ (r_before : IsAt mid.groups m p r). let less : p < added.number = added.below p r (subst (λ q. At mid.groups q p r) is.0 r_before) in omega (arith, less, number))
+                    (λ (last : (m ≡ n) × (p ≡ added.number) × (r ≡ s)). omega (arith, last.1, number))
+                    (added.only_at m p r to) in
+                    subst (λ q. Has q j t) (sym is.0) (subst (λ a. Has n a t) (sym (is.1 ∙ number)) (subst (λ x. Has n k x) (sym is.2) (own i (omega (arith, reached, largest))))))
+                    (added.only_at m j t at);
+                sound_groups = added.sound;
+                grouped = λ t h. ⊎_elim
+                    (λ (earlier : Contains mid.seen t). added.earlier (u.name t) t (before.grouped t earlier))
+                    (λ (is : s ≡ t). let Named : S → Type 0 = λ q. IsNamed groups (u.name q) q in let Of : N → Type 0 = λ m. IsNamed groups m s in subst Named is (subst Of (sym name) added.here))
+                    (Contains-push_cases mid.seen s t h);
+                members = λ m t h. ⊎_elim
+                    (λ (earlier : IsNamed mid.groups m t). let w = before.members m t earlier in (w.0, Contains-append_left mid.seen (s ∷ []) t w.1))
+                    (λ (is : (m ≡ n) × (t ≡ s)). let Has : S → Type 0 = λ q. Contains (mid.seen ++ s ∷ []) q in (ap u.name is.1 ∙ name ∙ sym is.0, subst Has (sym is.1) (Contains-push mid.seen s)))
+                    (added.only m t h);
+                left_true = before.left_true;
+                indexed = before.indexed;
+                sound_waiting = before.sound_waiting;
+              };
+        })
+      where
+        At : Groups N S → N → ℕ → S → Type 0
+        At gs m j t = IsAt gs m j t
+
+        Sound : Groups N S → Type 0
+        Sound gs = AreGroups gs
+
+        -- an earlier one has the digits of the new one's number: the digit began with it, or was there before
+        earlier_digit : {root : Demands} → IsEncodingWhile u (coding_for n k s) root mid → (j : ℕ) (t : S) → IsAt mid.groups n j t → (i : ℕ) → 2 ^ i ≤ k → Contains mid.kinds (HasBit n t i (bit j i))
+        earlier_digit before j t at i reached =
+            let sound : AreGroups old.groups = subst (λ gs. AreGroups gs) same_groups before.sound_groups in
+            ⊎_elim
+            (λ (begins : k ≡ 2 ^ i). begun i begins sound j t (subst (λ gs. IsAt gs n j t) same_groups at))
+            (λ (differ : k ≢ 2 ^ i).
+            let less : k - 1 < length list = omega (arith, count, reached, differ) in
+            let last : IsAt mid.groups n (k - 1) (get_or list (k - 1) s) = subst (λ gs. IsAt gs n (k - 1) (get_or list (k - 1) s)) (sym same_groups) (each (k - 1) _ (slice_get-get_or list (k - 1) s less)) in
+            before.digits n j (k - 1) t (get_or list (k - 1) s) at last i (omega (arith, reached, differ)))
+            (cases_eq k (2 ^ i))

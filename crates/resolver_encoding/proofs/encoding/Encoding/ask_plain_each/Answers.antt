@@ -1,0 +1,33 @@
+use Rattle.std.proofs.Common.{arith, Contains}
+use Rattle.std.specs.Prelude.{⊤}
+use Rattle.resolver_clause_store.specs.declared.ConditionalRequirement.{ConditionalRequirement}
+use Rattle.resolver_encoding.specs.Called.{IsPlainlyNamed}
+use Rattle.resolver_encoding.specs.Notes.{notes_in}
+use Rattle.resolver_encoding.proofs.EncodingLemmas.{IsAskStep-same, IsAskStep-trans, IsAskStep-weaker, KeepsLimits-same, KeepsLimits-trans}
+use Rattle.resolver_encoding.proofs.RequirementLemmas.{plainly_here}
+use Rattle.resolver_encoding.proofs.encoding.Encoding.ask_plain_each.Goals as goal
+
+pub loop-requirement-init : goal.loop-requirement-init
+loop-requirement-init g c =
+    let u = g.D.Interner.universe c.args.provider.now in
+    record {
+      bounded = c.requires.bounded;
+      limits = KeepsLimits-same _;
+      step = IsAskStep-same u (λ n. (r : ConditionalRequirement) × Contains c.args.requirements.now r × IsPlainlyNamed u r n) (λ root. ⊤) (notes_in c.args.self.now);
+      is_true = c.requires.is_true;
+    }
+
+pub loop-requirement-preserved : goal.loop-requirement-preserved
+loop-requirement-preserved g c =
+    let u = g.D.Interner.universe c.args.provider.now in
+    let xs = c.args.requirements.now in
+    let i = c.loop-requirement.requirement-index in
+    let before = c.loop-requirement.invariant in
+    let Called : g.row.N.Denot → Type 0 = λ n. (r : ConditionalRequirement) × Contains xs r × IsPlainlyNamed u r n in
+    record {
+      bounded = c.ask_plain.ensures.bounded;
+      limits = KeepsLimits-trans _ _ _ before.limits c.ask_plain.ensures.limits;
+      step = IsAskStep-trans u Called (λ root. ⊤) _ _ _ before.step
+          (IsAskStep-weaker u (IsPlainlyNamed u _) Called (λ n named. plainly_here u xs i _ n (omega arith) named) (λ root. ⊤) (λ root. ⊤) (λ root _. tt) _ _ c.in_ok-ask_plain.ensures.step);
+      is_true = c.ask_plain.ensures.is_true;
+    }

@@ -1,0 +1,24 @@
+use Rattle.std.proofs.Common.{sym, subst, All, Contains, List}
+use Rattle.std.specs.Prelude.{⊤}
+use Rattle.std.proofs.lemmas.List.Elements.{All-weaker}
+use Rattle.resolver_clause_store.specs.Candidates.{version_sets}
+use Rattle.resolver_encoding.specs.Called.{IsNamedIn}
+use Rattle.resolver_encoding.specs.Notes.{notes_in}
+use Rattle.resolver_encoding.proofs.EncodingLemmas.{IsAskStep-of, IsAskStep-trans}
+use Rattle.resolver_encoding.proofs.encoding.Encoding.choose.Goals as goal
+
+pub returns-clause-step : goal.returns-clause-step
+returns-clause-step g c =
+    let u = g.D.Interner.universe c.args.provider.now in
+    let Called = IsNamedIn u (version_sets u c.args.requirement) in
+    IsAskStep-trans u Called (λ root. ⊤) _ _ _ c.in_ok-ask_named.ensures.step (IsAskStep-of u Called (λ root. ⊤) _ _ c.in_ok-see_all.ensures.step)
+
+pub returns-clause-asked : goal.returns-clause-asked
+returns-clause-asked g c =
+    let u = g.D.Interner.universe c.args.provider.now in
+    All-weaker (λ v. Contains (notes_in c.ask_named.new.self).asked (u.version_set_name v)) (λ v. Contains (notes_in c.see_all.new.self).asked (u.version_set_name v)) (λ v h. let Has : List g.row.N.Denot → Type 0 = λ list. Contains list (u.version_set_name v) in subst Has (sym c.in_ok-see_all.ensures.step.asked) h) (version_sets u c.args.requirement) c.in_ok-ask_named.ensures.asked
+
+pub returns-clause-seen : goal.returns-clause-seen
+returns-clause-seen g c =
+    let AllSeen : List g.row.S.Denot → Type 0 = λ list. All (Contains (notes_in c.see_all.new.self).seen) list in
+    subst AllSeen c.deref.ensures.value c.in_ok-see_all.ensures.seen

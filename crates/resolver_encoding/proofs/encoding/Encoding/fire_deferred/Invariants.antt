@@ -1,0 +1,17 @@
+use Rattle.resolver_clause_store.specs.Caches.{IsTrueCache}
+use Rattle.resolver_encoding.specs.Encodings.{KeepsLimits}
+use Rattle.resolver_encoding.specs.Groups.{AreGroups}
+use Rattle.resolver_encoding.specs.Notes.{IsBounded, notes_in}
+use Rattle.resolver_encoding.specs.SoFar.{HasFired, IsFiring}
+use Rattle.resolver_encoding.proofs.FiringLemmas.{AreQuiet}
+use Rattle.resolver_encoding.proofs.encoding.Encoding.fire_deferred.Given as goal
+
+abbrev pub invariant-loop-place : goal.invariant-loop-place
+invariant-loop-place g l = record {
+  bounded : IsBounded l.self;
+  limits : KeepsLimits (notes_in l.fn.self) (notes_in l.self);
+  is_true : IsTrueCache (g.D.Interner.universe l.provider) l.cache;
+  firing : IsFiring (g.D.Interner.universe l.provider) l.chosen.keys (notes_in l.fn.self) (notes_in l.self);
+  quiet : AreGroups (notes_in l.fn.self).waiting → AreQuiet (g.D.Interner.universe l.provider) l.chosen.keys (notes_in l.self) l.from l.place;
+  fired : HasFired (notes_in l.fn.self) (notes_in l.self) l.any;
+}

@@ -1,0 +1,151 @@
+-- What was read so far, and what one more reading does.
+use Rattle.std.specs.Prelude.{Bool, true, false, ℕ, ◌≡◌, ◌<◌, ◌⊎◌, ◌∷◌, ◌++◌, [], All, Contains, List, None, Some, count_by, is_some, length, map, slice_get, slice_set}
+use Rattle.resolver_clause_store.specs.Universe.{Universe, Demands}
+use Rattle.resolver_clause_store.specs.Candidates.{matching, version_sets}
+use Rattle.resolver_clause_store.specs.Lists.{IsWithin}
+use Rattle.resolver_clause_store.specs.Valid.{demands_of}
+use Rattle.resolver_clause_store.specs.Variables.{Keeps}
+use Rattle.resolver_clause_store.specs.declared.VersionSetId.{VersionSetId}
+use Rattle.resolver_clause_store.specs.declared.By.TheVariants.{Root as ByRoot}
+use Rattle.resolver_clause_store.specs.declared.Origin.TheVariants.{Solvable}
+use Rattle.resolver_report.specs.Rules.{IsPresent}
+use Rattle.resolver_encoding.specs.Called.{IsDemanded, IsNamedIn}
+use Rattle.resolver_encoding.specs.Encodings.{AreDemandsRead, AreNeedsRead, Extends, IsEncoding, IsLeft, Notes}
+use Rattle.resolver_encoding.specs.Groups.{AreGroups, IsNamed}
+use Rattle.resolver_encoding.specs.ReadState.{Deferred, HasClause, NoneFires}
+use Rattle.resolver_encoding.specs.Statements.{AllMeet}
+use Rattle.resolver_encoding.specs.declared.groups.Groups.{Groups}
+use Rattle.resolver_encoding.specs.declared.progress.Progress.{Progress}
+use Rattle.resolver_encoding.specs.declared.progress.Progress.TheVariants.{Nothing, Fired, Read}
+
+-- the notes are an encoding, and the root and what was read have their clauses and what they put off
+pub record IsHalfRead {N S : Type 0} (u : Universe N S) (root : Demands) (notes : Notes N S) : Type 0 where
+  pub encoding : IsEncoding u root notes
+  pub root_read : AreDemandsRead u notes ByRoot root
+  pub each_read : (s : S) → Contains notes.read s → AreNeedsRead u notes s (u.needs s)
+  pub read_known : (s : S) → Contains notes.read s → Contains notes.origins (Solvable s)
+  pub left_read : (e : Deferred S) → IsLeft notes e → IsPresent e.by notes.read
+
+-- and each of the set was read, and nothing that is put off is met in it
+pub record IsReadSoFar {N S : Type 0} (u : Universe N S) (root : Demands) (set : List S) (notes : Notes N S) : Type 0 where
+  pub half : IsHalfRead u root notes
+  pub set_read : (s : S) → Contains set s → Contains notes.read s
+  pub none : NoneFires u (IsLeft notes) set
+
+-- so it is for some root
+pub record IsHalfReading {N S : Type 0} (u : Universe N S) (notes : Notes N S) : Type 0 where
+  pub root : Demands
+  pub half : IsHalfRead u root notes
+
+pub record IsReading {N S : Type 0} (u : Universe N S) (set : List S) (notes : Notes N S) : Type 0 where
+  pub root : Demands
+  pub so_far : IsReadSoFar u root set notes
+
+-- how many disjuncts are put off
+abbrev pub left_count : {N S : Type 0} → Notes N S → ℕ
+left_count notes = count_by is_some notes.deferred
+
+-- What one more reading does: each new solvable of the set is read and no other, and a disjunct that was put off is taken
+-- out only where it is met in the set.
+pub record IsReadMore {N S : Type 0} (u : Universe N S) (set : List S) (old new : Notes N S) : Type 0 where
+  pub origins : Keeps old.origins new.origins
+  pub table : Extends old.table new.table
+  pub requirements : Extends old.requirements new.requirements
+  pub read : Extends old.read new.read
+  pub read_chosen : (s : S) → Contains new.read s → Contains old.read s ⊎ Contains set s
+  pub taken : (i : ℕ) (e : Deferred S) → slice_get old.deferred i ≡ Some (Some e) → (slice_get new.deferred i ≡ Some (Some e)) ⊎ AllMeet set (map (matching u) e.disjunct)
+  pub exempt : new.exempt ≡ old.exempt
+
+-- whether solvables were read; whether disjuncts were taken out; if not, nothing changed
+abbrev pub HasRead : {N S : Type 0} → Notes N S → Notes N S → Bool → Type 0
+HasRead old new true = length old.read < length new.read
+HasRead old new false = new ≡ old
+
+-- solvables were read, or nothing changed
+abbrev pub IsMoreOrSame : {N S : Type 0} → Notes N S → Notes N S → Type 0
+IsMoreOrSame old new = (new ≡ old) ⊎ (length old.read < length new.read)
+
+abbrev pub HasFired : {N S : Type 0} → Notes N S → Notes N S → Bool → Type 0
+HasFired old new true = left_count new < left_count old
+HasFired old new false = new ≡ old
+
+abbrev pub progress_by : Bool → Bool → Progress
+progress_by true fired = Read
+progress_by false true = Fired
+progress_by false false = Nothing
+
+-- what changed: nothing; disjuncts were taken out, and nothing was read; or solvables were read
+abbrev pub IsProgress : {N S : Type 0} → Notes N S → Notes N S → Progress → Type 0
+IsProgress old new Nothing = new ≡ old
+IsProgress old new Fired = (new.read ≡ old.read) × (left_count new < left_count old)
+IsProgress old new Read = length old.read < length new.read
+
+-- the disjunct with this number waits for the packages of these version sets, too
+pub record IsIndexing {N S : Type 0} (u : Universe N S) (number : ℕ) (list : List VersionSetId) (old new : Notes N S) : Type 0 where
+  pub waiting : Groups N ℕ
+  pub is : new ≡ record old { waiting = waiting }
+  pub sound : AreGroups old.waiting → AreGroups waiting
+  pub earlier : AreGroups old.waiting → (n : N) (i : ℕ) → IsNamed old.waiting n i → IsNamed waiting n i
+  pub here : AreGroups old.waiting → All (λ v. IsNamed waiting (u.version_set_name v) number) list
+
+-- one more disjunct is put off
+pub record IsDeferral {N S : Type 0} (u : Universe N S) (e : Deferred S) (old new : Notes N S) : Type 0 where
+  pub waiting : Groups N ℕ
+  pub is : new ≡ record old { waiting = waiting; deferred = old.deferred ++ Some e ∷ [] }
+  pub sound : AreGroups old.waiting → AreGroups waiting
+  pub earlier : AreGroups old.waiting → (n : N) (i : ℕ) → IsNamed old.waiting n i → IsNamed waiting n i
+  pub here : AreGroups old.waiting → All (λ v. IsNamed waiting (u.version_set_name v) (length old.deferred)) e.disjunct
+
+-- the disjunct with this number is taken out
+pub record IsTakenOut {N S : Type 0} (number : ℕ) (e : Deferred S) (old new : Notes N S) : Type 0 where
+  pub was : slice_get old.deferred number ≡ Some (Some e)
+  pub is : new ≡ record old { deferred = slice_set old.deferred number None }
+
+-- the disjunct with this number is put off and met in the set
+pub record HasMet {N S : Type 0} (u : Universe N S) (set : List S) (notes : Notes N S) (number : ℕ) : Type 0 where
+  pub entry : Deferred S
+  pub is : slice_get notes.deferred number ≡ Some (Some entry)
+  pub met : AllMeet set (map (matching u) entry.disjunct)
+
+-- the disjunct with this number is not put off, or not met in the set
+pub record IsQuietAt {N S : Type 0} (u : Universe N S) (set : List S) (notes : Notes N S) (number : ℕ) : Type 0 where
+  pub quiet : (e : Deferred S) → slice_get notes.deferred number ≡ Some (Some e) → AllMeet set (map (matching u) e.disjunct) → ⊥
+
+-- so are all that wait for the package
+pub record IsQuietUnder {N S : Type 0} (u : Universe N S) (set : List S) (notes : Notes N S) (n : N) : Type 0 where
+  pub quiet : (i : ℕ) → IsNamed notes.waiting n i → IsQuietAt u set notes i
+
+-- Disjuncts were taken out that are met in the set, and each has its clause. Only packages of their requirements were asked.
+pub record IsFiring {N S : Type 0} (u : Universe N S) (set : List S) (old new : Notes N S) : Type 0 where
+  pub origins : Keeps old.origins new.origins
+  pub table : Extends old.table new.table
+  pub kinds : IsWithin old.kinds new.kinds
+  pub requirements : Extends old.requirements new.requirements
+  pub asked : IsWithin old.asked new.asked
+  pub called : (n : N) → Contains new.asked n → Contains old.asked n ⊎ ((e : Deferred S) × IsLeft old e × AllMeet set (map (matching u) e.disjunct) × IsNamedIn u (version_sets u e.requirement) n)
+  pub read : new.read ≡ old.read
+  pub waiting : new.waiting ≡ old.waiting
+  pub stays : (i : ℕ) (e : Deferred S) → slice_get new.deferred i ≡ Some (Some e) → slice_get old.deferred i ≡ Some (Some e)
+  pub taken : (i : ℕ) (e : Deferred S) → slice_get old.deferred i ≡ Some (Some e) → (slice_get new.deferred i ≡ Some (Some e)) ⊎ (AllMeet set (map (matching u) e.disjunct) × HasClause new.kinds e.by e.disjunct e.requirement)
+  pub exempt : new.exempt ≡ old.exempt
+  pub keeps : (root : Demands) → IsEncoding u root old → IsEncoding u root new
+
+-- Solvables of the set were read. Packages were asked that they demand, and disjuncts put off that are not met in the set.
+pub record IsReadingOf {N S : Type 0} (u : Universe N S) (set : List S) (old new : Notes N S) : Type 0 where
+  pub origins : Keeps old.origins new.origins
+  pub table : Extends old.table new.table
+  pub requirements : Extends old.requirements new.requirements
+  pub asked : IsWithin old.asked new.asked
+  pub called : (n : N) → Contains new.asked n → Contains old.asked n ⊎ ((s : S) × Contains new.read s × IsDemanded u set (demands_of (u.needs s)) n)
+  pub read : Extends old.read new.read
+  pub read_chosen : (s : S) → Contains new.read s → Contains old.read s ⊎ Contains set s
+  pub deferred : Extends old.deferred new.deferred
+  pub unmet : (e : Deferred S) → IsLeft new e → IsLeft old e ⊎ (AllMeet set (map (matching u) e.disjunct) → ⊥)
+  pub exempt : new.exempt ≡ old.exempt
+  pub keeps : (root : Demands) → IsHalfRead u root old → IsHalfRead u root new
+
+-- nothing but the root
+pub record IsBare {N S : Type 0} (notes : Notes N S) : Type 0 where
+  pub none_asked : notes.asked ≡ []
+  pub none_read : notes.read ≡ []
+  pub none_deferred : notes.deferred ≡ []

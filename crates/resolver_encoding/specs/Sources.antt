@@ -1,0 +1,26 @@
+-- The solvables from which helpers follow by some clauses.
+use Rattle.std.specs.Prelude.{◌⊎◌, List, Contains}
+use Rattle.resolver_clause_store.specs.declared.Requirement.{Requirement}
+use Rattle.resolver_clause_store.specs.declared.VersionSetId.{VersionSetId}
+use Rattle.resolver_clause_store.specs.declared.Origin.TheVariants.{Gate, ConstraintHelper}
+use Rattle.resolver_clause_store.specs.declared.ClauseKind.{ClauseKind}
+use Rattle.resolver_clause_store.specs.declared.ClauseKind.TheVariants.{AnyOf, ConstrainsExcluded}
+use Rattle.resolver_encoding.specs.Groups.{AreGroups, IsNamed}
+use Rattle.resolver_encoding.specs.declared.sources.Sources.{Sources}
+
+-- the clauses say that the helper of the version set follows from the solvable
+abbrev pub IsExcludedIn : {N S : Type 0} → List (ClauseKind N S) → VersionSetId → S → Type 0
+IsExcludedIn kinds v s = Contains kinds (ConstrainsExcluded s v) ⊎ Contains kinds (AnyOf (ConstraintHelper v) s)
+
+-- each requirement and each version set has one group
+pub record HasGroups {S : Type 0} (sources : Sources S) : Type 0 where
+  pub gates : AreGroups sources.gates
+  pub helpers : AreGroups sources.helpers
+
+-- noted are the solvables from which the gates and the helpers follow by these clauses, and no others
+pub record AreSources {N S : Type 0} (kinds : List (ClauseKind N S)) (sources : Sources S) : Type 0 where
+  pub groups : HasGroups sources
+  pub only_requirers : (r : Requirement) (s : S) → IsNamed sources.gates r s → Contains kinds (AnyOf (Gate r) s)
+  pub every_requirer : (r : Requirement) (s : S) → Contains kinds (AnyOf (Gate r) s) → IsNamed sources.gates r s
+  pub only_excluded : (v : VersionSetId) (s : S) → IsNamed sources.helpers v s → IsExcludedIn kinds v s
+  pub every_excluded : (v : VersionSetId) (s : S) → IsExcludedIn kinds v s → IsNamed sources.helpers v s

@@ -1,0 +1,230 @@
+//! The fewest marks of nodes that obey implications, by a work list.
+
+ghost use Rattle.std.specs.Prelude.{◌≡◌, ◌<◌, ◌≤◌, ⊤, [], All, IfOk, IfErr, OnOk, MatchOption, length, map};
+ghost use Rattle.resolver_report.specs.EdgePlaces.{appended, lists_in};
+ghost use Rattle.resolver_report.specs.Implications.{HasLeastMarks, implied};
+ghost use Rattle.resolver_report.specs.Marks.{is_marked as is_marked_in};
+ghost use Rattle.resolver_report.specs.WorkLists.{AreTended, IsReady, IsRight, IsSameWork, KeepsOthersTended, KeepsTended, advanced, after_mark, after_waits, has_mark as has_mark_in, is_ready as is_ready_in, left_at, up_to_unmarked as up_to_unmarked_in, work_view};
+
+use crate::edge_places::{empty_lists, push_at};
+use crate::marks::some_marked;
+use crate::parts::NodeId;
+use resolver_clause_store::Exhausted;
+use std::alloc::Global;
+
+/// Once of each group something is marked, the node is.
+#[derive(Drop)]
+pub struct Implication {
+    pub groups: Vec<Vec<NodeId>>,
+    pub node: NodeId,
+}
+
+/// An implication waits for a mark in the last of so many of its groups.
+#[derive(Clone, Copy)]
+pub struct Waiting {
+    implication: usize,
+    left: usize,
+}
+
+/// Marks, and what waits for more of them.
+#[derive(Drop)]
+pub struct Marking {
+    marks: Vec<bool>,
+    /// Of each implication how many groups are left. Those behind them have marks.
+    left: Vec<usize>,
+    /// For each node what waits for its mark.
+    waiting: Vec<Vec<Waiting>>,
+    /// What waited for a mark that came.
+    woken: Vec<Waiting>,
+}
+
+/// How many groups of an implication are left.
+fn left_of(marking: &Marking, place: usize) -> usize
+    ensures { result ≡ left_at (work_view marking.now) place }
+{
+    match marking.left.get(place) {
+        Some(left) => *left,
+        None => 0,
+    }
+}
+
+/// Whether the last of so many groups has a mark.
+fn has_mark(marks: &[bool], groups: &[Vec<NodeId>], left: usize) -> bool
+    ensures { result ≡ has_mark_in marks.now (lists_in groups.now) left }
+{
+    if left == 0 {
+        return false;
+    }
+    match groups.get(left - 1) {
+        Some(group) => some_marked(marks, group),
+        None => false,
+    }
+}
+
+/// How many groups there are up to the last one without a mark.
+fn up_to_unmarked(marks: &[bool], groups: &[Vec<NodeId>], left: usize) -> usize
+    ensures { result ≡ up_to_unmarked_in marks.now (lists_in groups.now) left }
+{
+    let mut rest = left;
+    while has_mark(marks, groups, rest) {
+        rest -= 1;
+    }
+    rest
+}
+
+/// Whether an implication still waits for the mark that woke it.
+fn is_ready(implications: &[Implication], marking: &Marking, woken: Waiting) -> bool
+    ensures { result ≡ is_ready_in (map implied implications.now) (work_view marking.now) woken }
+{
+    if left_of(marking, woken.implication) != woken.left {
+        return false;
+    }
+    match implications.get(woken.implication) {
+        Some(implication) => has_mark(&marking.marks, &implication.groups, woken.left),
+        None => false,
+    }
+}
+
+/// Marks a node, and wakes what waits for it.
+fn mark(marking: &mut Marking, n: NodeId) -> Result<(), Exhausted>
+    requires marks { n.0 < length marking.old.marks.items }
+    requires waiting { n.0 < length marking.old.waiting.items }
+    ensures ok { OnOk result (work_view marking.new ≡ after_mark (work_view marking.old) n.0) }
+    ensures memory { IfErr result (λ e. e ≡ Exhausted.Memory) }
+{
+    marking.marks[n.0] = true;
+    marking.woken.append(&mut marking.waiting[n.0])?;
+    Ok(())
+}
+
+/// Lets something wait at a node.
+fn wait_at(table: &mut Vec<Vec<Waiting>>, n: NodeId, waiting: Waiting) -> Result<(), Exhausted>
+    ensures ok { OnOk result (lists_in table.new.items ≡ appended (lists_in table.old.items) n.0 waiting) }
+    ensures memory { IfErr result (λ e. e ≡ Exhausted.Memory) }
+{
+    if n.0 >= table.len() {
+        return Ok(());
+    }
+    push_at(table, n.0, waiting)?;
+    Ok(())
+}
+
+/// Lets something wait at each of these nodes.
+fn wait_at_each(
+    table: &mut Vec<Vec<Waiting>>,
+    nodes: &[NodeId],
+    waiting: Waiting,
+) -> Result<(), Exhausted>
+    ensures ok { OnOk result (lists_in table.new.items ≡ after_waits (lists_in table.old.items) nodes.now waiting) }
+    ensures memory { IfErr result (λ e. e ≡ Exhausted.Memory) }
+{
+    for n in nodes {
+        wait_at(table, *n, waiting)?;
+    }
+    Ok(())
+}
+
+/// An implication goes on to its last group without a mark, and waits there, or marks its node.
+fn advance(
+    implications: &[Implication],
+    marking: &mut Marking,
+    place: usize,
+) -> Result<(), Exhausted>
+    requires within { place < length implications.now }
+    requires right { IsRight (map implied implications.now) (work_view marking.old) }
+    ensures ok { OnOk result (work_view marking.new ≡ advanced (map implied implications.now) (work_view marking.old) place) }
+    ensures memory { IfErr result (λ e. e ≡ Exhausted.Memory) }
+{
+    let implication = &implications[place];
+    let left = up_to_unmarked(&marking.marks, &implication.groups, marking.left[place]);
+    marking.left[place] = left;
+    if left == 0 {
+        mark(marking, implication.node)?;
+        return Ok(());
+    }
+    let waiting = Waiting {
+        implication: place,
+        left,
+    };
+    wait_at_each(&mut marking.waiting, &implication.groups[left - 1], waiting)?;
+    Ok(())
+}
+
+/// The next implication that can go on, of those that were woken.
+fn next_ready(implications: &[Implication], marking: &mut Marking) -> Option<usize>
+    requires { IsRight (map implied implications.now) (work_view marking.old) }
+    ensures same { IsSameWork (work_view marking.old) (work_view marking.new) }
+    ensures found { MatchOption result ((marking.new.woken.items ≡ []) × KeepsTended (map implied implications.now) (work_view marking.old) (work_view marking.new)) (λ c. IsReady (map implied implications.now) (work_view marking.new) c × KeepsOthersTended (map implied implications.now) (work_view marking.old) (work_view marking.new) c) }
+{
+    while let Some(woken) = marking.woken.pop() {
+        if is_ready(implications, marking, woken) {
+            return Some(woken.implication);
+        }
+    }
+    None
+}
+
+/// Nothing is marked, and nothing waits yet.
+fn unmarked(alloc: Global, count: usize, implications: &[Implication]) -> Result<Marking, Exhausted>
+    requires { All (λ i. i.node.0 < count) implications.now }
+    ensures right { IfOk result (λ m. IsRight (map implied implications.now) (work_view m)) }
+    ensures long { IfOk result (λ m. length m.marks.items ≡ count) }
+    ensures memory { IfErr result (λ e. e ≡ Exhausted.Memory) }
+{
+    let marks = vec![in alloc; false; count]?;
+    let mut left = Vec::new(alloc);
+    for implication in implications {
+        left.push(implication.groups.len())?;
+    }
+    Ok(Marking {
+        marks,
+        left,
+        waiting: empty_lists(alloc, count)?,
+        woken: Vec::new(alloc),
+    })
+}
+
+/// Lets each implication wait, or marks its node.
+fn start(implications: &[Implication], marking: &mut Marking) -> Result<(), Exhausted>
+    requires { IsRight (map implied implications.now) (work_view marking.old) }
+    ensures right { OnOk result (IsRight (map implied implications.now) (work_view marking.new)) }
+    ensures tended { OnOk result (AreTended (map implied implications.now) (work_view marking.new)) }
+    ensures long { OnOk result (length marking.new.marks.items ≡ length marking.old.marks.items) }
+    ensures memory { IfErr result (λ e. e ≡ Exhausted.Memory) }
+{
+    for place in 0..implications.len() {
+        advance(implications, marking, place)?;
+    }
+    Ok(())
+}
+
+/// Follows all marks, until nothing is woken any more.
+fn follow(implications: &[Implication], marking: &mut Marking) -> Result<(), Exhausted>
+    requires right { IsRight (map implied implications.now) (work_view marking.old) }
+    requires tended { AreTended (map implied implications.now) (work_view marking.old) }
+    ensures least { OnOk result (HasLeastMarks (length marking.old.marks.items) (map implied implications.now) marking.new.marks.items) }
+    ensures memory { IfErr result (λ e. e ≡ Exhausted.Memory) }
+{
+    while let Some(place) = next_ready(implications, marking) {
+        advance(implications, marking, place)?;
+    }
+    Ok(())
+}
+
+/// The fewest marks of so many nodes that obey the implications.
+///
+/// The time is linear in what the groups list together: a group is looked at when its implication comes to it, and when a mark in it came.
+pub fn least_marks(
+    alloc: Global,
+    count: usize,
+    implications: &[Implication],
+) -> Result<Vec<bool>, Exhausted>
+    requires { All (λ i. i.node.0 < count) implications.now }
+    ensures value { IfOk result (λ v. HasLeastMarks count (map implied implications.now) v.items) }
+    ensures memory { IfErr result (λ e. e ≡ Exhausted.Memory) }
+{
+    let mut marking = unmarked(alloc, count, implications)?;
+    start(implications, &mut marking)?;
+    follow(implications, &mut marking)?;
+    Ok(marking.marks)
+}

@@ -1,0 +1,78 @@
+-- What the rounds found, and what the solver answers then.
+use Rattle.std.proofs.Common.{◌≡◌, ◌≤◌, ◌^◌, List, arith, refl, ◌∙◌, subst, sym, inl, inr, ⊎_elim}
+use Rattle.std.specs.Prelude.{IfOk, OnOk, Result, Ok, Err}
+use Rattle.resolver_clause_store.specs.Universe.{Universe, Demands}
+use Rattle.resolver_clause_store.specs.declared.ConditionalRequirement.{ConditionalRequirement}
+use Rattle.resolver_clause_store.specs.declared.Interrupted.{Interrupted}
+use Rattle.resolver_clause_store.specs.declared.Interrupted.TheVariants.{Cancelled as IsCancelled, Exhausted as IsExhausted}
+use Rattle.resolver_clause_store.specs.declared.VersionSetId.{VersionSetId}
+use Rattle.resolver_encoding.specs.Refusals.{IsStop}
+use Rattle.resolver_encoding.specs.SoFar.{IsReadSoFar}
+use Rattle.resolvo.specs.Refusals.{CountsRead, CountsRefuted}
+use Rattle.resolvo.specs.RoundStates.{HasAllClauses, IsStuck, KeepsRoom, chosen_of, notes_of}
+use Rattle.resolver_clause_store.specs.Caches.{IsTrueCache}
+use Rattle.resolver_clause_store.specs.declared.Cache.{Cache}
+use Rattle.resolvo.specs.Solvers.{HasCounted, IsAtLimit, IsSound, KeepsAllButCounts, KeepsCounts}
+use Rattle.resolvo.specs.declared.rounds.Rounds.{Rounds}
+use Rattle.resolvo.specs.declared.solver.Solver.{Solver}
+use Rattle.resolvo.specs.declared.solver.UnsolvableOrCancelled.{UnsolvableOrCancelled}
+use Rattle.resolvo.specs.declared.solver.UnsolvableOrCancelled.TheVariants.{Unsolvable, Cancelled, Exhausted}
+use Rattle.resolvo.proofs.SolveLemmas.{shortage_weaker}
+
+-- what holds of a result that is right
+pub found_at : {A E : Type 0} (P : A → Type 0) (r : Result A E) (x : A) → r ≡ Ok x → IfOk r P → P x
+found_at {A} {E} P r x is h = let At : Result A E → Type 0 = λ q. IfOk q P in subst At is h
+
+pub ok_at : {A E : Type 0} (P : Type 0) (r : Result A E) (x : A) → r ≡ Ok x → OnOk r P → P
+ok_at {A} {E} P r x is h = let At : Result A E → Type 0 = λ q. OnOk q P in subst At is h
+
+pub OnOk-weaker : {A E : Type 0} (P Q : Type 0) → (P → Q) → (r : Result A E) → OnOk r P → OnOk r Q
+OnOk-weaker P Q follows (Ok x) h = follows h
+OnOk-weaker P Q follows (Err e) h = tt
+
+pub same_demands : (d : Demands) (rs : List ConditionalRequirement) (vs : List VersionSetId) → rs ≡ d.requirements → vs ≡ d.constraints → record { requirements = rs; constraints = vs } ≡ d
+same_demands d rs vs r v = λ i. record { requirements = r i; constraints = v i }
+
+-- what was counted
+pub counts_read : {D C N S : Type 0} (u : Universe N S) (root : Demands) (r : Rounds N S) (old new : Solver D C N S) (set : List S) → HasCounted r old → KeepsCounts old new → HasAllClauses r → set ≡ chosen_of r → IsReadSoFar u root (chosen_of r) (notes_of r) → CountsRead u root set new
+counts_read {D} {C} {N} {S} u root r old new set counts keeps all are so_far =
+    let ReadFor : List S → Type 0 = λ list. IsReadSoFar u root list (notes_of r) in
+    record {
+      notes = notes_of r;
+      so_far = subst ReadFor (sym are) so_far;
+      counted = omega (arith, counts.all all, keeps.clauses, keeps.learnt);
+      left = keeps.deferred ∙ counts.deferred;
+    }
+
+pub keeps_counts : {D C N S : Type 0} (s : Solver D C N S) → KeepsCounts s s
+keeps_counts s = record { variables = refl; clauses = refl; learnt = refl; deferred = refl }
+
+pub counts_refuted : {D C N S : Type 0} (u : Universe N S) (root : Demands) (set : List S) (s : Solver D C N S) (e : UnsolvableOrCancelled D C N S) → CountsRead u root set s → CountsRefuted u root s e
+counts_refuted u root set s (Unsolvable c) h = (set, h)
+counts_refuted u root set s (Cancelled value) h = tt
+counts_refuted u root set s (Exhausted e) h = tt
+
+-- a count of the rounds at its limit is one of the solver's
+pub at_limit : {D C N S : Type 0} (old new : Rounds N S) (s : Solver D C N S) → KeepsRoom old new → (notes_of old).variable_limit ≡ s.variable_limit → (notes_of old).clause_limit ≡ s.clause_limit → old.clause_limit ≡ s.clause_limit → old.learnt_limit ≡ s.learnt_limit → HasCounted new s →
+    IsStuck new → IsAtLimit s
+at_limit old new s room variables kinds clauses learnt counts stuck = ⊎_elim
+    (λ full. ⊎_elim
+    (λ all. inl (omega (arith, all.0, room.notes.variables, variables, counts.variables)))
+    (λ most. inr (inl (omega (arith, most, room.notes.clauses, kinds, counts.read))))
+    full)
+    (λ searched. ⊎_elim
+    (λ many. inr (inl (omega (arith, many, room.clauses, clauses, counts.searched))))
+    (λ much. inr (inr (omega (arith, much, room.learnt, learnt, counts.learnt))))
+    searched)
+    stuck
+
+pub stop_weaker : {C : Type 0} (may_cancel : C → Type 0) (at other : Type 0) → (at → other) → (e : Interrupted C) → IsStop may_cancel at e → IsStop may_cancel other e
+stop_weaker may_cancel at other follows (IsCancelled value) h = h
+stop_weaker may_cancel at other follows (IsExhausted e) h = shortage_weaker at other follows e h
+
+-- what is kept of a provider's answers stays true where the counts alone change
+pub still_sound : {D C N S : Type 0} (universe : D → Universe N S) (old new : Solver D C N S) → IsTrueCache (universe old.provider) old.cache → old.variable_limit ≤ 2 ^ 31 → KeepsAllButCounts old new → IsSound (universe new.provider) new
+still_sound {D} {C} {N} {S} universe old new is_true fits rest =
+    let True : D → Cache N S → Type 0 = λ p k. IsTrueCache (universe p) k in
+    let By : D → Type 0 = λ p. True p new.cache in
+    record { true_answers = subst By (sym rest.provider) (subst (True old.provider) (sym rest.cache) is_true); fits = omega (arith, fits, rest.limits.variables) }

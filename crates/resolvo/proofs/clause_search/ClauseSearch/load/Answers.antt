@@ -1,0 +1,23 @@
+use Rattle.std.proofs.Common.{arith, ◌∙◌}
+use Rattle.resolvo.proofs.LoadLemmas.{consistent-grown, first-grown, loaded-trail}
+use Rattle.resolvo.proofs.clause_search.ClauseSearch.load.Goals as goal
+
+pub load_clauses-requires-clause-consistent : goal.load_clauses-requires-clause-consistent
+load_clauses-requires-clause-consistent c = consistent-grown c.args.self.now _ _ c.requires.consistent c.requires.room c.in_ok-grow.ensures.ok
+
+pub load_clauses-requires-clause-below : goal.load_clauses-requires-clause-below
+load_clauses-requires-clause-below c = rw c.in_ok-grow.ensures.ok.size c.requires.below
+
+pub load_requirements-requires-clause-inside : goal.load_requirements-requires-clause-inside
+load_requirements-requires-clause-inside c = λ k d below. omega (arith, c.requires.inside k d below, c.in_ok-load_clauses.ensures.count)
+
+pub returns-clause-loaded : goal.returns-clause-loaded
+returns-clause-loaded c = λ given numbers loaded more is more_numbers are.
+    c.in_ok-load_requirements.ensures.loaded c.args.clauses.now numbers more_numbers (c.in_ok-load_clauses.ensures.loaded given numbers more (loaded-trail c.args.self.now _ given numbers loaded) is) are
+
+pub returns-clause-variables : goal.returns-clause-variables
+returns-clause-variables c = c.in_ok-load_requirements.ensures.same.variables ∙ c.in_ok-load_clauses.ensures.same.variables ∙ c.in_ok-grow.ensures.ok.size
+
+pub returns-clause-kept : goal.returns-clause-kept
+returns-clause-kept c = λ base keeps.
+    c.in_ok-load_requirements.ensures.same.kept base (c.in_ok-load_clauses.ensures.same.kept base (first-grown c.args.self.now.trail _ _ _ c.in_ok-grow.ensures.ok base keeps))

@@ -1,0 +1,28 @@
+use Rattle.std.proofs.Common.{rules, refl, ap, sym, subst, ◌∙◌, ◌≡◌, length, List, min, ℕ}
+use Rattle.resolver_clause_store.specs.declared.Literal.{Literal}
+use Rattle.resolver_clause_store.specs.Formula.{IsBelow}
+use Rattle.resolver_clause_store.specs.TrailView.{IsUndone, variable_count}
+use Rattle.resolvo.proofs.LoadLemmas.{consistent-given, loaded-clause, same-undone}
+use Rattle.resolvo.proofs.clause_search.ClauseSearch.load_clause.Goals as goal
+
+pub returns-clause-consistent : goal.returns-clause-consistent
+returns-clause-consistent c =
+    let end : c.len-place.result ≡ length c.args.self.now.table.items = search rules in
+    let copied : c.in_ok-copy.copy.items ≡ c.args.literals.now = search rules in
+    let Below : List Literal → Type 0 = λ l. IsBelow (variable_count c.args.self.now.trail) l in
+    consistent-given c.args.self.now _ c.in_ok-copy.copy _ _ _ c.requires.consistent (subst Below (sym copied) c.requires.below) end c.in_ok-push.ensures.items c.in_ok-push-2.ensures.items c.in_ok-push-3.ensures.items refl c.undo_until.ensures refl (c.min-self.ensures ∙ ap (min c.args.self.now.kept) c.len.ensures)
+
+pub returns-clause-loaded : goal.returns-clause-loaded
+returns-clause-loaded c = λ given numbers copy same loaded.
+    let first : c.len-number.result ≡ length c.args.self.now.places.items = search rules in
+    let end : c.len-place.result ≡ length c.args.self.now.table.items = search rules in
+    let copied : c.in_ok-copy.copy.items ≡ c.args.literals.now = search rules in
+    loaded-clause c.args.self.now _ given numbers copy c.in_ok-copy.copy _ _ c.requires.consistent first end (copied ∙ sym same) c.in_ok-push.ensures.items c.in_ok-push-2.ensures.items c.in_ok-push-3.ensures.items refl loaded
+
+pub returns-clause-same : goal.returns-clause-same
+returns-clause-same c = same-undone _ _ _ c.undo_until.ensures refl (c.min-self.ensures ∙ ap (min c.args.self.now.kept) c.len.ensures)
+
+pub returns-clause-start : goal.returns-clause-start
+returns-clause-start c = λ falsified.
+    let Undone : ℕ → Type 0 = λ level. IsUndone c.args.self.now.trail c.undo_until.new.self level in
+    subst Undone (c.level_for-level.ensures falsified) c.undo_until.ensures

@@ -1,0 +1,14 @@
+use Rattle.std.proofs.Common.{◌≡◌, ◌++◌, ℕ, List, take, length}
+use Rattle.std.specs.Prelude.{Vec}
+use Rattle.std.specs.declared.alloc.Global.{Global}
+use Rattle.resolver_clause_store.specs.declared.Literal.{Literal}
+use Rattle.resolvo.specs.ClauseSearches.{IsConsistent, IsLoaded, IsSameSearch}
+use Rattle.resolvo.proofs.clause_search.ClauseSearch.load_clauses.Given as goal
+
+abbrev pub invariant-clauses : goal.invariant-clauses
+invariant-clauses l = record {
+  consistent : IsConsistent l.self;
+  same : IsSameSearch l.initial.self l.self;
+  count : length l.self.places.items ≡ l.number;
+  loaded : (given : List (Vec Literal Global)) (numbers : List ℕ) (more : List (Vec Literal Global)) → IsLoaded given numbers l.initial.self → l.clauses ≡ given ++ more → IsLoaded (take l.number l.clauses) numbers l.self;
+}

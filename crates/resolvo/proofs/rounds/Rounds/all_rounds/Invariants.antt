@@ -1,0 +1,15 @@
+use Rattle.std.proofs.Common.{length, ◌-◌}
+use Rattle.resolver_clause_store.specs.Caches.{IsTrueCache}
+use Rattle.resolvo.specs.RoundStates.{AreRounds, KeepsRead, KeepsRoom, notes_of}
+use Rattle.resolvo.proofs.rounds.Rounds.all_rounds.Given as goal
+
+abbrev pub invariant-rounds : goal.invariant-rounds
+invariant-rounds g l = record {
+  is_true : IsTrueCache (g.D.Interner.universe l.provider) l.cache;
+  rounds : AreRounds (g.D.Interner.universe l.provider) l.self;
+  keeps : KeepsRead (g.D.Interner.universe l.provider) l.initial.self l.self;
+  room : KeepsRoom l.initial.self l.self;
+}
+
+abbrev pub decreases-rounds : goal.decreases-rounds
+decreases-rounds g l = (notes_of l.self).variable_limit - length (notes_of l.self).read

@@ -1,0 +1,23 @@
+use Rattle.std.proofs.Common.{subst, sym, ◌∙◌, All, Contains}
+use Rattle.resolver_clause_store.specs.declared.Origin.TheVariants.{Solvable}
+use Rattle.resolver_encoding.specs.Notes.{notes_in}
+use Rattle.resolver_encoding.specs.declared.encoding.Encoding.{Encoding}
+use Rattle.resolvo.specs.ClauseSearches.{trail_of}
+use Rattle.resolvo.specs.RoundStates.{notes_of}
+use Rattle.resolvo.proofs.RoundLemmas.{chosen_known, keeps_more, read_more, reading_first}
+use Rattle.resolvo.proofs.rounds.Rounds.read.Goals as goal
+
+pub read_chosen-requires-clause-reading : goal.read_chosen-requires-clause-reading
+read_chosen-requires-clause-reading g c = reading_first (g.D.Interner.universe c.args.provider.now) c.args.self.now c.follow.new.self c.in_ok-from.from c.solvables.result.now.keys c.in_ok-from.ensures.following c.solvables.ensures c.requires.rounds.reading
+
+pub read_chosen-requires-clause-known : goal.read_chosen-requires-clause-known
+read_chosen-requires-clause-known g c =
+    let it = c.in_ok-from.ensures.following in
+    let Known : Encoding g.row.N.Denot g.row.S.Denot → Type 0 = λ e. All (λ s. Contains (notes_in e).origins (Solvable s)) c.solvables.result.now.keys in
+    subst Known (sym it.encoding) (chosen_known (notes_of c.args.self.now).origins (trail_of c.args.self.now.search) c.requires.loaded.variables c.solvables.result.now.keys (c.solvables.ensures ∙ c.in_ok-from.ensures.followed.chosen))
+
+pub returns-clause-rounds : goal.returns-clause-rounds
+returns-clause-rounds g c = read_more (g.D.Interner.universe c.args.provider.now) c.args.self.now c.follow.new.self c.in_ok-from.from c.solvables.result.now.keys c.read_chosen.new.self c.requires.rounds c.in_ok-from.ensures.following c.solvables.ensures c.in_ok-progress.ensures.bounded c.in_ok-progress.ensures.more c.in_ok-progress.ensures.read
+
+pub returns-clause-keeps : goal.returns-clause-keeps
+returns-clause-keeps g c = keeps_more (g.D.Interner.universe c.args.provider.now) c.args.self.now c.follow.new.self c.in_ok-from.from c.solvables.result.now.keys c.read_chosen.new.self c.in_ok-from.ensures.following c.solvables.ensures c.in_ok-progress.ensures.read

@@ -1,0 +1,284 @@
+//! Rounds of searching and reading: what a search chooses is read, until what is chosen is an answer.
+
+ghost use Rattle.std.specs.Prelude.{◌≡◌, ◌+◌, ◌≤◌, ◌<◌, ◌^◌, [], IfErr, IfNone, IfOk, IfSome, OnOk, length};
+ghost use Rattle.resolver_clause_store.specs.Caches.{IsTrueCache};
+ghost use Rattle.resolver_clause_store.specs.Laws.{IsIdentity};
+ghost use Rattle.resolver_clause_store.specs.Variables.{AreDistinct};
+ghost use Rattle.resolver_encoding.specs.Refusals.{IsStop};
+ghost use Rattle.resolver_encoding.specs.SoFar.{IsProgress, IsReadSoFar};
+ghost use Rattle.resolvo.specs.ClauseSearches.{IsConsistent, OutcomeIs, clause_count_of, learnt_count_of, trail_of};
+
+use crate::clause_search::{ClauseSearch, Outcome};
+use resolver_clause_store::{
+    Cache, ConditionalRequirement, DependencyProvider, Exhausted, Interner, Interrupted,
+    VersionSetId,
+};
+use resolver_encoding::{Chosen, Encoding, Progress};
+use std::alloc::Global;
+use std::hash::Hash;
+
+/// What the rounds ended with.
+#[derive(Debug, Drop)]
+pub enum Found {
+    /// What is chosen is an answer.
+    Answer,
+    /// The numbers of clauses that no values make true.
+    Contradiction(Vec<usize>),
+}
+
+/// What one round ended with.
+#[derive(Debug, Drop)]
+pub enum Round {
+    /// There is nothing left to search or to read.
+    Last(Found),
+    /// Clauses of requirements came that had been put off, and no solvable was read.
+    Fired,
+    /// Solvables were read.
+    Read,
+}
+
+/// Clauses of what was read so far, a search over them, and what it has chosen.
+#[derive(Drop)]
+pub struct Rounds<N: Copy + Eq + Hash + Drop, S: Copy + Eq + Hash + Drop> {
+    alloc: Global,
+    pub(crate) encoding: Encoding<N, S>,
+    search: ClauseSearch,
+    pub(crate) chosen: Chosen<S>,
+    clause_limit: usize,
+    learnt_limit: usize,
+}
+
+impl<N: Copy + Eq + Hash + Drop, S: Copy + Eq + Hash + Drop> Rounds<N, S> {
+    ghost use Rattle.resolvo.specs.RoundStates.{AreRounds, HasAllClauses, HasFollowed, HasMark, IsFollowing, IsFound, IsFresh, IsRound, IsSearchOf, IsStuck, IsUpToDate, KeepsRead, KeepsRoom, chosen_of, clause_limit_of, learnt_limit_of, notes_of, search_of};
+
+    /// Nothing read yet. There may be as many variables, clauses and learnt clauses as the limits say.
+    pub fn new(
+        alloc: Global,
+        variable_limit: usize,
+        clause_limit: usize,
+        learnt_limit: usize,
+    ) -> Self
+        requires { variable_limit ≤ 2 ^ 31 }
+        ensures fresh { IsFresh result }
+        ensures variables { (notes_of result).variable_limit ≡ variable_limit }
+        ensures clauses { (notes_of result).clause_limit ≡ clause_limit }
+        ensures all_clauses { clause_limit_of result ≡ clause_limit }
+        ensures learnt { learnt_limit_of result ≡ learnt_limit }
+    {
+        Rounds {
+            alloc,
+            encoding: Encoding::new(alloc, variable_limit, clause_limit),
+            search: ClauseSearch::new(alloc),
+            chosen: Chosen::new::<N>(alloc),
+            clause_limit,
+            learnt_limit,
+        }
+    }
+
+    /// How many clauses were learnt.
+    pub fn learnt_count(&self) -> usize
+        ensures { result ≡ learnt_count_of (search_of self.now) }
+    {
+        self.search.learnt_count()
+    }
+
+    /// How many clauses there are, those of what was read and the learnt ones.
+    pub fn clause_count(&self) -> usize
+        ensures read { length (notes_of self.now).kinds ≤ result }
+        ensures searched { clause_count_of (search_of self.now) ≤ result }
+        ensures all { HasAllClauses self.now → result ≡ length (notes_of self.now).kinds + learnt_count_of (search_of self.now) }
+    {
+        let learnt = self.search.learnt_count();
+        let all = self.encoding.clause_count().saturating_add(learnt);
+        all.max(self.search.clause_count())
+    }
+
+    /// Reads the root.
+    fn begin<D: DependencyProvider<NameId = N, SolvableId = S>>(
+        &mut self,
+        provider: &D,
+        cache: &mut Cache<N, S>,
+        requirements: &[ConditionalRequirement],
+        constraints: &[VersionSetId],
+    ) -> Result<(), Interrupted<D::Cancel>>
+        requires fresh { IsFresh self.old }
+        requires is_true { IsTrueCache (D.universe provider.now) cache.old }
+        ensures is_true { IsTrueCache (D.universe provider.now) cache.new }
+        ensures rounds { OnOk result (AreRounds (D.universe provider.now) self.new) }
+        ensures read { OnOk result (IsReadSoFar (D.universe provider.now) (record { requirements = requirements.now; constraints = constraints.now }) (chosen_of self.new) (notes_of self.new)) }
+        ensures limits { KeepsRoom self.old self.new }
+        ensures refusal { IfErr result (IsStop (D.may_cancel provider.now) (IsStuck self.new)) }
+    {
+        self.encoding
+            .read_root(provider, cache, requirements, constraints)?;
+        Ok(())
+    }
+
+    /// Searches the clauses of what was read.
+    fn search<D: DependencyProvider<NameId = N, SolvableId = S>>(
+        &mut self,
+        provider: &D,
+    ) -> Result<Outcome, Interrupted<D::Cancel>>
+        requires rounds { AreRounds (D.universe provider.now) self.old }
+        ensures rounds { OnOk result (AreRounds (D.universe provider.now) self.new) }
+        ensures loaded { OnOk result (IsUpToDate self.new) }
+        ensures same { IsSearchOf self.old self.new }
+        ensures outcome { IfOk result (OutcomeIs (notes_of self.new).table (notes_of self.new).requirements (trail_of (search_of self.new))) }
+        ensures limits { KeepsRoom self.old self.new }
+        ensures refusal { IfErr result (IsStop (D.may_cancel provider.now) (IsStuck self.new)) }
+    {
+        self.search.load(
+            self.encoding.variables().len(),
+            self.encoding.literals(),
+            self.encoding.requirements(),
+        )?;
+        let outcome = self
+            .search
+            .run(self.alloc, provider, self.learnt_limit, self.clause_limit)?;
+        Ok(outcome)
+    }
+
+    /// Follows the trail from where it is another one than in the last round. Answers how many of the chosen solvables
+    /// were chosen then, too.
+    fn follow(&mut self) -> Result<usize, Exhausted>
+        requires identity { IsIdentity S.eq }
+        requires distinct { AreDistinct (notes_of self.old).origins }
+        requires consistent { IsConsistent (search_of self.old) }
+        requires loaded { IsUpToDate self.old }
+        requires mark { HasMark self.old }
+        ensures following { IfOk result (IsFollowing self.old self.new) }
+        ensures followed { OnOk result (HasFollowed self.old self.new) }
+        ensures limits { KeepsRoom self.old self.new }
+        ensures memory { IfErr result (λ e. e ≡ Exhausted.Memory) }
+    {
+        self.chosen.cut::<N>(self.search.kept());
+        let from = self.chosen.len();
+        self.chosen
+            .follow(self.encoding.variables(), self.search.trail())?;
+        self.search.mark();
+        Ok(from)
+    }
+
+    /// Reads what is chosen.
+    fn read<D: DependencyProvider<NameId = N, SolvableId = S>>(
+        &mut self,
+        provider: &D,
+        cache: &mut Cache<N, S>,
+    ) -> Result<Progress, Interrupted<D::Cancel>>
+        requires rounds { AreRounds (D.universe provider.now) self.old }
+        requires loaded { IsUpToDate self.old }
+        requires is_true { IsTrueCache (D.universe provider.now) cache.old }
+        ensures is_true { IsTrueCache (D.universe provider.now) cache.new }
+        ensures rounds { OnOk result (AreRounds (D.universe provider.now) self.new) }
+        ensures keeps { OnOk result (KeepsRead (D.universe provider.now) self.old self.new) }
+        ensures followed { OnOk result (HasFollowed self.old self.new) }
+        ensures progress { IfOk result (IsProgress (notes_of self.old) (notes_of self.new)) }
+        ensures fit { OnOk result (length (notes_of self.new).read ≤ (notes_of self.new).variable_limit) }
+        ensures limits { KeepsRoom self.old self.new }
+        ensures refusal { IfErr result (IsStop (D.may_cancel provider.now) (IsStuck self.new)) }
+    {
+        let from = self.follow()?;
+        let progress = self
+            .encoding
+            .read_chosen(provider, cache, self.chosen.solvables(), from)?;
+        Ok(progress)
+    }
+
+    /// Searches, and reads what is chosen then.
+    fn round<D: DependencyProvider<NameId = N, SolvableId = S>>(
+        &mut self,
+        provider: &D,
+        cache: &mut Cache<N, S>,
+    ) -> Result<Round, Interrupted<D::Cancel>>
+        requires rounds { AreRounds (D.universe provider.now) self.old }
+        requires is_true { IsTrueCache (D.universe provider.now) cache.old }
+        ensures is_true { IsTrueCache (D.universe provider.now) cache.new }
+        ensures rounds { OnOk result (AreRounds (D.universe provider.now) self.new) }
+        ensures keeps { OnOk result (KeepsRead (D.universe provider.now) self.old self.new) }
+        ensures round { IfOk result (IsRound (D.universe provider.now) self.old self.new) }
+        ensures limits { KeepsRoom self.old self.new }
+        ensures refusal { IfErr result (IsStop (D.may_cancel provider.now) (IsStuck self.new)) }
+    {
+        match self.search(provider)? {
+            Outcome::Contradiction(core) => Ok(Round::Last(Found::Contradiction(core))),
+            Outcome::Finished => match self.read(provider, cache)? {
+                Progress::Nothing => Ok(Round::Last(Found::Answer)),
+                Progress::Fired => Ok(Round::Fired),
+                Progress::Read => Ok(Round::Read),
+            },
+        }
+    }
+
+    /// Makes rounds up to the last one, or until solvables are read.
+    fn rounds_until_read<D: DependencyProvider<NameId = N, SolvableId = S>>(
+        &mut self,
+        provider: &D,
+        cache: &mut Cache<N, S>,
+    ) -> Result<Option<Found>, Interrupted<D::Cancel>>
+        requires rounds { AreRounds (D.universe provider.now) self.old }
+        requires is_true { IsTrueCache (D.universe provider.now) cache.old }
+        ensures is_true { IsTrueCache (D.universe provider.now) cache.new }
+        ensures rounds { OnOk result (AreRounds (D.universe provider.now) self.new) }
+        ensures keeps { OnOk result (KeepsRead (D.universe provider.now) self.old self.new) }
+        ensures found { IfOk result (λ answer. IfSome answer (IsFound (D.universe provider.now) self.new)) }
+        ensures counted { IfOk result (λ answer. IfSome answer (λ _. HasAllClauses self.new)) }
+        ensures read { IfOk result (λ answer. IfNone answer (length (notes_of self.old).read < length (notes_of self.new).read)) }
+        ensures fit { IfOk result (λ answer. IfNone answer (length (notes_of self.new).read ≤ (notes_of self.new).variable_limit)) }
+        ensures limits { KeepsRoom self.old self.new }
+        ensures refusal { IfErr result (IsStop (D.may_cancel provider.now) (IsStuck self.new)) }
+    {
+        'rounds: loop {
+            match self.round(provider, cache)? {
+                Round::Last(found) => return Ok(Some(found)),
+                Round::Read => return Ok(None),
+                Round::Fired => (),
+            }
+        }
+    }
+
+    /// Makes rounds up to the last one.
+    fn all_rounds<D: DependencyProvider<NameId = N, SolvableId = S>>(
+        &mut self,
+        provider: &D,
+        cache: &mut Cache<N, S>,
+    ) -> Result<Found, Interrupted<D::Cancel>>
+        requires rounds { AreRounds (D.universe provider.now) self.old }
+        requires is_true { IsTrueCache (D.universe provider.now) cache.old }
+        ensures is_true { IsTrueCache (D.universe provider.now) cache.new }
+        ensures rounds { OnOk result (AreRounds (D.universe provider.now) self.new) }
+        ensures keeps { OnOk result (KeepsRead (D.universe provider.now) self.old self.new) }
+        ensures found { IfOk result (IsFound (D.universe provider.now) self.new) }
+        ensures counted { OnOk result (HasAllClauses self.new) }
+        ensures limits { KeepsRoom self.old self.new }
+        ensures refusal { IfErr result (IsStop (D.may_cancel provider.now) (IsStuck self.new)) }
+    {
+        'rounds: loop {
+            match self.rounds_until_read(provider, cache)? {
+                Some(found) => return Ok(found),
+                None => (),
+            }
+        }
+    }
+
+    /// Reads and searches until what is chosen is an answer, or there is none.
+    pub fn find<D: DependencyProvider<NameId = N, SolvableId = S>>(
+        &mut self,
+        provider: &D,
+        cache: &mut Cache<N, S>,
+        requirements: &[ConditionalRequirement],
+        constraints: &[VersionSetId],
+    ) -> Result<Found, Interrupted<D::Cancel>>
+        requires fresh { IsFresh self.old }
+        requires is_true { IsTrueCache (D.universe provider.now) cache.old }
+        ensures is_true { IsTrueCache (D.universe provider.now) cache.new }
+        ensures read { OnOk result (IsReadSoFar (D.universe provider.now) (record { requirements = requirements.now; constraints = constraints.now }) (chosen_of self.new) (notes_of self.new)) }
+        ensures found { IfOk result (IsFound (D.universe provider.now) self.new) }
+        ensures counted { OnOk result (HasAllClauses self.new) }
+        ensures limits { KeepsRoom self.old self.new }
+        ensures refusal { IfErr result (IsStop (D.may_cancel provider.now) (IsStuck self.new)) }
+    {
+        self.begin(provider, cache, requirements, constraints)?;
+        let found = self.all_rounds(provider, cache)?;
+        Ok(found)
+    }
+}
