@@ -1,12 +1,14 @@
 //! What the statements of an input declare and ask for.
 
-ghost use Rattle.std.specs.Prelude.{◌≡◌, IfOk};
+ghost use Rattle.std.specs.Prelude.{◌≡◌, [], ◌∷◌, ◌++◌, IfOk, MatchBool};
 ghost use Rattle.resolver_clause_store.specs.Laws.{HasLawfulIds, HasLawfulPackages};
 ghost use Rattle.resolve.specs.declared.request.InputError.TheVariants.{Exhausted as RanOut};
-ghost use Rattle.resolve.specs.Catalogs.{catalog_universe};
+ghost use Rattle.resolve.specs.Catalogs.{IsFound, catalog_universe};
+ghost use Rattle.resolve.specs.declared.ids.SolvableId.{SolvableId};
 
 use crate::catalog::Catalog;
 use crate::condition::ConditionStep;
+use crate::ids::SolvableId;
 use crate::lines::Lines;
 use crate::statement::{LineError, Statement, parse_line};
 use crate::words::{SolvableText, Spec};
@@ -22,6 +24,8 @@ pub struct Request {
     pub catalog: Catalog,
     pub requirements: Vec<ConditionalRequirement>,
     pub constraints: Vec<VersionSetId>,
+    /// In the order of their statements.
+    pub soft_requirements: Vec<SolvableId>,
 }
 
 /// Why an input gives no request.
@@ -61,6 +65,7 @@ impl Request {
             catalog: Catalog::new(alloc),
             requirements: Vec::new(alloc),
             constraints: Vec::new(alloc),
+            soft_requirements: Vec::new(alloc),
         }
     }
 
@@ -94,7 +99,7 @@ impl Request {
             Statement::Exclude { solvable, reason } => self.exclude(solvable, reason),
             Statement::Require { union, condition } => self.require(&union, &condition),
             Statement::Constrain(spec) => self.constrain(spec),
-            Statement::Soft(_) => Ok(false),
+            Statement::Soft(solvable) => self.add_soft_requirement(solvable),
         }
     }
 
@@ -177,6 +182,18 @@ impl Request {
     fn constrain(&mut self, spec: Spec<'_>) -> Result<bool, Exhausted> {
         let version_set = self.version_set(spec)?;
         self.constraints.push(version_set)?;
+        Ok(true)
+    }
+
+    /// Asks for the solvable where it can be taken, if it was declared. Answers whether it was.
+    fn add_soft_requirement(&mut self, solvable: SolvableText<'_>) -> Result<bool, Exhausted>
+        ensures only { self.new ≡ record self.old { soft_requirements = self.new.soft_requirements } }
+        ensures added { IfOk result (λ declared. MatchBool declared ((s : SolvableId) × IsFound self.old.catalog solvable.entry.name.now solvable.entry.version s × (self.new.soft_requirements.items ≡ self.old.soft_requirements.items ++ s ∷ [])) (self.new.soft_requirements.items ≡ self.old.soft_requirements.items)) }
+    {
+        let Some(found) = self.catalog.find_solvable(solvable.name, solvable.version) else {
+            return Ok(false);
+        };
+        self.soft_requirements.push(found)?;
         Ok(true)
     }
 

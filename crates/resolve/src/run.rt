@@ -191,7 +191,8 @@ fn solve_request(alloc: Global, request: Request) -> Result<Outcome, Fault>
 {
     let problem = Problem::new()
         .requirements(request.requirements)
-        .constraints(request.constraints);
+        .constraints(request.constraints)
+        .soft_requirements(request.soft_requirements.into_iter());
     let mut solver = Solver::new(alloc, request.catalog);
     match solver.solve(problem) {
         Ok(chosen) => Ok(Outcome::Answer(answer_text(alloc, solver.provider(), &chosen)?)),

@@ -165,3 +165,26 @@ undone old new level top undoes all low = record {
   kept = undoes.kept;
   stays = λ v s at. (undoes.stays v s at, omega (arith, all v s at));
 }
+
+-- the first places are left, and perhaps more
+pub record CutsBehind (old new : Trail) (count : ℕ) : Type 0 where
+  pub size : variable_count new ≡ variable_count old
+  pub enough : count ≤ length_of new
+  pub kept : (variable : ℕ) (slot : Slot) → slot_of old variable ≡ Some slot → slot.place < count → slot_of new variable ≡ Some slot
+  pub stays : (variable : ℕ) (slot : Slot) → slot_of new variable ≡ Some slot → slot_of old variable ≡ Some slot
+
+pub cuts-last : (old mid new : Trail) (count : ℕ) → CutsBehind old mid count → count < length_of mid → IsCut mid new (length_of mid - 1) → CutsBehind old new count
+cuts-last old mid new count cuts more cut = record {
+  size = cut.size ∙ cuts.size;
+  enough = omega (arith, more, cut.length);
+  kept = λ v s at low. cut.kept v s (cuts.kept v s at low) (omega (arith, more, low));
+  stays = λ v s at. cuts.stays v s (cut.stays v s at);
+}
+
+pub cut-done : (old new : Trail) (count : ℕ) → CutsBehind old new count → length_of new ≤ count → IsCut old new count
+cut-done old new count cuts less = record {
+  size = cuts.size;
+  length = omega (arith, less, cuts.enough);
+  kept = cuts.kept;
+  stays = cuts.stays;
+}

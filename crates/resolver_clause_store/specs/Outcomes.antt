@@ -4,6 +4,7 @@ use Rattle.std.specs.Bool.{beq}
 use Rattle.std.specs.declared.alloc.Global.{Global}
 use Rattle.resolver_clause_store.specs.declared.literals.Literal.{Literal}
 use Rattle.resolver_clause_store.specs.declared.clauses.RequirementClause.{RequirementClause}
+use Rattle.resolver_clause_store.specs.declared.trail.Reason.TheVariants.{Assumed}
 use Rattle.resolver_clause_store.specs.declared.trail.Slot.{Slot}
 use Rattle.resolver_clause_store.specs.declared.trail.Trail.{Trail}
 use Rattle.resolver_clause_store.specs.Formula.{clause_at, clause_true, MakesTrue, Satisfies}
@@ -51,7 +52,7 @@ pub record IsForced (clauses : List (Vec Literal Global)) (trail : Trail) (varia
 -- why the variable has its value
 abbrev pub IsReasoned : List (Vec Literal Global) → List RequirementClause → Trail → ℕ → Slot → Type 0
 IsReasoned clauses requirements trail variable slot =
-    IsChosen clauses requirements trail variable slot ⊎ IsForced clauses trail variable slot
+    IsChosen clauses requirements trail variable slot ⊎ (IsForced clauses trail variable slot ⊎ (slot.reason ≡ Assumed))
 
 -- the clause is not false, and where all its literals but one are false that one is true
 pub record IsPropagated (trail : Trail) (clause : List Literal) : Type 0 where

@@ -13,6 +13,8 @@ pub enum Reason {
     Decided(usize),
     /// The clause with this number forced it: the other literals were false before.
     Forced(usize),
+    /// It was assumed: a soft requirement that is tried or was accepted, or one that was refused.
+    Assumed,
 }
 
 /// The value of a variable, the level and the place of the trail at which it got it, and why.
@@ -37,7 +39,7 @@ pub enum Addition {
 
 /// The variables in the order in which they got their values, and a slot for each variable.
 ///
-/// Levels count from 0. They never fall from place to place, and a decision begins a level.
+/// Levels count from 0. They never fall from place to place. A decision begins a level, and so does an assumption.
 #[derive(Debug, Drop)]
 pub struct Trail {
     slots: Vec<Option<Slot>>,
@@ -52,7 +54,7 @@ impl Trail {
     ghost use Rattle.std.specs.Prelude.{◌+◌, ◌-◌, true};
     ghost use Rattle.std.specs.Option.{option_map};
     ghost use Rattle.resolver_clause_store.specs.Slots.{is_decided};
-    ghost use Rattle.resolver_clause_store.specs.declared.trail.Reason.TheVariants.{Decided, Forced};
+    ghost use Rattle.resolver_clause_store.specs.declared.trail.Reason.TheVariants.{Assumed, Decided, Forced};
     ghost use Rattle.resolver_clause_store.specs.TrailView.{AdditionIs, Gains, IsAbove, IsCut, IsGrown, IsSame, IsTop, IsUndone, length_of, level_of, literal_value, slot_of, variable_at, variable_count};
 
     /// A trail of no variables.
@@ -222,6 +224,18 @@ impl Trail {
         Ok(())
     }
 
+    /// Begins a level with a literal whose variable has no value, assumed for no clause.
+    pub fn assume(&mut self, literal: Literal) -> Result<(), AllocError>
+        requires inside { literal.variable < variable_count self.old }
+        requires free { slot_of self.old literal.variable ≡ None }
+        ensures ok { OnOk result (Gains self.old self.new literal (level_of self.old + 1) Assumed) }
+        ensures err { OnErr result (IsSame self.old self.new) }
+    {
+        let level = self.level() + 1;
+        self.assign(literal, level, Reason::Assumed)?;
+        Ok(())
+    }
+
     /// Adds variables without a value, up to this many.
     pub fn grow(&mut self, variables: usize) -> Result<(), AllocError>
         requires { variable_count self.old ≤ variables }
@@ -239,6 +253,16 @@ impl Trail {
     {
         if let Some(variable) = self.order.pop() {
             self.slots[variable.index()] = None;
+        }
+    }
+
+    /// Takes the values behind the first places away.
+    pub fn cut(&mut self, count: usize)
+        requires { count ≤ length_of self.old }
+        ensures { IsCut self.old self.new count }
+    {
+        'places: while self.order.len() > count {
+            self.undo_last();
         }
     }
 

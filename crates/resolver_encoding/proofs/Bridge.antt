@@ -4,7 +4,7 @@ use Rattle.std.specs.Prelude.{not, map, slice_get, Any}
 use Rattle.std.specs.List.{AllZip}
 use Rattle.std.specs.Option.{option_map, option_map_or}
 use Rattle.std.specs.Bool.{beq}
-use Rattle.std.proofs.lemmas.Bool.{cases_lt, false≢true}
+use Rattle.std.proofs.lemmas.Bool.{cases_Bool, cases_lt, false≢true}
 use Rattle.std.proofs.lemmas.Option.{same_Some, slice_get-get_or}
 use Rattle.std.proofs.lemmas.List.Elements.{All-contains, All-nil, Contains-get_or, Contains-append_cases, Contains-append_left, Contains-append_right}
 use Rattle.resolver_clause_store.specs.Candidates.{others, requirement_candidates, version_sets}
@@ -25,6 +25,7 @@ use Rattle.resolver_clause_store.specs.declared.Origin.{Origin}
 use Rattle.resolver_clause_store.specs.declared.Origin.TheVariants.{Root, Solvable, Gate, ConditionHelper}
 use Rattle.resolver_clause_store.specs.declared.Requirement.{Requirement}
 use Rattle.resolver_clause_store.specs.declared.RequirementClause.{RequirementClause}
+use Rattle.resolver_clause_store.specs.declared.Reason.TheVariants.{Assumed}
 use Rattle.resolver_clause_store.specs.declared.Slot.{Slot}
 use Rattle.resolver_clause_store.specs.declared.Trail.{Trail}
 use Rattle.resolver_clause_store.specs.declared.VersionSetId.{VersionSetId}
@@ -32,11 +33,11 @@ use Rattle.resolver_clause_store.proofs.SlotLemmas.{slot-within}
 use Rattle.resolver_encoding.specs.Atoms.{Atom, atom, origin_by, atoms_of}
 use Rattle.resolver_encoding.specs.Encodings.{AreDemandsRead, AreNeedsRead, AsksForCandidates, IsConstraintRead, IsEncoding, IsLeft, Notes}
 use Rattle.resolver_encoding.specs.Read.{IsForbidden, IsSettled}
-use Rattle.resolver_encoding.specs.ReadState.{HasClause, has_direct, has_gate, IsRead, IsReadRequirement}
+use Rattle.resolver_encoding.specs.ReadState.{AreSeeds, HasClause, has_direct, has_gate, IsRead, IsReadRequirement}
 use Rattle.resolver_encoding.specs.SoFar.{IsHalfRead, IsReadSoFar}
 use Rattle.resolver_encoding.specs.Truth.{AreDue, HasLawfulSolvables}
-use Rattle.resolver_encoding.specs.TrailAtoms.{CoversReached, IsAnswerBy, IsChosen as IsChosenBy, Takes, IsEntailed, IsFirstOpen, IsBecause, needed, needed_gate, forced, IsTrail, begun, went_on}
-use Rattle.resolver_encoding.specs.Trails.{solvable_if, solvables_before, origin_at, value_of, entry_at, atoms_before, atoms_by}
+use Rattle.resolver_encoding.specs.TrailAtoms.{CoversReached, IsAnswerBy, IsChosen as IsChosenBy, Takes, IsEntailed, IsFirstOpen, IsBecause, needed, needed_gate, seeded, left_out, forced, IsTrail, begun, went_on}
+use Rattle.resolver_encoding.specs.Trails.{AreAssumed, solvable_if, solvables_before, origin_at, value_of, entry_at, atoms_before, atoms_by}
 use Rattle.resolver_encoding.specs.Values.{IsAtom, AreInOrder}
 use Rattle.std.proofs.lemmas.List.{get_or_default}
 use Rattle.std.proofs.lemmas.List.Quantifiers.{all_pairs_push}
@@ -235,7 +236,7 @@ module _ {N S : Type 0} (origins : List (Origin N S)) (trail : Trail) (size : va
 
 -- the clauses of an encoding, and a search over them that is finished
 module _ {N S : Type 0} (u : Universe N S) (root : Demands) (notes : Notes N S) (encoding : IsEncoding u root notes) (requirements : List RequirementClause) (numbers : map (λ (r : RequirementClause). r.number) requirements ≡ notes.requirements)
-    (trail : Trail) (size : variable_count trail ≡ length notes.origins) (finished : IsFinished notes.table requirements trail) where
+    (trail : Trail) (size : variable_count trail ≡ length notes.origins) (finished : IsFinished notes.table requirements trail) (seeds refused : List S) (assumed : AreAssumed notes.origins seeds refused trail) where
   abbrev before : ℕ → List (Atom N S)
   before n = atoms_before notes.origins trail n
 
@@ -251,7 +252,7 @@ module _ {N S : Type 0} (u : Universe N S) (root : Demands) (notes : Notes N S) 
         (Contains-map (λ (m : Literal). atom (origin_at notes.origins m.variable) m.positive) clause l w.1) (subst Holds same w.2);
   }
 
-  because_forced : (x : ℕ) (slot : Slot) → slot_of trail x ≡ Some slot → IsForced notes.table trail x slot → IsBecause u notes.kinds [] [] (before slot.place) (atom (origin_at notes.origins x) slot.value)
+  because_forced : (x : ℕ) (slot : Slot) → slot_of trail x ≡ Some slot → IsForced notes.table trail x slot → IsBecause u notes.kinds seeds refused (before slot.place) (atom (origin_at notes.origins x) slot.value)
   because_forced x slot at f =
       let it : Literal = record { variable = x; positive = slot.value } in
       let Forcing : Literal → Type 0 = λ other. (other ≡ it) ⊎ IsFalseBefore trail slot.place other in
@@ -302,7 +303,7 @@ module _ {N S : Type 0} (u : Universe N S) (root : Demands) (notes : Notes N S) 
       }
 
   abbrev Because : ℕ → Slot → Atom N S → Type 0
-  Because x slot a = IsBecause u notes.kinds [] [] (before slot.place) a
+  Because x slot a = IsBecause u notes.kinds seeds refused (before slot.place) a
 
   because_left : (x : ℕ) (slot : Slot) (parent : Origin N S) (vs : List VersionSetId) (r : Requirement) (left : IsFirstLeft x slot parent vs r) → Because x slot (atom (Solvable left.s) true) → Because x slot (atom (origin_at notes.origins x) slot.value)
   because_left x slot parent vs r left it =
@@ -325,31 +326,44 @@ module _ {N S : Type 0} (u : Universe N S) (root : Demands) (notes : Notes N S) 
       because_left x slot (Gate w.0) [] w.0 left (needed_gate w.0 left.s (subst Has w.1 inside) left.parent_true left.first_open))
       asks
 
+  because_assumed : (x : ℕ) (slot : Slot) → slot_of trail x ≡ Some slot → slot.reason ≡ Assumed → Because x slot (atom (origin_at notes.origins x) slot.value)
+  because_assumed x slot at reason =
+      let Entry : Origin N S → Bool → Type 0 = λ o b. Because x slot (atom o b) in
+      let OfOrigin : Bool → Origin N S → Type 0 = λ b o. Because x slot (atom o b) in
+      ⊎_elim
+      (λ (e : slot.value ≡ true).
+      let w = assumed.taken x slot at reason e in
+      subst (Entry (origin_at notes.origins x)) (sym e) (subst (OfOrigin true) (sym w.1) (seeded w.0 w.2)))
+      (λ (e : slot.value ≡ false).
+      let w = assumed.left_out x slot at reason e in
+      subst (Entry (origin_at notes.origins x)) (sym e) (subst (OfOrigin false) (sym w.1) (left_out w.0 w.2)))
+      (cases_Bool slot.value)
+
   abbrev all : List (Atom N S)
   all = before (length_of trail)
 
-  because : (x : ℕ) (slot : Slot) → slot_of trail x ≡ Some slot → IsBecause u notes.kinds [] [] (before slot.place) (atom (origin_at notes.origins x) slot.value)
+  because : (x : ℕ) (slot : Slot) → slot_of trail x ≡ Some slot → IsBecause u notes.kinds seeds refused (before slot.place) (atom (origin_at notes.origins x) slot.value)
   because x slot at = ⊎_elim
       (λ (chosen : IsChosen notes.table requirements trail x slot).
       let Among : List ℕ → Type 0 = λ ns. Contains ns chosen.requirement.number in
       let ask = encoding.ask chosen.requirement.number (subst Among numbers (Contains-map (λ (r : RequirementClause). r.number) requirements chosen.requirement chosen.listed)) in
       because_chosen x slot at chosen ask.0 ask.1 ask.2)
-      (λ f. because_forced x slot at f)
+      (λ rest. ⊎_elim (λ f. because_forced x slot at f) (λ a. because_assumed x slot at a) rest)
       (finished.reasons x slot at)
 
-  because_at : (k : ℕ) → k < length_of trail → IsBecause u notes.kinds [] [] (before k) (entry_at notes.origins trail k)
+  because_at : (k : ℕ) → k < length_of trail → IsBecause u notes.kinds seeds refused (before k) (entry_at notes.origins trail k)
   because_at k below =
       let w = slot_at notes.origins trail size k below in
       let x : ℕ = variable_at trail k in
-      let At : ℕ → Type 0 = λ n. IsBecause u notes.kinds [] [] (before n) (atom (origin_at notes.origins x) w.0.value) in
-      let Entry : Bool → Type 0 = λ b. IsBecause u notes.kinds [] [] (before k) (atom (origin_at notes.origins x) b) in
+      let At : ℕ → Type 0 = λ n. IsBecause u notes.kinds seeds refused (before n) (atom (origin_at notes.origins x) w.0.value) in
+      let Entry : Bool → Type 0 = λ b. IsBecause u notes.kinds seeds refused (before k) (atom (origin_at notes.origins x) b) in
       subst Entry (sym (ap (λ o. option_map_or (λ (s : Slot). s.value) o false) w.1)) (subst At w.2 (because x w.0 w.1))
 
-  trail_before : (n : ℕ) → n ≤ length_of trail → IsTrail u notes.kinds [] [] (before n)
+  trail_before : (n : ℕ) → n ≤ length_of trail → IsTrail u notes.kinds seeds refused (before n)
   trail_before zero h = begun
   trail_before (suc n) h = went_on (entry_at notes.origins trail n) (trail_before n (omega arith)) (because_at n (omega arith))
 
-  pub is_trail : IsTrail u notes.kinds [] [] all
+  pub is_trail : IsTrail u notes.kinds seeds refused all
   is_trail = trail_before (length_of trail) (omega arith)
 
   -- the variable of an atom on the trail
@@ -581,19 +595,18 @@ module _ {N S : Type 0} (u : Universe N S) (root : Demands) (notes : Notes N S) 
   }
 
 -- a finished search over what was read so far is an answer, where all that it chose was read
-pub finished_is_valid : {N S : Type 0} (u : Universe N S) (root : Demands) (notes : Notes N S) (requirements : List RequirementClause) (trail : Trail) →
-    HasLawfulSolvables u → HasLawfulPackages u → IsReadSoFar u root (solvables_before notes.origins trail (length_of trail)) notes → notes.exempt ≡ [] → map (λ (r : RequirementClause). r.number) requirements ≡ notes.requirements → variable_count trail ≡ length notes.origins → IsFinished notes.table requirements trail →
-    IsAnswerBy u root (solvables_before notes.origins trail (length_of trail)) [] []
-finished_is_valid {N} {S} u root notes requirements trail lawful packages so_far none numbers size finished =
+pub finished_is_valid : {N S : Type 0} (u : Universe N S) (root : Demands) (notes : Notes N S) (requirements : List RequirementClause) (trail : Trail) (seeds refused : List S) →
+    HasLawfulSolvables u → HasLawfulPackages u → IsReadSoFar u root (solvables_before notes.origins trail (length_of trail)) notes → AreAssumed notes.origins seeds refused trail →
+    AreSeeds u seeds (solvables_before notes.origins trail (length_of trail)) notes.asked notes.seen notes.exempt →
+    map (λ (r : RequirementClause). r.number) requirements ≡ notes.requirements → variable_count trail ≡ length notes.origins → IsFinished notes.table requirements trail →
+    IsAnswerBy u root (solvables_before notes.origins trail (length_of trail)) seeds notes.exempt
+finished_is_valid {N} {S} u root notes requirements trail seeds refused lawful packages so_far assumed seeded_by numbers size finished =
     let encoding = so_far.half.encoding in
     let atoms : List (Atom N S) = atoms_before notes.origins trail (length_of trail) in
     let chosen : List S = solvables_before notes.origins trail (length_of trail) in
-    let Due : List S → Type 0 = λ e. AreDue u notes.asked e notes.kinds in
-    let Read : List S → Type 0 = λ e. IsRead u root notes.kinds (IsLeft notes) notes.read notes.asked notes.seen e in
-    let covers : CoversReached u root notes.kinds chosen [] [] = covers_reached u lawful packages root notes.kinds (IsLeft notes) notes.read notes.asked notes.seen [] (subst Read none (so_far_read u root notes so_far.half)) chosen []
-    (record { seed_chosen = λ s h. absurd (none_in s h); seed_registered = λ s h. absurd (none_in s h); seed_free = λ s h. absurd (none_in s h) })
+    let covers : CoversReached u root notes.kinds chosen seeds notes.exempt = covers_reached u lawful packages root notes.kinds (IsLeft notes) notes.read notes.asked notes.seen notes.exempt (so_far_read u root notes so_far.half) chosen seeds seeded_by
     (λ s inside registered. so_far.set_read s inside) so_far.none in
-    finished_is_answer u encoding.codes root notes.kinds atoms chosen [] [] [] lawful encoding.own_codes encoding.each_true
-    (Spares-further u notes.asked [] [] notes.kinds (subst Due none encoding.due) (λ s h. absurd (none_in s h)))
-    (is_trail u root notes encoding requirements numbers trail size finished) (settled u root notes encoding requirements numbers trail size finished)
+    finished_is_answer u encoding.codes root notes.kinds atoms chosen seeds refused notes.exempt lawful encoding.own_codes encoding.each_true
+    (Spares-further u notes.asked notes.exempt notes.exempt notes.kinds encoding.due (λ s h. inl h))
+    (is_trail u root notes encoding requirements numbers trail size finished seeds refused assumed) (settled u root notes encoding requirements numbers trail size finished seeds refused assumed)
     (is_chosen notes.origins trail) covers

@@ -20,7 +20,8 @@ use Rattle.resolver_clause_store.specs.declared.Requirement.{Requirement}
 use Rattle.resolver_clause_store.specs.declared.VersionSetId.{VersionSetId}
 use Rattle.resolver_clause_store.proofs.PlaceLemmas.{Keeps-same, Keeps-trans, place_cases, place_in, place_last, place_left, place_of_member}
 use Rattle.resolver_encoding.specs.Atoms.{Atom, atoms_of}
-use Rattle.resolver_encoding.specs.Encodings.{AddsClause, AddsRequirement, AsksForCandidates, Coding, Doing, Extends, Grows, HasUsualHelper, IsAskStep, IsEncodingOf, IsEncodingWhile, IsReadStep, IsStep, IsStepWhile, KeepsLimits, Notes, idle}
+use Rattle.resolver_encoding.specs.Called.{Call, to_ask, to_see}
+use Rattle.resolver_encoding.specs.Encodings.{AddsClause, AddsRequirement, AsksForCandidates, Coding, Doing, Extends, Grows, HasUsualHelper, IsAskStep, IsEncodingOf, IsEncodingWhile, IsFollowed, IsReadStep, IsStep, IsStepWhile, KeepsLimits, Notes, idle}
 use Rattle.resolver_encoding.specs.Codes.{bit}
 use Rattle.resolver_encoding.specs.Groups.{IsAt}
 use Rattle.resolver_encoding.specs.Read.{IsForbidden, forbidden_direct, forbidden_helped}
@@ -264,7 +265,7 @@ module _ {N S : Type 0} (u : Universe N S) where
     table = Extends-push old.table literals;
     kinds = IsWithin-push old.kinds kind;
     requirements = more;
-    seen = Extends-same old.seen;
+    seen = refl;
     asked = refl;
     helped = IsWithin-same old.helped;
     gates = IsWithin-same old.gates;
@@ -306,7 +307,7 @@ module _ {N S : Type 0} (u : Universe N S) where
     table = Extends-same notes.table;
     kinds = IsWithin-same notes.kinds;
     requirements = Extends-same notes.requirements;
-    seen = Extends-same notes.seen;
+    seen = refl;
     asked = refl;
     helped = IsWithin-same notes.helped;
     gates = IsWithin-same notes.gates;
@@ -324,7 +325,7 @@ module _ {N S : Type 0} (u : Universe N S) where
     table = Extends-trans one.table two.table three.table first.table second.table;
     kinds = IsWithin-trans one.kinds two.kinds three.kinds first.kinds second.kinds;
     requirements = Extends-trans one.requirements two.requirements three.requirements first.requirements second.requirements;
-    seen = Extends-trans one.seen two.seen three.seen first.seen second.seen;
+    seen = second.seen ∙ first.seen;
     asked = second.asked ∙ first.asked;
     helped = IsWithin-trans one.helped two.helped three.helped first.helped second.helped;
     gates = IsWithin-trans one.gates two.gates three.gates first.gates second.gates;
@@ -355,19 +356,24 @@ module _ {N S : Type 0} (u : Universe N S) where
     keeps = λ root premise before. step.keeps root (follows root premise) before;
   }
 
-  -- steps that may ask
-  pub IsAskStep-of : (Called : N → Type 0) (Premise : Demands → Type 0) (old new : Notes N S) → IsStep u Premise old new → IsAskStep u Called Premise old new
+  -- where nothing was asked or registered, all was followed before
+  pub followed_before : (old new : Notes N S) → new.asked ≡ old.asked → new.seen ≡ old.seen → (call : Call N S) → IsFollowed new call → IsFollowed old call
+  followed_before old new asked seen (to_ask n) h = let Has : List N → Type 0 = λ list. Contains list n in subst Has asked h
+  followed_before old new asked seen (to_see s) h = let Has : List S → Type 0 = λ list. Contains list s in subst Has seen h
+
+  -- steps that may ask and register
+  pub IsAskStep-of : (Called : Call N S → Type 0) (Premise : Demands → Type 0) (old new : Notes N S) → IsStep u Premise old new → IsAskStep u Called Premise old new
   IsAskStep-of Called Premise old new step =
       let Asked : List N → Type 0 = λ list. IsWithin old.asked list in
-      let Back : List N → Type 0 = λ list. (n : N) → Contains list n → Contains old.asked n ⊎ Called n in
+      let Seen : List S → Type 0 = λ list. Extends old.seen list in
       record {
         origins = step.origins;
         table = step.table;
         kinds = step.kinds;
         requirements = step.requirements;
-        seen = step.seen;
+        seen = subst Seen (sym step.seen) (Extends-same old.seen);
         asked = subst Asked (sym step.asked) (IsWithin-same old.asked);
-        called = subst Back (sym step.asked) (λ n h. inl h);
+        called = λ call h. inl (followed_before old new step.asked step.seen call h);
         read = step.read;
         deferred = step.deferred;
         waiting = step.waiting;
@@ -375,10 +381,10 @@ module _ {N S : Type 0} (u : Universe N S) where
         keeps = step.keeps;
       }
 
-  pub IsAskStep-same : (Called : N → Type 0) (Premise : Demands → Type 0) (notes : Notes N S) → IsAskStep u Called Premise notes notes
+  pub IsAskStep-same : (Called : Call N S → Type 0) (Premise : Demands → Type 0) (notes : Notes N S) → IsAskStep u Called Premise notes notes
   IsAskStep-same Called Premise notes = IsAskStep-of Called Premise notes notes (IsStep-same idle Premise notes)
 
-  pub IsAskStep-trans : (Called : N → Type 0) (Premise : Demands → Type 0) (one two three : Notes N S) → IsAskStep u Called Premise one two → IsAskStep u Called Premise two three → IsAskStep u Called Premise one three
+  pub IsAskStep-trans : (Called : Call N S → Type 0) (Premise : Demands → Type 0) (one two three : Notes N S) → IsAskStep u Called Premise one two → IsAskStep u Called Premise two three → IsAskStep u Called Premise one three
   IsAskStep-trans Called Premise one two three first second = record {
     origins = Keeps-trans one.origins two.origins three.origins first.origins second.origins;
     table = Extends-trans one.table two.table three.table first.table second.table;
@@ -394,8 +400,8 @@ module _ {N S : Type 0} (u : Universe N S) where
     keeps = λ root premise before. second.keeps root premise (first.keeps root premise before);
   }
 
-  -- with more packages called, under a premise from which its own follows
-  pub IsAskStep-weaker : (Called More : N → Type 0) → ((n : N) → Called n → More n) → (Premise Stronger : Demands → Type 0) → ((root : Demands) → Stronger root → Premise root) → (old new : Notes N S) → IsAskStep u Called Premise old new → IsAskStep u More Stronger old new
+  -- with more called for, under a premise from which its own follows
+  pub IsAskStep-weaker : (Called More : Call N S → Type 0) → ((call : Call N S) → Called call → More call) → (Premise Stronger : Demands → Type 0) → ((root : Demands) → Stronger root → Premise root) → (old new : Notes N S) → IsAskStep u Called Premise old new → IsAskStep u More Stronger old new
   IsAskStep-weaker Called More more Premise Stronger follows old new step = record {
     origins = step.origins;
     table = step.table;
@@ -412,7 +418,7 @@ module _ {N S : Type 0} (u : Universe N S) where
   }
 
   -- steps that may put disjuncts off
-  pub IsReadStep-of : (Defers : Deferred S → Type 0) (Called : N → Type 0) (Premise : Demands → Type 0) (old new : Notes N S) → IsAskStep u Called Premise old new → IsReadStep u Defers Called Premise old new
+  pub IsReadStep-of : (Defers : Deferred S → Type 0) (Called : Call N S → Type 0) (Premise : Demands → Type 0) (old new : Notes N S) → IsAskStep u Called Premise old new → IsReadStep u Defers Called Premise old new
   IsReadStep-of Defers Called Premise old new step =
       let Longer : List (Option (Deferred S)) → Type 0 = λ list. Extends old.deferred list in
       let Deferred_so : List (Option (Deferred S)) → Type 0 = λ list. (e : Deferred S) → Contains list (Some e) → Contains old.deferred (Some e) ⊎ Defers e in
@@ -421,6 +427,7 @@ module _ {N S : Type 0} (u : Universe N S) where
         table = step.table;
         kinds = step.kinds;
         requirements = step.requirements;
+        seen = step.seen;
         asked = step.asked;
         called = step.called;
         read = step.read;
@@ -430,15 +437,16 @@ module _ {N S : Type 0} (u : Universe N S) where
         keeps = step.keeps;
       }
 
-  pub IsReadStep-same : (Defers : Deferred S → Type 0) (Called : N → Type 0) (Premise : Demands → Type 0) (notes : Notes N S) → IsReadStep u Defers Called Premise notes notes
+  pub IsReadStep-same : (Defers : Deferred S → Type 0) (Called : Call N S → Type 0) (Premise : Demands → Type 0) (notes : Notes N S) → IsReadStep u Defers Called Premise notes notes
   IsReadStep-same Defers Called Premise notes = IsReadStep-of Defers Called Premise notes notes (IsAskStep-same Called Premise notes)
 
-  pub IsReadStep-trans : (Defers : Deferred S → Type 0) (Called : N → Type 0) (Premise : Demands → Type 0) (one two three : Notes N S) → IsReadStep u Defers Called Premise one two → IsReadStep u Defers Called Premise two three → IsReadStep u Defers Called Premise one three
+  pub IsReadStep-trans : (Defers : Deferred S → Type 0) (Called : Call N S → Type 0) (Premise : Demands → Type 0) (one two three : Notes N S) → IsReadStep u Defers Called Premise one two → IsReadStep u Defers Called Premise two three → IsReadStep u Defers Called Premise one three
   IsReadStep-trans Defers Called Premise one two three first second = record {
     origins = Keeps-trans one.origins two.origins three.origins first.origins second.origins;
     table = Extends-trans one.table two.table three.table first.table second.table;
     kinds = IsWithin-trans one.kinds two.kinds three.kinds first.kinds second.kinds;
     requirements = Extends-trans one.requirements two.requirements three.requirements first.requirements second.requirements;
+    seen = Extends-trans one.seen two.seen three.seen first.seen second.seen;
     asked = IsWithin-trans one.asked two.asked three.asked first.asked second.asked;
     called = λ n h. ⊎_elim (λ before. first.called n before) (λ called. inr called) (second.called n h);
     read = second.read ∙ first.read;
@@ -448,12 +456,13 @@ module _ {N S : Type 0} (u : Universe N S) where
     keeps = λ root premise before. second.keeps root premise (first.keeps root premise before);
   }
 
-  pub IsReadStep-weaker : (Defers : Deferred S → Type 0) (Called More : N → Type 0) → ((n : N) → Called n → More n) → (Premise Stronger : Demands → Type 0) → ((root : Demands) → Stronger root → Premise root) → (old new : Notes N S) → IsReadStep u Defers Called Premise old new → IsReadStep u Defers More Stronger old new
+  pub IsReadStep-weaker : (Defers : Deferred S → Type 0) (Called More : Call N S → Type 0) → ((call : Call N S) → Called call → More call) → (Premise Stronger : Demands → Type 0) → ((root : Demands) → Stronger root → Premise root) → (old new : Notes N S) → IsReadStep u Defers Called Premise old new → IsReadStep u Defers More Stronger old new
   IsReadStep-weaker Defers Called More more Premise Stronger follows old new step = record {
     origins = step.origins;
     table = step.table;
     kinds = step.kinds;
     requirements = step.requirements;
+    seen = step.seen;
     asked = step.asked;
     called = λ n h. ⊎_elim (λ before. inl before) (λ called. inr (more n called)) (step.called n h);
     read = step.read;
@@ -467,10 +476,10 @@ module _ {N S : Type 0} (u : Universe N S) where
   pub IsEncodingOf-step : (Premise : Demands → Type 0) (old new : Notes N S) → IsEncodingOf u Premise old → IsStep u Premise old new → IsEncodingOf u Premise new
   IsEncodingOf-step Premise old new before step = record { root = before.root; premise = before.premise; encoding = step.keeps before.root before.premise before.encoding }
 
-  pub IsEncodingOf-asked : (Called : N → Type 0) (Premise : Demands → Type 0) (old new : Notes N S) → IsEncodingOf u Premise old → IsAskStep u Called Premise old new → IsEncodingOf u Premise new
+  pub IsEncodingOf-asked : (Called : Call N S → Type 0) (Premise : Demands → Type 0) (old new : Notes N S) → IsEncodingOf u Premise old → IsAskStep u Called Premise old new → IsEncodingOf u Premise new
   IsEncodingOf-asked Called Premise old new before step = record { root = before.root; premise = before.premise; encoding = step.keeps before.root before.premise before.encoding }
 
-  pub IsEncodingOf-read : (Defers : Deferred S → Type 0) (Called : N → Type 0) (Premise : Demands → Type 0) (old new : Notes N S) → IsEncodingOf u Premise old → IsReadStep u Defers Called Premise old new → IsEncodingOf u Premise new
+  pub IsEncodingOf-read : (Defers : Deferred S → Type 0) (Called : Call N S → Type 0) (Premise : Demands → Type 0) (old new : Notes N S) → IsEncodingOf u Premise old → IsReadStep u Defers Called Premise old new → IsEncodingOf u Premise new
   IsEncodingOf-read Defers Called Premise old new before step = record { root = before.root; premise = before.premise; encoding = step.keeps before.root before.premise before.encoding }
 
   pub IsEncodingOf-weaker : (Premise Weaker : Demands → Type 0) → ((root : Demands) → Premise root → Weaker root) → (notes : Notes N S) → IsEncodingOf u Premise notes → IsEncodingOf u Weaker notes

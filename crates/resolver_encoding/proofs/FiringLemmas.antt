@@ -10,11 +10,11 @@ use Rattle.std.proofs.lemmas.List.Sums.{sum_by-cons, sum_by-set}
 use Rattle.std.proofs.lemmas.Option.{get_or_from_slice_get, none-some, same_Some, slice_get-get_or, slice_get_within}
 use Rattle.resolver_clause_store.specs.Lists.{Meets}
 use Rattle.resolver_clause_store.specs.Universe.{Universe, Demands}
-use Rattle.resolver_clause_store.specs.Candidates.{matching, version_sets}
+use Rattle.resolver_clause_store.specs.Candidates.{matching}
 use Rattle.resolver_clause_store.specs.declared.VersionSetId.{VersionSetId}
 use Rattle.resolver_clause_store.proofs.PlaceLemmas.{Keeps-same, Keeps-trans, place_cases, place_in, place_of_member}
-use Rattle.resolver_encoding.specs.Called.{IsNamedIn}
-use Rattle.resolver_encoding.specs.Encodings.{IsAskStep, IsEncoding, IsEncodingOf, IsLeft, IsReadStep, IsTrueEntry, IsTrueUnder, Notes}
+use Rattle.resolver_encoding.specs.Called.{Call, IsWantedBy}
+use Rattle.resolver_encoding.specs.Encodings.{IsAskStep, IsEncoding, IsEncodingOf, IsFollowed, IsLeft, IsReadStep, IsTrueEntry, IsTrueUnder, Notes}
 use Rattle.resolver_encoding.specs.Groups.{AddsNamed, AreGroups, IsNamed}
 use Rattle.resolver_encoding.specs.Notes.{entry_of}
 use Rattle.resolver_encoding.specs.ReadState.{Deferred, HasClause}
@@ -220,7 +220,7 @@ module _ {N S : Type 0} (u : Universe N S) where
       subst Left (sym deferral.is) (Contains-push old.deferred (Some e))
 
   -- one more disjunct is put off
-  pub IsReadStep-deferral : (Defers : Deferred S → Type 0) (Called : N → Type 0) (Premise : Demands → Type 0) (e : Deferred S) (old new : Notes N S) → IsDeferral u e old new → Defers e → ((root : Demands) → Premise root → IsTrueEntry u root e) →
+  pub IsReadStep-deferral : (Defers : Deferred S → Type 0) (Called : Call N S → Type 0) (Premise : Demands → Type 0) (e : Deferred S) (old new : Notes N S) → IsDeferral u e old new → Defers e → ((root : Demands) → Premise root → IsTrueEntry u root e) →
       IsReadStep u Defers Called Premise old new
   IsReadStep-deferral Defers Called Premise e old new deferral defers is_true =
       let Step : Notes N S → Type 0 = λ n. IsReadStep u Defers Called Premise old n in
@@ -229,6 +229,7 @@ module _ {N S : Type 0} (u : Universe N S) where
         table = Extends-same old.table;
         kinds = IsWithin-same old.kinds;
         requirements = Extends-same old.requirements;
+        seen = Extends-same old.seen;
         asked = IsWithin-same old.asked;
         called = λ n h. inl h;
         read = refl;
@@ -266,6 +267,7 @@ module _ {N S : Type 0} (u : Universe N S) where
       table = Extends-same notes.table;
       kinds = IsWithin-same notes.kinds;
       requirements = Extends-same notes.requirements;
+      seen = Extends-same notes.seen;
       asked = IsWithin-same notes.asked;
       called = λ n h. inl h;
       read = refl;
@@ -282,13 +284,14 @@ module _ {N S : Type 0} (u : Universe N S) where
       table = Extends-trans one.table two.table three.table first.table second.table;
       kinds = IsWithin-trans one.kinds two.kinds three.kinds first.kinds second.kinds;
       requirements = Extends-trans one.requirements two.requirements three.requirements first.requirements second.requirements;
+      seen = Extends-trans one.seen two.seen three.seen first.seen second.seen;
       asked = IsWithin-trans one.asked two.asked three.asked first.asked second.asked;
-      called = λ n h. ⊎_elim
-          (λ (earlier : Contains two.asked n). first.called n earlier)
-          (λ (later : (e : Deferred S) × IsLeft two e × AllMeet set (map (matching u) e.disjunct) × IsNamedIn u (version_sets u e.requirement) n).
+      called = λ call h. ⊎_elim
+          (λ (earlier : IsFollowed two call). first.called call earlier)
+          (λ (later : (e : Deferred S) × IsLeft two e × AllMeet set (map (matching u) e.disjunct) × IsWantedBy u e.requirement call).
           let at = place_of_member two.deferred (Some later.0) later.1 in
           inr (later.0, place_in one.deferred at.0 (Some later.0) (first.stays at.0 later.0 at.1), later.2, later.3))
-          (second.called n h);
+          (second.called call h);
       read = second.read ∙ first.read;
       waiting = second.waiting ∙ first.waiting;
       stays = λ i e at. first.stays i e (second.stays i e at);
@@ -306,7 +309,7 @@ module _ {N S : Type 0} (u : Universe N S) where
         let Met : Deferred S → Type 0 = λ x. AllMeet set (map (matching u) x.disjunct) in
         subst Met (same_Some _ _ (same_Some _ _ (sym has.is ∙ out.was))) has.met
 
-    module _ (number : ℕ) (e : Deferred S) (old mid new : Notes N S) (out : IsTakenOut number e old mid) (step : IsAskStep u (IsNamedIn u (version_sets u e.requirement)) (IsTrueUnder u e.by e.disjunct e.requirement) mid new) where
+    module _ (number : ℕ) (e : Deferred S) (old mid new : Notes N S) (out : IsTakenOut number e old mid) (step : IsAskStep u (IsWantedBy u e.requirement) (IsTrueUnder u e.by e.disjunct e.requirement) mid new) where
       left_now : new.deferred ≡ slice_set old.deferred number None
       left_now = step.deferred ∙ ap (λ (n : Notes N S). n.deferred) out.is
 
@@ -321,15 +324,16 @@ module _ {N S : Type 0} (u : Universe N S) where
       -- a disjunct was taken out, and its requirement encoded
       pub IsFiring-taken : AllMeet set (map (matching u) e.disjunct) → HasClause new.kinds e.by e.disjunct e.requirement → IsFiring u set old new
       IsFiring-taken met clause =
-          let Step : Notes N S → Type 0 = λ n. IsAskStep u (IsNamedIn u (version_sets u e.requirement)) (IsTrueUnder u e.by e.disjunct e.requirement) n new in
+          let Step : Notes N S → Type 0 = λ n. IsAskStep u (IsWantedBy u e.requirement) (IsTrueUnder u e.by e.disjunct e.requirement) n new in
           let plain = subst Step out.is step in
           record {
             origins = plain.origins;
             table = plain.table;
             kinds = plain.kinds;
             requirements = plain.requirements;
+            seen = plain.seen;
             asked = plain.asked;
-            called = λ n h. ⊎_elim (λ (earlier : Contains old.asked n). inl earlier) (λ (named : IsNamedIn u (version_sets u e.requirement) n). inr (e, place_in old.deferred number (Some e) out.was, met, named)) (plain.called n h);
+            called = λ call h. ⊎_elim (λ (earlier : IsFollowed old call). inl earlier) (λ (wanted : IsWantedBy u e.requirement call). inr (e, place_in old.deferred number (Some e) out.was, met, wanted)) (plain.called call h);
             read = plain.read;
             waiting = plain.waiting;
             stays = λ i x at. let At : List (Option (Deferred S)) → Type 0 = λ xs. slice_get xs i ≡ Some (Some x) in kept old.deferred number i x (subst At left_now at);

@@ -18,6 +18,7 @@ pub mod Closure
 pub mod Reached
 pub mod Reading
 pub mod SoFarLemmas
+pub mod ReachLemmas
 pub mod RoundLemmas
 pub mod Bridge
 pub mod Spared
@@ -25,4 +26,5 @@ pub mod CoreLemmas
 pub mod CoreRules
 pub mod StatedLemmas
 pub mod TrailLemmas
+pub mod TurnLemmas
 pub mod EncodedLemmas

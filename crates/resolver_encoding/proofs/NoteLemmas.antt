@@ -1,5 +1,5 @@
 -- Steps that note a clause of a plain kind, a variable, a solvable, a package or a helper.
-use Rattle.std.proofs.Common.{◌≡◌, ◌≢◌, ℕ, ◌+◌, ◌<◌, length, get_or, take, List, [], ◌∷◌, ◌++◌, refl, sym, ◌∙◌, subst, ⊎_elim, inl, inr, Contains, All, Bool, true, false}
+use Rattle.std.proofs.Common.{◌≡◌, ◌≢◌, ◌⊎◌, ℕ, ◌+◌, ◌<◌, length, get_or, take, List, [], ◌∷◌, ◌++◌, refl, sym, ◌∙◌, subst, ⊎_elim, inl, inr, Contains, All, Bool, true, false}
 use Rattle.std.specs.Prelude.{Option, Some, None, ⊤}
 use Rattle.std.proofs.lemmas.Bool.{true≢false}
 use Rattle.std.proofs.lemmas.List.Elements.{All-contains, All-contains_itself, All-get_or, All-more, All-weaker, Contains-append_left, Contains-push, Contains-push_cases}
@@ -17,8 +17,8 @@ use Rattle.resolver_clause_store.specs.declared.VersionSetId.{VersionSetId}
 use Rattle.resolver_clause_store.proofs.PlaceLemmas.{Keeps-same, place_in, place_of_member}
 use Rattle.resolver_clause_store.proofs.SetLemmas.{All-next}
 use Rattle.resolver_encoding.specs.Atoms.{atoms_of}
-use Rattle.resolver_encoding.specs.Called.{IsNamedIn}
-use Rattle.resolver_encoding.specs.Encodings.{AddsClause, AsksForCandidates, Doing, Grows, HasUsualHelper, IsAskStep, IsEncodingWhile, IsLockRead, IsStep, IsStepWhile, Notes, asking_for, idle}
+use Rattle.resolver_encoding.specs.Called.{Call, IsAsking, IsNamedBy, IsSeeing, IsSeeingEach, to_ask, to_see}
+use Rattle.resolver_encoding.specs.Encodings.{AddsClause, AsksForCandidates, Doing, Extends, Grows, HasUsualHelper, IsAskStep, IsEncodingWhile, IsFollowed, IsLockRead, IsStep, IsStepWhile, Notes, asking_for, idle}
 use Rattle.resolver_encoding.specs.Truth.{AreDue, IsTrueClause}
 use Rattle.resolver_encoding.proofs.Lists.{cons_cases, here, there}
 use Rattle.resolver_encoding.proofs.EncodingLemmas.{AreEncoded-keeps, Extends-same, HasCodes, IsClauseOf-zip, IsDue, IsPrepared, IsStep-clause, IsWithin-push, IsWithin-same}
@@ -55,10 +55,21 @@ asks_not {N} {S} kind plain asks =
     let Plain : ClauseKind N S → Type 0 = λ k. IsPlain k in
     ⊎_elim (λ w. subst Plain w.3 plain) (λ w. subst Plain w.1 plain) asks
 
+-- of a package by another name
+pub asking_same : {N S : Type 0} (n m : N) → n ≡ m → (call : Call N S) → IsAsking n call → IsAsking m call
+asking_same n m same (to_ask q) asking = sym same ∙ asking
+asking_same n m same (to_see s) asking = asking
+
+-- an element of a list
+pub seen_here : {N S : Type 0} (list : List S) (i : ℕ) (s : S) → i < length list → s ≡ get_or list i s → (call : Call N S) → IsSeeing s call → IsSeeingEach list call
+seen_here list i s below is (to_ask n) seeing = seeing
+seen_here {N} {S} list i s below is (to_see t) same = let Has : S → Type 0 = λ x. Contains list x in subst Has same (subst Has (sym is) (All-get_or (Contains list) list i s below (All-contains_itself list)))
+
 module _ {N S : Type 0} (u : Universe N S) where
   -- the package of an element of a list
-  pub named_here : (list : List VersionSetId) (i : ℕ) (d : VersionSetId) (n m : N) → i < length list → n ≡ u.version_set_name (get_or list i d) → n ≡ m → IsNamedIn u list m
-  named_here list i d n m below is same = (get_or list i d, All-get_or (Contains list) list i d below (All-contains_itself list), sym is ∙ same)
+  pub named_here : (list : List VersionSetId) (i : ℕ) (d : VersionSetId) (n : N) (call : Call N S) → i < length list → n ≡ u.version_set_name (get_or list i d) → IsAsking n call → IsNamedBy u list call
+  named_here list i d n (to_ask m) below is same = (get_or list i d, All-get_or (Contains list) list i d below (All-contains_itself list), sym is ∙ same)
+  named_here list i d n (to_see s) below is asking = asking
 
   -- one more clause of a plain kind
   pub IsStep-plain : (doing : Doing N S) (Premise : Demands → Type 0) (old new : Notes N S) (kind : ClauseKind N S) → AddsClause old new kind (atoms_of u kind) → IsPlain kind →
@@ -76,7 +87,7 @@ module _ {N S : Type 0} (u : Universe N S) where
         table = Extends-same old.table;
         kinds = IsWithin-same old.kinds;
         requirements = Extends-same old.requirements;
-        seen = Extends-same old.seen;
+        seen = refl;
         asked = refl;
         helped = IsWithin-same old.helped;
         gates = IsWithin-same old.gates;
@@ -176,19 +187,24 @@ module _ {N S : Type 0} (u : Universe N S) where
     sound_waiting = start.sound_waiting;
   }
 
+  -- of a package that is noted as asked, and of nothing else
+  asked_alone : (old mid : Notes N S) (n : N) → mid.asked ≡ old.asked → mid.seen ≡ old.seen → (call : Call N S) → IsFollowed (record mid { asked = mid.asked ++ n ∷ [] }) call → IsFollowed old call ⊎ IsAsking n call
+  asked_alone old mid n asked seen (to_ask m) h = let Has : List N → Type 0 = λ list. Contains list m in ⊎_elim (λ (earlier : Contains mid.asked m). inl (subst Has asked earlier)) (λ (is : n ≡ m). inr is) (Contains-push_cases mid.asked n m h)
+  asked_alone old mid n asked seen (to_see s) h = let Has : List S → Type 0 = λ list. Contains list s in inl (subst Has seen h)
+
   -- a package is asked: its locks and exclusions are made, and then it is noted
-  pub IsStep-asked : (old mid new : Notes N S) (n : N) → IsStepWhile u (asking_for n) (λ root. ⊤) old mid → mid.asked ≡ old.asked → new ≡ record mid { asked = mid.asked ++ n ∷ [] } → IsPackageRead mid.kinds mid.exempt (u.package_named n) → IsAskStep u (λ m. n ≡ m) (λ root. ⊤) old new
+  pub IsStep-asked : (old mid new : Notes N S) (n : N) → IsStepWhile u (asking_for n) (λ root. ⊤) old mid → mid.asked ≡ old.asked → new ≡ record mid { asked = mid.asked ++ n ∷ [] } → IsPackageRead mid.kinds mid.exempt (u.package_named n) → IsAskStep u (IsAsking n) (λ root. ⊤) old new
   IsStep-asked old mid new n step same e read =
-      let Step : Notes N S → Type 0 = λ m. IsAskStep u (λ m. n ≡ m) (λ root. ⊤) old m in
-      let Was : List N → Type 0 = λ list. (m : N) → Contains list m → Contains old.asked m in
+      let Step : Notes N S → Type 0 = λ m. IsAskStep u (IsAsking n) (λ root. ⊤) old m in
+      let Seen : List S → Type 0 = λ list. Extends old.seen list in
       subst Step (sym e) (record {
         origins = step.origins;
         table = step.table;
         kinds = step.kinds;
         requirements = step.requirements;
-        seen = step.seen;
+        seen = subst Seen (sym step.seen) (Extends-same old.seen);
         asked = let Asked : List N → Type 0 = λ list. IsWithin old.asked (list ++ n ∷ []) in subst Asked (sym same) (λ m h. Contains-append_left old.asked (n ∷ []) m h);
-        called = λ m h. ⊎_elim (λ (earlier : Contains mid.asked m). inl (subst Was (sym same) (λ q k. k) m earlier)) (λ (is : n ≡ m). inr is) (Contains-push_cases mid.asked n m h);
+        called = asked_alone old mid n same step.seen;
         read = step.read;
         deferred = step.deferred;
         waiting = step.waiting;
@@ -274,7 +290,7 @@ module _ {N S : Type 0} (u : Universe N S) where
         table = Extends-same old.table;
         kinds = IsWithin-same old.kinds;
         requirements = Extends-same old.requirements;
-        seen = Extends-same old.seen;
+        seen = refl;
         asked = refl;
         helped = IsWithin-push old.helped v;
         gates = IsWithin-same old.gates;
@@ -332,7 +348,7 @@ module _ {N S : Type 0} (u : Universe N S) where
         table = Extends-same old.table;
         kinds = IsWithin-same old.kinds;
         requirements = Extends-same old.requirements;
-        seen = Extends-same old.seen;
+        seen = refl;
         asked = refl;
         helped = IsWithin-same old.helped;
         gates = IsWithin-push old.gates r;
@@ -390,7 +406,7 @@ module _ {N S : Type 0} (u : Universe N S) where
         table = Extends-same old.table;
         kinds = IsWithin-same old.kinds;
         requirements = Extends-same old.requirements;
-        seen = Extends-same old.seen;
+        seen = refl;
         asked = refl;
         helped = IsWithin-same old.helped;
         gates = IsWithin-same old.gates;

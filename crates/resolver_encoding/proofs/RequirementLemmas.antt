@@ -4,7 +4,7 @@ use Rattle.std.specs.Prelude.{MatchBool, Option, Some, None, false}
 use Rattle.std.proofs.lemmas.List.Elements.{All-cons, All-contains, All-contains_itself, All-get_or, All-head, All-map, All-nil, All-tail, All-weaker}
 use Rattle.resolver_clause_store.specs.Lists.{HaveSameMembers, IsWithin, Meets}
 use Rattle.resolver_clause_store.specs.Universe.{Universe, Demands}
-use Rattle.resolver_clause_store.specs.Candidates.{matching, others, version_sets}
+use Rattle.resolver_clause_store.specs.Candidates.{matching, others, requirement_candidates, version_sets}
 use Rattle.resolver_clause_store.specs.Conditions.{OptionalConditionHolds}
 use Rattle.resolver_clause_store.specs.Disjuncts.{IsTaken, SomeHolds}
 use Rattle.resolver_clause_store.proofs.DisjunctLemmas.{condition_holds, disjunct_holds}
@@ -18,7 +18,7 @@ use Rattle.resolver_clause_store.specs.declared.ConditionalRequirement.{Conditio
 use Rattle.resolver_clause_store.specs.declared.Origin.TheVariants.{Gate}
 use Rattle.resolver_clause_store.specs.declared.Requirement.{Requirement}
 use Rattle.resolver_clause_store.specs.declared.VersionSetId.{VersionSetId}
-use Rattle.resolver_encoding.specs.Called.{IsCalledBy, IsCalledByEach, IsNamedIn, IsPlainlyNamed}
+use Rattle.resolver_encoding.specs.Called.{Call, IsCalledBy, IsCalledByEach, IsNamedBy, IsPlainlyNamed, IsSeeingEach, IsWantedBy, to_ask, to_see}
 use Rattle.resolver_encoding.specs.Encodings.{AreDisjuncts, AsksFor, AsksWithin, IsAskStep, IsConstraintRead, IsDisjunctRead, IsEncodingOf, IsLeft, IsReadStep, IsStep, Notes}
 use Rattle.resolver_encoding.specs.Read.{IsForbidden, forbidden_helped}
 use Rattle.resolver_encoding.specs.ReadState.{Deferred, HasClause, has_gate, IsReadRequirement}
@@ -147,17 +147,26 @@ module _ {N S : Type 0} (u : Universe N S) where
       }
 
   -- what one of the requirements calls for
-  pub called_here : (set : List S) (list : List ConditionalRequirement) (i : ℕ) (d : ConditionalRequirement) (n : N) → i < length list → IsCalledBy u set (get_or list i d) n → IsCalledByEach u set list n
-  called_here set list i d n below called = (get_or list i d, All-get_or (Contains list) list i d below (All-contains_itself list), called)
+  pub called_here : (set : List S) (list : List ConditionalRequirement) (i : ℕ) (d : ConditionalRequirement) (call : Call N S) → i < length list → IsCalledBy u set (get_or list i d) call → IsCalledByEach u set list call
+  called_here set list i d call below called = (get_or list i d, All-get_or (Contains list) list i d below (All-contains_itself list), called)
 
-  pub plainly_here : (list : List ConditionalRequirement) (i : ℕ) (d : ConditionalRequirement) (n : N) → i < length list → IsPlainlyNamed u (get_or list i d) n → (r : ConditionalRequirement) × Contains list r × IsPlainlyNamed u r n
-  plainly_here list i d n below named = (get_or list i d, All-get_or (Contains list) list i d below (All-contains_itself list), named)
+  pub plainly_here : (list : List ConditionalRequirement) (i : ℕ) (d : ConditionalRequirement) (call : Call N S) → i < length list → IsPlainlyNamed u (get_or list i d) call → (r : ConditionalRequirement) × Contains list r × IsPlainlyNamed u r call
+  plainly_here list i d call below named = (get_or list i d, All-get_or (Contains list) list i d below (All-contains_itself list), named)
+
+  -- what a requirement wants: that the packages be asked that it names, and that its candidates be registered
+  pub named_wanted : (r : Requirement) (call : Call N S) → IsNamedBy u (version_sets u r) call → IsWantedBy u r call
+  named_wanted r (to_ask n) named = named
+  named_wanted r (to_see s) named = absurd named
+
+  pub listed_wanted : (r : Requirement) (list : List S) → list ≡ requirement_candidates u r → (call : Call N S) → IsSeeingEach list call → IsWantedBy u r call
+  listed_wanted r list same (to_ask n) listed = absurd listed
+  listed_wanted r list same (to_see s) listed = let Has : List S → Type 0 = λ xs. Contains xs s in subst Has same listed
 
   -- a requirement without a condition is active
-  pub plainly_called : (set : List S) (requirements : List ConditionalRequirement) (n : N) → (r : ConditionalRequirement) × Contains requirements r × IsPlainlyNamed u r n → IsCalledByEach u set requirements n
-  plainly_called set requirements n (r, listed, plain) =
+  pub plainly_called : (set : List S) (requirements : List ConditionalRequirement) (call : Call N S) → (r : ConditionalRequirement) × Contains requirements r × IsPlainlyNamed u r call → IsCalledByEach u set requirements call
+  plainly_called set requirements call (r, listed, plain) =
       let Holds : Option ConditionId → Type 0 = λ c. OptionalConditionHolds u (Contains set) c in
-      (r, listed, (subst Holds (sym plain.0) tt, plain.1))
+      (r, listed, (subst Holds (sym plain.0) tt, named_wanted r.requirement call plain.1))
 
   -- the same for a requirement of a solvable
   pub plain_has : (kinds : List (ClauseKind N S)) (Left : Deferred S → Type 0) (by : By S) (requirer : S) (r : ConditionalRequirement) → by ≡ BySolvable requirer → HasClause kinds (BySolvable requirer) [] r.requirement → IsReadRequirement u kinds Left by r
@@ -166,13 +175,13 @@ module _ {N S : Type 0} (u : Universe N S) where
       subst Read (sym same) (plain_read kinds Left (BySolvable requirer) r has)
 
   pub plain_step : (Defers : Deferred S → Type 0) (set : List S) (by : By S) (requirer : S) (r : ConditionalRequirement) (old new : Notes N S) → by ≡ BySolvable requirer → r.condition ≡ None →
-      IsAskStep u (IsNamedIn u (version_sets u r.requirement)) (AsksFor u (BySolvable requirer) (record { condition = None; requirement = r.requirement })) old new → IsReadStep u Defers (IsCalledBy u set r) (AsksFor u by r) old new
+      IsAskStep u (IsWantedBy u r.requirement) (AsksFor u (BySolvable requirer) (record { condition = None; requirement = r.requirement })) old new → IsReadStep u Defers (IsCalledBy u set r) (AsksFor u by r) old new
   plain_step Defers set by requirer r old new same none step =
       let Holds : Option ConditionId → Type 0 = λ c. OptionalConditionHolds u (Contains set) c in
       let plain : r ≡ record { condition = None; requirement = r.requirement } = λ i. record { condition = none i; requirement = r.requirement } in
       let Asks : By S → ConditionalRequirement → Demands → Type 0 = λ b q root. AsksFor u b q root in
       IsReadStep-of u Defers (IsCalledBy u set r) (AsksFor u by r) old new
-      (IsAskStep-weaker u (IsNamedIn u (version_sets u r.requirement)) (IsCalledBy u set r) (λ n named. (subst Holds (sym none) tt, named))
+      (IsAskStep-weaker u (IsWantedBy u r.requirement) (IsCalledBy u set r) (λ call wanted. (subst Holds (sym none) tt, wanted))
       (AsksFor u (BySolvable requirer) (record { condition = None; requirement = r.requirement })) (AsksFor u by r) (λ root asks. subst (λ q. Asks (BySolvable requirer) q root) plain (subst (λ b. Asks b r root) same asks)) old new step)
 
   -- a condition holds where a disjunct of it is met

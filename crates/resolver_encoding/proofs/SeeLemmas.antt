@@ -1,5 +1,5 @@
 -- A solvable gets its code, and is then noted.
-use Rattle.std.proofs.Common.{◌≡◌, ◌≢◌, ℕ, ◌+◌, ◌-◌, ◌^◌, ◌<◌, ◌≤◌, length, List, [], ◌∷◌, ◌++◌, arith, refl, sym, ap, ◌∙◌, subst, ⊎_elim, inl, inr, Contains, All, Bool, true, false, get_or}
+use Rattle.std.proofs.Common.{◌≡◌, ◌≢◌, ◌⊎◌, ℕ, ◌+◌, ◌-◌, ◌^◌, ◌<◌, ◌≤◌, length, List, [], ◌∷◌, ◌++◌, arith, refl, sym, ap, ◌∙◌, subst, ⊎_elim, inl, inr, Contains, All, Bool, true, false, get_or}
 use Rattle.std.specs.Prelude.{Some, slice_get, map, ⊤}
 use Rattle.std.proofs.lemmas.Bool.{cases_Bool, cases_eq}
 use Rattle.std.proofs.lemmas.Option.{slice_get-get_or}
@@ -11,12 +11,13 @@ use Rattle.resolver_clause_store.specs.declared.ClauseKind.{ClauseKind}
 use Rattle.resolver_clause_store.specs.declared.ClauseKind.TheVariants.{InstallRoot, Requires, AnyOf, GateRequires, Constrains, ForbidMultipleInstances, ConstrainsExcluded, ConstrainsParent, HasBit, Lock, Excluded}
 use Rattle.resolver_clause_store.specs.declared.Origin.TheVariants.{Root, Solvable, Bit, Gate, ConstraintHelper, ConditionHelper}
 use Rattle.resolver_clause_store.proofs.PlaceLemmas.{place_in}
+use Rattle.resolver_encoding.specs.Called.{Call, IsSeeing, to_ask, to_see}
 use Rattle.resolver_encoding.specs.Codes.{bit}
-use Rattle.resolver_encoding.specs.Encodings.{AddsClause, Coding, HasUsualHelper, IsEncoding, IsEncodingWhile, IsStep, IsStepWhile, Notes, coding_for}
+use Rattle.resolver_encoding.specs.Encodings.{AddsClause, Coding, Extends, HasUsualHelper, IsAskStep, IsEncoding, IsEncodingWhile, IsFollowed, IsStepWhile, Notes, coding_for}
 use Rattle.resolver_encoding.specs.Groups.{AddsNamed, AreGroups, IsAt, IsNamed}
 use Rattle.resolver_encoding.specs.declared.groups.Groups.{Groups}
 use Rattle.resolver_encoding.specs.Truth.{AreCodes, IsTrueClause}
-use Rattle.resolver_encoding.proofs.EncodingLemmas.{Extends-push, Extends-trans, IsClauseOf-zip, IsStep-clause}
+use Rattle.resolver_encoding.proofs.EncodingLemmas.{Extends-push, IsClauseOf-zip, IsStep-clause, IsWithin-same}
 use Rattle.resolver_encoding.proofs.GroupLemmas.{named_of_number, number_is}
 use Rattle.resolver_encoding.proofs.Lists.{cons_cases, here, none_in}
 use Rattle.resolver_encoding.proofs.CodeLemmas.{no_digit, pow_same}
@@ -186,24 +187,29 @@ module _ {N S : Type 0} (u : Universe N S) where
           prepared = inl member.1;
         })
 
+    -- of a solvable that is noted as seen, and of nothing else
+    seen_alone : (old mid : Notes N S) (groups : Groups N S) → mid.asked ≡ old.asked → mid.seen ≡ old.seen → (call : Call N S) → IsFollowed (record mid { seen = mid.seen ++ s ∷ []; groups = groups }) call → IsFollowed old call ⊎ IsSeeing s call
+    seen_alone old mid groups asked seen (to_ask m) h = let Has : List N → Type 0 = λ list. Contains list m in inl (subst Has asked h)
+    seen_alone old mid groups asked seen (to_see t) h = let Has : List S → Type 0 = λ list. Contains list t in ⊎_elim (λ (earlier : Contains mid.seen t). inl (subst Has seen earlier)) (λ (is : s ≡ t). inr is) (Contains-push_cases mid.seen s t h)
+
     -- A solvable gets its code while no others come, and is then noted. The list has those of its name, by their numbers.
     pub IsStep-seen : (old mid new : Notes N S) (groups : Groups N S) (list : List S) → u.name s ≡ n → (Contains old.seen s → ⊥) →
         IsStepWhile u (coding_for n k s) (λ root. ⊤) old mid → mid.groups ≡ old.groups → mid.seen ≡ old.seen → new ≡ record mid { seen = mid.seen ++ s ∷ []; groups = groups } →
         (AreGroups mid.groups → AddsNamed mid.groups groups n s) → Contains mid.origins (Solvable s) →
         ((j : ℕ) (t : S) → slice_get list j ≡ Some t → IsAt old.groups n j t) → (AreGroups old.groups → (j : ℕ) (t : S) → IsAt old.groups n j t → slice_get list j ≡ Some t) → k ≡ length list →
-        ((i : ℕ) → 2 ^ i ≤ k → Contains mid.kinds (HasBit n s i (bit k i))) → ((i : ℕ) → k ≡ 2 ^ i → AreGroups old.groups → (j : ℕ) (t : S) → IsAt old.groups n j t → Contains mid.kinds (HasBit n t i (bit j i))) → IsStep u (λ root. ⊤) old new
+        ((i : ℕ) → 2 ^ i ≤ k → Contains mid.kinds (HasBit n s i (bit k i))) → ((i : ℕ) → k ≡ 2 ^ i → AreGroups old.groups → (j : ℕ) (t : S) → IsAt old.groups n j t → Contains mid.kinds (HasBit n t i (bit j i))) → IsAskStep u (IsSeeing s) (λ root. ⊤) old new
     IsStep-seen old mid new groups list name absent step same_groups same_seen e adds has each every count own begun =
-        let Step : Notes N S → Type 0 = λ m. IsStep u (λ root. ⊤) old m in
+        let Step : Notes N S → Type 0 = λ m. IsAskStep u (IsSeeing s) (λ root. ⊤) old m in
+        let Longer : List S → Type 0 = λ list. Extends old.seen (list ++ s ∷ []) in
+        let Asked : List N → Type 0 = λ list. IsWithin old.asked list in
         subst Step (sym e) (record {
           origins = step.origins;
           table = step.table;
           kinds = step.kinds;
           requirements = step.requirements;
-          seen = Extends-trans old.seen mid.seen (mid.seen ++ s ∷ []) step.seen (Extends-push mid.seen s);
-          asked = step.asked;
-          helped = step.helped;
-          gates = step.gates;
-          constrained = step.constrained;
+          seen = subst Longer (sym step.seen) (Extends-push old.seen s);
+          asked = subst Asked (sym step.asked) (IsWithin-same old.asked);
+          called = seen_alone old mid groups step.asked step.seen;
           read = step.read;
           deferred = step.deferred;
           waiting = step.waiting;

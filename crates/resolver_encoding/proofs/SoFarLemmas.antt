@@ -21,7 +21,7 @@ use Rattle.resolver_clause_store.specs.declared.VersionSetId.{VersionSetId}
 use Rattle.resolver_clause_store.proofs.PlaceLemmas.{Keeps-same, Keeps-trans, place_in, place_left, place_of_member}
 use Rattle.resolver_report.specs.Rules.{IsPresent}
 use Rattle.resolver_report.specs.TrueRules.{demands_by}
-use Rattle.resolver_encoding.specs.Called.{AreAsked, IsCalledFor, IsDemanded, IsNamedIn}
+use Rattle.resolver_encoding.specs.Called.{AreAsked, IsCalledFor, IsDemanded, IsNamedIn, to_ask}
 use Rattle.resolver_encoding.specs.Encodings.{AreDemandsRead, AreNeedsRead, Extends, IsConstraintRead, IsEncoding, IsLeft, IsReadStep, IsUnmet, Notes}
 use Rattle.resolver_encoding.specs.Groups.{IsNamed}
 use Rattle.resolver_encoding.specs.ReadState.{Deferred, HasClause, IsReadRequirement, NoneFires}
@@ -42,10 +42,10 @@ place_on {X} xs ys more k x at =
 pub Contains-kept : {X : Type 0} (xs ys : List X) → Keeps xs ys → IsWithin xs ys
 Contains-kept xs ys keeps x h = let at = place_of_member xs x h in place_in ys at.0 x (keeps.kept at.0 x at.1)
 
-IsWithin-equal : {X : Type 0} (xs ys : List X) → ys ≡ xs → IsWithin xs ys
+pub IsWithin-equal : {X : Type 0} (xs ys : List X) → ys ≡ xs → IsWithin xs ys
 IsWithin-equal {X} xs ys same x h = let Has : List X → Type 0 = λ list. Contains list x in subst Has (sym same) h
 
-IsPresent-within : {S : Type 0} (by : By S) (xs ys : List S) → IsWithin xs ys → IsPresent by xs → IsPresent by ys
+pub IsPresent-within : {S : Type 0} (by : By S) (xs ys : List S) → IsWithin xs ys → IsPresent by xs → IsPresent by ys
 IsPresent-within ByRoot xs ys within h = tt
 IsPresent-within (BySolvable s) xs ys within h = within s h
 
@@ -70,6 +70,7 @@ module _ {N S : Type 0} (u : Universe N S) (set : List S) where
     origins = Keeps-same notes.origins;
     table = Extends-same notes.table;
     requirements = Extends-same notes.requirements;
+    seen = Extends-same notes.seen;
     asked = IsWithin-same notes.asked;
     called = λ n h. inl h;
     read = Extends-same notes.read;
@@ -85,6 +86,7 @@ module _ {N S : Type 0} (u : Universe N S) (set : List S) where
     origins = Keeps-trans one.origins two.origins three.origins first.origins second.origins;
     table = Extends-trans one.table two.table three.table first.table second.table;
     requirements = Extends-trans one.requirements two.requirements three.requirements first.requirements second.requirements;
+    seen = Extends-trans one.seen two.seen three.seen first.seen second.seen;
     asked = IsWithin-trans one.asked two.asked three.asked first.asked second.asked;
     called = λ n h. ⊎_elim
         (λ before. ⊎_elim (λ earlier. inl earlier) (λ w. inr (w.0, Extends-within two.read three.read second.read w.0 w.1, w.2)) (first.called n before))
@@ -147,7 +149,7 @@ module _ {N S : Type 0} (u : Universe N S) (set : List S) where
     }
 
   -- what is demanded was asked for
-  pub demanded_asked : (root : Demands) (notes : Notes N S) → IsHalfRead u root notes → NoneFires u (IsLeft notes) set → (by : By S) → IsPresent by notes.read → (n : N) → IsDemanded u set (demands_by u root by) n → Contains notes.asked n
+  pub demanded_asked : (root : Demands) (notes : Notes N S) → IsHalfRead u root notes → NoneFires u (IsLeft notes) set → (by : By S) → IsPresent by notes.read → (n : N) → IsDemanded u set (demands_by u root by) (to_ask n) → Contains notes.asked n
   demanded_asked root notes half quiet by present n demanded =
       let demands : Demands = demands_by u root by in
       let read : AreDemandsRead u notes by demands = demands_read u root notes half by present in
@@ -172,6 +174,7 @@ module _ {N S : Type 0} (u : Universe N S) (set : List S) where
       origins = Keeps-trans old.origins mid.origins new.origins reading.origins firing.origins;
       table = Extends-trans old.table mid.table new.table reading.table firing.table;
       requirements = Extends-trans old.requirements mid.requirements new.requirements reading.requirements firing.requirements;
+      seen = Extends-trans old.seen mid.seen new.seen reading.seen firing.seen;
       read = record { more = reading.read.more; is = firing.read ∙ reading.read.is };
       read_chosen = λ s h. reading.read_chosen s (IsWithin-equal new.read mid.read (sym firing.read) s h);
       taken = λ i e at. ⊎_elim (λ still. inl still) (λ fired. inr fired.0) (firing.taken i e (place_on old.deferred mid.deferred reading.deferred i (Some e) at));
@@ -220,13 +223,13 @@ module _ {N S : Type 0} (u : Universe N S) (set : List S) where
           (λ (was : Contains mid.asked n). ⊎_elim
           (λ (earlier : Contains old.asked n). inl earlier)
           (λ w. inr (BySolvable w.0, later w.0 w.1, w.2))
-          (reading.called n was))
+          (reading.called (to_ask n) was))
           (λ w.
           let e : Deferred S = w.0 in
           let is_true = (before.encoding.left_true e w.1).is_true in
           let Named : Requirement → Type 0 = λ r. IsNamedIn u (version_sets u r) n in
           inr (e.by, IsPresent-within e.by mid.read new.read later (before.left_read e w.1), inl (is_true.0, is_true.1, (active_where u set (map (matching u) e.disjunct) is_true.0.condition is_true.3 w.2, subst Named (sym is_true.2) w.3))))
-          (firing.called n h)
+          (firing.called (to_ask n) h)
 
       pub all_asked : AreAsked (IsCalledFor u root new.read set) old.asked new.asked
       all_asked = record {
@@ -332,6 +335,7 @@ module _ {N S : Type 0} (u : Universe N S) (set : List S) (s : S) (old mid new :
         origins = step.origins;
         table = step.table;
         requirements = step.requirements;
+        seen = step.seen;
         asked = step.asked;
         called = λ n h. ⊎_elim (λ before. inl before) (λ demanded. inr (s, Contains-push mid.read s, demanded)) (step.called n h);
         read = record { more = s ∷ []; is = ap (λ list. list ++ s ∷ []) step.read };
@@ -383,7 +387,7 @@ module _ {N S : Type 0} (u : Universe N S) (root : Demands) (bare new : Notes N 
   pub root_asked : AreAsked (IsCalledFor u root [] []) [] new.asked
   root_asked = record {
     stays = λ n h. absurd (none_in n h);
-    only = λ n h. ⊎_elim (λ (before : Contains bare.asked n). absurd (not_in bare.asked n nothing.none_asked before)) (λ demanded. inr (ByRoot, tt, demanded)) (step.called n h);
+    only = λ n h. ⊎_elim (λ (before : Contains bare.asked n). absurd (not_in bare.asked n nothing.none_asked before)) (λ demanded. inr (ByRoot, tt, demanded)) (step.called (to_ask n) h);
     all = λ n called. demanded_asked u [] root new root_half root_so_far.none called.0 (IsPresent-within called.0 [] new.read (λ s h. absurd (none_in s h)) called.1) n called.2;
   }
 

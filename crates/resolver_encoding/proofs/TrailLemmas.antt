@@ -162,7 +162,7 @@ module _ {N S : Type 0} (origins : List (Origin N S)) (trail : Trail) where
 
 -- where the first places of a trail stay, and each variable stands for what it did
 module _ {N S : Type 0} (origins more : List (Origin N S)) (old new : Trail) (count : ℕ) (keeps : Keeps origins more) (size : variable_count old ≤ length origins) (stay : KeepsPlaces old new count) where
-  same_origin : (x : ℕ) → x < length origins → origin_at more x ≡ origin_at origins x
+  pub same_origin : (x : ℕ) → x < length origins → origin_at more x ≡ origin_at origins x
   same_origin x below = get_or_from_slice_get more x (origin_at origins x) Root (keeps.kept x (origin_at origins x) (slice_get-get_or origins x Root below))
 
   same_place : (k : ℕ) → k < count → solvable_if (origin_at more (variable_at new k)) (value_of new (variable_at new k)) ≡ solvable_if (origin_at origins (variable_at old k)) (value_of old (variable_at old k))
@@ -174,7 +174,7 @@ module _ {N S : Type 0} (origins more : List (Origin N S)) (old new : Trail) (co
       let value : value_of new x ≡ value_of old x = ap (λ o. option_map_or (λ (s : Slot). s.value) o false) (later ∙ sym slot.1) in
       ap (λ y. solvable_if (origin_at more y) (value_of new y)) (stay.variables k below) ∙ ap (λ o. solvable_if o (value_of new x)) (same_origin x (omega (arith, inside, size))) ∙ ap (solvable_if (origin_at origins x)) value
 
-  same_before : (n : ℕ) → n ≤ count → solvables_before more new n ≡ solvables_before origins old n
+  pub same_before : (n : ℕ) → n ≤ count → solvables_before more new n ≡ solvables_before origins old n
   same_before zero h = refl
   same_before (suc n) h =
       let earlier = same_before n (omega (arith, h)) in

@@ -1,37 +1,68 @@
--- Which packages are to be asked.
+-- Which packages are to be asked, and which candidates registered.
 use Rattle.std.specs.Prelude.{◌≡◌, ◌⊎◌, List, None, Contains}
 use Rattle.resolver_clause_store.specs.Universe.{Universe, Demands}
-use Rattle.resolver_clause_store.specs.Candidates.{version_sets}
+use Rattle.resolver_clause_store.specs.Candidates.{requirement_candidates, version_sets}
 use Rattle.resolver_clause_store.specs.Conditions.{IsActive}
 use Rattle.resolver_clause_store.specs.declared.By.{By}
 use Rattle.resolver_clause_store.specs.declared.ConditionalRequirement.{ConditionalRequirement}
+use Rattle.resolver_clause_store.specs.declared.Requirement.{Requirement}
 use Rattle.resolver_clause_store.specs.declared.VersionSetId.{VersionSetId}
 use Rattle.resolver_report.specs.Rules.{IsPresent}
 use Rattle.resolver_report.specs.TrueRules.{demands_by}
+
+-- what is to be done: a package is to be asked, or a candidate to be registered
+pub data Call (N S : Type 0) : Type 0 where
+  to_ask : N → Call N S
+  to_see : S → Call N S
+
+-- just this package is to be asked
+abbrev pub IsAsking : {N S : Type 0} → N → Call N S → Type 0
+IsAsking n (to_ask m) = n ≡ m
+IsAsking n (to_see s) = ⊥
+
+-- just this candidate is to be registered
+abbrev pub IsSeeing : {N S : Type 0} → S → Call N S → Type 0
+IsSeeing s (to_ask n) = ⊥
+IsSeeing s (to_see t) = s ≡ t
+
+-- just these are
+abbrev pub IsSeeingEach : {N S : Type 0} → List S → Call N S → Type 0
+IsSeeingEach list (to_ask n) = ⊥
+IsSeeingEach list (to_see s) = Contains list s
 
 -- one of the version sets is of the package
 abbrev pub IsNamedIn : {N S : Type 0} → Universe N S → List VersionSetId → N → Type 0
 IsNamedIn u list n = (v : VersionSetId) × Contains list v × (u.version_set_name v ≡ n)
 
--- the requirement is active in the set, and names the package
-abbrev pub IsCalledBy : {N S : Type 0} → Universe N S → List S → ConditionalRequirement → N → Type 0
-IsCalledBy u set r n = IsActive u (Contains set) r × IsNamedIn u (version_sets u r.requirement) n
+-- the packages of the version sets are to be asked
+abbrev pub IsNamedBy : {N S : Type 0} → Universe N S → List VersionSetId → Call N S → Type 0
+IsNamedBy u list (to_ask n) = IsNamedIn u list n
+IsNamedBy u list (to_see s) = ⊥
 
--- so does one of the requirements
-abbrev pub IsCalledByEach : {N S : Type 0} → Universe N S → List S → List ConditionalRequirement → N → Type 0
-IsCalledByEach u set requirements n = (r : ConditionalRequirement) × Contains requirements r × IsCalledBy u set r n
+-- the packages that the requirement names are to be asked, and its candidates to be registered
+abbrev pub IsWantedBy : {N S : Type 0} → Universe N S → Requirement → Call N S → Type 0
+IsWantedBy u r (to_ask n) = IsNamedIn u (version_sets u r) n
+IsWantedBy u r (to_see s) = Contains (requirement_candidates u r) s
 
--- a requirement that is active in the set, or a constraint, names the package
-abbrev pub IsDemanded : {N S : Type 0} → Universe N S → List S → Demands → N → Type 0
-IsDemanded u set demands n = IsCalledByEach u set demands.requirements n ⊎ IsNamedIn u demands.constraints n
+-- so it is of the requirement, if that is active in the set
+abbrev pub IsCalledBy : {N S : Type 0} → Universe N S → List S → ConditionalRequirement → Call N S → Type 0
+IsCalledBy u set r call = IsActive u (Contains set) r × IsWantedBy u r.requirement call
+
+-- of one of the requirements
+abbrev pub IsCalledByEach : {N S : Type 0} → Universe N S → List S → List ConditionalRequirement → Call N S → Type 0
+IsCalledByEach u set requirements call = (r : ConditionalRequirement) × Contains requirements r × IsCalledBy u set r call
+
+-- of a requirement that is active in the set, or of a constraint, which registers nothing
+abbrev pub IsDemanded : {N S : Type 0} → Universe N S → List S → Demands → Call N S → Type 0
+IsDemanded u set demands call = IsCalledByEach u set demands.requirements call ⊎ IsNamedBy u demands.constraints call
 
 -- the root or a solvable that was read demands the package
 abbrev pub IsCalledFor : {N S : Type 0} → Universe N S → Demands → List S → List S → N → Type 0
-IsCalledFor {N} {S} u root read set n = (by : By S) × IsPresent by read × IsDemanded u set (demands_by u root by) n
+IsCalledFor {N} {S} u root read set n = (by : By S) × IsPresent by read × IsDemanded u set (demands_by u root by) (to_ask n)
 
 -- the requirement has no condition, and names the package
-abbrev pub IsPlainlyNamed : {N S : Type 0} → Universe N S → ConditionalRequirement → N → Type 0
-IsPlainlyNamed u r n = (r.condition ≡ None) × IsNamedIn u (version_sets u r.requirement) n
+abbrev pub IsPlainlyNamed : {N S : Type 0} → Universe N S → ConditionalRequirement → Call N S → Type 0
+IsPlainlyNamed u r call = (r.condition ≡ None) × IsNamedBy u (version_sets u r.requirement) call
 
 -- what was asked, and besides that exactly what is called for
 pub record AreAsked {N : Type 0} (Called : N → Type 0) (old new : List N) : Type 0 where

@@ -21,6 +21,7 @@ use Rattle.resolver_clause_store.specs.declared.StringId.{StringId}
 use Rattle.resolver_clause_store.specs.declared.VersionSetId.{VersionSetId}
 use Rattle.resolver_report.specs.TrueRules.{demands_by}
 use Rattle.resolver_encoding.specs.Atoms.{Atom}
+use Rattle.resolver_encoding.specs.Called.{Call, to_ask, to_see}
 use Rattle.resolver_encoding.specs.Groups.{AreGroups, IsAt, IsNamed}
 use Rattle.resolver_encoding.specs.Codes.{bit}
 use Rattle.resolver_encoding.specs.Read.{IsForbidden}
@@ -97,19 +98,24 @@ pub record Coding (N S : Type 0) : Type 0 where
   pub number : ℕ
   pub instance : S
 
--- what is in progress: packages that are being asked, and solvables that are getting their codes
+-- what is in progress: packages that are being asked, solvables that are getting their codes, and solvables that are exempt
+-- no longer and are getting the clauses that they were spared
 pub record Doing (N S : Type 0) : Type 0 where
   pub asking : List N
   pub coding : List (Coding N S)
+  pub owing : List S
 
 abbrev pub idle : {N S : Type 0} → Doing N S
-idle = record { asking = []; coding = [] }
+idle = record { asking = []; coding = []; owing = [] }
 
 abbrev pub asking_for : {N S : Type 0} → N → Doing N S
-asking_for n = record { asking = n ∷ []; coding = [] }
+asking_for n = record { asking = n ∷ []; coding = []; owing = [] }
 
 abbrev pub coding_for : {N S : Type 0} → N → ℕ → S → Doing N S
-coding_for n k s = record { asking = []; coding = record { name = n; number = k; instance = s } ∷ [] }
+coding_for n k s = record { asking = []; coding = record { name = n; number = k; instance = s } ∷ []; owing = [] }
+
+abbrev pub owing_for : {N S : Type 0} → S → Doing N S
+owing_for s = record { asking = []; coding = []; owing = s ∷ [] }
 
 -- The clauses are true, and leave nothing out of what they bring with them. Of what is in progress some clauses may be
 -- there already.
@@ -140,8 +146,8 @@ pub record IsEncodingWhile {N S : Type 0} (u : Universe N S) (doing : Doing N S)
   -- of each version set of a condition that has its helper
   pub follow : (v : VersionSetId) → Contains notes.helped v → (s : S) → Contains (matching u v) s → Contains notes.kinds (AnyOf (ConditionHelper v) s)
   -- of each package that was asked for
-  pub locks : (s t : S) → Contains notes.asked (u.name s) → (Contains notes.exempt s → ⊥) → (u.package_named (u.name s)).locked ≡ Some t → Contains (u.package_named (u.name s)).listed s → s ≢ t → Contains notes.kinds (Lock t s)
-  pub exclusions : (s : S) (reason : StringId) → Contains notes.asked (u.name s) → (Contains notes.exempt s → ⊥) → Contains (u.package_named (u.name s)).excluded (s, reason) → Contains notes.kinds (Excluded s reason)
+  pub locks : (s t : S) → Contains notes.asked (u.name s) → (Contains (doing.owing ++ notes.exempt) s → ⊥) → (u.package_named (u.name s)).locked ≡ Some t → Contains (u.package_named (u.name s)).listed s → s ≢ t → Contains notes.kinds (Lock t s)
+  pub exclusions : (s : S) (reason : StringId) → Contains notes.asked (u.name s) → (Contains (doing.owing ++ notes.exempt) s → ⊥) → Contains (u.package_named (u.name s)).excluded (s, reason) → Contains notes.kinds (Excluded s reason)
   -- of each that was met
   pub registered : (s : S) → Contains notes.seen s → Contains notes.origins (Solvable s)
   -- the code of a solvable is its number under its name, and it has a clause for each digit that some number there has
@@ -173,13 +179,14 @@ pub record Extends {X : Type 0} (xs ys : List X) : Type 0 where
   pub more : List X
   pub is : ys ≡ xs ++ more
 
--- The notes grew, and where the premise holds of the root they are still right. Something may be in progress.
+-- The notes grew, and where the premise holds of the root they are still right. Nothing was asked or registered. Something may be
+-- in progress.
 pub record IsStepWhile {N S : Type 0} (u : Universe N S) (doing : Doing N S) (Premise : Demands → Type 0) (old new : Notes N S) : Type 0 where
   pub origins : Keeps old.origins new.origins
   pub table : Extends old.table new.table
   pub kinds : IsWithin old.kinds new.kinds
   pub requirements : Extends old.requirements new.requirements
-  pub seen : Extends old.seen new.seen
+  pub seen : new.seen ≡ old.seen
   pub asked : new.asked ≡ old.asked
   pub helped : IsWithin old.helped new.helped
   pub gates : IsWithin old.gates new.gates
@@ -193,15 +200,20 @@ pub record IsStepWhile {N S : Type 0} (u : Universe N S) (doing : Doing N S) (Pr
 abbrev pub IsStep : {N S : Type 0} → Universe N S → (Demands → Type 0) → Notes N S → Notes N S → Type 0
 IsStep u Premise old new = IsStepWhile u idle Premise old new
 
--- The notes grew, and only called packages were asked. Nothing was put off.
-pub record IsAskStep {N S : Type 0} (u : Universe N S) (Called : N → Type 0) (Premise : Demands → Type 0) (old new : Notes N S) : Type 0 where
+-- the package was asked, or the candidate registered
+abbrev pub IsFollowed : {N S : Type 0} → Notes N S → Call N S → Type 0
+IsFollowed notes (to_ask n) = Contains notes.asked n
+IsFollowed notes (to_see s) = Contains notes.seen s
+
+-- The notes grew, and only called packages were asked, and only called candidates registered. Nothing was put off.
+pub record IsAskStep {N S : Type 0} (u : Universe N S) (Called : Call N S → Type 0) (Premise : Demands → Type 0) (old new : Notes N S) : Type 0 where
   pub origins : Keeps old.origins new.origins
   pub table : Extends old.table new.table
   pub kinds : IsWithin old.kinds new.kinds
   pub requirements : Extends old.requirements new.requirements
   pub seen : Extends old.seen new.seen
   pub asked : IsWithin old.asked new.asked
-  pub called : (n : N) → Contains new.asked n → Contains old.asked n ⊎ Called n
+  pub called : (call : Call N S) → IsFollowed new call → IsFollowed old call ⊎ Called call
   pub read : new.read ≡ old.read
   pub deferred : new.deferred ≡ old.deferred
   pub waiting : new.waiting ≡ old.waiting
@@ -213,14 +225,15 @@ pub record IsUnmet {N S : Type 0} (u : Universe N S) (set : List S) (by : By S) 
   pub of : e.by ≡ by
   pub never : AllMeet set (map (matching u) e.disjunct) → ⊥
 
--- The notes grew, only called packages were asked, and only such disjuncts were put off.
-pub record IsReadStep {N S : Type 0} (u : Universe N S) (Defers : Deferred S → Type 0) (Called : N → Type 0) (Premise : Demands → Type 0) (old new : Notes N S) : Type 0 where
+-- The notes grew, only called packages were asked and called candidates registered, and only such disjuncts were put off.
+pub record IsReadStep {N S : Type 0} (u : Universe N S) (Defers : Deferred S → Type 0) (Called : Call N S → Type 0) (Premise : Demands → Type 0) (old new : Notes N S) : Type 0 where
   pub origins : Keeps old.origins new.origins
   pub table : Extends old.table new.table
   pub kinds : IsWithin old.kinds new.kinds
   pub requirements : Extends old.requirements new.requirements
+  pub seen : Extends old.seen new.seen
   pub asked : IsWithin old.asked new.asked
-  pub called : (n : N) → Contains new.asked n → Contains old.asked n ⊎ Called n
+  pub called : (call : Call N S) → IsFollowed new call → IsFollowed old call ⊎ Called call
   pub read : new.read ≡ old.read
   pub deferred : Extends old.deferred new.deferred
   pub defers : (e : Deferred S) → IsLeft new e → IsLeft old e ⊎ Defers e

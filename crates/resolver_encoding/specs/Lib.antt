@@ -16,4 +16,6 @@ pub mod Trails
 pub mod Notes
 pub mod Called
 pub mod SoFar
+pub mod Reach
 pub mod TestProvider
+pub mod Turns

@@ -1,7 +1,7 @@
 -- What was read so far, and what one more reading does.
 use Rattle.std.specs.Prelude.{Bool, true, false, ℕ, ◌≡◌, ◌<◌, ◌⊎◌, ◌∷◌, ◌++◌, [], All, Contains, List, None, Some, count_by, is_some, length, map, slice_get, slice_set}
 use Rattle.resolver_clause_store.specs.Universe.{Universe, Demands}
-use Rattle.resolver_clause_store.specs.Candidates.{matching, version_sets}
+use Rattle.resolver_clause_store.specs.Candidates.{matching}
 use Rattle.resolver_clause_store.specs.Lists.{IsWithin}
 use Rattle.resolver_clause_store.specs.Valid.{demands_of}
 use Rattle.resolver_clause_store.specs.Variables.{Keeps}
@@ -9,8 +9,8 @@ use Rattle.resolver_clause_store.specs.declared.VersionSetId.{VersionSetId}
 use Rattle.resolver_clause_store.specs.declared.By.TheVariants.{Root as ByRoot}
 use Rattle.resolver_clause_store.specs.declared.Origin.TheVariants.{Solvable}
 use Rattle.resolver_report.specs.Rules.{IsPresent}
-use Rattle.resolver_encoding.specs.Called.{IsDemanded, IsNamedIn}
-use Rattle.resolver_encoding.specs.Encodings.{AreDemandsRead, AreNeedsRead, Extends, IsEncoding, IsLeft, Notes}
+use Rattle.resolver_encoding.specs.Called.{Call, IsDemanded, IsWantedBy}
+use Rattle.resolver_encoding.specs.Encodings.{AreDemandsRead, AreNeedsRead, Extends, IsEncoding, IsFollowed, IsLeft, Notes}
 use Rattle.resolver_encoding.specs.Groups.{AreGroups, IsNamed}
 use Rattle.resolver_encoding.specs.ReadState.{Deferred, HasClause, NoneFires}
 use Rattle.resolver_encoding.specs.Statements.{AllMeet}
@@ -51,6 +51,7 @@ pub record IsReadMore {N S : Type 0} (u : Universe N S) (set : List S) (old new 
   pub origins : Keeps old.origins new.origins
   pub table : Extends old.table new.table
   pub requirements : Extends old.requirements new.requirements
+  pub seen : Extends old.seen new.seen
   pub read : Extends old.read new.read
   pub read_chosen : (s : S) → Contains new.read s → Contains old.read s ⊎ Contains set s
   pub taken : (i : ℕ) (e : Deferred S) → slice_get old.deferred i ≡ Some (Some e) → (slice_get new.deferred i ≡ Some (Some e)) ⊎ AllMeet set (map (matching u) e.disjunct)
@@ -115,14 +116,16 @@ pub record IsQuietAt {N S : Type 0} (u : Universe N S) (set : List S) (notes : N
 pub record IsQuietUnder {N S : Type 0} (u : Universe N S) (set : List S) (notes : Notes N S) (n : N) : Type 0 where
   pub quiet : (i : ℕ) → IsNamed notes.waiting n i → IsQuietAt u set notes i
 
--- Disjuncts were taken out that are met in the set, and each has its clause. Only packages of their requirements were asked.
+-- Disjuncts were taken out that are met in the set, and each has its clause. Only packages of their requirements were asked,
+-- and only their candidates registered.
 pub record IsFiring {N S : Type 0} (u : Universe N S) (set : List S) (old new : Notes N S) : Type 0 where
   pub origins : Keeps old.origins new.origins
   pub table : Extends old.table new.table
   pub kinds : IsWithin old.kinds new.kinds
   pub requirements : Extends old.requirements new.requirements
+  pub seen : Extends old.seen new.seen
   pub asked : IsWithin old.asked new.asked
-  pub called : (n : N) → Contains new.asked n → Contains old.asked n ⊎ ((e : Deferred S) × IsLeft old e × AllMeet set (map (matching u) e.disjunct) × IsNamedIn u (version_sets u e.requirement) n)
+  pub called : (call : Call N S) → IsFollowed new call → IsFollowed old call ⊎ ((e : Deferred S) × IsLeft old e × AllMeet set (map (matching u) e.disjunct) × IsWantedBy u e.requirement call)
   pub read : new.read ≡ old.read
   pub waiting : new.waiting ≡ old.waiting
   pub stays : (i : ℕ) (e : Deferred S) → slice_get new.deferred i ≡ Some (Some e) → slice_get old.deferred i ≡ Some (Some e)
@@ -130,13 +133,15 @@ pub record IsFiring {N S : Type 0} (u : Universe N S) (set : List S) (old new : 
   pub exempt : new.exempt ≡ old.exempt
   pub keeps : (root : Demands) → IsEncoding u root old → IsEncoding u root new
 
--- Solvables of the set were read. Packages were asked that they demand, and disjuncts put off that are not met in the set.
+-- Solvables of the set were read. Packages were asked and candidates registered that they demand, and disjuncts put off that are
+-- not met in the set.
 pub record IsReadingOf {N S : Type 0} (u : Universe N S) (set : List S) (old new : Notes N S) : Type 0 where
   pub origins : Keeps old.origins new.origins
   pub table : Extends old.table new.table
   pub requirements : Extends old.requirements new.requirements
+  pub seen : Extends old.seen new.seen
   pub asked : IsWithin old.asked new.asked
-  pub called : (n : N) → Contains new.asked n → Contains old.asked n ⊎ ((s : S) × Contains new.read s × IsDemanded u set (demands_of (u.needs s)) n)
+  pub called : (call : Call N S) → IsFollowed new call → IsFollowed old call ⊎ ((s : S) × Contains new.read s × IsDemanded u set (demands_of (u.needs s)) call)
   pub read : Extends old.read new.read
   pub read_chosen : (s : S) → Contains new.read s → Contains old.read s ⊎ Contains set s
   pub deferred : Extends old.deferred new.deferred
@@ -146,6 +151,7 @@ pub record IsReadingOf {N S : Type 0} (u : Universe N S) (set : List S) (old new
 
 -- nothing but the root
 pub record IsBare {N S : Type 0} (notes : Notes N S) : Type 0 where
+  pub none_seen : notes.seen ≡ []
   pub none_asked : notes.asked ≡ []
   pub none_read : notes.read ≡ []
   pub none_deferred : notes.deferred ≡ []

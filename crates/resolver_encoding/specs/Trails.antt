@@ -1,10 +1,11 @@
 -- A trail of variables as a trail of what they stand for.
-use Rattle.std.specs.Prelude.{ℕ, zero, suc, ◌≡◌, ◌<◌, ◌≤◌, Bool, true, false, List, [], ◌∷◌, ◌++◌, length, slice_get, slice_index_or, map, Option, Some, None}
+use Rattle.std.specs.Prelude.{ℕ, zero, suc, ◌≡◌, ◌<◌, ◌≤◌, Bool, true, false, List, [], ◌∷◌, ◌++◌, Contains, length, slice_get, slice_index_or, map, Option, Some, None}
 use Rattle.std.specs.Option.{option_map_or}
 use Rattle.resolver_clause_store.specs.TrailView.{length_of, slot_of, variable_at}
 use Rattle.resolver_clause_store.specs.declared.Literal.{Literal}
 use Rattle.resolver_clause_store.specs.declared.Origin.{Origin}
 use Rattle.resolver_clause_store.specs.declared.Origin.TheVariants.{Root, Solvable}
+use Rattle.resolver_clause_store.specs.declared.Reason.TheVariants.{Assumed}
 use Rattle.resolver_clause_store.specs.declared.Slot.{Slot}
 use Rattle.resolver_clause_store.specs.declared.Trail.{Trail}
 use Rattle.resolver_encoding.specs.Atoms.{Atom, atom}
@@ -26,6 +27,11 @@ entry_at origins trail place = atom (origin_at origins (variable_at trail place)
 abbrev pub atoms_before : {N S : Type 0} → List (Origin N S) → Trail → ℕ → List (Atom N S)
 atoms_before origins trail zero = []
 atoms_before origins trail (suc place) = entry_at origins trail place ∷ atoms_before origins trail place
+
+-- each variable that was assumed is a solvable: one of the seeds where it is true, and a refused one where it is false
+pub record AreAssumed {N S : Type 0} (origins : List (Origin N S)) (seeds refused : List S) (trail : Trail) : Type 0 where
+  pub taken : (variable : ℕ) (slot : Slot) → slot_of trail variable ≡ Some slot → slot.reason ≡ Assumed → slot.value ≡ true → (s : S) × (origin_at origins variable ≡ Solvable s) × Contains seeds s
+  pub left_out : (variable : ℕ) (slot : Slot) → slot_of trail variable ≡ Some slot → slot.reason ≡ Assumed → slot.value ≡ false → (s : S) × (origin_at origins variable ≡ Solvable s) × Contains refused s
 
 -- what the literals of a clause stand for
 abbrev pub atoms_by : {N S : Type 0} → List (Origin N S) → List Literal → List (Atom N S)

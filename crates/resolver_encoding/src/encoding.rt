@@ -16,6 +16,7 @@ mod helping;
 mod reading;
 mod requiring;
 mod seeing;
+mod turning;
 
 use crate::entries::Entry;
 use crate::groups::Groups;

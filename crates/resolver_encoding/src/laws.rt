@@ -11,7 +11,7 @@ ghost use Rattle.resolver_clause_store.specs.declared.RequirementClause.{Require
 ghost use Rattle.resolver_clause_store.specs.declared.Trail.{Trail};
 ghost use Rattle.resolver_encoding.specs.Encodings.{IsEncoding, Notes};
 ghost use Rattle.resolver_encoding.specs.SoFar.{IsReadSoFar};
-ghost use Rattle.resolver_encoding.specs.Trails.{Follows, solvables_before};
+ghost use Rattle.resolver_encoding.specs.Trails.{AreAssumed, Follows, solvables_before};
 ghost use Rattle.resolver_encoding.specs.declared.chosen.Chosen.{Chosen};
 ghost use Rattle.resolver_clause_store.specs.Laws.{HasLawfulPackages, IsIdentity};
 ghost use Rattle.resolver_clause_store.specs.Universe.{Demands, Universe};
@@ -73,14 +73,16 @@ pub fn read_trails_are_answers<N, S>()
 {}
 
 /// A search that is finished over what was read so far has an answer, where each solvable that its trail makes true was
-/// read and nothing that is put off holds in them: these solvables, each there by need and none twice.
+/// read and nothing that is put off holds in them: these solvables, each there by need and none twice. What was assumed
+/// counts as needed where it is true, and as refused where it is false.
 ///
 /// The call does nothing: its contract is the law.
 pub fn finished_searches_are_answers<N, S>()
-    ensures answer { (u : Universe N S) (root : Demands) (notes : Notes N S) (requirements : List RequirementClause) (trail : Trail) →
-        HasLawfulSolvables u → HasLawfulPackages u → IsReadSoFar u root (solvables_before notes.origins trail (length_of trail)) notes → notes.exempt ≡ [] →
+    ensures answer { (u : Universe N S) (root : Demands) (notes : Notes N S) (requirements : List RequirementClause) (trail : Trail) (seeds refused : List S) →
+        HasLawfulSolvables u → HasLawfulPackages u → IsReadSoFar u root (solvables_before notes.origins trail (length_of trail)) notes → AreAssumed notes.origins seeds refused trail →
+        AreSeeds u seeds (solvables_before notes.origins trail (length_of trail)) notes.asked notes.seen notes.exempt →
         map (λ r. r.number) requirements ≡ notes.requirements → variable_count trail ≡ length notes.origins → IsFinished notes.table requirements trail →
-        IsAnswerBy u root (solvables_before notes.origins trail (length_of trail)) [] [] }
+        IsAnswerBy u root (solvables_before notes.origins trail (length_of trail)) seeds notes.exempt }
     ensures once { (origins : List (Origin N S)) (trail : Trail) → AreDistinct origins → variable_count trail ≡ length origins →
         HasNoRepeats (solvables_before origins trail (length_of trail)) }
 {}

@@ -3,12 +3,11 @@ use Rattle.std.proofs.Common.{◌≡◌, ◌≢◌, ℕ, zero, suc, ◌+◌, ◌
 use Rattle.std.specs.Prelude.{Vec}
 use Rattle.std.specs.Bool.{beq}
 use Rattle.std.specs.Option.{option_map}
-use Rattle.std.specs.List.{All}
+use Rattle.std.specs.List.{All, Contains}
 use Rattle.std.specs.declared.alloc.Global.{Global}
 use Rattle.std.proofs.lemmas.Bool.{cases_eq, cases_lt}
 use Rattle.std.proofs.lemmas.List.{drop_more, get_or-take, length-take-le, take-append-drop}
 use Rattle.std.proofs.lemmas.List.Elements.{All-contains}
-use Rattle.std.proofs.lemmas.Option.{same_Some}
 use Rattle.resolver_clause_store.specs.declared.Literal.{Literal}
 use Rattle.resolver_clause_store.specs.declared.RequirementClause.{RequirementClause}
 use Rattle.resolver_clause_store.specs.declared.Slot.{Slot}
@@ -26,8 +25,9 @@ use Rattle.resolvo.specs.Decisions.{IsChoice}
 use Rattle.resolvo.specs.declared.contradiction.Source.{Source}
 use Rattle.resolvo.specs.Derivations.{AreGiven, IsDerived, causes_at, causes_of, given_at, number_of}
 use Rattle.resolvo.specs.Propagation.{AreChosen, IsJustified, IsUnit}
-use Rattle.resolvo.specs.Resolvents.{IsAsserting, IsFalseAt}
+use Rattle.resolvo.specs.Resolvents.{IsAsserting, IsDrawn, IsFalseAt, level_in}
 use Rattle.resolvo.proofs.JustifiedLemmas.{chosen-kept}
+use Rattle.resolvo.proofs.LevelLemmas.{level-in}
 use Rattle.resolvo.proofs.SourceLemmas.{causes_at-last, causes_at-push, given_at-last, given_at-push, some_or_none}
 
 pub grows-push : (table : List (Vec Literal Global)) (clause : Vec Literal Global) → Grows table (table ++ clause ∷ [])
@@ -44,6 +44,7 @@ pub justified-grows : (old new : List (Vec Literal Global)) (trail : Trail) → 
 justified-grows old new trail grows justified = record {
   within = λ v s n at reason. omega (arith, justified.within v s n at reason, grows.longer);
   forced = λ v s n at reason. subst (λ clause. IsForcing trail s.place (record { variable = v; positive = s.value }) clause) (sym (grows.same n (justified.within v s n at reason))) (justified.forced v s n at reason);
+  contains = λ v s n at reason. subst (λ (clause : List Literal). Contains clause (record { variable = v; positive = s.value })) (sym (grows.same n (justified.within v s n at reason))) (justified.contains v s n at reason);
 }
 
 pub below-push : (variables : ℕ) (table : List (Vec Literal Global)) (clause : Vec Literal Global) → AreBelow variables table → IsBelow variables clause.items → AreBelow variables (table ++ clause ∷ [])
@@ -57,9 +58,19 @@ below-push variables table clause below here = λ n. ⊎_elim
     (cases_eq n (length table)))
     (cases_lt n (length table))
 
+-- where a literal is drawn from stays
+drawn-grows : (old new : List (Vec Literal Global)) (numbers : List ℕ) (clause : List Literal) → Grows old new → All (λ n. n < length old) numbers → All (IsDrawn old numbers) clause → All (IsDrawn new numbers) clause
+drawn-grows old new numbers clause grows within drawn = λ k d below.
+    let w = drawn k d below in
+    record {
+      number = w.number;
+      listed = w.listed;
+      stands = subst (λ (c : List Literal). Contains c (get_or clause k d)) (sym (grows.same w.number (All-contains (λ n. n < length old) numbers w.number within w.listed))) w.stands;
+    }
+
 -- a clause behind the others, given or learnt
-pub derived-push : (table : List (Vec Literal Global)) (sources : List Source) (clause : Vec Literal Global) (source : Source) → IsDerived table sources → All (λ n. n < length table) (causes_of source) → (number_of source ≡ None → FollowsFrom table (causes_of source) clause.items) → IsDerived (table ++ clause ∷ []) (sources ++ source ∷ [])
-derived-push table sources clause source derived within follows =
+pub derived-push : (table : List (Vec Literal Global)) (sources : List Source) (clause : Vec Literal Global) (source : Source) → IsDerived table sources → All (λ n. n < length table) (causes_of source) → (number_of source ≡ None → FollowsFrom table (causes_of source) clause.items) → (number_of source ≡ None → All (IsDrawn table (causes_of source)) clause.items) → IsDerived (table ++ clause ∷ []) (sources ++ source ∷ [])
+derived-push table sources clause source derived within follows drawn =
     let grows = grows-push table clause in
     let longer = table ++ clause ∷ [] in
     let more_sources = sources ++ source ∷ [] in
@@ -85,6 +96,21 @@ derived-push table sources clause source derived within follows =
           let h : MakesTrue values longer (causes_of source) = subst (λ ns. MakesTrue values longer ns) (ap (λ p. causes_at more_sources p) e ∙ causes_at-last sources source) holds in
           let none : number_of source ≡ None = sym (given_at-last sources source) ∙ ap (λ p. given_at more_sources p) (sym e) ∙ learnt in
           subst (λ c. clause_true values c ≡ true) (sym (ap (λ n. clause_at longer n) here ∙ clause_at-last table clause)) (follows none values (holds-grows table longer values _ grows within h)))
+          (cases_lt place (length table));
+      drawn = λ place inside learnt. ⊎_elim
+          (λ (less : place < length table).
+          let less_there : place < length sources = omega (arith, less, derived.count) in
+          let w : All (λ n. n < length table) (causes_at sources place) = λ k d b. omega (arith, derived.earlier place less k d b, less) in
+          let here = drawn-grows table longer (causes_at sources place) (clause_at table place) grows w (derived.drawn place less (sym (given_at-push sources source place less_there) ∙ learnt)) in
+          let Drawn : List ℕ → List Literal → Type 0 = λ ns c. All (IsDrawn longer ns) c in
+          subst (λ ns. Drawn ns (clause_at longer place)) (sym (causes_at-push sources source place less_there)) (subst (λ c. Drawn (causes_at sources place) c) (sym (clause_at-push table clause place less)) here))
+          (λ (more : length table ≤ place).
+          let e = last place inside more in
+          let at_end : place ≡ length table = omega (arith, e, derived.count) in
+          let none : number_of source ≡ None = sym (given_at-last sources source) ∙ ap (λ p. given_at more_sources p) (sym e) ∙ learnt in
+          let here = drawn-grows table longer (causes_of source) clause.items grows within (drawn none) in
+          let Drawn : List ℕ → List Literal → Type 0 = λ ns c. All (IsDrawn longer ns) c in
+          subst (λ ns. Drawn ns (clause_at longer place)) (sym (ap (λ p. causes_at more_sources p) e ∙ causes_at-last sources source)) (subst (λ c. Drawn (causes_of source) c) (sym (ap (λ n. clause_at longer n) at_end ∙ clause_at-last table clause)) here))
           (cases_lt place (length table));
     }
 
@@ -130,9 +156,9 @@ chosen-made table requirements old new literal choice level gains free is chosen
 
 pub chosen-decides : (table : List (Vec Literal Global)) (requirements : List RequirementClause) (old new : Trail) (literal : Literal) (choice : Choice) (level : ℕ) → Gains old new literal level (Decided choice.number) → slot_of old literal.variable ≡ None → literal ≡ get_or (clause_at table choice.number) choice.place literal → IsChoice old table requirements choice → AreChosen table requirements old → AreChosen table requirements new
 chosen-decides table requirements old new literal choice level gains free is choice-is chosen = record {
-  each = λ v s at decided. ⊎_elim
+  each = λ v s n at decided. ⊎_elim
       (λ w. chosen-made table requirements old new literal choice level gains free is choice-is v s w.0 (ap (λ (t : Slot). t.value) w.1) (ap (λ (t : Slot). t.place) w.1))
-      (λ w. chosen-kept table requirements old new v s (keeps-gains old new literal level _ gains free) (chosen.each v s w decided))
+      (λ w. chosen-kept table requirements old new v s (keeps-gains old new literal level _ gains free) (chosen.each v s n w decided))
       (gains-cases old new literal level _ gains v s at);
 }
 
@@ -151,13 +177,14 @@ justified-undone table old new level justified undone = record {
   forced = λ v s n at reason k d below.
       let was = undone.stays v s at in
       ⊎_elim (λ e. inl e) (λ f. inr (false_before-undone old new level s v _ undone was.0 was.1 f)) (justified.forced v s n was.0 reason k d below);
+  contains = λ v s n at reason. justified.contains v s n (undone.stays v s at).0 reason;
 }
 
 pub chosen-undone : (table : List (Vec Literal Global)) (requirements : List RequirementClause) (old new : Trail) (level : ℕ) → AreChosen table requirements old → IsUndone old new level → AreChosen table requirements new
 chosen-undone table requirements old new level chosen undone = record {
-  each = λ v s at decided.
+  each = λ v s n at decided.
       let was = undone.stays v s at in
-      let c = chosen.each v s was.0 decided in
+      let c = chosen.each v s n was.0 decided in
       record {
         requirement = c.requirement;
         listed = c.listed;
@@ -171,8 +198,8 @@ chosen-undone table requirements old new level chosen undone = record {
 
 pub chosen-grows : (old new : List (Vec Literal Global)) (requirements : List RequirementClause) (trail : Trail) → Grows old new → All (λ (requirement : RequirementClause). requirement.number < length old) requirements → AreChosen old requirements trail → AreChosen new requirements trail
 chosen-grows old new requirements trail grows inside chosen = record {
-  each = λ v s at decided.
-      let c = chosen.each v s at decided in
+  each = λ v s n at decided.
+      let c = chosen.each v s n at decided in
       record {
         requirement = c.requirement;
         listed = c.listed;
@@ -185,16 +212,16 @@ chosen-grows old new requirements trail grows inside chosen = record {
 }
 
 -- the one literal of the highest level has no value after a jump back
-pub asserted-free : (old new : Trail) (jump : ℕ) (literal : Literal) (literals : List Literal) → IsAsserting old jump literal literals → IsUndone old new jump → slot_of new literal.variable ≡ None
-asserted-free old new jump literal literals asserting undone = none-from (slot_of new literal.variable) (λ s at.
+pub asserted-free : (old new : Trail) (jump level : ℕ) (literal : Literal) (literals : List Literal) → IsAsserting old jump literal literals → level < level_in old literal.variable → IsUndone old new level → slot_of new literal.variable ≡ None
+asserted-free old new jump level literal literals asserting above undone = none-from (slot_of new literal.variable) (λ s at.
     let was = undone.stays _ s at in
-    omega (arith, was.1, asserting.above, ap (λ (t : Slot). t.level) (same_Some _ _ (sym was.0 ∙ asserting.is))))
+    omega (arith, was.1, above, level-in old literal.variable s was.0))
 
 -- and the others are false still
-pub asserted-unit : (old new : Trail) (jump : ℕ) (literal : Literal) (literals : List Literal) → IsAsserting old jump literal literals → IsUndone old new jump → IsUnit new literal literals
-asserted-unit old new jump literal literals asserting undone = λ k d below. ⊎_elim
+pub asserted-unit : (old new : Trail) (jump level : ℕ) (literal : Literal) (literals : List Literal) → IsAsserting old jump literal literals → jump ≤ level → IsUndone old new level → IsUnit new literal literals
+asserted-unit old new jump level literal literals asserting high undone = λ k d below. ⊎_elim
     (λ e. inl e)
-    (λ (f : IsFalseAt old jump (get_or literals k d)). inr (ap (λ o. option_map (λ (s : Slot). beq s.value (get_or literals k d).positive) o) (undone.kept _ _ f.is f.low) ∙ ap Some f.false_there))
+    (λ (f : IsFalseAt old jump (get_or literals k d)). inr (ap (λ o. option_map (λ (s : Slot). beq s.value (get_or literals k d).positive) o) (undone.kept _ _ f.is (omega (arith, f.low, high))) ∙ ap Some f.false_there))
     (asserting.others k d below)
 
 -- the variable of a false literal is one of the trail's

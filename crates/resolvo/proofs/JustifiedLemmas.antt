@@ -1,5 +1,5 @@
 -- The reasons stay right when a literal is set.
-use Rattle.std.proofs.Common.{◌≡◌, ℕ, ◌<◌, List, length, get_or, Option, Some, None, Bool, true, false, inl, inr, sym, ap, ◌∙◌, subst, ⊎_elim}
+use Rattle.std.proofs.Common.{◌≡◌, ℕ, ◌<◌, ◌⊎◌, List, length, get_or, Option, Some, None, Bool, true, false, inl, inr, refl, sym, ap, ◌∙◌, subst, ⊎_elim}
 use Rattle.std.specs.Prelude.{Vec}
 use Rattle.std.specs.List.{Contains}
 use Rattle.std.specs.declared.alloc.Global.{Global}
@@ -10,7 +10,7 @@ use Rattle.resolver_clause_store.specs.declared.Literal.{Literal}
 use Rattle.resolver_clause_store.specs.declared.RequirementClause.{RequirementClause}
 use Rattle.resolver_clause_store.specs.declared.Slot.{Slot}
 use Rattle.resolver_clause_store.specs.declared.Reason.{Reason}
-use Rattle.resolver_clause_store.specs.declared.Reason.TheVariants.{Decided, Forced}
+use Rattle.resolver_clause_store.specs.declared.Reason.TheVariants.{Assumed, Decided, Forced}
 use Rattle.resolver_clause_store.specs.declared.Trail.{Trail}
 use Rattle.resolver_clause_store.specs.Formula.{clause_at}
 use Rattle.resolver_clause_store.specs.Slots.{is_decided}
@@ -25,8 +25,8 @@ forcing-unit old new literal clause keeps unit = λ k d below. ⊎_elim (λ e. i
 forced-is : (n m : ℕ) → Forced n ≡ Forced m → n ≡ m
 forced-is n m e = cc
 
-forced-decided : (n m : ℕ) → Forced n ≡ Decided m → ⊥
-forced-decided n m e = absurd cc
+pub decided-forced : (n m : ℕ) → Decided n ≡ Forced m → ⊥
+decided-forced n m e = absurd cc
 
 decided-is : (n m : ℕ) → Decided n ≡ Decided m → n ≡ m
 decided-is n m e = cc
@@ -35,8 +35,8 @@ decided-is n m e = cc
 reason-made : (slot made : Slot) (reason : Reason) → slot ≡ made → slot.reason ≡ reason → made.reason ≡ reason
 reason-made slot made reason e is = sym (ap (λ (s : Slot). s.reason) e) ∙ is
 
-pub justified-gains : (table : List (Vec Literal Global)) (old new : Trail) (literal : Literal) (level number : ℕ) → IsJustified table old → Gains old new literal level (Forced number) → slot_of old literal.variable ≡ None → number < length table → IsUnit old literal (clause_at table number) → IsJustified table new
-justified-gains table old new literal level number justified gains free inside unit =
+pub justified-gains : (table : List (Vec Literal Global)) (old new : Trail) (literal : Literal) (level number : ℕ) → IsJustified table old → Gains old new literal level (Forced number) → slot_of old literal.variable ≡ None → number < length table → Contains (clause_at table number) literal → IsUnit old literal (clause_at table number) → IsJustified table new
+justified-gains table old new literal level number justified gains free inside there unit =
     let keeps = keeps-gains old new literal level _ gains free in
     record {
       within = λ v s n at reason. ⊎_elim
@@ -53,20 +53,32 @@ justified-gains table old new literal level number justified gains free inside u
           subst (λ k. IsForcing new s.place k (clause_at table n)) l g)
           (λ w. forcing-kept old new _ _ _ keeps (justified.forced v s n w reason))
           (gains-cases old new literal level _ gains v s at);
+      contains = λ v s n at reason. ⊎_elim
+          (λ w.
+          let same : number ≡ n = forced-is number n (reason-made s _ _ w.1 reason) in
+          let value : s.value ≡ literal.positive = ap (λ (slot : Slot). slot.value) w.1 in
+          let l : literal ≡ record { variable = v; positive = s.value } = rw (w.0, value) in
+          subst (λ k. Contains (clause_at table n) k) l (subst (λ m. Contains (clause_at table m) literal) same there))
+          (λ w. justified.contains v s n w reason)
+          (gains-cases old new literal level _ gains v s at);
     }
 
--- a decision is forced by no clause
-pub justified-decides : (table : List (Vec Literal Global)) (old new : Trail) (literal : Literal) (level number : ℕ) → IsJustified table old → Gains old new literal level (Decided number) → slot_of old literal.variable ≡ None → IsJustified table new
-justified-decides table old new literal level number justified gains free =
+-- a decision or an assumption is forced by no clause
+pub justified-decides : (table : List (Vec Literal Global)) (old new : Trail) (literal : Literal) (level : ℕ) (why : Reason) → ((n : ℕ) → why ≡ Forced n → ⊥) → IsJustified table old → Gains old new literal level why → slot_of old literal.variable ≡ None → IsJustified table new
+justified-decides table old new literal level why other justified gains free =
     let keeps = keeps-gains old new literal level _ gains free in
     record {
       within = λ v s n at reason. ⊎_elim
-          (λ w. absurd (forced-decided n number (sym (reason-made s _ _ w.1 reason))))
+          (λ w. absurd (other n (reason-made s _ _ w.1 reason)))
           (λ w. justified.within v s n w reason)
           (gains-cases old new literal level _ gains v s at);
       forced = λ v s n at reason. ⊎_elim
-          (λ w. absurd (forced-decided n number (sym (reason-made s _ _ w.1 reason))))
+          (λ w. absurd (other n (reason-made s _ _ w.1 reason)))
           (λ w. forcing-kept old new _ _ _ keeps (justified.forced v s n w reason))
+          (gains-cases old new literal level _ gains v s at);
+      contains = λ v s n at reason. ⊎_elim
+          (λ w. absurd (other n (reason-made s _ _ w.1 reason)))
+          (λ w. justified.contains v s n w reason)
           (gains-cases old new literal level _ gains v s at);
     }
 
@@ -81,6 +93,7 @@ justified-same table old new justified same =
     record {
       within = λ v s n at reason. justified.within v s n (sym (back v) ∙ at) reason;
       forced = λ v s n at reason. forcing-kept old new _ _ _ keeps (justified.forced v s n (sym (back v) ∙ at) reason);
+      contains = λ v s n at reason. justified.contains v s n (sym (back v) ∙ at) reason;
     }
 
 pub extends-none : (trail : Trail) → Extends trail trail
@@ -115,9 +128,9 @@ chosen-kept table requirements old new variable slot keeps c = record {
 
 pub chosen-extends : (table : List (Vec Literal Global)) (requirements : List RequirementClause) (old new : Trail) → AreChosen table requirements old → Extends old new → AreChosen table requirements new
 chosen-extends table requirements old new chosen extends = record {
-  each = λ v s at decided. ⊎_elim
-      (λ was. chosen-kept table requirements old new v s (record { kept = extends.kept }) (chosen.each v s was decided))
-      (λ forced. absurd (both_ways _ forced decided))
+  each = λ v s n at decided. ⊎_elim
+      (λ was. chosen-kept table requirements old new v s (record { kept = extends.kept }) (chosen.each v s n was decided))
+      (λ forced. absurd (both_ways _ forced (ap is_decided decided)))
       (extends.only v s at);
 }
 
@@ -144,3 +157,9 @@ propagated trail clause settled = ⊎_elim
           (others free.first free.has_first);
     })
     settled
+
+-- why a variable has its value
+pub why : (r : Reason) → ((n : ℕ) × (r ≡ Decided n)) ⊎ (((n : ℕ) × (r ≡ Forced n)) ⊎ (r ≡ Assumed))
+why (Decided n) = inl (n, refl)
+why (Forced n) = inr (inl (n, refl))
+why Assumed = inr (inr refl)

@@ -76,7 +76,7 @@ jump-next trail clause asserted i e level here new within differ is so more leas
           either;
     }
 
-level-in : (trail : Trail) (variable : ℕ) (slot : Slot) → slot_of trail variable ≡ Some slot → level_in trail variable ≡ slot.level
+pub level-in : (trail : Trail) (variable : ℕ) (slot : Slot) → slot_of trail variable ≡ Some slot → level_in trail variable ≡ slot.level
 level-in trail variable slot at = ap (λ o. option_map_or (λ (s : Slot). s.level) o 0) at
 
 place-of : (trail : Trail) (variable : ℕ) (slot : Slot) → slot_of trail variable ≡ Some slot → place_of trail variable ≡ slot.place

@@ -7,9 +7,13 @@ pub mod MarkLemmas
 pub mod ResolutionLemmas
 pub mod NegationLemmas
 pub mod LevelLemmas
+pub mod DrawnLemmas
 pub mod CoreLemmas
 pub mod ClauseSearchLemmas
+pub mod TurnLemmas
 pub mod LoadLemmas
 pub mod SolveLemmas
 pub mod RoundLemmas
+pub mod GoingLemmas
+pub mod SoftLemmas
 pub mod OutcomeLemmas

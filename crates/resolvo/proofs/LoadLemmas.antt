@@ -1,5 +1,5 @@
 -- Given clauses that are loaded, and what a finished search says of them.
-use Rattle.std.proofs.Common.{◌≡◌, ℕ, ◌+◌, ◌<◌, ◌≤◌, ◌⊎◌, List, [], ◌∷◌, ◌++◌, length, get_or, take, min, Some, None, true, arith, inl, inr, refl, sym, ap, ◌∙◌, subst, ⊎_elim, length-append}
+use Rattle.std.proofs.Common.{◌≡◌, ℕ, ◌+◌, ◌<◌, ◌≤◌, List, [], ◌∷◌, ◌++◌, length, get_or, take, min, Some, None, arith, inl, inr, refl, sym, ap, ◌∙◌, subst, ⊎_elim, length-append}
 use Rattle.std.specs.Prelude.{Vec, map}
 use Rattle.std.specs.List.{All}
 use Rattle.std.specs.declared.alloc.Global.{Global}
@@ -10,13 +10,11 @@ use Rattle.std.proofs.lemmas.List.Elements.{All-head, All-nil, All-push, All-tai
 use Rattle.std.proofs.lemmas.Option.{none-some, same_Some}
 use Rattle.resolver_clause_store.specs.declared.Literal.{Literal}
 use Rattle.resolver_clause_store.specs.declared.RequirementClause.{RequirementClause}
-use Rattle.resolver_clause_store.specs.declared.Reason.{Reason}
-use Rattle.resolver_clause_store.specs.declared.Reason.TheVariants.{Decided, Forced}
+use Rattle.resolver_clause_store.specs.declared.Reason.TheVariants.{Assumed, Decided, Forced}
 use Rattle.resolver_clause_store.specs.declared.Slot.{Slot}
 use Rattle.resolver_clause_store.specs.declared.Trail.{Trail}
 use Rattle.resolver_clause_store.specs.Formula.{IsBelow, clause_at}
 use Rattle.resolver_clause_store.specs.Outcomes.{IsChosen, IsFinished, IsMet, IsPropagated}
-use Rattle.resolver_clause_store.specs.Slots.{is_decided}
 use Rattle.resolver_clause_store.specs.TrailView.{IsGrown, IsUndone, KeepsPlaces, length_of, slot_of, variable_count}
 use Rattle.resolver_clause_store.proofs.FormulaLemmas.{clause_at-get_or, clause_at-last, clause_at-push}
 use Rattle.resolver_clause_store.proofs.KeptLemmas.{keeps_all, keeps_grown, keeps_through, keeps_trans, keeps_undone}
@@ -24,11 +22,12 @@ use Rattle.resolver_clause_store.proofs.TrailLemmas.{Keeps, forcing-kept}
 use Rattle.resolvo.specs.declared.contradiction.Source.{Source}
 use Rattle.resolvo.specs.declared.contradiction.Source.TheVariants.{Given}
 use Rattle.resolvo.specs.declared.clause_search.ClauseSearch.{ClauseSearch}
-use Rattle.resolvo.specs.ClauseSearches.{AreLoaded, IsConsistent, IsLoaded, IsSameProblem, IsSameSearch, KeepsFirst, numbers_of, place_of}
+use Rattle.resolvo.specs.ClauseSearches.{AreLoaded, AssumesNone, IsConsistent, IsLoaded, IsSameProblem, IsSameSearch, KeepsFirst, numbers_of, place_of}
 use Rattle.resolvo.specs.Derivations.{IsDerived, given_at, number_of}
 use Rattle.resolvo.specs.Propagation.{AllSettled, AreChosen, Extends, IsJustified}
 use Rattle.resolvo.proofs.ClauseSearchLemmas.{below-push, chosen-grows, chosen-undone, derived-push, grows-push, implied, justified-grows, justified-undone}
-use Rattle.resolvo.proofs.JustifiedLemmas.{chosen-extends, propagated}
+use Rattle.resolvo.proofs.JustifiedLemmas.{chosen-extends, propagated, why}
+use Rattle.resolvo.proofs.TurnLemmas.{held-undone, keeps-fewer, keeps-none, keeps-turn, none-undone, turn-descended, turn-kept, turn-trans, turn-undone}
 use Rattle.resolvo.proofs.SourceLemmas.{given_at-cases, given_at-last, given_at-push, given_within}
 
 -- a trail that only gains keeps what is kept
@@ -142,21 +141,20 @@ chosen-wanted given table sources places requirements wanted trail variable slot
       false_before = c.false_before;
     }
 
-decided-or-forced : (r : Reason) → (is_decided r ≡ true) ⊎ ((n : ℕ) × (r ≡ Forced n))
-decided-or-forced (Decided n) = inl refl
-decided-or-forced (Forced n) = inr (n, refl)
-
 -- what was found for the places holds for the given clauses
 pub finished : (given table : List (Vec Literal Global)) (sources : List Source) (places : List ℕ) (requirements wanted : List RequirementClause) (trail : Trail) → IsDerived table sources → IsJustified table trail → AreChosen table requirements trail → AreLoaded given table sources places → numbers_of requirements ≡ map (place_of places) (numbers_of wanted) → All (λ (r : RequirementClause). r.number < length given) wanted → AllSettled trail table → All (λ (r : RequirementClause). IsMet trail (clause_at table r.number)) requirements → IsFinished given wanted trail
 finished given table sources places requirements wanted trail derived justified chosen loaded same inside settled met = record {
   reasons = λ v s at. ⊎_elim
-      (λ (decided : is_decided s.reason ≡ true). inl (chosen-wanted given table sources places requirements wanted trail v s loaded same inside (chosen.each v s at decided)))
-      (λ w. inr (record {
+      (λ (w : (n : ℕ) × (s.reason ≡ Decided n)). inl (chosen-wanted given table sources places requirements wanted trail v s loaded same inside (chosen.each v s w.0 at w.1)))
+      (λ rest. ⊎_elim
+      (λ (w : (n : ℕ) × (s.reason ≡ Forced n)). inr (inl (record {
         clause = clause_at table w.0;
         implied = implied given table sources w.0 derived loaded.are (justified.within v s w.0 at w.1);
         forcing = justified.forced v s w.0 at w.1;
-      }))
-      (decided-or-forced s.reason);
+      })))
+      (λ (assumed : s.reason ≡ Assumed). inr (inr assumed))
+      rest)
+      (why s.reason);
   propagated = λ n within.
       let there = given_within sources _ n (loaded.placed n within) in
       subst (λ c. IsPropagated trail c) (given-clause given table sources places n loaded within) (propagated trail _ (settled (place_of places n) (omega (arith, there, derived.count))));
@@ -186,6 +184,7 @@ justified-grown table old new variables grown justified =
     record {
       within = λ v s n at reason. justified.within v s n (sym (back v) ∙ at) reason;
       forced = λ v s n at reason. forcing-kept old new _ _ _ keeps (justified.forced v s n (sym (back v) ∙ at) reason);
+      contains = λ v s n at reason. justified.contains v s n (sym (back v) ∙ at) reason;
     }
 
 pub extends-grown : (old new : Trail) (variables : ℕ) → IsGrown old new variables → Extends old new
@@ -194,8 +193,8 @@ extends-grown old new variables grown = record { kept = λ v s at. grown.slots v
 -- a requirement behind the others
 pub chosen-listed : (table : List (Vec Literal Global)) (requirements : List RequirementClause) (requirement : RequirementClause) (trail : Trail) → AreChosen table requirements trail → AreChosen table (requirements ++ requirement ∷ []) trail
 chosen-listed table requirements requirement trail chosen = record {
-  each = λ v s at decided.
-      let c = chosen.each v s at decided in
+  each = λ v s n at decided.
+      let c = chosen.each v s n at decided in
       record {
         requirement = c.requirement;
         listed = Contains-append_left requirements (requirement ∷ []) c.requirement c.listed;
@@ -208,27 +207,31 @@ chosen-listed table requirements requirement trail chosen = record {
 }
 
 -- a trail that was undone, and how much of it is kept
-pub same-undone : (old new : ClauseSearch) (level : ℕ) → IsUndone old.trail new.trail level → new.learnt ≡ old.learnt → new.kept ≡ min old.kept (length_of new.trail) → IsSameSearch old new
-same-undone old new level undone learnt kept = record {
+pub same-undone : (old new : ClauseSearch) (level : ℕ) → IsConsistent old → IsUndone old.trail new.trail level → old.base ≤ level → new.learnt ≡ old.learnt → new.kept ≡ min old.kept (length_of new.trail) → new.base ≡ old.base → new.held ≡ old.held → IsSameSearch old new
+same-undone old new level it undone high learnt kept base held = record {
+  set = record { was = λ v s at. (undone.stays v s at).0 };
+  marked = λ all. let fewer : length_of new.trail ≤ length_of old.trail = (keeps_undone old.trail new.trail level undone).were in omega (arith, all, kept, fewer);
   variables = undone.size;
   learnt = learnt;
   kept = subst (λ n. KeepsFirst old.trail old.kept new.trail n) (sym kept) (first-undone old.trail new.trail old.kept level undone);
+  turn = keeps-turn old new base held (none-undone old.trail new.trail level undone) (held-undone old.trail new.trail old.base old.held old.kept level it.turn undone high);
 }
 
 -- a search in which a given clause stands behind the others
-pub consistent-given : (old new : ClauseSearch) (clause : Vec Literal Global) (number place level : ℕ) → IsConsistent old → IsBelow (variable_count old.trail) clause.items → place ≡ length old.table.items → new.table.items ≡ old.table.items ++ clause ∷ [] → new.sources.items ≡ old.sources.items ++ Given number ∷ [] → new.places.items ≡ old.places.items ++ place ∷ [] → new.requirements.items ≡ old.requirements.items → IsUndone old.trail new.trail level → new.learnt ≡ old.learnt → new.kept ≡ min old.kept (length_of new.trail) → IsConsistent new
-consistent-given old new clause number place level it below end table sources places requirements undone learnt kept =
+pub consistent-given : (old new : ClauseSearch) (clause : Vec Literal Global) (number place level : ℕ) → IsConsistent old → IsBelow (variable_count old.trail) clause.items → place ≡ length old.table.items → new.table.items ≡ old.table.items ++ clause ∷ [] → new.sources.items ≡ old.sources.items ++ Given number ∷ [] → new.places.items ≡ old.places.items ++ place ∷ [] → new.requirements.items ≡ old.requirements.items → IsUndone old.trail new.trail level → old.base ≤ level → new.learnt ≡ old.learnt → new.kept ≡ min old.kept (length_of new.trail) → new.base ≡ old.base → new.held ≡ old.held → IsConsistent new
+consistent-given old new clause number place level it below end table sources places requirements undone high learnt kept base held =
     let grows = grows-push old.table.items clause in
     let longer : length (old.table.items ++ clause ∷ []) ≡ length old.table.items + 1 = length-append old.table.items (clause ∷ []) in
     record {
       below = rw (table, undone.size) (below-push _ old.table.items clause it.below below);
-      derived = rw (table, sources) (derived-push old.table.items old.sources.items clause (Given number) it.derived (All-nil (λ n. n < length old.table.items)) (λ none. absurd (none-some number (sym none))));
+      derived = rw (table, sources) (derived-push old.table.items old.sources.items clause (Given number) it.derived (All-nil (λ n. n < length old.table.items)) (λ none. absurd (none-some number (sym none))) (λ none. absurd (none-some number (sym none))));
       justified = rw table (justified-grows old.table.items (old.table.items ++ clause ∷ []) new.trail grows (justified-undone old.table.items old.trail new.trail level it.justified undone));
       chosen = rw (table, requirements) (chosen-grows old.table.items (old.table.items ++ clause ∷ []) old.requirements.items new.trail grows it.inside (chosen-undone old.table.items old.requirements.items old.trail new.trail level it.chosen undone));
       inside = rw (table, requirements) (λ k d b. omega (arith, it.inside k d b, longer));
       places = rw (table, places) (All-push (λ p. p < length (old.table.items ++ clause ∷ [])) old.places.items place (λ k d b. omega (arith, it.places k d b, longer)) (omega (arith, end, longer)));
       count = rw (table, places, learnt) (omega (arith, it.count, longer, length-append old.places.items (place ∷ [])));
       kept = omega (arith, kept);
+      turn = rw (base, held) (turn-undone old.trail new.trail old.base old.held old.kept level new.kept it.turn undone high kept);
     }
 
 pub loaded-clause : (old new : ClauseSearch) (given : List (Vec Literal Global)) (numbers : List ℕ) (copy clause : Vec Literal Global) (number place : ℕ) → IsConsistent old → number ≡ length old.places.items → place ≡ length old.table.items → clause.items ≡ copy.items → new.table.items ≡ old.table.items ++ clause ∷ [] → new.sources.items ≡ old.sources.items ++ Given number ∷ [] → new.places.items ≡ old.places.items ++ place ∷ [] → new.requirements.items ≡ old.requirements.items → IsLoaded given numbers old → IsLoaded (given ++ copy ∷ []) numbers new
@@ -261,14 +264,15 @@ consistent-requirement old new requirement it inside same requirements =
       places = it.places;
       count = it.count;
       kept = it.kept;
+      turn = it.turn;
     } in
     subst (λ s. IsConsistent s) (sym same) here
 
 pub same-none : (it : ClauseSearch) → IsSameSearch it it
-same-none it = record { variables = refl; learnt = refl; kept = λ base k. k }
+same-none it = record { set = record { was = λ v s at. at }; marked = λ all. all; variables = refl; learnt = refl; kept = λ base k. k; turn = keeps-none it }
 
 pub same-trans : (a b c : ClauseSearch) → IsSameSearch a b → IsSameSearch b c → IsSameSearch a c
-same-trans a b c first second = record { variables = second.variables ∙ first.variables; learnt = second.learnt ∙ first.learnt; kept = λ base k. second.kept base (first.kept base k) }
+same-trans a b c first second = record { set = record { was = λ v s at. first.set.was v s (second.set.was v s at) }; marked = λ all. second.marked (first.marked all); variables = second.variables ∙ first.variables; learnt = second.learnt ∙ first.learnt; kept = λ base k. second.kept base (first.kept base k); turn = turn-trans a b c first.turn second.turn }
 
 -- the clauses that were loaded are the first ones of a longer list
 pub clauses-begin : (it : ClauseSearch) (clauses given more : List (Vec Literal Global)) (numbers : List ℕ) (count : ℕ) → count ≡ length it.places.items → IsLoaded given numbers it → clauses ≡ given ++ more → IsLoaded (take count clauses) numbers it
@@ -323,6 +327,7 @@ consistent-grown it trail variables holds room grown = record {
   places = holds.places;
   count = holds.count;
   kept = omega (arith, holds.kept, ap length grown.order);
+  turn = turn-kept it.trail trail it.base it.held it.kept it.kept holds.turn (keeps-fewer it.trail trail (length_of it.trail) it.held (keeps_grown it.trail trail variables grown) holds.turn.inside) holds.turn.marked;
 }
 
 -- what is loaded does not depend on the trail
@@ -333,11 +338,12 @@ pub first-grown : (old new : Trail) (count variables : ℕ) → IsGrown old new 
 first-grown old new count variables grown = first-after old new count (keeps_grown old new variables grown)
 
 -- a step of a run
-pub problem-descended : (a b : ClauseSearch) (trail : Trail) → IsSameProblem a b → variable_count trail ≡ variable_count b.trail → KeepsPlaces b.trail trail (length_of b.trail) → IsSameProblem a (record b { trail = trail })
-problem-descended a b trail same size keeps = record {
+pub problem-descended : (a b : ClauseSearch) (trail : Trail) → IsConsistent b → IsSameProblem a b → variable_count trail ≡ variable_count b.trail → KeepsPlaces b.trail trail (length_of b.trail) → AssumesNone b.trail trail → IsSameProblem a (record b { trail = trail })
+problem-descended a b trail it same size keeps assumed = record {
   loaded = λ given numbers loaded. loaded-trail b trail given numbers (same.loaded given numbers loaded);
   variables = size ∙ same.variables;
   kept = λ base k. first-after b.trail trail b.kept keeps base (same.kept base k);
+  turn = turn-trans a b (record b { trail = trail }) same.turn (turn-descended b trail it assumed keeps);
 }
 
 pub problem-trans : (a b c : ClauseSearch) → IsSameProblem a b → IsSameProblem b c → IsSameProblem a c
@@ -345,4 +351,5 @@ problem-trans a b c first second = record {
   loaded = λ given numbers loaded. second.loaded given numbers (first.loaded given numbers loaded);
   variables = second.variables ∙ first.variables;
   kept = λ base k. second.kept base (first.kept base k);
+  turn = turn-trans a b c first.turn second.turn;
 }

@@ -1,15 +1,18 @@
 -- What the rounds found, and what the solver answers then.
-use Rattle.std.proofs.Common.{◌≡◌, ◌≤◌, ◌^◌, List, arith, refl, ◌∙◌, subst, sym, inl, inr, ⊎_elim}
+use Rattle.std.proofs.Common.{◌≡◌, ◌≤◌, ◌^◌, List, [], Vec, Global, arith, refl, ◌∙◌, subst, sym, inl, inr, ⊎_elim}
 use Rattle.std.specs.Prelude.{IfOk, OnOk, Result, Ok, Err}
 use Rattle.resolver_clause_store.specs.Universe.{Universe, Demands}
 use Rattle.resolver_clause_store.specs.declared.ConditionalRequirement.{ConditionalRequirement}
 use Rattle.resolver_clause_store.specs.declared.Interrupted.{Interrupted}
 use Rattle.resolver_clause_store.specs.declared.Interrupted.TheVariants.{Cancelled as IsCancelled, Exhausted as IsExhausted}
 use Rattle.resolver_clause_store.specs.declared.VersionSetId.{VersionSetId}
+use Rattle.resolver_clause_store.specs.Lists.{HasNoRepeats}
+use Rattle.resolver_clause_store.specs.SoftRun.{SoftRun}
+use Rattle.resolvo.specs.Answers.{IsSoftAnswer, RefusesAnyway}
 use Rattle.resolver_encoding.specs.Refusals.{IsStop}
 use Rattle.resolver_encoding.specs.SoFar.{IsReadSoFar}
 use Rattle.resolvo.specs.Refusals.{CountsRead, CountsRefuted}
-use Rattle.resolvo.specs.RoundStates.{HasAllClauses, IsStuck, KeepsRoom, chosen_of, notes_of}
+use Rattle.resolvo.specs.RoundStates.{HasAllClauses, IsBetween, IsStuck, KeepsRoom, chosen_of, notes_of}
 use Rattle.resolver_clause_store.specs.Caches.{IsTrueCache}
 use Rattle.resolver_clause_store.specs.declared.Cache.{Cache}
 use Rattle.resolvo.specs.Solvers.{HasCounted, IsAtLimit, IsSound, KeepsAllButCounts, KeepsCounts}
@@ -76,3 +79,27 @@ still_sound {D} {C} {N} {S} universe old new is_true fits rest =
     let True : D → Cache N S → Type 0 = λ p k. IsTrueCache (universe p) k in
     let By : D → Type 0 = λ p. True p new.cache in
     record { true_answers = subst By (sym rest.provider) (subst (True old.provider) (sym rest.cache) is_true); fits = omega (arith, fits, rest.limits.variables) }
+
+-- what the rounds were done with, and some list that the soft requirements are
+pub soft_given : {A E X : Type 0} (Gives : List X → Type 0) (IsAt : A → Type 0) (Is : List X → A → Type 0) (r : Result A E) → IfOk r (λ a. (xs : List X) × (IsAt a → Gives xs) × Is xs a) → (xs : List X) × (IfOk r (λ a. IsAt a → Gives xs)) × IfOk r (Is xs)
+soft_given Gives IsAt Is (Ok a) h = (h.0, h.1, h.2)
+soft_given Gives IsAt Is (Err e) h = ([], tt, tt)
+
+-- an answer with soft requirements
+pub soft_answer : {E S N : Type 0} (u : Universe N S) (rounds : Rounds N S) (result : Result (Vec S Global) E) (exempt : List S) → IfOk result (λ chosen. chosen.items ≡ chosen_of rounds) → OnOk result (exempt ≡ (notes_of rounds).exempt) → (root : Demands) (soft : List S) → IsBetween u root soft rounds →
+    IfOk result (λ chosen. IsSoftAnswer u root soft chosen.items exempt)
+soft_answer {E} {S} {N} u rounds (Ok chosen) exempt are free root soft b =
+    let Run : List S → List S → Type 0 = λ c e. SoftRun u root RefusesAnyway b.first soft b.taken c e (notes_of rounds).asked in
+    let RunFor : List S → Type 0 = λ c. Run c exempt in
+    let Once : List S → Type 0 = λ list. HasNoRepeats list in
+    record { first = b.first; taken = b.taken; asked = (notes_of rounds).asked; run = subst RunFor (sym are) (subst (Run (chosen_of rounds)) (sym free) b.run); once = subst Once (sym are) b.once }
+soft_answer u rounds (Err e) exempt are free root soft b = tt
+
+pub OnOk-of : {A E : Type 0} (P : Type 0) → P → (r : Result A E) → OnOk r P
+OnOk-of P h (Ok x) = h
+OnOk-of P h (Err e) = tt
+
+-- what holds of a result and of what it was made of
+pub IfOk-both : {A E : Type 0} (P Q : A → Type 0) (W : Type 0) → ((x : A) → P x → W → Q x) → (r : Result A E) → IfOk r P → OnOk r W → IfOk r Q
+IfOk-both P Q W follows (Ok x) h w = follows x h w
+IfOk-both P Q W follows (Err e) h w = tt

@@ -33,7 +33,7 @@ use Rattle.resolver_encoding.proofs.EncodedLemmas.{encoded_below, requirements_i
 use Rattle.resolver_encoding.proofs.EncodingLemmas.{Extends-within}
 use Rattle.resolver_encoding.proofs.Lists.{Contains-slice}
 use Rattle.resolver_encoding.proofs.TrailLemmas.{before_extends, follows_still}
-use Rattle.resolvo.specs.ClauseSearches.{IsConsistent, IsLoaded, KeepsLoaded, KeepsMark, clause_count_of, kept_of, learnt_count_of, numbers_of, trail_of}
+use Rattle.resolvo.specs.ClauseSearches.{IsConsistent, IsLoaded, KeepsLoaded, KeepsMark, KeepsTurn, clause_count_of, kept_of, learnt_count_of, numbers_of, trail_of}
 use Rattle.resolvo.specs.RoundStates.{AreRounds, HasFollowed, HasLoaded, HasMark, IsFollowing, IsFresh, IsSearchOf, IsUpToDate, KeepsRead, KeepsRoom, chosen_of, notes_of}
 use Rattle.resolvo.specs.declared.clause_search.ClauseSearch.{ClauseSearch}
 use Rattle.resolvo.specs.declared.rounds.Rounds.{Rounds}
@@ -48,10 +48,10 @@ empty_trail trail none = ⊎_elim
     (λ (empty : length_of trail ≤ 0). omega (arith, empty))
     (cases_lt 0 (length_of trail))
 
-keeps_itself : (trail : Trail) (count : ℕ) → count ≤ length_of trail → KeepsPlaces trail trail count
+pub keeps_itself : (trail : Trail) (count : ℕ) → count ≤ length_of trail → KeepsPlaces trail trail count
 keeps_itself trail count inside = record { were = inside; are = inside; variables = λ place below. refl; slots = λ variable slot at below. at }
 
-Keeps-longer : {X : Type 0} (old new : List X) (x : X) → Keeps old new → length old ≤ length new
+pub Keeps-longer : {X : Type 0} (old new : List X) (x : X) → Keeps old new → length old ≤ length new
 Keeps-longer old new x keeps = ⊎_elim
     (λ (less : length new < length old).
     let inside = slice_get_within new (length new) (get_or old (length new) x) (keeps.kept (length new) (get_or old (length new) x) (slice_get-get_or old (length new) x less)) in
@@ -86,20 +86,20 @@ so_far_less u root part set notes within h = record {
 }
 
 -- all was loaded, and stays so while the search runs
-pub loaded_all : (table clauses : List (Vec Literal Global)) (numbers : List ℕ) (requirements : List RequirementClause) (old mid new : ClauseSearch) → HasLoaded table numbers old → clauses ≡ table → numbers_of requirements ≡ numbers →
+pub loaded_all : (table clauses : List (Vec Literal Global)) (numbers : List ℕ) (requirements : List RequirementClause) (old mid : ClauseSearch) → HasLoaded table numbers old → clauses ≡ table → numbers_of requirements ≡ numbers →
     ((given : List (Vec Literal Global)) (asking : List ℕ) → IsLoaded given asking old → (more : List (Vec Literal Global)) → clauses ≡ given ++ more → (more_asking : List ℕ) → numbers_of requirements ≡ asking ++ more_asking → IsLoaded clauses (numbers_of requirements) mid) →
-    KeepsLoaded mid new → IsLoaded table numbers new
-loaded_all table clauses numbers requirements old mid new l are asks loads keeps =
+    IsLoaded table numbers mid
+loaded_all table clauses numbers requirements old mid l are asks loads =
     let all = loads l.given l.numbers l.loaded l.clauses.more (are ∙ l.clauses.is) l.asking.more (asks ∙ l.asking.is) in
     let Loaded : List (Vec Literal Global) → List ℕ → Type 0 = λ given asking. IsLoaded given asking mid in
     let Given : List (Vec Literal Global) → Type 0 = λ given. Loaded given (numbers_of requirements) in
-    keeps table numbers (subst (Loaded table) asks (subst Given are all))
+    subst (Loaded table) asks (subst Given are all)
 
 module _ {N S : Type 0} where
   -- the root was read
-  pub begun : (u : Universe N S) (root : Demands) (old : Rounds N S) (encoding : Encoding N S) → IsFresh old → IsBounded encoding → IsReadSoFar u root [] (notes_in encoding) → (notes_in encoding).exempt ≡ (notes_of old).exempt →
+  pub begun : (u : Universe N S) (root : Demands) (old : Rounds N S) (encoding : Encoding N S) → IsFresh old → IsBounded encoding → IsReadSoFar u root [] (notes_in encoding) →
       AreRounds u (record old { encoding = encoding })
-  begun u root old encoding fresh bounded read exempt =
+  begun u root old encoding fresh bounded read =
       let base : Trail = trail_of old.search in
       let empty : length_of base ≡ 0 = empty_trail base fresh.variables in
       let ReadFor : List S → Type 0 = λ set. IsReadSoFar u root set (notes_in encoding) in
@@ -107,7 +107,6 @@ module _ {N S : Type 0} where
       record {
         bounded = bounded;
         reading = record { root = root; so_far = subst ReadFor (sym fresh.none) read };
-        exempt = exempt ∙ fresh.exempt;
         consistent = fresh.consistent;
         loaded = record { given = []; numbers = []; loaded = fresh.loaded; clauses = record { more = (notes_in encoding).table; is = refl }; asking = record { more = (notes_in encoding).requirements; is = refl } };
         variables = omega (arith, fresh.variables);
@@ -133,16 +132,15 @@ module _ {N S : Type 0} where
       subst Inside (sym are) (requirements_inside u reading.root notes reading.so_far.half.encoding requirements numbers)
 
   -- the search has run over all that was read
-  pub searched : (u : Universe N S) (old : Rounds N S) (mid new : ClauseSearch) → AreRounds u old → IsConsistent new → IsLoaded (notes_of old).table (notes_of old).requirements new → variable_count (trail_of new) ≡ length (notes_of old).origins →
-      KeepsMark old.search mid → KeepsMark mid new → AreRounds u (record old { search = new })
-  searched u old mid new rounds consistent loaded size first second = record {
+  pub searched : (u : Universe N S) (old : Rounds N S) (new : ClauseSearch) → AreRounds u old → IsConsistent new → IsLoaded (notes_of old).table (notes_of old).requirements new → variable_count (trail_of new) ≡ length (notes_of old).origins →
+      KeepsMark old.search new → AreRounds u (record old { search = new })
+  searched u old new rounds consistent loaded size kept = record {
     bounded = rounds.bounded;
     reading = rounds.reading;
-    exempt = rounds.exempt;
     consistent = consistent;
     loaded = record { given = (notes_of old).table; numbers = (notes_of old).requirements; loaded = loaded; clauses = record { more = []; is = sym (append-nil (notes_of old).table) }; asking = record { more = []; is = sym (append-nil (notes_of old).requirements) } };
     variables = omega (arith, size);
-    mark = record { base = rounds.mark.base; follows = rounds.mark.follows; kept = second rounds.mark.base (first rounds.mark.base rounds.mark.kept); known = rounds.mark.known };
+    mark = record { base = rounds.mark.base; follows = rounds.mark.follows; kept = kept rounds.mark.base rounds.mark.kept; known = rounds.mark.known };
   }
 
   -- the list of chosen solvables that was cut and follows the trail again
@@ -194,12 +192,14 @@ module _ {N S : Type 0} where
   pub followed : (old : Rounds N S) (kept : ℕ) (cut new : Chosen S) (search : ClauseSearch) → IsUpToDate old → HasMark old → kept ≡ kept_of old.search →
       ((origins : List (Origin N S)) (trail : Trail) (count : ℕ) → Follows old.chosen origins trail count → kept ≤ count → Follows cut origins trail kept) →
       ((count : ℕ) → Follows cut (notes_of old).origins (trail_of old.search) count → Follows new (notes_of old).origins (trail_of old.search) (length_of (trail_of old.search))) →
-      trail_of search ≡ trail_of old.search → clause_count_of search ≡ clause_count_of old.search → learnt_count_of search ≡ learnt_count_of old.search →
+      trail_of search ≡ trail_of old.search → clause_count_of search ≡ clause_count_of old.search → learnt_count_of search ≡ learnt_count_of old.search → KeepsTurn old.search search → kept_of search ≡ length_of (trail_of search) →
       HasFollowed old (record old { chosen = new; search = search })
-  followed old kept cut new search up mark is cuts follows trail clauses learnt = record {
+  followed old kept cut new search up mark is cuts follows trail clauses learnt turn count = record {
     trail = trail;
     clauses = clauses;
     learnt = learnt;
+    turn = turn;
+    marked = count;
     chosen = (cut_again old kept cut new up mark is cuts follows).follows.is;
   }
 
@@ -223,7 +223,6 @@ module _ {N S : Type 0} where
       record {
         bounded = bounded;
         reading = record { root = rounds.reading.root; so_far = subst ReadFor is (reads rounds.reading.root (read_first u rounds.reading.root old mid from keys following is rounds.reading.so_far)) };
-        exempt = more.exempt ∙ ap (λ (e : Encoding N S). (notes_in e).exempt) following.encoding ∙ rounds.exempt;
         consistent = following.consistent;
         loaded = record { given = (notes_of mid).table; numbers = (notes_of mid).requirements; loaded = following.loaded.loaded; clauses = more.table; asking = more.requirements };
         variables = omega (arith, longer, following.loaded.variables);
@@ -259,3 +258,6 @@ module _ {N S : Type 0} where
     clauses = second.clauses ∙ first.clauses;
     learnt = second.learnt ∙ first.learnt;
   }
+
+  pub room_same : (r : Rounds N S) → KeepsRoom r r
+  room_same r = record { notes = record { variables = refl; clauses = refl }; clauses = refl; learnt = refl }

@@ -28,24 +28,6 @@ use Rattle.resolvo.specs.Explanations.{Explains}
 use Rattle.resolvo.specs.declared.clause_search.ClauseSearch.{ClauseSearch}
 use Rattle.resolvo.specs.ClauseSearches.{IsConsistent, IsLoaded, clause_count_of, learnt_count_of}
 
--- a finished search has an answer
-pub plain_answer : {N S : Type 0} (u : Universe N S) (root : Demands) (notes : Notes N S) (requirements : List RequirementClause) (trail : Trail) (chosen : List S) →
-    HasLawfulSolvables u → HasLawfulPackages u → IsReadSoFar u root chosen notes → notes.exempt ≡ [] → map (λ (r : RequirementClause). r.number) requirements ≡ notes.requirements → variable_count trail ≡ length notes.origins →
-    IsFinished notes.table requirements trail → chosen ≡ solvables_before notes.origins trail (length_of trail) → IsPlainAnswer u root chosen
-plain_answer {N} {S} u root notes requirements trail chosen lawful packages so_far none numbers size finished are =
-    let ReadFor : List S → Type 0 = λ list. IsReadSoFar u root list notes in
-    let answer = finished_is_valid u root notes requirements trail lawful packages (subst ReadFor are so_far) none numbers size finished in
-    let Answers : List S → Type 0 = λ list. IsPlainAnswer u root list in
-    subst Answers (sym are) (record { valid = answer.valid; reached = answer.reached; once = chosen_once notes.origins trail so_far.half.encoding.distinct size })
-
--- so it has where the reading changed nothing
-pub read_answer : {N S : Type 0} (u : Universe N S) (root : Demands) (old new : Notes N S) (requirements : List RequirementClause) (trail : Trail) (chosen : List S) →
-    HasLawfulSolvables u → HasLawfulPackages u → new ≡ old → old.exempt ≡ [] → map (λ (r : RequirementClause). r.number) requirements ≡ old.requirements → variable_count trail ≡ length old.origins →
-    IsFinished old.table requirements trail → chosen ≡ solvables_before old.origins trail (length_of trail) → IsReadSoFar u root chosen new → IsPlainAnswer u root chosen
-read_answer {N} {S} u root old new requirements trail chosen lawful packages same none numbers size finished are so_far =
-    let ReadIn : Notes N S → Type 0 = λ notes. IsReadSoFar u root chosen notes in
-    plain_answer u root old requirements trail chosen lawful packages (subst ReadIn same so_far) none numbers size finished are
-
 -- a core of an encoding explains itself
 pub explained : {N S : Type 0} (u : Universe N S) (same_name : N → N → Bool) (root : Demands) (notes : Notes N S) (core : List ℕ) (rules kept : List (Rule N S)) →
     HasLawfulSolvables u → IsIdentity same_name → IsEncoding u root notes → IsCore notes.table core →
@@ -54,11 +36,6 @@ pub explained : {N S : Type 0} (u : Universe N S) (same_name : N → N → Bool)
 explained u same_name root notes core rules kept lawful names encoding is_core listed stated left still again =
     let it = encoding_core_explained u same_name root notes core rules lawful names encoding is_core listed stated in
     record { each_true = All-left (IsTrueRule u root) left.cut it.each_true; refuted = still it.refuted; each_reached = again }
-
--- the clauses of the search are those that were read, and the learnt ones
-pub all_clauses : {N S : Type 0} (u : Universe N S) (set : List S) (notes : Notes N S) (search : ClauseSearch) → IsReading u set notes → IsConsistent search → IsLoaded notes.table notes.requirements search →
-    clause_count_of search ≡ length notes.kinds + learnt_count_of search
-all_clauses u set notes search reading consistent loaded = omega (arith, consistent.count, loaded.clauses.count, reading.so_far.half.encoding.encoded.count)
 
 -- a shortage of ids alone says that a limit was met
 pub shortage_by : (at_limit : Type 0) (e : Shortage) → (e ≡ Ids → at_limit) → IsShortage at_limit e

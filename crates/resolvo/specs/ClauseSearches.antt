@@ -3,17 +3,19 @@ use Rattle.std.specs.Prelude.{◌≡◌, ℕ, ◌+◌, ◌<◌, ◌≤◌, Some,
 use Rattle.std.specs.declared.alloc.Global.{Global}
 use Rattle.resolver_clause_store.specs.declared.Literal.{Literal}
 use Rattle.resolver_clause_store.specs.declared.RequirementClause.{RequirementClause}
-use Rattle.resolver_clause_store.specs.declared.Reason.TheVariants.{Forced}
+use Rattle.resolver_clause_store.specs.declared.Reason.TheVariants.{Assumed, Forced}
+use Rattle.resolver_clause_store.specs.declared.Slot.{Slot}
 use Rattle.resolver_clause_store.specs.declared.Trail.{Trail}
 use Rattle.resolver_clause_store.specs.Formula.{AreBelow, clause_at}
-use Rattle.resolver_clause_store.specs.Outcomes.{IsCore, IsFinished}
-use Rattle.resolver_clause_store.specs.TrailView.{Gains, IsUndone, KeepsPlaces, length_of, level_of, variable_count}
+use Rattle.resolver_clause_store.specs.Outcomes.{IsCore, IsFinished, IsImplied}
+use Rattle.resolver_clause_store.specs.TrailView.{Gains, IsUndone, KeepsPlaces, length_of, level_of, slot_of, variable_count}
 use Rattle.resolvo.specs.declared.clause_search.ClauseSearch.{ClauseSearch}
 use Rattle.resolvo.specs.declared.clause_search.Outcome.{Outcome}
-use Rattle.resolvo.specs.declared.clause_search.Outcome.TheVariants.{Finished, Contradiction}
+use Rattle.resolvo.specs.declared.clause_search.Outcome.TheVariants.{Finished, Contradiction, Refused}
 use Rattle.resolvo.specs.declared.contradiction.Source.{Source}
 use Rattle.resolvo.specs.Propagation.{AreChosen, IsJustified}
 use Rattle.resolvo.specs.Derivations.{AreGiven, IsDerived, given_at}
+use Rattle.resolvo.specs.Resolvents.{IsFalseAt}
 
 -- the values that it has found
 abbrev pub trail_of : ClauseSearch → Trail
@@ -30,6 +32,14 @@ clause_count_of it = length it.table.items
 -- how many first places of the trail are as they were when it was last marked
 abbrev pub kept_of : ClauseSearch → ℕ
 kept_of it = it.kept
+
+-- the level of the present assumption, and 0 where there is none
+abbrev pub base_of : ClauseSearch → ℕ
+base_of it = it.base
+
+-- how many first places of the trail are not undone in the present turn
+abbrev pub held_of : ClauseSearch → ℕ
+held_of it = it.held
 
 -- the numbers of the clauses that ask for candidates
 abbrev pub numbers_of : List RequirementClause → List ℕ
@@ -52,6 +62,14 @@ pub record IsLoaded (given : List (Vec Literal Global)) (numbers : List ℕ) (it
   pub requirements : numbers_of it.requirements.items ≡ map (place_of it.places.items) numbers
   pub inside : All (λ number. number < length given) numbers
 
+-- The first places of the trail are held: their levels are not above the base, so they stay where the levels above it are
+-- undone. All of them but the last one stood when the trail was last marked.
+pub record IsTurn (trail : Trail) (base held kept : ℕ) : Type 0 where
+  pub inside : held ≤ length_of trail
+  pub low : (variable : ℕ) (slot : Slot) → slot_of trail variable ≡ Some slot → slot.place < held → slot.level ≤ base
+  pub some : 0 < base → 0 < held
+  pub marked : held ≤ kept + 1
+
 -- what each step of a search keeps
 pub record IsConsistent (it : ClauseSearch) : Type 0 where
   pub below : AreBelow (variable_count it.trail) it.table.items
@@ -62,6 +80,7 @@ pub record IsConsistent (it : ClauseSearch) : Type 0 where
   pub places : All (λ place. place < length it.table.items) it.places.items
   pub count : it.learnt + length it.places.items ≡ length it.table.items
   pub kept : it.kept ≤ length_of it.trail
+  pub turn : IsTurn it.trail it.base it.held it.kept
 
 -- the clauses that were there stay
 pub record Grows (old new : List (Vec Literal Global)) : Type 0 where
@@ -76,6 +95,22 @@ KeepsFirst old count new left = (base : Trail) → KeepsPlaces base old count �
 abbrev pub KeepsMark : ClauseSearch → ClauseSearch → Type 0
 KeepsMark old new = KeepsFirst (trail_of old) (kept_of old) (trail_of new) (kept_of new)
 
+-- no variable was assumed since
+pub record AssumesNone (old new : Trail) : Type 0 where
+  pub was : (variable : ℕ) (slot : Slot) → slot_of new variable ≡ Some slot → slot.reason ≡ Assumed → slot_of old variable ≡ Some slot
+
+-- the turn is the same, and what is held of the trail stays
+pub record KeepsTurn (old new : ClauseSearch) : Type 0 where
+  pub base : base_of new ≡ base_of old
+  pub held : held_of new ≡ held_of old
+  pub assumed : AssumesNone (trail_of old) (trail_of new)
+  pub places : KeepsFirst (trail_of old) (held_of old) (trail_of new) (held_of new)
+
+-- nothing was assumed
+pub record IsRootTurn (it : ClauseSearch) : Type 0 where
+  pub base : base_of it ≡ 0
+  pub none : (variable : ℕ) (slot : Slot) → slot_of (trail_of it) variable ≡ Some slot → slot.reason ≡ Assumed → ⊥
+
 -- what was loaded stays so
 abbrev pub KeepsLoaded : ClauseSearch → ClauseSearch → Type 0
 KeepsLoaded old new = (given : List (Vec Literal Global)) (numbers : List ℕ) → IsLoaded given numbers old → IsLoaded given numbers new
@@ -85,21 +120,41 @@ pub record IsSameProblem (old new : ClauseSearch) : Type 0 where
   pub loaded : KeepsLoaded old new
   pub variables : variable_count (trail_of new) ≡ variable_count (trail_of old)
   pub kept : KeepsMark old new
+  pub turn : KeepsTurn old new
+
+-- no variable got a value since
+pub record SetsNone (old new : Trail) : Type 0 where
+  pub was : (variable : ℕ) (slot : Slot) → slot_of new variable ≡ Some slot → slot_of old variable ≡ Some slot
+
+-- a trail that was marked as it is still is so
+abbrev pub StaysMarked : ClauseSearch → ClauseSearch → Type 0
+StaysMarked old new = kept_of old ≡ length_of (trail_of old) → kept_of new ≡ length_of (trail_of new)
 
 -- more may be loaded, and nothing was learnt
 pub record IsSameSearch (old new : ClauseSearch) : Type 0 where
+  pub set : SetsNone (trail_of old) (trail_of new)
+  pub marked : StaysMarked old new
   pub variables : variable_count (trail_of new) ≡ variable_count (trail_of old)
   pub learnt : learnt_count_of new ≡ learnt_count_of old
   pub kept : KeepsMark old new
+  pub turn : KeepsTurn old new
 
 -- the levels above this one are undone, and then the clause with this number forces the literal
-pub record IsJump (old new : Trail) (literal : Literal) (jump number : ℕ) : Type 0 where
+pub record IsJump (old new : Trail) (literal : Literal) (level number : ℕ) : Type 0 where
   pub middle : Trail
-  pub undone : IsUndone old middle jump
+  pub undone : IsUndone old middle level
   pub gains : Gains middle new literal (level_of middle) (Forced number)
 
+-- a clause that the given ones imply is false by what was assumed and what was held before alone
+pub record IsRefused (given : List (Vec Literal Global)) (trail : Trail) (base : ℕ) : Type 0 where
+  pub turn : 0 < base
+  pub clause : List Literal
+  pub implied : IsImplied given clause
+  pub low : All (IsFalseAt trail base) clause
+
 -- Values that leave nothing to force and nothing to decide, for any requirements with these numbers, or given clauses that
--- no values make true.
-abbrev pub OutcomeIs : List (Vec Literal Global) → List ℕ → Trail → Outcome → Type 0
-OutcomeIs given numbers trail Finished = (requirements : List RequirementClause) → numbers_of requirements ≡ numbers → IsFinished given requirements trail
-OutcomeIs given numbers trail (Contradiction core) = IsCore given core.items
+-- no values make true, or a clause that is false at the base.
+abbrev pub OutcomeIs : List (Vec Literal Global) → List ℕ → Trail → ℕ → Outcome → Type 0
+OutcomeIs given numbers trail base Finished = (requirements : List RequirementClause) → numbers_of requirements ≡ numbers → IsFinished given requirements trail
+OutcomeIs given numbers trail base (Contradiction core) = IsCore given core.items
+OutcomeIs given numbers trail base Refused = IsRefused given trail base

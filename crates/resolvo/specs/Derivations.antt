@@ -6,7 +6,7 @@ use Rattle.resolver_clause_store.specs.declared.Literal.{Literal}
 use Rattle.resolver_clause_store.specs.Formula.{clause_at, clause_true, FollowsFrom}
 use Rattle.resolvo.specs.declared.contradiction.Source.{Source}
 use Rattle.resolvo.specs.declared.contradiction.Source.TheVariants.{Given, Learnt}
-use Rattle.resolvo.specs.Resolvents.{is_marked}
+use Rattle.resolvo.specs.Resolvents.{IsDrawn, is_marked}
 
 -- the number of the given clause, if it is one
 abbrev pub number_of : Source → Option ℕ
@@ -26,11 +26,12 @@ given_at sources place = option_map_or number_of (slice_get sources place) None
 abbrev pub causes_at : List Source → ℕ → List ℕ
 causes_at sources place = option_map_or causes_of (slice_get sources place) []
 
--- each learnt clause follows from its causes, which stand before it
+-- each learnt clause follows from its causes, which stand before it, and has only literals of theirs
 pub record IsDerived (table : List (Vec Literal Global)) (sources : List Source) : Type 0 where
   pub count : length sources ≡ length table
   pub earlier : (place : ℕ) → place < length table → All (λ cause. cause < place) (causes_at sources place)
   pub follows : (place : ℕ) → place < length table → given_at sources place ≡ None → FollowsFrom table (causes_at sources place) (clause_at table place)
+  pub drawn : (place : ℕ) → place < length table → given_at sources place ≡ None → All (IsDrawn table (causes_at sources place)) (clause_at table place)
 
 -- the clauses of the table that are not learnt are these
 pub record AreGiven (given table : List (Vec Literal Global)) (sources : List Source) : Type 0 where

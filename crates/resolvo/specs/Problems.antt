@@ -1,5 +1,6 @@
 -- What a problem asks for.
-use Rattle.std.specs.Prelude.{List, [], Option, Some, None, Vec}
+use Rattle.std.specs.Iterator.{Drains}
+use Rattle.std.specs.Prelude.{◌≡◌, List, [], Option, Some, None, Vec}
 use Rattle.std.proofs.Common.{Global}
 use Rattle.resolver_clause_store.specs.Universe.{Demands}
 use Rattle.resolvo.specs.declared.problem.Problem.{Problem}
@@ -9,6 +10,15 @@ abbrev pub items_of : {X : Type 0} → Option (Vec X Global) → List X
 items_of None = []
 items_of (Some xs) = xs.items
 
+-- an iterator that may be absent gives these items, and then no more
+abbrev pub AreItems : {I X : Type 0} → (I → Option X → I → Type 0) → Option I → List X → Type 0
+AreItems gives None items = items ≡ []
+AreItems gives (Some it) items = Drains gives it items
+
 -- the requirements and constraints of the root
 abbrev pub demands_in : {Id S : Type 0} → Problem Id S → Demands
 demands_in p = record { requirements = items_of p.requirements; constraints = items_of p.constraints }
+
+-- what gives the soft requirements, where they were set
+abbrev pub soft_in : {Id S : Type 0} → Problem Id S → Option S
+soft_in p = p.soft_requirements

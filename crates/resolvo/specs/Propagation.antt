@@ -1,10 +1,10 @@
 -- Clauses under a trail, and what propagation does to it.
-use Rattle.std.specs.Prelude.{◌≡◌, ◌≢◌, ℕ, ◌<◌, ◌⊎◌, true, false, Option, Some, None, List, length, Vec, All, Contains, slice_index_or}
+use Rattle.std.specs.Prelude.{◌≡◌, ◌≢◌, ℕ, ◌<◌, ◌⊎◌, false, Option, Some, None, List, length, Vec, All, Contains, slice_index_or}
 use Rattle.std.specs.declared.alloc.Global.{Global}
 use Rattle.resolver_clause_store.specs.declared.Literal.{Literal}
 use Rattle.resolver_clause_store.specs.declared.RequirementClause.{RequirementClause}
 use Rattle.resolver_clause_store.specs.declared.Slot.{Slot}
-use Rattle.resolver_clause_store.specs.declared.Reason.TheVariants.{Forced}
+use Rattle.resolver_clause_store.specs.declared.Reason.TheVariants.{Decided, Forced}
 use Rattle.resolver_clause_store.specs.declared.Trail.{Trail}
 use Rattle.resolver_clause_store.specs.Formula.{clause_at}
 use Rattle.resolver_clause_store.specs.Slots.{is_decided}
@@ -45,16 +45,17 @@ HasSeen trail clause count None = (k : ℕ) (d : Literal) → k < count → lite
 HasSeen trail clause count (Some place) =
     (place < count) × ((d : Literal) → literal_value trail (slice_index_or clause place d) ≡ None) × ((k : ℕ) (d : Literal) → k < count → (slice_index_or clause k d ≡ slice_index_or clause place d) ⊎ (literal_value trail (slice_index_or clause k d) ≡ Some false))
 
--- each variable that a clause forced was forced by it
+-- each variable that a clause forced was forced by it, as one of its literals
 pub record IsJustified (table : List (Vec Literal Global)) (trail : Trail) : Type 0 where
   pub within : (variable : ℕ) (slot : Slot) (number : ℕ) → slot_of trail variable ≡ Some slot → slot.reason ≡ Forced number → number < length table
   pub forced : (variable : ℕ) (slot : Slot) (number : ℕ) → slot_of trail variable ≡ Some slot → slot.reason ≡ Forced number → IsForcing trail slot.place (record { variable = variable; positive = slot.value }) (clause_at table number)
+  pub contains : (variable : ℕ) (slot : Slot) (number : ℕ) → slot_of trail variable ≡ Some slot → slot.reason ≡ Forced number → Contains (clause_at table number) (record { variable = variable; positive = slot.value })
 
--- each variable that was decided was decided for a requirement
+-- each variable that was decided for a clause was decided for a requirement
 pub record AreChosen (table : List (Vec Literal Global)) (requirements : List RequirementClause) (trail : Trail) : Type 0 where
-  pub each : (variable : ℕ) (slot : Slot) → slot_of trail variable ≡ Some slot → is_decided slot.reason ≡ true → IsChosen table requirements trail variable slot
+  pub each : (variable : ℕ) (slot : Slot) (number : ℕ) → slot_of trail variable ≡ Some slot → slot.reason ≡ Decided number → IsChosen table requirements trail variable slot
 
--- the values stay, and no other variable was decided
+-- the values stay, and no other variable was decided or assumed
 pub record Extends (old new : Trail) : Type 0 where
   pub kept : (variable : ℕ) (slot : Slot) → slot_of old variable ≡ Some slot → slot_of new variable ≡ Some slot
   pub only : (variable : ℕ) (slot : Slot) → slot_of new variable ≡ Some slot → (slot_of old variable ≡ Some slot) ⊎ (is_decided slot.reason ≡ false)

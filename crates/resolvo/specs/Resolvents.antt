@@ -7,7 +7,7 @@ use Rattle.resolver_clause_store.specs.declared.Literal.{Literal}
 use Rattle.resolver_clause_store.specs.declared.Slot.{Slot}
 use Rattle.resolver_clause_store.specs.declared.Reason.TheVariants.{Forced}
 use Rattle.resolver_clause_store.specs.declared.Trail.{Trail}
-use Rattle.resolver_clause_store.specs.Formula.{MakesTrue, FollowsFrom}
+use Rattle.resolver_clause_store.specs.Formula.{MakesTrue, FollowsFrom, clause_at}
 use Rattle.resolver_clause_store.specs.Outcomes.{IsFalsified}
 use Rattle.resolver_clause_store.specs.TrailView.{slot_of, variable_count}
 use Rattle.resolvo.specs.declared.analyze.Resolvent.{Resolvent}
@@ -35,11 +35,22 @@ AgreesOn values trail marks =
 pub record Refutes (table : List (Vec Literal Global)) (trail : Trail) (marks : List Bool) (causes : List ℕ) : Type 0 where
   pub apart : (values : ℕ → Bool) → MakesTrue values table causes → AgreesOn values trail marks → ⊥
 
+-- the literal stands in a clause with one of these numbers
+pub record IsDrawn (table : List (Vec Literal Global)) (numbers : List ℕ) (literal : Literal) : Type 0 where
+  pub number : ℕ
+  pub listed : Contains numbers number
+  pub stands : Contains (clause_at table number) literal
+
+-- what negates a marked variable stands in one of the causes
+pub record AreDrawn (table : List (Vec Literal Global)) (trail : Trail) (marks : List Bool) (causes : List ℕ) : Type 0 where
+  pub each : (variable : ℕ) (slot : Slot) → is_marked marks variable ≡ true → slot_of trail variable ≡ Some slot → IsDrawn table causes (record { variable = variable; positive = not slot.value })
+
 -- the marks contradict the causes, which are clauses of the table
 pub record IsResolvent (table : List (Vec Literal Global)) (trail : Trail) (resolvent : Resolvent) : Type 0 where
   pub size : length resolvent.marks.items ≡ variable_count trail
   pub within : All (λ number. number < length table) resolvent.causes.items
   pub refutes : Refutes table trail resolvent.marks.items resolvent.causes.items
+  pub drawn : AreDrawn table trail resolvent.marks.items resolvent.causes.items
 
 -- no level of a marked variable is higher than this one, and of those at this level none stands at a lower place than
 -- `lowest`
@@ -110,10 +121,11 @@ pub record IsAsserting (trail : Trail) (jump : ℕ) (literal : Literal) (literal
   pub others : All (λ (other : Literal). (other ≡ literal) ⊎ IsFalseAt trail jump other) literals
   pub reached : (jump ≡ 0) ⊎ Any (λ (other : Literal). (other ≢ literal) × (level_in trail other.variable ≡ jump)) literals
 
--- the clause follows from its causes and is false under the trail, and one literal alone is of its highest level
+-- the clause follows from its causes, whose literals are the only ones that it has, and is false under the trail, and one literal alone is of its highest level
 pub record IsLearnt (table : List (Vec Literal Global)) (trail : Trail) (learnt : Learnt) : Type 0 where
   pub within : All (λ number. number < length table) learnt.causes.items
   pub follows : FollowsFrom table learnt.causes.items learnt.literals.items
+  pub drawn : All (IsDrawn table learnt.causes.items) learnt.literals.items
   pub falsified : IsFalsified trail learnt.literals.items
   pub asserting : IsAsserting trail learnt.jump learnt.literal learnt.literals.items
 

@@ -1,23 +1,30 @@
 -- Rounds of searching and reading.
-use Rattle.std.specs.Prelude.{◌≡◌, ℕ, ◌+◌, ◌<◌, ◌≤◌, ◌⊎◌, List, [], Vec, length, take}
+use Rattle.std.specs.Prelude.{◌≡◌, ℕ, ◌+◌, ◌-◌, ◌<◌, ◌≤◌, ◌⊎◌, true, false, List, [], ◌∷◌, ◌++◌, Contains, None, Vec, length, take}
 use Rattle.std.specs.declared.alloc.Global.{Global}
 use Rattle.resolver_clause_store.specs.Outcomes.{IsCore}
-use Rattle.resolver_clause_store.specs.Lists.{IsWithin}
-use Rattle.resolver_clause_store.specs.TrailView.{KeepsPlaces, length_of, variable_count}
+use Rattle.resolver_clause_store.specs.Lists.{HasNoRepeats, IsWithin}
+use Rattle.resolver_clause_store.specs.SoftRun.{SoftRun}
+use Rattle.resolver_clause_store.specs.Variables.{Keeps}
+use Rattle.resolver_clause_store.specs.TrailView.{Gains, IsCut, KeepsPlaces, length_of, level_of, slot_of, variable_at, variable_count}
 use Rattle.resolver_clause_store.specs.Universe.{Universe, Demands}
 use Rattle.resolver_clause_store.specs.declared.Literal.{Literal}
 use Rattle.resolver_clause_store.specs.declared.Origin.{Origin}
+use Rattle.resolver_clause_store.specs.declared.Reason.TheVariants.{Assumed}
 use Rattle.resolver_clause_store.specs.declared.Trail.{Trail}
 use Rattle.resolver_encoding.specs.Encodings.{Extends, IsFull, IsUnread, KeepsLimits, Notes}
 use Rattle.resolver_encoding.specs.Notes.{IsBounded, notes_in}
 use Rattle.resolver_encoding.specs.SoFar.{IsReading, IsReadSoFar, left_count}
-use Rattle.resolver_encoding.specs.Trails.{Follows, chosen_in, solvables_before}
+use Rattle.resolver_encoding.specs.Reach.{AreNear}
+use Rattle.resolver_encoding.specs.ReadState.{AreSeeds}
+use Rattle.resolver_encoding.specs.TrailAtoms.{IsAnswerBy}
+use Rattle.resolver_encoding.specs.Turns.{IsTurnEnd}
+use Rattle.resolver_encoding.specs.Trails.{AreAssumed, Follows, chosen_in, solvables_before}
 use Rattle.resolver_encoding.specs.declared.chosen.Chosen.{Chosen}
-use Rattle.resolvo.specs.Answers.{IsPlainAnswer}
-use Rattle.resolvo.specs.ClauseSearches.{IsConsistent, IsLoaded, clause_count_of, kept_of, learnt_count_of, trail_of}
+use Rattle.resolvo.specs.Answers.{RefusesAnyway}
+use Rattle.resolvo.specs.ClauseSearches.{IsConsistent, IsLoaded, IsRefused, IsRootTurn, KeepsTurn, base_of, held_of, clause_count_of, kept_of, learnt_count_of, trail_of}
 use Rattle.resolvo.specs.declared.clause_search.ClauseSearch.{ClauseSearch}
 use Rattle.resolvo.specs.declared.rounds.Found.{Found}
-use Rattle.resolvo.specs.declared.rounds.Found.TheVariants.{Answer, Contradiction}
+use Rattle.resolvo.specs.declared.rounds.Found.TheVariants.{Answer, Contradiction, Refused}
 use Rattle.resolvo.specs.declared.rounds.Round.{Round}
 use Rattle.resolvo.specs.declared.rounds.Round.TheVariants.{Last, Fired, Read}
 use Rattle.resolvo.specs.declared.rounds.Rounds.{Rounds}
@@ -36,6 +43,11 @@ pub record FollowsMark {N S : Type 0} (origins : List (Origin N S)) (chosen : Ch
   pub follows : Follows chosen origins base (length_of base)
   pub kept : KeepsPlaces base (trail_of search) (kept_of search)
   pub known : variable_count base ≤ length origins
+
+-- the variable was assumed last
+pub record HasAssumed (search : ClauseSearch) (variable : ℕ) : Type 0 where
+  pub base : 0 < base_of search
+  pub place : variable_at (trail_of search) (held_of search - 1) ≡ variable
 
 module _ {N S : Type 0} where
   -- what was noted, what is chosen, and the values
@@ -74,13 +86,13 @@ module _ {N S : Type 0} where
     pub loaded : IsLoaded [] [] r.search
     pub variables : variable_count (trail_of r.search) ≡ 0
     pub none : chosen_of r ≡ []
+    pub turn : IsRootTurn r.search
     pub follows : (origins : List (Origin N S)) (trail : Trail) → Follows r.chosen origins trail 0
 
   -- what holds before each round
   pub record AreRounds (u : Universe N S) (r : Rounds N S) : Type 0 where
     pub bounded : IsBounded r.encoding
     pub reading : IsReading u (chosen_of r) (notes_of r)
-    pub exempt : (notes_of r).exempt ≡ []
     pub consistent : IsConsistent r.search
     pub loaded : HasLoaded (notes_of r).table (notes_of r).requirements r.search
     pub variables : variable_count (trail_of r.search) ≤ length (notes_of r).origins
@@ -95,6 +107,55 @@ module _ {N S : Type 0} where
   abbrev pub KeepsRead : Universe N S → Rounds N S → Rounds N S → Type 0
   KeepsRead u old new = (root : Demands) → IsReadSoFar u root (chosen_of old) (notes_of old) → IsReadSoFar u root (chosen_of new) (notes_of new)
 
+  -- These taken and refused ones alone are assumed. Then what was near the soft requirements so far stays so.
+  abbrev pub KeepsNear : Universe N S → Rounds N S → Rounds N S → Type 0
+  KeepsNear u old new = (root : Demands) (done taken refused : List S) → IsReadSoFar u root (chosen_of old) (notes_of old) → IsWithin taken done → AreAssumed (notes_of old).origins taken refused (trail_of old.search) →
+      AreNear u root done (notes_of old) → AreNear u root done (notes_of new)
+
+  -- a later state of the same turn
+  pub record GoesOn (u : Universe N S) (old new : Rounds N S) : Type 0 where
+    pub read : KeepsRead u old new
+    pub near : KeepsNear u old new
+    pub origins : Keeps (notes_of old).origins (notes_of new).origins
+    pub exempt : (notes_of new).exempt ≡ (notes_of old).exempt
+    pub asked : IsWithin (notes_of old).asked (notes_of new).asked
+    pub seen : IsWithin (notes_of old).seen (notes_of new).seen
+    pub turn : KeepsTurn old.search new.search
+
+  -- the whole trail is held and followed
+  pub record IsStill (r : Rounds N S) : Type 0 where
+    pub held : held_of r.search ≡ length_of (trail_of r.search)
+    pub marked : kept_of r.search ≡ length_of (trail_of r.search)
+    pub chosen : chosen_of r ≡ solvables_before (notes_of r).origins (trail_of r.search) (length_of (trail_of r.search))
+
+  -- The turns of the soft requirements `done` are over. What was registered, read and asked for is near the seeds.
+  pub record IsBetweenFor (u : Universe N S) (root : Demands) (done seeds : List S) (r : Rounds N S) : Type 0 where
+    pub first : List S
+    pub taken : List S
+    pub refused : List S
+    pub run : SoftRun u root RefusesAnyway first done taken (chosen_of r) (notes_of r).exempt (notes_of r).asked
+    pub read : IsReadSoFar u root (chosen_of r) (notes_of r)
+    pub once : HasNoRepeats (chosen_of r)
+    pub assumed : AreAssumed (notes_of r).origins taken refused (trail_of r.search)
+    pub seeded : AreSeeds u taken (chosen_of r) (notes_of r).asked (notes_of r).seen (notes_of r).exempt
+    pub within : IsWithin taken done
+    pub exempt : IsWithin (notes_of r).exempt taken
+    pub near : AreNear u root seeds (notes_of r)
+
+  abbrev pub IsBetween : Universe N S → Demands → List S → Rounds N S → Type 0
+  IsBetween u root done r = IsBetweenFor u root done done r
+
+  -- The turn that began with this variable is undone, and then the variable is assumed to be false. So many are exempt as before it.
+  pub record IsRefusing (u : Universe N S) (variable count : ℕ) (old new : Rounds N S) : Type 0 where
+    pub ended : IsTurnEnd u (notes_of old) (notes_of new)
+    pub exempt : (notes_of new).exempt ≡ take count (notes_of old).exempt
+    pub loaded : ClauseSearch
+    pub turn : KeepsTurn old.search loaded
+    pub cut : Trail
+    pub is_cut : IsCut (trail_of loaded) cut (held_of old.search - 1)
+    pub free : slot_of cut variable ≡ None
+    pub gains : Gains cut (trail_of new.search) (record { variable = variable; positive = false }) (level_of cut + 1) Assumed
+
   -- only the search changed
   pub record IsSearchOf (old new : Rounds N S) : Type 0 where
     pub encoding : new.encoding ≡ old.encoding
@@ -105,6 +166,8 @@ module _ {N S : Type 0} where
     pub trail : trail_of new.search ≡ trail_of old.search
     pub clauses : clause_count_of new.search ≡ clause_count_of old.search
     pub learnt : learnt_count_of new.search ≡ learnt_count_of old.search
+    pub turn : KeepsTurn old.search new.search
+    pub marked : kept_of new.search ≡ length_of (trail_of new.search)
     pub chosen : chosen_of new ≡ solvables_before (notes_of old).origins (trail_of old.search) (length_of (trail_of old.search))
 
   -- so it is, the trail is marked, and the first ones of the chosen were chosen before
@@ -120,10 +183,32 @@ module _ {N S : Type 0} where
   abbrev pub HasAllClauses : Rounds N S → Type 0
   HasAllClauses r = clause_count_of r.search ≡ length (notes_of r).kinds + learnt_count_of r.search
 
-  -- what is chosen is an answer; these clauses contradict each other
+  -- what is chosen is an answer in which the seeds need nobody, where they alone are assumed and the refused ones
+  pub record IsAnswering (u : Universe N S) (r : Rounds N S) : Type 0 where
+    pub marked : kept_of r.search ≡ length_of (trail_of r.search)
+    pub chosen : chosen_of r ≡ solvables_before (notes_of r).origins (trail_of r.search) (length_of (trail_of r.search))
+    pub variables : variable_count (trail_of r.search) ≡ length (notes_of r).origins
+    pub once : HasNoRepeats (chosen_of r)
+    pub answer : (root : Demands) (seeds refused : List S) → IsReadSoFar u root (chosen_of r) (notes_of r) → AreAssumed (notes_of r).origins seeds refused (trail_of r.search) →
+        AreSeeds u seeds (chosen_of r) (notes_of r).asked (notes_of r).seen (notes_of r).exempt → IsAnswerBy u root (chosen_of r) seeds (notes_of r).exempt
+
+  -- what is chosen is an answer; these clauses contradict each other; what is assumed cannot be kept
   abbrev pub IsFound : Universe N S → Rounds N S → Found → Type 0
-  IsFound u r Answer = (root : Demands) → IsReadSoFar u root (chosen_of r) (notes_of r) → IsPlainAnswer u root (chosen_of r)
+  IsFound u r Answer = IsAnswering u r
   IsFound u r (Contradiction core) = IsCore (notes_of r).table core.items
+  IsFound u r Refused = IsRefused (notes_of r).table (trail_of r.search) (base_of r.search)
+
+  -- what all turns end with
+  abbrev pub IsDone : Universe N S → Demands → List S → Rounds N S → Found → Type 0
+  IsDone u root soft r Answer = IsBetween u root soft r
+  IsDone u root soft r (Contradiction core) = IsReadSoFar u root (chosen_of r) (notes_of r) × IsCore (notes_of r).table core.items
+  IsDone u root soft r Refused = ⊥
+
+  -- so they did, for some problem
+  pub record IsSomeDone (u : Universe N S) (r : Rounds N S) (found : Found) : Type 0 where
+    pub root : Demands
+    pub soft : List S
+    pub done : IsDone u root soft r found
 
   -- each round but the last one leaves fewer disjuncts put off, or has read more
   abbrev pub IsRound : Universe N S → Rounds N S → Rounds N S → Round → Type 0

@@ -1,5 +1,5 @@
 -- What callers see of a solver.
-use Rattle.std.specs.Prelude.{◌≡◌, ◌+◌, ◌≤◌, ◌^◌, ◌⊎◌, ℕ, length}
+use Rattle.std.specs.Prelude.{◌≡◌, ◌+◌, ◌≤◌, ◌^◌, ◌⊎◌, ℕ, List, length}
 use Rattle.resolver_clause_store.specs.Universe.{Universe}
 use Rattle.resolver_clause_store.specs.Caches.{IsTrueCache}
 use Rattle.resolver_encoding.specs.SoFar.{left_count}
@@ -26,6 +26,10 @@ module _ {D C N S : Type 0} where
   abbrev pub deferred_count_in : Solver D C N S → ℕ
   deferred_count_in s = s.deferred_count
 
+  -- the exempt soft requirements of the last answer
+  abbrev pub exempt_in : Solver D C N S → List S
+  exempt_in s = s.exempt.items
+
   -- there may be so many of each
   pub record HasLimits (limit : ℕ) (s : Solver D C N S) : Type 0 where
     pub variables : s.variable_limit ≡ limit
@@ -49,6 +53,7 @@ module _ {D C N S : Type 0} where
   pub record KeepsAllButCounts (old new : Solver D C N S) : Type 0 where
     pub provider : new.provider ≡ old.provider
     pub cache : new.cache ≡ old.cache
+    pub exempt : new.exempt ≡ old.exempt
     pub limits : KeepsLimits old new
 
   -- the counts are those of the rounds

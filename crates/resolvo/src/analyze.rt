@@ -201,6 +201,7 @@ pub fn resolve_level(
                 Some(slot) => match slot.reason {
                     Reason::Forced(number) => resolve(table, trail, resolvent, variable, number)?,
                     Reason::Decided(_) => return Ok(()),
+                    Reason::Assumed => return Ok(()),
                 },
                 None => return Ok(()),
             }
@@ -260,6 +261,14 @@ pub fn negation_of(trail: &Trail, variable: Variable) -> Literal
             positive: false,
         },
     }
+}
+
+/// The highest level of a learnt clause, which is the one of its one literal of that level.
+pub fn asserted_level(trail: &Trail, learnt: &Learnt) -> usize
+    requires { learnt.now.literal.variable < variable_count trail.now }
+    ensures { result ≡ level_in trail.now learnt.now.literal.variable }
+{
+    level_at(trail, learnt.literal.variable)
 }
 
 /// Why a clause is false: a clause that follows from others, is false too, and has one literal alone of its highest level;

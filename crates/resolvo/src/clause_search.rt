@@ -1,20 +1,22 @@
 //! A search over clauses: it decides and propagates, learns from conflicts and jumps back.
 
-ghost use Rattle.std.specs.Prelude.{◌<◌, ◌≡◌, ◌≤◌, ◌+◌, ◌++◌, ◌∷◌, ◌⊎◌, [], ℕ, All, IfErr, IfNone, IfOk, IfSome, List, OnOk, Vec, length};
+ghost use Rattle.std.specs.Prelude.{◌<◌, ◌≡◌, ◌≤◌, ◌+◌, ◌++◌, ◌∷◌, ◌⊎◌, ◌-◌, [], ℕ, All, IfErr, IfNone, IfOk, IfSome, List, None, OnOk, Vec, length, max};
 ghost use Rattle.std.specs.declared.alloc.Global.{Global};
 ghost use Rattle.resolver_clause_store.specs.Formula.{AreBelow, IsBelow, clause_at};
 ghost use Rattle.resolver_clause_store.specs.Interruptions.{IsInterruption};
-ghost use Rattle.resolver_clause_store.specs.Outcomes.{IsCore, IsFalsified, IsMet};
-ghost use Rattle.resolver_clause_store.specs.TrailView.{IsUndone, KeepsPlaces, length_of, open_count, variable_count};
+ghost use Rattle.resolver_clause_store.specs.Outcomes.{IsFalsified, IsMet};
+ghost use Rattle.resolver_clause_store.specs.TrailView.{Gains, IsCut, IsUndone, KeepsPlaces, length_of, level_of, open_count, slot_of, variable_at, variable_count};
 ghost use Rattle.resolver_clause_store.specs.declared.Exhausted.TheVariants.{Ids, Memory};
 ghost use Rattle.resolver_clause_store.specs.declared.Literal.{Literal};
+ghost use Rattle.resolver_clause_store.specs.declared.Reason.TheVariants.{Assumed};
 ghost use Rattle.resolver_clause_store.specs.declared.RequirementClause.{RequirementClause};
 ghost use Rattle.resolver_encoding.specs.Refusals.{IsStop};
 ghost use Rattle.resolvo.specs.Decisions.{IsChoice, IsFirst};
 ghost use Rattle.resolvo.specs.Propagation.{AllSettled, AreChosen, IsConflict, IsJustified};
-ghost use Rattle.resolvo.specs.Resolvents.{IsLearnt};
+ghost use Rattle.resolvo.specs.ClauseSearches.{AssumesNone};
+ghost use Rattle.resolvo.specs.Resolvents.{IsLearnt, level_in};
 
-use crate::analyze::{Learnt, Lesson, analyze};
+use crate::analyze::{Learnt, Lesson, analyze, asserted_level};
 use crate::contradiction::{Source, core};
 use crate::decide::{Choice, decide};
 use crate::propagate::{State, examine, propagate};
@@ -32,6 +34,8 @@ pub enum Outcome {
     Finished,
     /// The numbers of given clauses that no values make true.
     Contradiction(Vec<usize>),
+    /// A clause is false by the present assumption and what is held before it alone.
+    Refused,
 }
 
 /// A search over clauses that come as they are read.
@@ -49,6 +53,10 @@ pub struct ClauseSearch {
     learnt: usize,
     /// How many first places of the trail are as they were when it was last marked.
     kept: usize,
+    /// The level of the present assumption, and 0 where there is none.
+    base: usize,
+    /// How many first places of the trail are not undone in the present turn.
+    held: usize,
 }
 
 /// Takes a choice: a level begins with its candidate.
@@ -62,6 +70,7 @@ pub fn take(trail: &mut Trail, table: &[Vec<Literal>], choice: Choice) -> Result
     ensures size { OnOk result (variable_count trail.new ≡ variable_count trail.old) }
     ensures fewer { OnOk result (open_count trail.new < open_count trail.old) }
     ensures kept { OnOk result (KeepsPlaces trail.old trail.new (length_of trail.old)) }
+    ensures assumed { OnOk result (AssumesNone trail.old trail.new) }
 {
     let literal = clause(table, choice.number)[choice.place];
     trail.decide(literal, choice.number)?;
@@ -88,6 +97,7 @@ pub fn descend<D: DependencyProvider>(
     ensures chosen { OnOk result (AreChosen table.now requirements.now trail.new) }
     ensures size { OnOk result (variable_count trail.new ≡ variable_count trail.old) }
     ensures kept { OnOk result (KeepsPlaces trail.old trail.new (length_of trail.old)) }
+    ensures assumed { OnOk result (AssumesNone trail.old trail.new) }
     ensures refusal { IfErr result (IsInterruption (D.may_cancel provider.now)) }
 {
     'rounds: loop {
@@ -102,19 +112,20 @@ pub fn descend<D: DependencyProvider>(
     }
 }
 
-/// The level to go back to where a clause is added: the first one if the clause is false, and else the highest.
-fn level_for(trail: &Trail, literals: &[Literal]) -> usize
+/// The level to go back to where a clause is added: the base if the clause is false, and else the highest one.
+fn level_for(trail: &Trail, literals: &[Literal], base: usize) -> usize
     requires { IsBelow (variable_count trail.now) literals.now }
-    ensures { IsFalsified trail.now literals.now → result ≡ 0 }
+    ensures falsified { IsFalsified trail.now literals.now → result ≡ base }
+    ensures low { base ≤ result }
 {
     match examine(trail, literals) {
-        State::Falsified => 0,
-        State::Satisfied | State::Unit(_) | State::Open => trail.level(),
+        State::Falsified => base,
+        State::Satisfied | State::Unit(_) | State::Open => trail.level().max(base),
     }
 }
 
 impl ClauseSearch {
-    ghost use Rattle.resolvo.specs.ClauseSearches.{IsConsistent, IsJump, IsLoaded, IsSameProblem, IsSameSearch, KeepsLoaded, KeepsMark, OutcomeIs, clause_count_of, kept_of, learnt_count_of, numbers_of, trail_of};
+    ghost use Rattle.resolvo.specs.ClauseSearches.{IsConsistent, IsJump, IsLoaded, IsRootTurn, IsSameProblem, IsSameSearch, SetsNone, StaysMarked, KeepsLoaded, KeepsMark, KeepsTurn, OutcomeIs, base_of, clause_count_of, held_of, kept_of, learnt_count_of, numbers_of, trail_of};
 
     /// A search without variables and clauses.
     pub fn new(alloc: Global) -> Self
@@ -122,6 +133,7 @@ impl ClauseSearch {
         ensures loaded { IsLoaded [] [] result }
         ensures variables { variable_count (trail_of result) ≡ 0 }
         ensures learnt { learnt_count_of result ≡ 0 }
+        ensures turn { IsRootTurn result }
     {
         ClauseSearch {
             trail: Trail::empty(alloc),
@@ -131,6 +143,8 @@ impl ClauseSearch {
             places: Vec::new(alloc),
             learnt: 0,
             kept: 0,
+            base: 0,
+            held: 0,
         }
     }
 
@@ -172,11 +186,74 @@ impl ClauseSearch {
         ensures learnt { learnt_count_of self.new ≡ learnt_count_of self.old }
         ensures count { kept_of self.new ≡ length_of (trail_of self.new) }
         ensures kept { KeepsPlaces (trail_of self.new) (trail_of self.new) (kept_of self.new) }
+        ensures turn { KeepsTurn self.old self.new }
     {
         self.kept = self.trail.len();
     }
 
-    /// Puts a given clause behind the others. A clause that is false takes all levels but the first away: if it is still
+    /// Begins a turn: assumes a literal at a level of its own, below which no jump goes. The whole trail before it is held.
+    pub fn assume(&mut self, literal: Literal) -> Result<(), AllocError>
+        requires consistent { IsConsistent self.old }
+        requires inside { literal.variable < variable_count (trail_of self.old) }
+        requires free { slot_of (trail_of self.old) literal.variable ≡ None }
+        requires marked { kept_of self.old ≡ length_of (trail_of self.old) }
+        ensures consistent { OnOk result (IsConsistent self.new) }
+        ensures loaded { OnOk result (KeepsLoaded self.old self.new) }
+        ensures gains { OnOk result (Gains (trail_of self.old) (trail_of self.new) literal (level_of (trail_of self.old) + 1) Assumed) }
+        ensures base { OnOk result (base_of self.new ≡ level_of (trail_of self.old) + 1) }
+        ensures held { OnOk result (held_of self.new ≡ length_of (trail_of self.new)) }
+        ensures clauses { OnOk result (clause_count_of self.new ≡ clause_count_of self.old) }
+        ensures learnt { OnOk result (learnt_count_of self.new ≡ learnt_count_of self.old) }
+        ensures count { OnOk result (kept_of self.new ≡ kept_of self.old) }
+        ensures kept { OnOk result (KeepsMark self.old self.new) }
+    {
+        self.trail.assume(literal)?;
+        self.base = self.trail.level();
+        self.held = self.trail.len();
+        Ok(())
+    }
+
+    /// Takes the turn back: the trail ends before the present assumption again, and is held as it is then.
+    pub fn retract(&mut self)
+        requires consistent { IsConsistent self.old }
+        requires turn { 0 < base_of self.old }
+        ensures consistent { IsConsistent self.new }
+        ensures loaded { KeepsLoaded self.old self.new }
+        ensures cut { IsCut (trail_of self.old) (trail_of self.new) (held_of self.old - 1) }
+        ensures free { slot_of (trail_of self.new) (variable_at (trail_of self.old) (held_of self.old - 1)) ≡ None }
+        ensures base { base_of self.new ≡ level_of (trail_of self.new) }
+        ensures held { held_of self.new ≡ length_of (trail_of self.new) }
+        ensures clauses { clause_count_of self.new ≡ clause_count_of self.old }
+        ensures learnt { learnt_count_of self.new ≡ learnt_count_of self.old }
+        ensures count { kept_of self.new ≡ length_of (trail_of self.new) }
+        ensures kept { KeepsMark self.old self.new }
+    {
+        let count = self.held - 1;
+        self.trail.cut(count);
+        self.kept = self.kept.min(count);
+        self.base = self.trail.level();
+        self.held = count;
+    }
+
+    /// Holds the whole trail: nothing of it is undone from now on.
+    pub fn hold(&mut self)
+        requires consistent { IsConsistent self.old }
+        requires marked { kept_of self.old ≡ length_of (trail_of self.old) }
+        ensures consistent { IsConsistent self.new }
+        ensures loaded { KeepsLoaded self.old self.new }
+        ensures trail { trail_of self.new ≡ trail_of self.old }
+        ensures base { base_of self.new ≡ level_of (trail_of self.new) }
+        ensures held { held_of self.new ≡ length_of (trail_of self.new) }
+        ensures clauses { clause_count_of self.new ≡ clause_count_of self.old }
+        ensures learnt { learnt_count_of self.new ≡ learnt_count_of self.old }
+        ensures count { kept_of self.new ≡ kept_of self.old }
+        ensures kept { KeepsMark self.old self.new }
+    {
+        self.base = self.trail.level();
+        self.held = self.trail.len();
+    }
+
+    /// Puts a given clause behind the others. A clause that is false takes the levels above the base away: if it is still
     /// false then, the next run finds that.
     fn load_clause(&mut self, literals: &[Literal]) -> Result<(), AllocError>
         requires consistent { IsConsistent self.old }
@@ -185,11 +262,11 @@ impl ClauseSearch {
         ensures loaded { OnOk result ((given : List (Vec Literal Global)) (numbers : List ℕ) (copy : Vec Literal Global) → copy.items ≡ literals.now → IsLoaded given numbers self.old → IsLoaded (given ++ copy ∷ []) numbers self.new) }
         ensures same { OnOk result (IsSameSearch self.old self.new) }
         ensures count { OnOk result (length self.new.places.items ≡ length self.old.places.items + 1) }
-        ensures start { OnOk result (IsFalsified (trail_of self.old) literals.now → IsUndone (trail_of self.old) (trail_of self.new) 0) }
+        ensures undone { OnOk result (IsFalsified (trail_of self.old) literals.now → IsUndone (trail_of self.old) (trail_of self.new) (base_of self.old)) }
     {
         let number = self.places.len();
         let place = self.table.len();
-        let level = level_for(&self.trail, literals);
+        let level = level_for(&self.trail, literals, self.base);
         let copy = literals.to_vec(*self.table.allocator())?;
         self.table.push(copy)?;
         self.sources.push(Source::Given(number))?;
@@ -265,6 +342,9 @@ impl ClauseSearch {
         ensures variables { OnOk result (variable_count (trail_of self.new) ≡ variables) }
         ensures learnt { OnOk result (learnt_count_of self.new ≡ learnt_count_of self.old) }
         ensures kept { OnOk result (KeepsMark self.old self.new) }
+        ensures turn { OnOk result (KeepsTurn self.old self.new) }
+        ensures set { OnOk result (SetsNone (trail_of self.old) (trail_of self.new)) }
+        ensures marked { OnOk result (StaysMarked self.old self.new) }
         ensures memory { IfErr result (λ e. e ≡ Memory) }
     {
         self.trail.grow(variables)?;
@@ -273,13 +353,15 @@ impl ClauseSearch {
         Ok(())
     }
 
-    /// Puts a learnt clause behind the others, jumps back to the highest level of all its literals but one, and sets that one.
+    /// Puts a learnt clause behind the others, jumps back to the highest level of all its literals but one, though not below
+    /// the base, and sets that one.
     fn jump_back(&mut self, learnt: Learnt) -> Result<(), AllocError>
         requires consistent { IsConsistent self.old }
         requires learnt { IsLearnt self.old.table.items self.old.trail learnt }
+        requires above { self.old.base < level_in self.old.trail learnt.literal.variable }
         ensures consistent { OnOk result (IsConsistent self.new) }
         ensures same { OnOk result (IsSameProblem self.old self.new) }
-        ensures jump { OnOk result (IsJump self.old.trail self.new.trail learnt.literal learnt.jump (length self.old.table.items)) }
+        ensures jump { OnOk result (IsJump self.old.trail self.new.trail learnt.literal (max learnt.jump self.old.base) (length self.old.table.items)) }
         ensures stored { OnOk result (clause_at self.new.table.items (length self.old.table.items) ≡ learnt.literals.items) }
         ensures count { OnOk result (learnt_count_of self.new ≡ learnt_count_of self.old + 1) }
     {
@@ -293,23 +375,51 @@ impl ClauseSearch {
         self.table.push(literals)?;
         self.sources.push(Source::Learnt(causes))?;
         self.learnt += 1;
-        self.trail.undo_until(jump);
+        let back = jump.max(self.base);
+        self.trail.undo_until(back);
         self.kept = self.kept.min(self.trail.len());
         self.trail.force(literal, number)?;
         Ok(())
     }
 
-    /// Learns from a clause that is false, or answers given clauses that no values make true.
+    /// Adds a learnt clause and jumps back, unless the clause is false at the base.
+    fn add_learnt(
+        &mut self,
+        learnt: Learnt,
+        learnt_limit: usize,
+        clause_limit: usize,
+    ) -> Result<Option<Outcome>, Exhausted>
+        requires consistent { IsConsistent self.old }
+        requires learnt { IsLearnt self.old.table.items self.old.trail learnt }
+        ensures outcome { IfOk result (λ answer. IfSome answer (λ outcome. (given : List (Vec Literal Global)) (numbers : List ℕ) → IsLoaded given numbers self.old → OutcomeIs given numbers self.new.trail self.new.base outcome)) }
+        ensures consistent { OnOk result (IsConsistent self.new) }
+        ensures same { OnOk result (IsSameProblem self.old self.new) }
+        ensures more { IfOk result (λ answer. IfNone answer (learnt_count_of self.new ≡ learnt_count_of self.old + 1)) }
+        ensures below { IfOk result (λ answer. IfNone answer (learnt_count_of self.old < learnt_limit)) }
+        ensures ids { IfErr result (λ e. e ≡ Ids → (learnt_limit ≤ learnt_count_of self.new) ⊎ (clause_limit ≤ clause_count_of self.new)) }
+    {
+        if asserted_level(&self.trail, &learnt) <= self.base {
+            return Ok(Some(Outcome::Refused));
+        }
+        if learnt_limit <= self.learnt || clause_limit <= self.table.len() {
+            return Err(Exhausted::Ids);
+        }
+        self.jump_back(learnt)?;
+        Ok(None)
+    }
+
+    /// Learns from a clause that is false, unless it ends the search: given clauses contradict each other, or no level
+    /// above the base is involved.
     fn learn(
         &mut self,
         alloc: Global,
         number: usize,
         learnt_limit: usize,
         clause_limit: usize,
-    ) -> Result<Option<Vec<usize>>, Exhausted>
+    ) -> Result<Option<Outcome>, Exhausted>
         requires consistent { IsConsistent self.old }
         requires conflict { IsConflict self.old.trail self.old.table.items number }
-        ensures core { IfOk result (λ answer. IfSome answer (λ core. (given : List (Vec Literal Global)) (numbers : List ℕ) → IsLoaded given numbers self.old → IsCore given core.items)) }
+        ensures outcome { IfOk result (λ answer. IfSome answer (λ outcome. (given : List (Vec Literal Global)) (numbers : List ℕ) → IsLoaded given numbers self.old → OutcomeIs given numbers self.new.trail self.new.base outcome)) }
         ensures consistent { OnOk result (IsConsistent self.new) }
         ensures same { OnOk result (IsSameProblem self.old self.new) }
         ensures more { IfOk result (λ answer. IfNone answer (learnt_count_of self.new ≡ learnt_count_of self.old + 1)) }
@@ -324,19 +434,17 @@ impl ClauseSearch {
                     self.sources.as_slice(),
                     causes.as_slice(),
                 )?;
-                Ok(Some(numbers))
+                Ok(Some(Outcome::Contradiction(numbers)))
             }
             Lesson::Clause(learnt) => {
-                if learnt_limit <= self.learnt || clause_limit <= self.table.len() {
-                    return Err(Exhausted::Ids);
-                }
-                self.jump_back(learnt)?;
-                Ok(None)
+                let answer = self.add_learnt(learnt, learnt_limit, clause_limit)?;
+                Ok(answer)
             }
         }
     }
 
-    /// Searches for values, or for given clauses that no values make true.
+    /// Searches for values, or for given clauses that no values make true. Where there is an assumption, what is held of
+    /// the trail stays, and the search is refused where a clause is false by that alone.
     ///
     /// `Ids` is answered where a clause is to be learnt and as many are learnt, or in the table, as the limits allow.
     pub fn run<D: DependencyProvider>(
@@ -347,11 +455,12 @@ impl ClauseSearch {
         clause_limit: usize,
     ) -> Result<Outcome, Interrupted<D::Cancel>>
         requires consistent { IsConsistent self.old }
-        ensures outcome { IfOk result (λ outcome. (given : List (Vec Literal Global)) (numbers : List ℕ) → IsLoaded given numbers self.old → OutcomeIs given numbers (trail_of self.new) outcome) }
+        ensures outcome { IfOk result (λ outcome. (given : List (Vec Literal Global)) (numbers : List ℕ) → IsLoaded given numbers self.old → OutcomeIs given numbers (trail_of self.new) (base_of self.new) outcome) }
         ensures consistent { OnOk result (IsConsistent self.new) }
         ensures loaded { OnOk result (KeepsLoaded self.old self.new) }
         ensures variables { OnOk result (variable_count (trail_of self.new) ≡ variable_count (trail_of self.old)) }
         ensures kept { OnOk result (KeepsMark self.old self.new) }
+        ensures turn { OnOk result (KeepsTurn self.old self.new) }
         ensures refusal { IfErr result (IsStop (D.may_cancel provider.now) ((learnt_limit ≤ learnt_count_of self.new) ⊎ (clause_limit ≤ clause_count_of self.new))) }
     {
         'conflicts: loop {
@@ -364,7 +473,7 @@ impl ClauseSearch {
                 None => return Ok(Outcome::Finished),
                 Some(number) => {
                     match self.learn(alloc, number, learnt_limit, clause_limit)? {
-                        Some(numbers) => return Ok(Outcome::Contradiction(numbers)),
+                        Some(outcome) => return Ok(outcome),
                         None => (),
                     }
                 }

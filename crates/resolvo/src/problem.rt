@@ -1,6 +1,6 @@
 //! What is to be solved.
 
-ghost use Rattle.std.specs.Prelude.{◌≡◌, None, []};
+ghost use Rattle.std.specs.Prelude.{◌≡◌, None, Some, []};
 ghost use Rattle.std.specs.Iterator.{at_most};
 
 use resolver_clause_store::{ConditionalRequirement, VersionSetId};
@@ -30,48 +30,51 @@ impl<Id> Iterator for EmptySolvables<Id> {
 
 /// What is required of an answer. A part that was never set is absent, and asks for nothing.
 ///
-/// `Id` names solvables, and `S` gives the soft requirements.
+/// `Id` names solvables, and `S` gives the soft requirements. Those are taken in their order, each where it can be.
 #[derive(Drop)]
 pub struct Problem<Id, S> {
     pub(crate) requirements: Option<Vec<ConditionalRequirement>>,
     pub(crate) constraints: Option<Vec<VersionSetId>>,
     id: PhantomData<Id>,
-    soft_requirements: PhantomData<S>,
+    pub(crate) soft_requirements: Option<S>,
 }
 
 impl<Id> Problem<Id, EmptySolvables<Id>> {
-    ghost use Rattle.resolvo.specs.Problems.{demands_in};
+    ghost use Rattle.resolvo.specs.Problems.{demands_in, soft_in};
 
     /// A problem that every set answers which the provider allows.
     pub fn new() -> Self
-        ensures { demands_in result ≡ record { requirements = []; constraints = [] } }
+        ensures demands { demands_in result ≡ record { requirements = []; constraints = [] } }
+        ensures soft { soft_in result ≡ None }
     {
         Problem {
             requirements: None,
             constraints: None,
             id: PhantomData,
-            soft_requirements: PhantomData,
+            soft_requirements: None,
         }
     }
 }
 
 impl<Id> Default for Problem<Id, EmptySolvables<Id>> {
-    ghost use Rattle.resolvo.specs.Problems.{demands_in};
+    ghost use Rattle.resolvo.specs.Problems.{demands_in, soft_in};
 
     /// As `new`.
     fn default() -> Self
-        ensures { demands_in result ≡ record { requirements = []; constraints = [] } }
+        ensures demands { demands_in result ≡ record { requirements = []; constraints = [] } }
+        ensures soft { soft_in result ≡ None }
     {
         Problem::new()
     }
 }
 
 impl<Id, S: Drop> Problem<Id, S> {
-    ghost use Rattle.resolvo.specs.Problems.{demands_in};
+    ghost use Rattle.resolvo.specs.Problems.{demands_in, soft_in};
 
     /// The same problem with these requirements in place of what was set before.
     pub fn requirements(self, requirements: Vec<ConditionalRequirement>) -> Self
-        ensures { demands_in result ≡ record (demands_in self) { requirements = requirements.items } }
+        ensures demands { demands_in result ≡ record (demands_in self) { requirements = requirements.items } }
+        ensures soft { soft_in result ≡ soft_in self }
     {
         Problem {
             requirements: Some(requirements),
@@ -81,11 +84,27 @@ impl<Id, S: Drop> Problem<Id, S> {
 
     /// The same problem with these constraints in place of what was set before.
     pub fn constraints(self, constraints: Vec<VersionSetId>) -> Self
-        ensures { demands_in result ≡ record (demands_in self) { constraints = constraints.items } }
+        ensures demands { demands_in result ≡ record (demands_in self) { constraints = constraints.items } }
+        ensures soft { soft_in result ≡ soft_in self }
     {
         Problem {
             constraints: Some(constraints),
             ..self
+        }
+    }
+
+    /// The same problem with these soft requirements in place of what was set before.
+    ///
+    /// They are taken in this order, each where it fits what was taken before it.
+    pub fn soft_requirements<I: Iterator<Item = Id>>(self, soft_requirements: I) -> Problem<Id, I>
+        ensures demands { demands_in result ≡ demands_in self }
+        ensures soft { soft_in result ≡ Some soft_requirements }
+    {
+        Problem {
+            requirements: self.requirements,
+            constraints: self.constraints,
+            id: PhantomData,
+            soft_requirements: Some(soft_requirements),
         }
     }
 
@@ -109,3 +128,6 @@ impl<Id, S: Drop> Problem<Id, S> {
         }
     }
 }
+
+#[cfg(test)]
+mod tests;

@@ -1,17 +1,24 @@
 //! Rounds of searching and reading: what a search chooses is read, until what is chosen is an answer.
 
-ghost use Rattle.std.specs.Prelude.{◌≡◌, ◌+◌, ◌≤◌, ◌<◌, ◌^◌, [], IfErr, IfNone, IfOk, IfSome, OnOk, length};
+ghost use Rattle.std.specs.Iterator.{Drains, IsFinite};
+ghost use Rattle.std.specs.Prelude.{◌≡◌, ◌+◌, ◌++◌, ◌∷◌, ◌≤◌, ◌<◌, ◌^◌, [], Contains, IfErr, IfNone, IfOk, IfSome, List, None, OnOk, Some, length, slice_get, true};
+ghost use Rattle.resolver_clause_store.specs.TrailView.{slot_of};
+ghost use Rattle.resolver_clause_store.specs.Universe.{Demands};
+ghost use Rattle.resolver_clause_store.specs.declared.Origin.TheVariants.{Solvable as SolvableOrigin};
+ghost use Rattle.resolvo.specs.Problems.{AreItems};
 ghost use Rattle.resolver_clause_store.specs.Caches.{IsTrueCache};
 ghost use Rattle.resolver_clause_store.specs.Laws.{IsIdentity};
 ghost use Rattle.resolver_clause_store.specs.Variables.{AreDistinct};
 ghost use Rattle.resolver_encoding.specs.Refusals.{IsStop};
 ghost use Rattle.resolver_encoding.specs.SoFar.{IsProgress, IsReadSoFar};
-ghost use Rattle.resolvo.specs.ClauseSearches.{IsConsistent, OutcomeIs, clause_count_of, learnt_count_of, trail_of};
+ghost use Rattle.resolver_encoding.specs.Reach.{AreNear};
+ghost use Rattle.resolvo.specs.declared.rounds.Found.TheVariants.{Answer as FoundAnswer};
+ghost use Rattle.resolvo.specs.ClauseSearches.{IsConsistent, IsRootTurn, KeepsTurn, OutcomeIs, base_of, clause_count_of, learnt_count_of, trail_of};
 
 use crate::clause_search::{ClauseSearch, Outcome};
 use resolver_clause_store::{
-    Cache, ConditionalRequirement, DependencyProvider, Exhausted, Interner, Interrupted,
-    VersionSetId,
+    Cache, ConditionalRequirement, DependencyProvider, Exhausted, Interner, Interrupted, Literal,
+    Variable, VersionSetId,
 };
 use resolver_encoding::{Chosen, Encoding, Progress};
 use std::alloc::Global;
@@ -24,6 +31,8 @@ pub enum Found {
     Answer,
     /// The numbers of clauses that no values make true.
     Contradiction(Vec<usize>),
+    /// What is assumed last cannot be kept.
+    Refused,
 }
 
 /// What one round ended with.
@@ -49,7 +58,7 @@ pub struct Rounds<N: Copy + Eq + Hash + Drop, S: Copy + Eq + Hash + Drop> {
 }
 
 impl<N: Copy + Eq + Hash + Drop, S: Copy + Eq + Hash + Drop> Rounds<N, S> {
-    ghost use Rattle.resolvo.specs.RoundStates.{AreRounds, HasAllClauses, HasFollowed, HasMark, IsFollowing, IsFound, IsFresh, IsRound, IsSearchOf, IsStuck, IsUpToDate, KeepsRead, KeepsRoom, chosen_of, clause_limit_of, learnt_limit_of, notes_of, search_of};
+    ghost use Rattle.resolvo.specs.RoundStates.{AreRounds, GoesOn, HasAllClauses, HasFollowed, HasMark, HasAssumed, IsAnswering, IsBetween, IsBetweenFor, IsDone, IsFollowing, IsRefusing, IsFound, IsFresh, IsStill, IsRound, IsSearchOf, IsStuck, IsUpToDate, KeepsRead, KeepsRoom, chosen_of, clause_limit_of, learnt_limit_of, notes_of, search_of};
 
     /// Nothing read yet. There may be as many variables, clauses and learnt clauses as the limits say.
     pub fn new(
@@ -106,11 +115,37 @@ impl<N: Copy + Eq + Hash + Drop, S: Copy + Eq + Hash + Drop> Rounds<N, S> {
         ensures is_true { IsTrueCache (D.universe provider.now) cache.new }
         ensures rounds { OnOk result (AreRounds (D.universe provider.now) self.new) }
         ensures read { OnOk result (IsReadSoFar (D.universe provider.now) (record { requirements = requirements.now; constraints = constraints.now }) (chosen_of self.new) (notes_of self.new)) }
+        ensures near { OnOk result (AreNear (D.universe provider.now) (record { requirements = requirements.now; constraints = constraints.now }) [] (notes_of self.new)) }
+        ensures exempt { OnOk result ((notes_of self.new).exempt ≡ []) }
+        ensures turn { OnOk result (IsRootTurn (search_of self.new)) }
         ensures limits { KeepsRoom self.old self.new }
         ensures refusal { IfErr result (IsStop (D.may_cancel provider.now) (IsStuck self.new)) }
     {
         self.encoding
             .read_root(provider, cache, requirements, constraints)?;
+        Ok(())
+    }
+
+    /// Loads what was read since the last time.
+    fn load<D: DependencyProvider<NameId = N, SolvableId = S>>(
+        &mut self,
+        provider: &D,
+    ) -> Result<(), Exhausted>
+        requires rounds { AreRounds (D.universe provider.now) self.old }
+        ensures rounds { OnOk result (AreRounds (D.universe provider.now) self.new) }
+        ensures loaded { OnOk result (IsUpToDate self.new) }
+        ensures same { IsSearchOf self.old self.new }
+        ensures turn { OnOk result (KeepsTurn (search_of self.old) (search_of self.new)) }
+        ensures still { OnOk result (IsStill self.old → IsStill self.new) }
+        ensures counted { OnOk result (HasAllClauses self.new) }
+        ensures limits { KeepsRoom self.old self.new }
+        ensures memory { IfErr result (λ e. e ≡ Exhausted.Memory) }
+    {
+        self.search.load(
+            self.encoding.variables().len(),
+            self.encoding.literals(),
+            self.encoding.requirements(),
+        )?;
         Ok(())
     }
 
@@ -123,15 +158,12 @@ impl<N: Copy + Eq + Hash + Drop, S: Copy + Eq + Hash + Drop> Rounds<N, S> {
         ensures rounds { OnOk result (AreRounds (D.universe provider.now) self.new) }
         ensures loaded { OnOk result (IsUpToDate self.new) }
         ensures same { IsSearchOf self.old self.new }
-        ensures outcome { IfOk result (OutcomeIs (notes_of self.new).table (notes_of self.new).requirements (trail_of (search_of self.new))) }
+        ensures turn { OnOk result (KeepsTurn (search_of self.old) (search_of self.new)) }
+        ensures outcome { IfOk result (OutcomeIs (notes_of self.new).table (notes_of self.new).requirements (trail_of (search_of self.new)) (base_of (search_of self.new))) }
         ensures limits { KeepsRoom self.old self.new }
         ensures refusal { IfErr result (IsStop (D.may_cancel provider.now) (IsStuck self.new)) }
     {
-        self.search.load(
-            self.encoding.variables().len(),
-            self.encoding.literals(),
-            self.encoding.requirements(),
-        )?;
+        self.load(provider)?;
         let outcome = self
             .search
             .run(self.alloc, provider, self.learnt_limit, self.clause_limit)?;
@@ -170,7 +202,7 @@ impl<N: Copy + Eq + Hash + Drop, S: Copy + Eq + Hash + Drop> Rounds<N, S> {
         requires is_true { IsTrueCache (D.universe provider.now) cache.old }
         ensures is_true { IsTrueCache (D.universe provider.now) cache.new }
         ensures rounds { OnOk result (AreRounds (D.universe provider.now) self.new) }
-        ensures keeps { OnOk result (KeepsRead (D.universe provider.now) self.old self.new) }
+        ensures keeps { OnOk result (GoesOn (D.universe provider.now) self.old self.new) }
         ensures followed { OnOk result (HasFollowed self.old self.new) }
         ensures progress { IfOk result (IsProgress (notes_of self.old) (notes_of self.new)) }
         ensures fit { OnOk result (length (notes_of self.new).read ≤ (notes_of self.new).variable_limit) }
@@ -194,13 +226,14 @@ impl<N: Copy + Eq + Hash + Drop, S: Copy + Eq + Hash + Drop> Rounds<N, S> {
         requires is_true { IsTrueCache (D.universe provider.now) cache.old }
         ensures is_true { IsTrueCache (D.universe provider.now) cache.new }
         ensures rounds { OnOk result (AreRounds (D.universe provider.now) self.new) }
-        ensures keeps { OnOk result (KeepsRead (D.universe provider.now) self.old self.new) }
+        ensures keeps { OnOk result (GoesOn (D.universe provider.now) self.old self.new) }
         ensures round { IfOk result (IsRound (D.universe provider.now) self.old self.new) }
         ensures limits { KeepsRoom self.old self.new }
         ensures refusal { IfErr result (IsStop (D.may_cancel provider.now) (IsStuck self.new)) }
     {
         match self.search(provider)? {
             Outcome::Contradiction(core) => Ok(Round::Last(Found::Contradiction(core))),
+            Outcome::Refused => Ok(Round::Last(Found::Refused)),
             Outcome::Finished => match self.read(provider, cache)? {
                 Progress::Nothing => Ok(Round::Last(Found::Answer)),
                 Progress::Fired => Ok(Round::Fired),
@@ -219,7 +252,7 @@ impl<N: Copy + Eq + Hash + Drop, S: Copy + Eq + Hash + Drop> Rounds<N, S> {
         requires is_true { IsTrueCache (D.universe provider.now) cache.old }
         ensures is_true { IsTrueCache (D.universe provider.now) cache.new }
         ensures rounds { OnOk result (AreRounds (D.universe provider.now) self.new) }
-        ensures keeps { OnOk result (KeepsRead (D.universe provider.now) self.old self.new) }
+        ensures keeps { OnOk result (GoesOn (D.universe provider.now) self.old self.new) }
         ensures found { IfOk result (λ answer. IfSome answer (IsFound (D.universe provider.now) self.new)) }
         ensures counted { IfOk result (λ answer. IfSome answer (λ _. HasAllClauses self.new)) }
         ensures read { IfOk result (λ answer. IfNone answer (length (notes_of self.old).read < length (notes_of self.new).read)) }
@@ -246,7 +279,7 @@ impl<N: Copy + Eq + Hash + Drop, S: Copy + Eq + Hash + Drop> Rounds<N, S> {
         requires is_true { IsTrueCache (D.universe provider.now) cache.old }
         ensures is_true { IsTrueCache (D.universe provider.now) cache.new }
         ensures rounds { OnOk result (AreRounds (D.universe provider.now) self.new) }
-        ensures keeps { OnOk result (KeepsRead (D.universe provider.now) self.old self.new) }
+        ensures keeps { OnOk result (GoesOn (D.universe provider.now) self.old self.new) }
         ensures found { IfOk result (IsFound (D.universe provider.now) self.new) }
         ensures counted { OnOk result (HasAllClauses self.new) }
         ensures limits { KeepsRoom self.old self.new }
@@ -260,25 +293,210 @@ impl<N: Copy + Eq + Hash + Drop, S: Copy + Eq + Hash + Drop> Rounds<N, S> {
         }
     }
 
-    /// Reads and searches until what is chosen is an answer, or there is none.
-    pub fn find<D: DependencyProvider<NameId = N, SolvableId = S>>(
+    /// Ends a turn whose soft requirement is refused: what came since it began is undone, and its variable is false from now
+    /// on. So many solvables were exempt before.
+    fn refuse<D: DependencyProvider<NameId = N, SolvableId = S>>(
+        &mut self,
+        provider: &D,
+        cache: &mut Cache<N, S>,
+        variable: Variable,
+        exempt: usize,
+    ) -> Result<(), Interrupted<D::Cancel>>
+        requires rounds { AreRounds (D.universe provider.now) self.old }
+        requires is_true { IsTrueCache (D.universe provider.now) cache.old }
+        requires assumed { HasAssumed (search_of self.old) variable }
+        requires one_turn { length (notes_of self.old).exempt ≤ exempt + 1 }
+        ensures is_true { IsTrueCache (D.universe provider.now) cache.new }
+        ensures rounds { OnOk result (AreRounds (D.universe provider.now) self.new) }
+        ensures still { OnOk result (IsStill self.new) }
+        ensures counted { OnOk result (HasAllClauses self.new) }
+        ensures refused { OnOk result (IsRefusing (D.universe provider.now) variable exempt self.old self.new) }
+        ensures limits { KeepsRoom self.old self.new }
+        ensures refusal { IfErr result (IsStop (D.may_cancel provider.now) (IsStuck self.new)) }
+    {
+        self.encoding.end_turn(provider, cache, exempt)?;
+        self.load(provider)?;
+        self.search.retract();
+        self.search.assume(Literal {
+            variable,
+            positive: false,
+        })?;
+        self.follow()?;
+        Ok(())
+    }
+
+    /// Makes rounds up to the last one. Answers whether what is chosen then is an answer.
+    fn is_answered<D: DependencyProvider<NameId = N, SolvableId = S>>(
+        &mut self,
+        provider: &D,
+        cache: &mut Cache<N, S>,
+    ) -> Result<bool, Interrupted<D::Cancel>>
+        requires rounds { AreRounds (D.universe provider.now) self.old }
+        requires is_true { IsTrueCache (D.universe provider.now) cache.old }
+        ensures is_true { IsTrueCache (D.universe provider.now) cache.new }
+        ensures rounds { OnOk result (AreRounds (D.universe provider.now) self.new) }
+        ensures keeps { OnOk result (GoesOn (D.universe provider.now) self.old self.new) }
+        ensures counted { OnOk result (HasAllClauses self.new) }
+        ensures answer { IfOk result (λ answered. answered ≡ true → IsAnswering (D.universe provider.now) self.new) }
+        ensures limits { KeepsRoom self.old self.new }
+        ensures refusal { IfErr result (IsStop (D.may_cancel provider.now) (IsStuck self.new)) }
+    {
+        match self.all_rounds(provider, cache)? {
+            Found::Answer => Ok(true),
+            Found::Contradiction(_) => Ok(false),
+            Found::Refused => Ok(false),
+        }
+    }
+
+    /// Tries a soft requirement that is not decided: it is assumed, and kept where what is chosen then is an answer.
+    fn attempt<D: DependencyProvider<NameId = N, SolvableId = S>>(
+        &mut self,
+        provider: &D,
+        cache: &mut Cache<N, S>,
+        solvable: S,
+        variable: Variable,
+    ) -> Result<(), Interrupted<D::Cancel>>
+        requires rounds { AreRounds (D.universe provider.now) self.old }
+        requires loaded { IsUpToDate self.old }
+        requires still { IsStill self.old }
+        requires is_true { IsTrueCache (D.universe provider.now) cache.old }
+        requires stands { slice_get (notes_of self.old).origins variable ≡ Some (SolvableOrigin solvable) }
+        requires free { slot_of (trail_of (search_of self.old)) variable ≡ None }
+        ensures is_true { IsTrueCache (D.universe provider.now) cache.new }
+        ensures rounds { OnOk result (AreRounds (D.universe provider.now) self.new) }
+        ensures still { OnOk result (IsStill self.new) }
+        ensures counted { OnOk result (HasAllClauses self.new) }
+        ensures between { OnOk result ((root : Demands) (done : List S) → Contains (notes_of self.old).seen solvable → IsBetweenFor (D.universe provider.now) root done (done ++ solvable ∷ []) self.old → IsBetween (D.universe provider.now) root (done ++ solvable ∷ []) self.new) }
+        ensures limits { KeepsRoom self.old self.new }
+        ensures refusal { IfErr result (IsStop (D.may_cancel provider.now) (IsStuck self.new)) }
+    {
+        let exempt = self.encoding.exempt().len();
+        self.encoding.begin_turn(provider, solvable)?;
+        self.search.assume(Literal {
+            variable,
+            positive: true,
+        })?;
+        let answered = self.is_answered(provider, cache)?;
+        if answered {
+            self.search.hold();
+            return Ok(());
+        }
+        self.refuse(provider, cache, variable, exempt)?;
+        Ok(())
+    }
+
+    /// The turn of one soft requirement. One that is decided already is skipped.
+    fn turn<D: DependencyProvider<NameId = N, SolvableId = S>>(
+        &mut self,
+        provider: &D,
+        cache: &mut Cache<N, S>,
+        solvable: S,
+    ) -> Result<(), Interrupted<D::Cancel>>
+        requires rounds { AreRounds (D.universe provider.now) self.old }
+        requires still { IsStill self.old }
+        requires is_true { IsTrueCache (D.universe provider.now) cache.old }
+        ensures is_true { IsTrueCache (D.universe provider.now) cache.new }
+        ensures rounds { OnOk result (AreRounds (D.universe provider.now) self.new) }
+        ensures still { OnOk result (IsStill self.new) }
+        ensures counted { OnOk result (HasAllClauses self.new) }
+        ensures between { OnOk result ((root : Demands) (done : List S) → IsBetween (D.universe provider.now) root done self.old → IsBetween (D.universe provider.now) root (done ++ solvable ∷ []) self.new) }
+        ensures limits { KeepsRoom self.old self.new }
+        ensures refusal { IfErr result (IsStop (D.may_cancel provider.now) (IsStuck self.new)) }
+    {
+        let variable = self.encoding.register(provider, solvable)?;
+        self.load(provider)?;
+        match self.search.trail().slot(variable) {
+            Some(_) => Ok(()),
+            None => {
+                self.attempt(provider, cache, solvable, variable)?;
+                Ok(())
+            }
+        }
+    }
+
+    /// The turns of the soft requirements, in their order.
+    fn all_turns<D: DependencyProvider<NameId = N, SolvableId = S>, I: Iterator<Item = S> + Drop>(
+        &mut self,
+        provider: &D,
+        cache: &mut Cache<N, S>,
+        soft: I,
+    ) -> Result<(), Interrupted<D::Cancel>>
+        requires can_next { I.can_next soft }
+        requires ends { IsFinite (I.remaining soft) }
+        requires rounds { AreRounds (D.universe provider.now) self.old }
+        requires still { IsStill self.old }
+        requires counted { HasAllClauses self.old }
+        requires is_true { IsTrueCache (D.universe provider.now) cache.old }
+        ensures is_true { IsTrueCache (D.universe provider.now) cache.new }
+        ensures rounds { OnOk result (AreRounds (D.universe provider.now) self.new) }
+        ensures counted { OnOk result (HasAllClauses self.new) }
+        ensures between { OnOk result ((root : Demands) → IsBetween (D.universe provider.now) root [] self.old → (items : List S) × Drains I.next_gives soft items × IsBetween (D.universe provider.now) root items self.new) }
+        ensures limits { KeepsRoom self.old self.new }
+        ensures refusal { IfErr result (IsStop (D.may_cancel provider.now) (IsStuck self.new)) }
+    {
+        for solvable in soft {
+            self.turn(provider, cache, solvable)?;
+        }
+        Ok(())
+    }
+    /// The turns of the soft requirements, if there are some.
+    fn soft_turns<D: DependencyProvider<NameId = N, SolvableId = S>, I: Iterator<Item = S> + Drop>(
+        &mut self,
+        provider: &D,
+        cache: &mut Cache<N, S>,
+        soft: Option<I>,
+    ) -> Result<(), Interrupted<D::Cancel>>
+        requires can_next { IfSome soft (λ it. I.can_next it) }
+        requires ends { IfSome soft (λ it. IsFinite (I.remaining it)) }
+        requires rounds { AreRounds (D.universe provider.now) self.old }
+        requires still { IsStill self.old }
+        requires counted { HasAllClauses self.old }
+        requires is_true { IsTrueCache (D.universe provider.now) cache.old }
+        ensures is_true { IsTrueCache (D.universe provider.now) cache.new }
+        ensures rounds { OnOk result (AreRounds (D.universe provider.now) self.new) }
+        ensures counted { OnOk result (HasAllClauses self.new) }
+        ensures between { OnOk result ((root : Demands) → IsBetween (D.universe provider.now) root [] self.old → (items : List S) × AreItems I.next_gives soft items × IsBetween (D.universe provider.now) root items self.new) }
+        ensures limits { KeepsRoom self.old self.new }
+        ensures refusal { IfErr result (IsStop (D.may_cancel provider.now) (IsStuck self.new)) }
+    {
+        match soft {
+            Some(soft) => {
+                self.all_turns(provider, cache, soft)?;
+                Ok(())
+            }
+            None => Ok(()),
+        }
+    }
+
+    /// Reads and searches until what is chosen is an answer, or there is none. Then the soft requirements have their turns.
+    pub fn find<D: DependencyProvider<NameId = N, SolvableId = S>, I: Iterator<Item = S> + Drop>(
         &mut self,
         provider: &D,
         cache: &mut Cache<N, S>,
         requirements: &[ConditionalRequirement],
         constraints: &[VersionSetId],
+        soft: Option<I>,
     ) -> Result<Found, Interrupted<D::Cancel>>
+        requires can_next { IfSome soft (λ it. I.can_next it) }
+        requires ends { IfSome soft (λ it. IsFinite (I.remaining it)) }
         requires fresh { IsFresh self.old }
         requires is_true { IsTrueCache (D.universe provider.now) cache.old }
         ensures is_true { IsTrueCache (D.universe provider.now) cache.new }
-        ensures read { OnOk result (IsReadSoFar (D.universe provider.now) (record { requirements = requirements.now; constraints = constraints.now }) (chosen_of self.new) (notes_of self.new)) }
-        ensures found { IfOk result (IsFound (D.universe provider.now) self.new) }
+        ensures done { IfOk result (λ found. (items : List S) × (found ≡ FoundAnswer → AreItems I.next_gives soft items) × IsDone (D.universe provider.now) (record { requirements = requirements.now; constraints = constraints.now }) items self.new found) }
         ensures counted { OnOk result (HasAllClauses self.new) }
+        ensures table { OnOk result (length (notes_of self.new).table ≡ length (notes_of self.new).kinds) }
         ensures limits { KeepsRoom self.old self.new }
         ensures refusal { IfErr result (IsStop (D.may_cancel provider.now) (IsStuck self.new)) }
     {
         self.begin(provider, cache, requirements, constraints)?;
-        let found = self.all_rounds(provider, cache)?;
-        Ok(found)
+        match self.all_rounds(provider, cache)? {
+            Found::Answer => {
+                self.search.hold();
+                self.soft_turns(provider, cache, soft)?;
+                Ok(Found::Answer)
+            }
+            Found::Contradiction(core) => Ok(Found::Contradiction(core)),
+            Found::Refused => Ok(Found::Refused),
+        }
     }
 }

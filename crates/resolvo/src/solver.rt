@@ -1,6 +1,6 @@
 //! The solver.
 
-ghost use Rattle.std.specs.Prelude.{All, IfErr, IfOk, OnOk, length, ◌<◌, ◌^◌, ◌≡◌};
+ghost use Rattle.std.specs.Prelude.{[], All, IfErr, IfOk, IfSome, List, Ok, OnErr, OnOk, length, ◌<◌, ◌^◌, ◌≡◌};
 ghost use Rattle.resolver_clause_store.specs.Caches.{IsTrueCache};
 ghost use Rattle.resolver_clause_store.specs.Interruptions.{IsInterruption};
 ghost use Rattle.resolver_clause_store.specs.Outcomes.{IsCore};
@@ -8,13 +8,17 @@ ghost use Rattle.resolver_clause_store.specs.Universe.{Demands};
 ghost use Rattle.resolver_encoding.specs.Encodings.{IsEncoding, Notes};
 ghost use Rattle.resolver_encoding.specs.Refusals.{IsStop};
 ghost use Rattle.resolver_encoding.specs.SoFar.{IsReadSoFar};
-ghost use Rattle.resolvo.specs.Answers.{IsPlainAnswer};
+ghost use Rattle.resolvo.specs.Answers.{IsSoftAnswer};
 ghost use Rattle.resolvo.specs.Conflicts.{rules_in};
 ghost use Rattle.resolvo.specs.Explanations.{Explains};
-ghost use Rattle.resolvo.specs.Problems.{demands_in};
+ghost use Rattle.resolvo.specs.declared.rounds.Found.TheVariants.{Answer as FoundAnswer};
+ghost use Rattle.resolvo.specs.Problems.{AreItems, demands_in, soft_in};
+ghost use Rattle.std.specs.Iterator.{IsFinite};
+ghost use Rattle.resolvo.specs.declared.solver.UnsolvableOrCancelled.TheVariants.{Exhausted as ExhaustedError};
+ghost use Rattle.resolver_clause_store.specs.declared.Exhausted.TheVariants.{Memory};
 ghost use Rattle.resolvo.specs.Refusals.{CountsRead, CountsRefuted, IsRefusal};
-ghost use Rattle.resolvo.specs.RoundStates.{HasAllClauses, IsFound, chosen_of, notes_of};
-ghost use Rattle.resolvo.specs.Solvers.{HasCounted, HasLimits, IsAtLimit, IsSound, KeepsAllButCounts, KeepsCounts, KeepsLimits, clause_count_in, deferred_count_in, provider_in};
+ghost use Rattle.resolvo.specs.RoundStates.{HasAllClauses, IsDone, IsSomeDone, chosen_of, notes_of};
+ghost use Rattle.resolvo.specs.Solvers.{HasCounted, HasLimits, IsAtLimit, IsSound, KeepsAllButCounts, KeepsCounts, KeepsLimits, clause_count_in, deferred_count_in, exempt_in, provider_in};
 
 use crate::conflict::Conflict;
 use crate::problem::Problem;
@@ -69,6 +73,7 @@ pub struct Solver<D: DependencyProvider> {
     clause_count: usize,
     learnt_count: usize,
     deferred_count: usize,
+    exempt: Vec<D::SolvableId>,
     variable_limit: usize,
     clause_limit: usize,
     learnt_limit: usize,
@@ -81,6 +86,7 @@ impl<D: DependencyProvider> Solver<D> {
         ensures provider { provider_in result ≡ provider }
         ensures no_clauses { clause_count_in result ≡ 0 }
         ensures none_deferred { deferred_count_in result ≡ 0 }
+        ensures none_exempt { exempt_in result ≡ [] }
         ensures limits { HasLimits (2 ^ 31) result }
         ensures sound { IsSound (D.universe (provider_in result)) result }
     {
@@ -92,6 +98,7 @@ impl<D: DependencyProvider> Solver<D> {
             clause_count: 0,
             learnt_count: 0,
             deferred_count: 0,
+            exempt: Vec::new(alloc),
             variable_limit: 1 << 31,
             clause_limit: 1 << 31,
             learnt_limit: 1 << 31,
@@ -103,6 +110,14 @@ impl<D: DependencyProvider> Solver<D> {
         ensures { result.now ≡ provider_in self.now }
     {
         &self.provider
+    }
+
+    /// The exempt soft requirements of the last answer, in the order in which they were accepted. There are none before the
+    /// first call of `solve`, and after one that was refused.
+    pub fn exempt_solvables(&self) -> &[D::SolvableId]
+        ensures { result.now ≡ exempt_in self.now }
+    {
+        &self.exempt
     }
 
     /// How many clauses the last call of `solve` stopped with: the root's, those of what was read, and the learnt ones.
@@ -144,12 +159,41 @@ impl<D: DependencyProvider> Solver<D> {
         ensures provider { provider_in self.new ≡ provider_in self.old }
         ensures limits { KeepsLimits self.old self.new }
         ensures counts { KeepsCounts self.old self.new }
+        ensures exempt { exempt_in self.new ≡ exempt_in self.old }
         ensures refusal { (root : Demands) (notes : Notes D.NameId D.SolvableId) → notes.kinds ≡ kinds.now → IsEncoding (D.universe (provider_in self.old)) root notes → IsCore notes.table core.now → IsRefusal (D.universe (provider_in self.old)) (D.may_cancel (provider_in self.old)) root (IsAtLimit self.new) result }
     {
         match explain(self.alloc, &self.provider, &mut self.cache, kinds, core) {
             Err(Interrupted::Cancelled(value)) => UnsolvableOrCancelled::Cancelled(value),
             Err(Interrupted::Exhausted(e)) => UnsolvableOrCancelled::Exhausted(e),
             Ok(conflict) => UnsolvableOrCancelled::Unsolvable(conflict),
+        }
+    }
+
+    /// What is chosen, as the answer of `solve`. What is exempt is kept.
+    fn accept(
+        &mut self,
+        rounds: &Rounds<D::NameId, D::SolvableId>,
+    ) -> Result<Vec<D::SolvableId>, UnsolvableOrCancelled<D>>
+        requires sound { IsSound (D.universe (provider_in self.old)) self.old }
+        requires none { exempt_in self.old ≡ [] }
+        ensures sound { IsSound (D.universe (provider_in self.new)) self.new }
+        ensures provider { provider_in self.new ≡ provider_in self.old }
+        ensures limits { KeepsLimits self.old self.new }
+        ensures counts { KeepsCounts self.old self.new }
+        ensures chosen { IfOk result (λ chosen. chosen.items ≡ chosen_of rounds.now) }
+        ensures exempt { OnOk result (exempt_in self.new ≡ (notes_of rounds.now).exempt) }
+        ensures none { OnErr result (exempt_in self.new ≡ []) }
+        ensures memory { IfErr result (λ e. e ≡ ExhaustedError Memory) }
+    {
+        match rounds.chosen.to_vec(self.alloc) {
+            Err(e) => Err(UnsolvableOrCancelled::Exhausted(e)),
+            Ok(chosen) => match Vec::from_slice(self.alloc, rounds.encoding.exempt()) {
+                Err(_) => Err(UnsolvableOrCancelled::Exhausted(Exhausted::Memory)),
+                Ok(exempt) => {
+                    self.exempt = exempt;
+                    Ok(chosen)
+                }
+            },
         }
     }
 
@@ -160,43 +204,49 @@ impl<D: DependencyProvider> Solver<D> {
         found: Result<Found, Interrupted<D::Cancel>>,
     ) -> Result<Vec<D::SolvableId>, UnsolvableOrCancelled<D>>
         requires sound { IsSound (D.universe (provider_in self.old)) self.old }
+        requires none { exempt_in self.old ≡ [] }
         requires counts { HasCounted rounds.now self.old }
-        requires found { IfOk found (IsFound (D.universe (provider_in self.old)) rounds.now) }
+        requires done { IfOk found (IsSomeDone (D.universe (provider_in self.old)) rounds.now) }
         requires all { OnOk found (HasAllClauses rounds.now) }
         requires table { OnOk found (length (notes_of rounds.now).table ≡ length (notes_of rounds.now).kinds) }
         requires stop { IfErr found (IsStop (D.may_cancel (provider_in self.old)) (IsAtLimit self.old)) }
         ensures sound { IsSound (D.universe (provider_in self.new)) self.new }
         ensures provider { provider_in self.new ≡ provider_in self.old }
         ensures limits { KeepsLimits self.old self.new }
-        ensures answer { IfOk result (λ chosen. (root : Demands) → OnOk found (IsReadSoFar (D.universe (provider_in self.old)) root (chosen_of rounds.now) (notes_of rounds.now)) → IsPlainAnswer (D.universe (provider_in self.old)) root chosen.items) }
-        ensures refusal { IfErr result (λ e. (root : Demands) → OnOk found (IsReadSoFar (D.universe (provider_in self.old)) root (chosen_of rounds.now) (notes_of rounds.now)) → IsRefusal (D.universe (provider_in self.old)) (D.may_cancel (provider_in self.old)) root (IsAtLimit self.new) e) }
-        ensures counted { IfErr result (λ e. (root : Demands) → OnOk found (IsReadSoFar (D.universe (provider_in self.old)) root (chosen_of rounds.now) (notes_of rounds.now)) → CountsRefuted (D.universe (provider_in self.old)) root self.new e) }
-        ensures counted_answer { IfOk result (λ chosen. (root : Demands) → OnOk found (IsReadSoFar (D.universe (provider_in self.old)) root (chosen_of rounds.now) (notes_of rounds.now)) → CountsRead (D.universe (provider_in self.old)) root chosen.items self.new) }
+        ensures none { OnErr result (exempt_in self.new ≡ []) }
+        ensures found { OnOk result (found ≡ Ok FoundAnswer) }
+        ensures answer { IfOk result (λ chosen. (root : Demands) (soft : List D.SolvableId) → IfOk found (IsDone (D.universe (provider_in self.old)) root soft rounds.now) → IsSoftAnswer (D.universe (provider_in self.old)) root soft chosen.items (exempt_in self.new)) }
+        ensures refusal { IfErr result (λ e. (root : Demands) (soft : List D.SolvableId) → IfOk found (IsDone (D.universe (provider_in self.old)) root soft rounds.now) → IsRefusal (D.universe (provider_in self.old)) (D.may_cancel (provider_in self.old)) root (IsAtLimit self.new) e) }
+        ensures counted { IfErr result (λ e. (root : Demands) (soft : List D.SolvableId) → IfOk found (IsDone (D.universe (provider_in self.old)) root soft rounds.now) → CountsRefuted (D.universe (provider_in self.old)) root self.new e) }
+        ensures counted_answer { IfOk result (λ chosen. (root : Demands) (soft : List D.SolvableId) → IfOk found (IsDone (D.universe (provider_in self.old)) root soft rounds.now) → CountsRead (D.universe (provider_in self.old)) root chosen.items self.new) }
     {
         match found {
             Err(Interrupted::Cancelled(value)) => Err(UnsolvableOrCancelled::Cancelled(value)),
             Err(Interrupted::Exhausted(e)) => Err(UnsolvableOrCancelled::Exhausted(e)),
-            Ok(Found::Answer) => match rounds.chosen.to_vec(self.alloc) {
-                Err(e) => Err(UnsolvableOrCancelled::Exhausted(e)),
-                Ok(chosen) => Ok(chosen),
-            },
+            Ok(Found::Answer) => self.accept(rounds),
             Ok(Found::Contradiction(core)) => Err(self.refuse(rounds.encoding.kinds(), &core)),
+            Ok(Found::Refused) => Err(self.refuse(rounds.encoding.kinds(), &[])),
         }
     }
 
     /// An answer to the problem, or why there is none. The chosen solvables stand in the order in which they were
     /// chosen.
     ///
-    /// Solvables are read once a search has chosen them, and a requirement under a condition once the condition holds.
+    /// Solvables are read once a search has chosen them, and a requirement under a condition once the condition holds. Soft
+    /// requirements are taken in their order, each once what was chosen before stands. One whose package was not asked for
+    /// then is exempt from that package's lock and exclusions.
     pub fn solve<S: Iterator<Item = D::SolvableId> + Drop>(
         &mut self,
-        problem: Problem<D::SolvableId, S>,
+        mut problem: Problem<D::SolvableId, S>,
     ) -> Result<Vec<D::SolvableId>, UnsolvableOrCancelled<D>>
         requires sound { IsSound (D.universe (provider_in self.old)) self.old }
+        requires can_next { IfSome (soft_in problem) (λ it. S.can_next it) }
+        requires ends { IfSome (soft_in problem) (λ it. IsFinite (S.remaining it)) }
         ensures sound { IsSound (D.universe (provider_in self.new)) self.new }
         ensures provider { provider_in self.new ≡ provider_in self.old }
         ensures limits { KeepsLimits self.old self.new }
-        ensures answer { IfOk result (λ chosen. IsPlainAnswer (D.universe (provider_in self.old)) (demands_in problem) chosen.items) }
+        ensures answer { IfOk result (λ chosen. (soft : List D.SolvableId) × AreItems S.next_gives (soft_in problem) soft × IsSoftAnswer (D.universe (provider_in self.old)) (demands_in problem) soft chosen.items (exempt_in self.new)) }
+        ensures none { OnErr result (exempt_in self.new ≡ []) }
         ensures refusal { IfErr result (IsRefusal (D.universe (provider_in self.old)) (D.may_cancel (provider_in self.old)) (demands_in problem) (IsAtLimit self.new)) }
         ensures counted { IfErr result (CountsRefuted (D.universe (provider_in self.old)) (demands_in problem) self.new) }
         ensures counted_answer { IfOk result (λ chosen. CountsRead (D.universe (provider_in self.old)) (demands_in problem) chosen.items self.new) }
@@ -207,12 +257,15 @@ impl<D: DependencyProvider> Solver<D> {
             self.clause_limit,
             self.learnt_limit,
         );
+        let soft = problem.soft_requirements.take();
         let found = rounds.find(
             &self.provider,
             &mut self.cache,
             problem.root_requirements(),
             problem.root_constraints(),
+            soft,
         );
+        self.exempt = Vec::new(self.alloc);
         self.count(&rounds);
         self.outcome(&rounds, found)
     }

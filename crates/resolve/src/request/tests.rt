@@ -2,6 +2,7 @@
 
 mod counts;
 mod sets;
+mod soft;
 
 use super::{InputError, Request, read_request};
 use crate::ids::{NameId, SolvableId};

@@ -476,3 +476,78 @@ fn what_ran_out_has_a_text(rt: HostRuntime) {
     assert_eq!(rt; fault_text(Exhausted::Memory), "resolve: out of memory");
     assert_eq!(rt; fault_text(Exhausted::Ids), "resolve: out of ids");
 }
+
+#[test]
+fn soft_requirements_are_tried_in_their_order(rt: HostRuntime) {
+    let input =
+        "package a=1\npackage b=1\npackage b=2\npackage c=1\npackage d=1\npackage e=1\npackage locked=1\npackage locked=2\npackage unknown-deps=1\nrequires a=1 b@0..10\nrequires e=1 d\nlock locked=2\nunknown unknown-deps=1 no data\nrequire a@0..10\nconstrain b@1..2\nconstrain c\nsoft b=2\nsoft c=1\nsoft e=1\nsoft locked=1\nsoft unknown-deps=1\n";
+    expect_answer(
+        &rt,
+        rt.alloc(),
+        input,
+        "a=1\nb=1\nc=1\nd=1\ne=1\nlocked=1\n",
+    );
+}
+
+#[test]
+fn a_soft_requirement_that_is_excluded_is_exempt(rt: HostRuntime) {
+    let input = "package t=1\npackage u=1\nexclude t=1 old\nrequires u=1 t\nsoft t=1\nsoft u=1\n";
+    expect_answer(&rt, rt.alloc(), input, "t=1\nu=1\n");
+}
+
+#[test]
+fn one_whose_package_was_asked_is_not_exempt(rt: HostRuntime) {
+    let input = "package t=1\npackage u=1\nexclude t=1 old\nrequires u=1 t\nsoft u=1\nsoft t=1\n";
+    expect_answer(&rt, rt.alloc(), input, "");
+}
+
+#[test]
+fn what_an_earlier_one_needs_rules_out_a_later_one(rt: HostRuntime) {
+    let input = "package x=1\npackage y=1\npackage y=2\nrequires x=1 y@1\nsoft x=1\nsoft y=2\n";
+    expect_answer(&rt, rt.alloc(), input, "x=1\ny=1\n");
+}
+
+#[test]
+fn the_other_order_keeps_the_other_one(rt: HostRuntime) {
+    let input = "package x=1\npackage y=1\npackage y=2\nrequires x=1 y@1\nsoft y=2\nsoft x=1\n";
+    expect_answer(&rt, rt.alloc(), input, "y=2\n");
+}
+
+#[test]
+fn two_soft_versions_of_a_package_are_never_both_chosen(rt: HostRuntime) {
+    let input = "package s=1\npackage s=2\nsoft s=1\nsoft s=2\nsoft s=1\n";
+    expect_answer(&rt, rt.alloc(), input, "s=1\n");
+}
+
+#[test]
+fn a_locked_package_that_the_root_asks_for_is_not_exempt(rt: HostRuntime) {
+    let input = "package a=1\npackage a=2\nlock a=2\nsoft a=1\nrequire a\n";
+    expect_answer(&rt, rt.alloc(), input, "a=2\n");
+}
+
+#[test]
+fn the_first_of_two_soft_versions_of_a_locked_package_is_exempt(rt: HostRuntime) {
+    let input = "package a=1\npackage a=2\nlock a=2\nsoft a=1\nsoft a=2\n";
+    expect_answer(&rt, rt.alloc(), input, "a=1\n");
+}
+
+#[test]
+fn a_soft_requirement_before_its_condition_holds_is_exempt(rt: HostRuntime) {
+    let input =
+        "package p=1\npackage c=1\npackage x=1\npackage x=2\nrequires p=1 x if c\nlock x=2\nrequire p\nsoft x=1\nsoft c=1\n";
+    expect_answer(&rt, rt.alloc(), input, "c=1\np=1\nx=1\n");
+}
+
+#[test]
+fn a_soft_requirement_turns_a_condition_on(rt: HostRuntime) {
+    let input =
+        "package p=1\npackage c=1\npackage x=1\npackage x=2\nrequires p=1 x if c\nlock x=2\nrequire p\nsoft c=1\nsoft x=1\n";
+    expect_answer(&rt, rt.alloc(), input, "c=1\np=1\nx=2\n");
+}
+
+#[test]
+fn a_conflict_in_a_turn_keeps_what_was_accepted(rt: HostRuntime) {
+    let input =
+        "package a=1\npackage u=1\npackage q=1\npackage s=1\npackage t=1\npackage c=2\nrequires a=1 u\nrequires s=1 t\nrequires t=1 c\nconstrains u=1 c@3\nsoft a=1\nsoft q=1\nsoft s=1\n";
+    expect_answer(&rt, rt.alloc(), input, "a=1\nq=1\nu=1\n");
+}

@@ -1,12 +1,13 @@
 //! Packages that are asked.
 
-ghost use Rattle.std.specs.Prelude.{◌≡◌, ◌≢◌, ◌⊎◌, [], ◌∷◌, All, Contains, IfErr, OnOk, Some, map, ⊤};
+ghost use Rattle.std.specs.Prelude.{◌≡◌, ◌≢◌, ◌⊎◌, [], ◌∷◌, ◌++◌, All, Contains, IfErr, OnOk, Some, map, ⊤};
 ghost use Rattle.resolver_clause_store.specs.Caches.{IsTrueCache};
 ghost use Rattle.resolver_clause_store.specs.Candidates.{version_sets};
 ghost use Rattle.resolver_clause_store.specs.declared.ClauseKind.TheVariants.{Excluded as ExcludedKind, Lock as LockKind};
-ghost use Rattle.resolver_encoding.specs.Called.{IsNamedIn};
-ghost use Rattle.resolver_encoding.specs.Encodings.{IsAskStep, IsFull, IsLockRead, IsStepWhile, KeepsLimits, asking_for};
+ghost use Rattle.resolver_encoding.specs.Called.{IsAsking, IsNamedBy};
+ghost use Rattle.resolver_encoding.specs.Encodings.{Doing, IsAskStep, IsFull, IsLockRead, IsStepWhile, KeepsLimits, asking_for};
 ghost use Rattle.resolver_encoding.specs.Refusals.{IsShortage, IsStop};
+ghost use Rattle.resolver_encoding.specs.Turns.{AddsPlainly};
 
 use super::Encoding;
 use resolver_clause_store::{
@@ -19,7 +20,7 @@ impl<N: Copy + Eq + Hash + Drop, S: Copy + Eq + Hash + Drop> Encoding<N, S> {
     ghost use Rattle.resolver_encoding.specs.Notes.{IsBounded, notes_in};
 
     /// Forbids a listed candidate of a package where another one is locked, unless it is exempt.
-    fn lock_out<D: DependencyProvider<NameId = N, SolvableId = S>>(
+    pub(super) fn lock_out<D: DependencyProvider<NameId = N, SolvableId = S>>(
         &mut self,
         provider: &D,
         name: N,
@@ -31,7 +32,8 @@ impl<N: Copy + Eq + Hash + Drop, S: Copy + Eq + Hash + Drop> Encoding<N, S> {
         requires lock { ((D.universe provider.now).package_named name).locked ≡ Some locked }
         requires listed { Contains ((D.universe provider.now).package_named name).listed candidate }
         ensures bounded { IsBounded self.new }
-        ensures step { OnOk result (IsStepWhile (D.universe provider.now) (asking_for name) (λ root. ⊤) (notes_in self.old) (notes_in self.new)) }
+        ensures step { OnOk result ((doing : Doing N S) → Contains (doing.asking ++ (notes_in self.old).asked) name → IsStepWhile (D.universe provider.now) doing (λ root. ⊤) (notes_in self.old) (notes_in self.new)) }
+        ensures plain { OnOk result (AddsPlainly (notes_in self.old) (notes_in self.new)) }
         ensures forbidden { OnOk result (candidate ≢ locked → (Contains (notes_in self.old).exempt candidate → ⊥) → Contains (notes_in self.new).kinds (LockKind locked candidate)) }
         ensures asked { OnOk result ((notes_in self.new).asked ≡ (notes_in self.old).asked) }
         ensures limits { KeepsLimits (notes_in self.old) (notes_in self.new) }
@@ -80,7 +82,7 @@ impl<N: Copy + Eq + Hash + Drop, S: Copy + Eq + Hash + Drop> Encoding<N, S> {
     }
 
     /// Forbids a solvable that its package excludes, unless it is exempt.
-    fn exclude<D: DependencyProvider<NameId = N, SolvableId = S>>(
+    pub(super) fn exclude<D: DependencyProvider<NameId = N, SolvableId = S>>(
         &mut self,
         provider: &D,
         name: N,
@@ -91,7 +93,8 @@ impl<N: Copy + Eq + Hash + Drop, S: Copy + Eq + Hash + Drop> Encoding<N, S> {
         requires named { (D.universe provider.now).name solvable ≡ name }
         requires excluded { Contains ((D.universe provider.now).package_named name).excluded (solvable, reason) }
         ensures bounded { IsBounded self.new }
-        ensures step { OnOk result (IsStepWhile (D.universe provider.now) (asking_for name) (λ root. ⊤) (notes_in self.old) (notes_in self.new)) }
+        ensures step { OnOk result ((doing : Doing N S) → Contains (doing.asking ++ (notes_in self.old).asked) name → IsStepWhile (D.universe provider.now) doing (λ root. ⊤) (notes_in self.old) (notes_in self.new)) }
+        ensures plain { OnOk result (AddsPlainly (notes_in self.old) (notes_in self.new)) }
         ensures forbidden { OnOk result ((Contains (notes_in self.old).exempt solvable → ⊥) → Contains (notes_in self.new).kinds (ExcludedKind solvable reason)) }
         ensures asked { OnOk result ((notes_in self.new).asked ≡ (notes_in self.old).asked) }
         ensures limits { KeepsLimits (notes_in self.old) (notes_in self.new) }
@@ -138,7 +141,7 @@ impl<N: Copy + Eq + Hash + Drop, S: Copy + Eq + Hash + Drop> Encoding<N, S> {
         requires is_true { IsTrueCache (D.universe provider.now) cache.old }
         ensures bounded { IsBounded self.new }
         ensures is_true { IsTrueCache (D.universe provider.now) cache.new }
-        ensures step { OnOk result (IsAskStep (D.universe provider.now) (λ n. name ≡ n) (λ root. ⊤) (notes_in self.old) (notes_in self.new)) }
+        ensures step { OnOk result (IsAskStep (D.universe provider.now) (IsAsking name) (λ root. ⊤) (notes_in self.old) (notes_in self.new)) }
         ensures asked { OnOk result (Contains (notes_in self.new).asked name) }
         ensures limits { KeepsLimits (notes_in self.old) (notes_in self.new) }
         ensures refusal { IfErr result (IsStop (D.may_cancel provider.now) (IsFull (notes_in self.new))) }
@@ -165,7 +168,7 @@ impl<N: Copy + Eq + Hash + Drop, S: Copy + Eq + Hash + Drop> Encoding<N, S> {
         requires is_true { IsTrueCache (D.universe provider.now) cache.old }
         ensures bounded { IsBounded self.new }
         ensures is_true { IsTrueCache (D.universe provider.now) cache.new }
-        ensures step { OnOk result (IsAskStep (D.universe provider.now) (IsNamedIn (D.universe provider.now) named.now) (λ root. ⊤) (notes_in self.old) (notes_in self.new)) }
+        ensures step { OnOk result (IsAskStep (D.universe provider.now) (IsNamedBy (D.universe provider.now) named.now) (λ root. ⊤) (notes_in self.old) (notes_in self.new)) }
         ensures asked { OnOk result (All (λ v. Contains (notes_in self.new).asked ((D.universe provider.now).version_set_name v)) named.now) }
         ensures limits { KeepsLimits (notes_in self.old) (notes_in self.new) }
         ensures refusal { IfErr result (IsStop (D.may_cancel provider.now) (IsFull (notes_in self.new))) }
@@ -187,7 +190,7 @@ impl<N: Copy + Eq + Hash + Drop, S: Copy + Eq + Hash + Drop> Encoding<N, S> {
         requires is_true { IsTrueCache (D.universe provider.now) cache.old }
         ensures bounded { IsBounded self.new }
         ensures is_true { IsTrueCache (D.universe provider.now) cache.new }
-        ensures step { OnOk result (IsAskStep (D.universe provider.now) (IsNamedIn (D.universe provider.now) (version_sets (D.universe provider.now) requirement)) (λ root. ⊤) (notes_in self.old) (notes_in self.new)) }
+        ensures step { OnOk result (IsAskStep (D.universe provider.now) (IsNamedBy (D.universe provider.now) (version_sets (D.universe provider.now) requirement)) (λ root. ⊤) (notes_in self.old) (notes_in self.new)) }
         ensures asked { OnOk result (All (λ v. Contains (notes_in self.new).asked ((D.universe provider.now).version_set_name v)) (version_sets (D.universe provider.now) requirement)) }
         ensures limits { KeepsLimits (notes_in self.old) (notes_in self.new) }
         ensures refusal { IfErr result (IsStop (D.may_cancel provider.now) (IsFull (notes_in self.new))) }

@@ -6,6 +6,7 @@ ghost use Rattle.resolver_clause_store.specs.Candidates.{others};
 ghost use Rattle.resolver_clause_store.specs.Laws.{IsIdentity};
 ghost use Rattle.resolver_clause_store.specs.declared.By.TheVariants.{Solvable as BySolvable};
 ghost use Rattle.resolver_clause_store.specs.declared.ClauseKind.TheVariants.{Constrains as ConstrainsKind, ConstrainsExcluded as ExcludedKind, ConstrainsParent as ParentKind};
+ghost use Rattle.resolver_encoding.specs.Called.{IsAsking};
 ghost use Rattle.resolver_encoding.specs.Encodings.{AsksWithin, IsAskStep, IsConstraintRead, IsEncodingOf, IsFull, IsStep, KeepsLimits};
 ghost use Rattle.resolver_encoding.specs.Refusals.{IsShortage, IsStop};
 
@@ -241,7 +242,7 @@ impl<N: Copy + Eq + Hash + Drop, S: Copy + Eq + Hash + Drop> Encoding<N, S> {
         requires encoding { IsEncodingOf (D.universe provider.now) (AsksWithin (D.universe provider.now) by version_set) (notes_in self.old) }
         ensures bounded { IsBounded self.new }
         ensures is_true { IsTrueCache (D.universe provider.now) cache.new }
-        ensures step { OnOk result (IsAskStep (D.universe provider.now) (λ n. (D.universe provider.now).version_set_name version_set ≡ n) (AsksWithin (D.universe provider.now) by version_set) (notes_in self.old) (notes_in self.new)) }
+        ensures step { OnOk result (IsAskStep (D.universe provider.now) (IsAsking ((D.universe provider.now).version_set_name version_set)) (AsksWithin (D.universe provider.now) by version_set) (notes_in self.old) (notes_in self.new)) }
         ensures read { OnOk result (IsConstraintRead (D.universe provider.now) (notes_in self.new).kinds by version_set) }
         ensures asked { OnOk result (Contains (notes_in self.new).asked ((D.universe provider.now).version_set_name version_set)) }
         ensures limits { KeepsLimits (notes_in self.old) (notes_in self.new) }

@@ -1,16 +1,18 @@
 //! All that can be needed.
 
-ghost use Rattle.std.specs.Prelude.{◌≡◌, ◌≢◌, ◌⊎◌, ◌<◌, ◌≤◌, ◌^◌, [], ◌∷◌, All, Contains, IfErr, IfOk, MatchBool, OnOk, Some, drop, length, map, take, ⊤};
+ghost use Rattle.std.specs.Prelude.{◌≡◌, ◌≢◌, ◌⊎◌, ◌<◌, ◌≤◌, ◌^◌, [], ◌∷◌, All, Contains, IfErr, IfOk, List, MatchBool, OnOk, Some, drop, length, map, take, ⊤};
 ghost use Rattle.resolver_clause_store.specs.Caches.{IsTrueCache};
 ghost use Rattle.resolver_clause_store.specs.Universe.{Demands, unknown};
+ghost use Rattle.resolver_clause_store.specs.Near.{IsNear};
 ghost use Rattle.resolver_clause_store.specs.Valid.{demands_of};
 ghost use Rattle.resolver_clause_store.specs.declared.By.TheVariants.{Solvable as BySolvable};
 ghost use Rattle.resolver_clause_store.specs.declared.ClauseKind.TheVariants.{Excluded as ExcludedKind};
 ghost use Rattle.resolver_clause_store.specs.declared.ConditionalRequirement.{ConditionalRequirement};
 ghost use Rattle.resolver_clause_store.specs.declared.Origin.TheVariants.{Solvable as SolvableOrigin};
 ghost use Rattle.resolver_report.specs.TrueRules.{demands_by};
-ghost use Rattle.resolver_encoding.specs.Called.{AreAsked, IsCalledByEach, IsCalledFor, IsDemanded, IsNamedIn, IsPlainlyNamed};
+ghost use Rattle.resolver_encoding.specs.Called.{AreAsked, IsCalledByEach, IsCalledFor, IsDemanded, IsNamedBy, IsPlainlyNamed};
 ghost use Rattle.resolver_encoding.specs.Encodings.{AreDemandsRead, AreNeedsRead, AsksFor, AsksWithin, IsAskStep, IsConstraintRead, IsEncoding, IsEncodingOf, IsFull, IsLeft, IsReadStep, IsStep, IsUnmet, IsUnread, KeepsLimits};
+ghost use Rattle.resolver_encoding.specs.Reach.{AreNear};
 ghost use Rattle.resolver_encoding.specs.ReadState.{IsReadRequirement};
 ghost use Rattle.resolver_encoding.specs.Refusals.{IsShortage, IsStop};
 ghost use Rattle.resolver_encoding.specs.SoFar.{HasRead, IsBare, IsHalfReading, IsMoreOrSame, IsProgress, IsReadMore, IsReadSoFar, IsReading, IsReadingOf, progress_by};
@@ -143,7 +145,7 @@ impl<N: Copy + Eq + Hash + Drop, S: Copy + Eq + Hash + Drop> Encoding<N, S> {
         requires encoding { IsEncodingOf (D.universe provider.now) (λ root. All (λ v. AsksWithin (D.universe provider.now) by v root) constraints.now) (notes_in self.old) }
         ensures bounded { IsBounded self.new }
         ensures is_true { IsTrueCache (D.universe provider.now) cache.new }
-        ensures step { OnOk result (IsAskStep (D.universe provider.now) (IsNamedIn (D.universe provider.now) constraints.now) (λ root. All (λ v. AsksWithin (D.universe provider.now) by v root) constraints.now) (notes_in self.old) (notes_in self.new)) }
+        ensures step { OnOk result (IsAskStep (D.universe provider.now) (IsNamedBy (D.universe provider.now) constraints.now) (λ root. All (λ v. AsksWithin (D.universe provider.now) by v root) constraints.now) (notes_in self.old) (notes_in self.new)) }
         ensures read { OnOk result (All (IsConstraintRead (D.universe provider.now) (notes_in self.new).kinds by) constraints.now) }
         ensures asked { OnOk result (All (λ v. Contains (notes_in self.new).asked ((D.universe provider.now).version_set_name v)) constraints.now) }
         ensures limits { KeepsLimits (notes_in self.old) (notes_in self.new) }
@@ -320,6 +322,7 @@ impl<N: Copy + Eq + Hash + Drop, S: Copy + Eq + Hash + Drop> Encoding<N, S> {
         ensures is_true { IsTrueCache (D.universe provider.now) cache.new }
         ensures read { OnOk result (IsReadSoFar (D.universe provider.now) (record { requirements = requirements.now; constraints = constraints.now }) [] (notes_in self.new)) }
         ensures asked { OnOk result (AreAsked (IsCalledFor (D.universe provider.now) (record { requirements = requirements.now; constraints = constraints.now }) [] []) [] (notes_in self.new).asked) }
+        ensures near { OnOk result ((seeds : List S) → AreNear (D.universe provider.now) (record { requirements = requirements.now; constraints = constraints.now }) seeds (notes_in self.new)) }
         ensures none_read { OnOk result ((notes_in self.new).read ≡ []) }
         ensures exempt { OnOk result ((notes_in self.new).exempt ≡ (notes_in self.old).exempt) }
         ensures limits { KeepsLimits (notes_in self.old) (notes_in self.new) }
@@ -351,6 +354,7 @@ impl<N: Copy + Eq + Hash + Drop, S: Copy + Eq + Hash + Drop> Encoding<N, S> {
         ensures is_true { IsTrueCache (D.universe provider.now) cache.new }
         ensures read { OnOk result ((root : Demands) → IsReadSoFar (D.universe provider.now) root (take from chosen.now.keys) (notes_in self.old) → IsReadSoFar (D.universe provider.now) root chosen.now.keys (notes_in self.new)) }
         ensures asked { OnOk result ((root : Demands) → IsReadSoFar (D.universe provider.now) root (take from chosen.now.keys) (notes_in self.old) → AreAsked (IsCalledFor (D.universe provider.now) root (notes_in self.new).read chosen.now.keys) (notes_in self.old).asked (notes_in self.new).asked) }
+        ensures near { OnOk result ((root : Demands) (seeds : List S) → IsReadSoFar (D.universe provider.now) root (take from chosen.now.keys) (notes_in self.old) → AreNear (D.universe provider.now) root seeds (notes_in self.old) → All (IsNear (D.universe provider.now) root seeds) chosen.now.keys → AreNear (D.universe provider.now) root seeds (notes_in self.new)) }
         ensures more { OnOk result (IsReadMore (D.universe provider.now) chosen.now.keys (notes_in self.old) (notes_in self.new)) }
         ensures progress { IfOk result (IsProgress (notes_in self.old) (notes_in self.new)) }
         ensures fit { OnOk result (length (notes_in self.new).read ≤ (notes_in self.new).variable_limit) }

@@ -7,7 +7,7 @@ ghost use Rattle.resolver_clause_store.specs.Variables.{AreDistinct};
 ghost use Rattle.resolver_clause_store.specs.declared.By.TheVariants.{Solvable as BySolvable};
 ghost use Rattle.resolver_clause_store.specs.declared.ClauseKind.TheVariants.{Requires as RequiresKind};
 ghost use Rattle.resolver_encoding.specs.Atoms.{atoms_of};
-ghost use Rattle.resolver_encoding.specs.Called.{IsCalledBy, IsNamedIn};
+ghost use Rattle.resolver_encoding.specs.Called.{IsCalledBy, IsWantedBy};
 ghost use Rattle.resolver_encoding.specs.Encodings.{AddsRequirement, AreDisjuncts, AsksFor, IsAskStep, IsDisjunctOf, IsDisjunctRead, IsEncodingOf, IsFull, IsLeft, IsReadStep, IsStep, IsTrueUnder, IsUnmet, KeepsLimits};
 ghost use Rattle.resolver_encoding.specs.ReadState.{HasClause, IsReadRequirement};
 ghost use Rattle.resolver_encoding.specs.Refusals.{IsShortage, IsStop};
@@ -141,7 +141,7 @@ impl<N: Copy + Eq + Hash + Drop, S: Copy + Eq + Hash + Drop> Encoding<N, S> {
         ensures is_true { IsTrueCache (D.universe provider.now) cache.new }
         ensures candidates { IfOk result (λ choices. choices.candidates.items ≡ candidates_of (D.universe provider.now) requirement) }
         ensures small { IfOk result (λ choices. All (λ n. n < 2 ^ 63) choices.counts.items) }
-        ensures step { OnOk result (IsAskStep (D.universe provider.now) (IsNamedIn (D.universe provider.now) (version_sets (D.universe provider.now) requirement)) (λ root. ⊤) (notes_in self.old) (notes_in self.new)) }
+        ensures step { OnOk result (IsAskStep (D.universe provider.now) (IsWantedBy (D.universe provider.now) requirement) (λ root. ⊤) (notes_in self.old) (notes_in self.new)) }
         ensures asked { OnOk result (All (λ v. Contains (notes_in self.new).asked ((D.universe provider.now).version_set_name v)) (version_sets (D.universe provider.now) requirement)) }
         ensures seen { IfOk result (λ choices. All (Contains (notes_in self.new).seen) choices.candidates.items) }
         ensures limits { KeepsLimits (notes_in self.old) (notes_in self.new) }
@@ -167,7 +167,7 @@ impl<N: Copy + Eq + Hash + Drop, S: Copy + Eq + Hash + Drop> Encoding<N, S> {
         requires once { AreDistinct disjunct.items }
         ensures bounded { IsBounded self.new }
         ensures is_true { IsTrueCache (D.universe provider.now) cache.new }
-        ensures step { OnOk result (IsAskStep (D.universe provider.now) (IsNamedIn (D.universe provider.now) (version_sets (D.universe provider.now) requirement)) (IsTrueUnder (D.universe provider.now) by disjunct.items requirement) (notes_in self.old) (notes_in self.new)) }
+        ensures step { OnOk result (IsAskStep (D.universe provider.now) (IsWantedBy (D.universe provider.now) requirement) (IsTrueUnder (D.universe provider.now) by disjunct.items requirement) (notes_in self.old) (notes_in self.new)) }
         ensures read { OnOk result (HasClause (notes_in self.new).kinds by disjunct.items requirement) }
         ensures limits { KeepsLimits (notes_in self.old) (notes_in self.new) }
         ensures refusal { IfErr result (IsStop (D.may_cancel provider.now) (IsFull (notes_in self.new))) }
@@ -269,7 +269,7 @@ impl<N: Copy + Eq + Hash + Drop, S: Copy + Eq + Hash + Drop> Encoding<N, S> {
         requires encoding { IsEncodingOf (D.universe provider.now) (AsksFor (D.universe provider.now) (BySolvable requirer) (record { condition = None; requirement = requirement })) (notes_in self.old) }
         ensures bounded { IsBounded self.new }
         ensures is_true { IsTrueCache (D.universe provider.now) cache.new }
-        ensures step { OnOk result (IsAskStep (D.universe provider.now) (IsNamedIn (D.universe provider.now) (version_sets (D.universe provider.now) requirement)) (AsksFor (D.universe provider.now) (BySolvable requirer) (record { condition = None; requirement = requirement })) (notes_in self.old) (notes_in self.new)) }
+        ensures step { OnOk result (IsAskStep (D.universe provider.now) (IsWantedBy (D.universe provider.now) requirement) (AsksFor (D.universe provider.now) (BySolvable requirer) (record { condition = None; requirement = requirement })) (notes_in self.old) (notes_in self.new)) }
         ensures read { OnOk result (HasClause (notes_in self.new).kinds (BySolvable requirer) [] requirement) }
         ensures limits { KeepsLimits (notes_in self.old) (notes_in self.new) }
         ensures refusal { IfErr result (IsStop (D.may_cancel provider.now) (IsFull (notes_in self.new))) }

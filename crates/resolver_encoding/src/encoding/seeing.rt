@@ -1,9 +1,10 @@
 //! Candidates that are met.
 
-ghost use Rattle.std.specs.Prelude.{◌≡◌, ◌<◌, ◌≤◌, ◌^◌, ℕ, All, Contains, IfErr, OnOk, Some, false, slice_get, ⊤};
+ghost use Rattle.std.specs.Prelude.{◌≡◌, ◌⊎◌, ◌<◌, ◌≤◌, ◌^◌, ℕ, All, Contains, IfErr, OnOk, Some, false, slice_get, ⊤};
 ghost use Rattle.resolver_clause_store.specs.declared.ClauseKind.TheVariants.{HasBit as HasBitKind};
+ghost use Rattle.resolver_encoding.specs.Called.{IsSeeing, IsSeeingEach};
 ghost use Rattle.resolver_encoding.specs.Codes.{bit};
-ghost use Rattle.resolver_encoding.specs.Encodings.{IsFull, IsStep, IsStepWhile, KeepsLimits, coding_for};
+ghost use Rattle.resolver_encoding.specs.Encodings.{IsAskStep, IsFull, IsStepWhile, KeepsLimits, coding_for};
 ghost use Rattle.resolver_encoding.specs.Groups.{AreGroups, IsAt};
 ghost use Rattle.resolver_encoding.specs.Refusals.{IsShortage};
 
@@ -36,6 +37,7 @@ impl<N: Copy + Eq + Hash + Drop, S: Copy + Eq + Hash + Drop> Encoding<N, S> {
         ensures begun { OnOk result (All (λ t. Contains (notes_in self.new).kinds (HasBitKind name t index false)) earlier.now) }
         ensures groups { OnOk result ((notes_in self.new).groups ≡ (notes_in self.old).groups) }
         ensures seen { OnOk result ((notes_in self.new).seen ≡ (notes_in self.old).seen) }
+        ensures requirements { OnOk result ((notes_in self.new).requirements ≡ (notes_in self.old).requirements) }
         ensures limits { KeepsLimits (notes_in self.old) (notes_in self.new) }
         ensures refusal { IfErr result (IsShortage (IsFull (notes_in self.new))) }
     {
@@ -68,6 +70,7 @@ impl<N: Copy + Eq + Hash + Drop, S: Copy + Eq + Hash + Drop> Encoding<N, S> {
         ensures begun { OnOk result ((i : ℕ) → number ≡ 2 ^ i → AreGroups (notes_in self.old).groups → (k : ℕ) (t : S) → IsAt (notes_in self.old).groups name k t → Contains (notes_in self.new).kinds (HasBitKind name t i (bit k i))) }
         ensures groups { OnOk result ((notes_in self.new).groups ≡ (notes_in self.old).groups) }
         ensures seen { OnOk result ((notes_in self.new).seen ≡ (notes_in self.old).seen) }
+        ensures requirements { OnOk result ((notes_in self.new).requirements ≡ (notes_in self.old).requirements) }
         ensures limits { KeepsLimits (notes_in self.old) (notes_in self.new) }
         ensures refusal { IfErr result (IsShortage (IsFull (notes_in self.new))) }
     {
@@ -96,6 +99,7 @@ impl<N: Copy + Eq + Hash + Drop, S: Copy + Eq + Hash + Drop> Encoding<N, S> {
         ensures code { OnOk result ((i : ℕ) → 2 ^ i ≤ number → Contains (notes_in self.new).kinds (HasBitKind name solvable i (bit number i))) }
         ensures groups { OnOk result ((notes_in self.new).groups ≡ (notes_in self.old).groups) }
         ensures seen { OnOk result ((notes_in self.new).seen ≡ (notes_in self.old).seen) }
+        ensures requirements { OnOk result ((notes_in self.new).requirements ≡ (notes_in self.old).requirements) }
         ensures limits { KeepsLimits (notes_in self.old) (notes_in self.new) }
         ensures refusal { IfErr result (IsShortage (IsFull (notes_in self.new))) }
     {
@@ -115,15 +119,18 @@ impl<N: Copy + Eq + Hash + Drop, S: Copy + Eq + Hash + Drop> Encoding<N, S> {
     }
 
     /// Registers a candidate, and notes that it is to be read, if that is new.
-    fn see<D: DependencyProvider<NameId = N, SolvableId = S>>(
+    pub(super) fn see<D: DependencyProvider<NameId = N, SolvableId = S>>(
         &mut self,
         provider: &D,
         solvable: S,
     ) -> Result<(), Exhausted>
         requires bounded { IsBounded self.old }
         ensures bounded { IsBounded self.new }
-        ensures step { OnOk result (IsStep (D.universe provider.now) (λ root. ⊤) (notes_in self.old) (notes_in self.new)) }
+        ensures step { OnOk result (IsAskStep (D.universe provider.now) (IsSeeing solvable) (λ root. ⊤) (notes_in self.old) (notes_in self.new)) }
         ensures seen { OnOk result (Contains (notes_in self.new).seen solvable) }
+        ensures asked { OnOk result ((notes_in self.new).asked ≡ (notes_in self.old).asked) }
+        ensures only { OnOk result ((t : S) → Contains (notes_in self.new).seen t → Contains (notes_in self.old).seen t ⊎ (t ≡ solvable)) }
+        ensures requirements { OnOk result ((notes_in self.new).requirements ≡ (notes_in self.old).requirements) }
         ensures limits { KeepsLimits (notes_in self.old) (notes_in self.new) }
         ensures refusal { IfErr result (IsShortage (IsFull (notes_in self.new))) }
     {
@@ -148,7 +155,7 @@ impl<N: Copy + Eq + Hash + Drop, S: Copy + Eq + Hash + Drop> Encoding<N, S> {
     ) -> Result<(), Exhausted>
         requires bounded { IsBounded self.old }
         ensures bounded { IsBounded self.new }
-        ensures step { OnOk result (IsStep (D.universe provider.now) (λ root. ⊤) (notes_in self.old) (notes_in self.new)) }
+        ensures step { OnOk result (IsAskStep (D.universe provider.now) (IsSeeingEach candidates.now) (λ root. ⊤) (notes_in self.old) (notes_in self.new)) }
         ensures seen { OnOk result (All (Contains (notes_in self.new).seen) candidates.now) }
         ensures limits { KeepsLimits (notes_in self.old) (notes_in self.new) }
         ensures refusal { IfErr result (IsShortage (IsFull (notes_in self.new))) }

@@ -1,5 +1,7 @@
 //! Clauses of small problems, worked out by hand.
 
+mod turns;
+
 ghost use Rattle.std.specs.Prelude.{◌≡◌, ◌≤◌, ◌^◌, [], All, Contains, IfErr, IfOk, OnOk};
 ghost use Rattle.resolver_clause_store.specs.Caches.{IsTrueCache};
 ghost use Rattle.resolver_clause_store.specs.Laws.{IsIdentity};

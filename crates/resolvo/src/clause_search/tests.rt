@@ -1,9 +1,9 @@
 //! What searches over clauses find.
 
-ghost use Rattle.std.specs.Prelude.{◌<◌, All, IfOk, IfSome, IsTrue};
+ghost use Rattle.std.specs.Prelude.{◌<◌, ◌≡◌, All, IfOk, IfSome, IsTrue};
 ghost use Rattle.resolver_clause_store.specs.Formula.{AreBelow, IsBelow};
 ghost use Rattle.resolver_clause_store.specs.declared.RequirementClause.{RequirementClause};
-ghost use Rattle.resolvo.specs.ClauseSearches.{IsConsistent};
+ghost use Rattle.resolvo.specs.ClauseSearches.{IsConsistent, base_of};
 
 use super::*;
 use crate::test_provider::TestProvider;
@@ -158,6 +158,7 @@ fn finishes(alloc: Global, search: &mut ClauseSearch) -> bool
     match search.run(alloc, &provider(alloc, 0), 100, 100) {
         Ok(Outcome::Finished) => true,
         Ok(Outcome::Contradiction(_)) => false,
+        Ok(Outcome::Refused) => false,
         Err(_) => false,
     }
 }
@@ -169,6 +170,7 @@ fn core_of(alloc: Global, search: &mut ClauseSearch) -> Option<Vec<usize>>
     match search.run(alloc, &provider(alloc, 0), 100, 100) {
         Ok(Outcome::Finished) => None,
         Ok(Outcome::Contradiction(core)) => Some(core),
+        Ok(Outcome::Refused) => None,
         Err(_) => None,
     }
 }
@@ -312,6 +314,7 @@ fn random_clauses_agree_with_trying_all_values(rt: HostRuntime) -> Result<(), Fa
                     contradictions = contradictions.wrapping_add(1);
                     found = Some(false);
                 }
+                Ok(Outcome::Refused) => (),
                 Err(_why) => (),
             }
         }
@@ -590,5 +593,202 @@ fn each_propagation_may_be_cancelled(rt: HostRuntime) -> Result<(), Fail> {
     assert_eq!(rt; is_cancelled(rt.alloc(), 1)?, Some(true));
     assert_eq!(rt; is_cancelled(rt.alloc(), 2)?, Some(true));
     assert_eq!(rt; is_cancelled(rt.alloc(), 3)?, Some(false));
+    Ok(())
+}
+
+/// Marks the trail and assumes a literal, unless its variable has a value or is none of the trail's.
+fn assumes(search: &mut ClauseSearch, wanted: Literal) -> Result<bool, AllocError>
+    requires { IsConsistent search.old }
+    ensures consistent { IfOk result (λ assumed. IsConsistent search.new) }
+    ensures base { IfOk result (λ assumed. IsTrue assumed → 0 < base_of search.new) }
+{
+    if search.trail().variable_count() <= wanted.variable.index() {
+        return Ok(false);
+    }
+    if search.trail().slot(wanted.variable).is_some() {
+        return Ok(false);
+    }
+    search.mark();
+    search.assume(wanted)?;
+    Ok(true)
+}
+
+/// What a run in a turn ends with: whether what was assumed is accepted.
+fn is_accepted(alloc: Global, search: &mut ClauseSearch) -> Option<bool>
+    requires { IsConsistent search.old }
+    ensures consistent { IfSome result (λ accepted. IsConsistent search.new) }
+    ensures base { IfSome result (λ accepted. base_of search.new ≡ base_of search.old) }
+{
+    match search.run(alloc, &provider(alloc, 0), 100, 100) {
+        Ok(Outcome::Finished) => Some(true),
+        Ok(Outcome::Refused) => Some(false),
+        Ok(Outcome::Contradiction(_)) => None,
+        Err(_) => None,
+    }
+}
+
+/// One turn: whether the literal is accepted. Where it is refused, it is assumed to be false.
+fn takes(alloc: Global, search: &mut ClauseSearch, number: i32) -> Result<Option<bool>, AllocError>
+    requires { IsConsistent search.old }
+    ensures { IfOk result (λ accepted. IfSome accepted (λ _. IsConsistent search.new)) }
+{
+    let wanted = literal(number);
+    if !assumes(search, wanted)? {
+        return Ok(None);
+    }
+    match is_accepted(alloc, search) {
+        Some(true) => Ok(Some(true)),
+        Some(false) => {
+            search.retract();
+            let refused = Literal {
+                variable: wanted.variable,
+                positive: !wanted.positive,
+            };
+            if assumes(search, refused)? {
+                return Ok(Some(false));
+            }
+            Ok(None)
+        }
+        None => Ok(None),
+    }
+}
+
+/// Whether what two turns assumed was accepted, and the slots of three variables after them.
+type Turns = (bool, Option<bool>, Option<Slot>, Option<Slot>, Option<Slot>);
+
+/// What two turns, with these literals, accept over clauses of 8 variables, and the slots of three variables then.
+fn two_turns(
+    alloc: Global,
+    clauses: &[&[i32]],
+    first: i32,
+    second: i32,
+    watched: (i32, i32, i32),
+) -> Result<Option<Turns>, AllocError> {
+    let mut table = Vec::new(alloc);
+    for numbers in clauses {
+        add(alloc, &mut table, numbers)?;
+    }
+    match search_of(alloc, table, 8)? {
+        Some(mut search) => {
+            if !finishes(alloc, &mut search) {
+                return Ok(None);
+            }
+            match takes(alloc, &mut search, first)? {
+                Some(one) => {
+                    let two = takes(alloc, &mut search, second)?;
+                    Ok(Some((
+                        one,
+                        two,
+                        slot_of(&search, watched.0),
+                        slot_of(&search, watched.1),
+                        slot_of(&search, watched.2),
+                    )))
+                }
+                None => Ok(None),
+            }
+        }
+        None => Ok(None),
+    }
+}
+
+fn assumed(value: bool, level: usize, place: usize) -> Option<Slot> {
+    Some(Slot {
+        value,
+        level,
+        place,
+        reason: Reason::Assumed,
+    })
+}
+
+fn forced(value: bool, level: usize, place: usize, number: usize) -> Option<Slot> {
+    Some(Slot {
+        value,
+        level,
+        place,
+        reason: Reason::Forced(number),
+    })
+}
+
+#[test]
+fn a_refused_assumption_is_taken_back_and_assumed_false(rt: HostRuntime) -> Result<(), Fail> {
+    let turns = two_turns(rt.alloc(), &[&[-1, 2], &[-1, -2]], 1, 3, (1, 2, 3))?;
+    assert_eq!(rt;
+        turns,
+        Some((
+            false,
+            Some(true),
+            assumed(false, 1, 0),
+            None,
+            assumed(true, 2, 1)
+        ))
+    );
+    Ok(())
+}
+
+#[test]
+fn an_accepted_assumption_stays_where_the_next_one_is_refused(rt: HostRuntime) -> Result<(), Fail> {
+    let turns = two_turns(rt.alloc(), &[&[-1, -2, 3], &[-1, -2, -3]], 1, 2, (1, 2, 3))?;
+    assert_eq!(rt;
+        turns,
+        Some((
+            true,
+            Some(false),
+            assumed(true, 1, 0),
+            assumed(false, 2, 1),
+            None
+        ))
+    );
+    Ok(())
+}
+
+#[test]
+fn a_jump_stops_where_the_turn_began(rt: HostRuntime) -> Result<(), Fail> {
+    let turns = two_turns(
+        rt.alloc(),
+        &[&[-2, 3, 4], &[-3, 5], &[-3, -5]],
+        1,
+        2,
+        (1, 2, 3),
+    )?;
+    assert_eq!(rt;
+        turns,
+        Some((
+            true,
+            Some(true),
+            assumed(true, 1, 0),
+            assumed(true, 2, 1),
+            forced(false, 2, 2, 3)
+        ))
+    );
+    Ok(())
+}
+
+#[test]
+fn what_an_accepted_assumption_needs_stays_where_the_next_turn_has_a_conflict(
+    rt: HostRuntime,
+) -> Result<(), Fail> {
+    let turns = two_turns(
+        rt.alloc(),
+        &[&[-1, 6, 7], &[-2, 3, 4], &[-3, 5], &[-3, -5]],
+        1,
+        2,
+        (1, 6, 3),
+    )?;
+    let needed = Slot {
+        value: true,
+        level: 2,
+        place: 1,
+        reason: Reason::Decided(0),
+    };
+    assert_eq!(rt;
+        turns,
+        Some((
+            true,
+            Some(true),
+            assumed(true, 1, 0),
+            Some(needed),
+            forced(false, 3, 3, 4)
+        ))
+    );
     Ok(())
 }

@@ -99,7 +99,8 @@ fn a_disjunct_that_holds_is_taken_out(rt: HostRuntime) -> Result<(), Fail> {
 
 #[test]
 fn of_two_disjuncts_with_a_version_set_in_common_one_may_hold(rt: HostRuntime) -> Result<(), Fail> {
-    let input = "package p=1\npackage c=1\npackage e=1\npackage x=1\nrequires p=1 x if c and ( e or c )\nrequire p\nrequire c\n";
+    let input =
+        "package p=1\npackage c=1\npackage e=1\npackage x=1\nrequires p=1 x if c and ( e or c )\nrequire p\nrequire c\n";
     let (_, deferred, chosen) = count_deferred(rt.alloc(), input)?;
     assert_eq!(rt; deferred, 1);
     assert_eq!(rt;

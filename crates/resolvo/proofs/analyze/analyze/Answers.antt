@@ -1,5 +1,6 @@
 use Rattle.std.proofs.Common.{arith, ◌<◌}
 use Rattle.resolvo.proofs.NegationLemmas.{learnt-follows}
+use Rattle.resolvo.proofs.DrawnLemmas.{drawn-learnt}
 use Rattle.resolvo.proofs.LevelLemmas.{asserting}
 use Rattle.resolvo.proofs.analyze.analyze.Goals as goal
 
@@ -12,6 +13,7 @@ returns c =
     record {
       within = resolvent.within;
       follows = learnt-follows _ _ _ _ _ resolvent.refutes negates;
+      drawn = drawn-learnt _ _ _ _ _ resolvent.drawn negates;
       falsified = negates.falsified;
       asserting = asserting _ _ _ _ c.resolve_level.new.resolvent.level _ c.variable_at-variable.result single negates some c.negation_of-literal.ensures (rw c.as_slice-2.ensures.value at c.jump_level-jump.ensures.top) (rw c.as_slice-2.ensures.value at c.jump_level-jump.ensures.reached);
     }

@@ -1,6 +1,7 @@
 use Rattle.std.proofs.Common.{rules, arith}
 use Rattle.std.proofs.lemmas.Grind.{elements}
 use Rattle.resolvo.proofs.ResolutionLemmas.{refutes-begin}
+use Rattle.resolvo.proofs.DrawnLemmas.{drawn-begin}
 use Rattle.resolvo.proofs.LevelLemmas.{levelled-begin}
 use Rattle.resolvo.proofs.analyze.begin.Goals as goal
 
@@ -9,6 +10,7 @@ returns-clause-resolvent c = record {
   size = search rules;
   within = rw c.in_ok-causes.ensures.items (λ k d below. grind (arith, elements));
   refutes = rw c.in_ok-causes.ensures.items (refutes-begin _ _ _ _ _ c.requires.conflict.1 (rw c.clause-literals.ensures at c.mark_all.ensures));
+  drawn = rw c.in_ok-causes.ensures.items (drawn-begin _ _ _ _ _ c.requires.conflict.1 c.in_ok-marks.ensures.none (rw c.clause-literals.ensures at c.mark_all.ensures));
 }
 
 pub returns-clause-levelled : goal.returns-clause-levelled

@@ -1,6 +1,7 @@
 use Rattle.std.proofs.Common.{rules, length, ◌<◌, refl}
 use Rattle.std.proofs.lemmas.List.Elements.{All-push}
 use Rattle.resolvo.proofs.ResolutionLemmas.{refutes-resolve}
+use Rattle.resolvo.proofs.DrawnLemmas.{drawn-resolve}
 use Rattle.resolvo.proofs.LevelLemmas.{levelled-resolve}
 use Rattle.resolvo.proofs.analyze.resolve.Goals as goal
 
@@ -9,6 +10,7 @@ returns-clause-resolvent c = record {
   size = search rules;
   within = rw c.in_ok-push.ensures.items (All-push (λ n. n < length c.args.table.now) _ _ c.requires.resolvent.within (c.requires.justified.within _ _ _ c.requires.reason.is c.requires.reason.reason));
   refutes = rw (c.in_ok-push.ensures.items, c.index.ensures) (refutes-resolve _ _ _ _ _ _ _ c.requires.resolvent.refutes c.requires.justified c.requires.reason (rw c.clause-literals.ensures at c.mark_all.ensures));
+  drawn = rw (c.in_ok-push.ensures.items, c.index.ensures) (drawn-resolve _ _ _ _ _ _ _ c.requires.resolvent.drawn c.requires.justified c.requires.reason (rw c.clause-literals.ensures at c.mark_all.ensures));
 }
 
 pub returns-clause-levelled : goal.returns-clause-levelled

@@ -1,6 +1,7 @@
 use Rattle.std.proofs.Common.{◌∙◌}
 use Rattle.resolvo.proofs.JustifiedLemmas.{chosen-extends}
 use Rattle.resolvo.proofs.LoadLemmas.{keeps_extended, keeps_more}
+use Rattle.resolvo.proofs.TurnLemmas.{none-extends, none-trans}
 use Rattle.resolvo.proofs.clause_search.descend.Goals as goal
 
 pub returns-in-Some-clause-chosen : goal.returns-in-Some-clause-chosen
@@ -8,6 +9,12 @@ returns-in-Some-clause-chosen g c = chosen-extends _ _ _ _ c.rounds.invariant.ch
 
 pub returns-in-Some-clause-kept : goal.returns-in-Some-clause-kept
 returns-in-Some-clause-kept g c = keeps_extended _ _ _ _ c.rounds.invariant.kept c.propagate.ensures.extends
+
+pub returns-in-Some-clause-assumed : goal.returns-in-Some-clause-assumed
+returns-in-Some-clause-assumed g c = none-trans _ _ _ c.rounds.invariant.assumed (none-extends _ _ c.propagate.ensures.extends)
+
+pub returns-in-None-clause-assumed : goal.returns-in-None-clause-assumed
+returns-in-None-clause-assumed g c = none-trans _ _ _ c.rounds.invariant.assumed (none-extends _ _ c.propagate.ensures.extends)
 
 pub returns-in-None-clause-chosen : goal.returns-in-None-clause-chosen
 returns-in-None-clause-chosen g c = chosen-extends _ _ _ _ c.rounds.invariant.chosen c.propagate.ensures.extends
@@ -23,4 +30,5 @@ rounds-preserved g c =
       chosen = took.chosen _ c.in-Some-decide.ensures.some (chosen-extends _ _ _ _ c.rounds.invariant.chosen c.propagate.ensures.extends);
       size = took.size ∙ c.propagate.ensures.size ∙ c.rounds.invariant.size;
       kept = keeps_more _ _ _ _ (keeps_extended _ _ _ _ c.rounds.invariant.kept c.propagate.ensures.extends) took.kept;
+      assumed = none-trans _ _ _ (none-trans _ _ _ c.rounds.invariant.assumed (none-extends _ _ c.propagate.ensures.extends)) took.assumed;
     }

@@ -1,5 +1,6 @@
 use Rattle.std.proofs.Common.{◌≡◌}
 use Rattle.resolver_clause_store.specs.TrailView.{KeepsPlaces, length_of, open_count, variable_count}
+use Rattle.resolvo.specs.ClauseSearches.{AssumesNone}
 use Rattle.resolvo.specs.Propagation.{IsJustified, AreChosen}
 use Rattle.resolvo.proofs.clause_search.descend.Given as goal
 
@@ -9,6 +10,7 @@ invariant-rounds g l = record {
   chosen : AreChosen l.table l.requirements l.trail;
   size : variable_count l.trail ≡ variable_count l.initial.trail;
   kept : KeepsPlaces l.initial.trail l.trail (length_of l.initial.trail);
+  assumed : AssumesNone l.initial.trail l.trail;
 }
 
 abbrev pub decreases-rounds : goal.decreases-rounds

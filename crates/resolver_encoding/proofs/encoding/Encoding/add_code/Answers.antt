@@ -14,6 +14,7 @@ loop-index-init g c = record {
   code = λ i below. absurd (omega (arith, below));
   groups = refl;
   seen = refl;
+  requirements = refl;
 }
 
 pub loop-index-preserved : goal.loop-index-preserved
@@ -34,4 +35,5 @@ loop-index-preserved g c =
       code = more_digits old.kinds new.kinds n k s c.loop-index.index c.has_digit-value.result step.kinds before.code c.has_digit-value.ensures (clause_listed u old new _ _ adds);
       groups = ap (λ x. x.groups) adds.is ∙ before.groups;
       seen = ap (λ x. x.seen) adds.is ∙ before.seen;
+      requirements = ap (λ x. x.requirements) adds.is ∙ before.requirements;
     }

@@ -14,4 +14,5 @@ invariant-loop-index g l = record {
   code : (i : ℕ) → i < l.index → Contains (notes_in l.self).kinds (HasBit l.name l.solvable i (bit l.number i));
   groups : (notes_in l.self).groups ≡ (notes_in l.fn.self).groups;
   seen : (notes_in l.self).seen ≡ (notes_in l.fn.self).seen;
+  requirements : (notes_in l.self).requirements ≡ (notes_in l.fn.self).requirements;
 }

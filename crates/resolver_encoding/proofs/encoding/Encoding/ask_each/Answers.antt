@@ -1,7 +1,7 @@
-use Rattle.std.proofs.Common.{arith, ◌≡◌, Contains}
+use Rattle.std.proofs.Common.{arith, Contains}
 use Rattle.std.specs.Prelude.{⊤}
 use Rattle.std.proofs.lemmas.List.Elements.{All-nil}
-use Rattle.resolver_encoding.specs.Called.{IsNamedIn}
+use Rattle.resolver_encoding.specs.Called.{IsAsking, IsNamedBy}
 use Rattle.resolver_encoding.specs.Notes.{notes_in}
 use Rattle.resolver_clause_store.proofs.SetLemmas.{All-done}
 use Rattle.resolver_encoding.proofs.EncodingLemmas.{IsAskStep-same, IsAskStep-trans, IsAskStep-weaker, KeepsLimits-same, KeepsLimits-trans}
@@ -14,7 +14,7 @@ loop-version_set-init g c =
     record {
       bounded = c.requires.bounded;
       limits = KeepsLimits-same _;
-      step = IsAskStep-same u (IsNamedIn u c.args.named.now) (λ root. ⊤) (notes_in c.args.self.now);
+      step = IsAskStep-same u (IsNamedBy u c.args.named.now) (λ root. ⊤) (notes_in c.args.self.now);
       asked = All-nil (λ v. Contains (notes_in c.args.self.now).asked (u.version_set_name v));
       is_true = c.requires.is_true;
     }
@@ -26,8 +26,8 @@ loop-version_set-preserved g c =
     record {
       bounded = c.ask.ensures.bounded;
       limits = KeepsLimits-trans _ _ _ before.limits c.ask.ensures.limits;
-      step = IsAskStep-trans u (IsNamedIn u c.args.named.now) (λ root. ⊤) _ _ _ before.step
-          (IsAskStep-weaker u (λ n. c.version_set_name.result ≡ n) (IsNamedIn u c.args.named.now) (λ n is. named_here u c.args.named.now c.loop-version_set.version_set-index _ _ n (omega arith) c.version_set_name.ensures is) (λ root. ⊤) (λ root. ⊤) (λ root _. tt) _ _ c.in_ok-ask.ensures.step);
+      step = IsAskStep-trans u (IsNamedBy u c.args.named.now) (λ root. ⊤) _ _ _ before.step
+          (IsAskStep-weaker u (IsAsking c.version_set_name.result) (IsNamedBy u c.args.named.now) (λ call is. named_here u c.args.named.now c.loop-version_set.version_set-index _ _ call (omega arith) c.version_set_name.ensures is) (λ root. ⊤) (λ root. ⊤) (λ root _. tt) _ _ c.in_ok-ask.ensures.step);
       asked = All-grown_at (λ v. Contains c.loop-version_set.self.asked.keys (u.version_set_name v)) (λ v. Contains c.ask.new.self.asked.keys (u.version_set_name v)) c.args.named.now c.loop-version_set.version_set-index _ (λ y h. c.in_ok-ask.ensures.step.asked _ h) (omega arith) before.asked (rw c.version_set_name.ensures at c.in_ok-ask.ensures.asked);
       is_true = c.ask.ensures.is_true;
     }

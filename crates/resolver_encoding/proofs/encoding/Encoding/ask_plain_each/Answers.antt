@@ -1,7 +1,7 @@
 use Rattle.std.proofs.Common.{arith, Contains}
 use Rattle.std.specs.Prelude.{⊤}
 use Rattle.resolver_clause_store.specs.declared.ConditionalRequirement.{ConditionalRequirement}
-use Rattle.resolver_encoding.specs.Called.{IsPlainlyNamed}
+use Rattle.resolver_encoding.specs.Called.{Call, IsPlainlyNamed}
 use Rattle.resolver_encoding.specs.Notes.{notes_in}
 use Rattle.resolver_encoding.proofs.EncodingLemmas.{IsAskStep-same, IsAskStep-trans, IsAskStep-weaker, KeepsLimits-same, KeepsLimits-trans}
 use Rattle.resolver_encoding.proofs.RequirementLemmas.{plainly_here}
@@ -23,7 +23,7 @@ loop-requirement-preserved g c =
     let xs = c.args.requirements.now in
     let i = c.loop-requirement.requirement-index in
     let before = c.loop-requirement.invariant in
-    let Called : g.row.N.Denot → Type 0 = λ n. (r : ConditionalRequirement) × Contains xs r × IsPlainlyNamed u r n in
+    let Called : Call g.row.N.Denot g.row.S.Denot → Type 0 = λ n. (r : ConditionalRequirement) × Contains xs r × IsPlainlyNamed u r n in
     record {
       bounded = c.ask_plain.ensures.bounded;
       limits = KeepsLimits-trans _ _ _ before.limits c.ask_plain.ensures.limits;

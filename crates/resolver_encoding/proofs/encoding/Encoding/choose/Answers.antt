@@ -1,22 +1,26 @@
-use Rattle.std.proofs.Common.{sym, subst, All, Contains, List}
+use Rattle.std.proofs.Common.{◌∙◌, subst, All, Contains, List}
 use Rattle.std.specs.Prelude.{⊤}
 use Rattle.std.proofs.lemmas.List.Elements.{All-weaker}
 use Rattle.resolver_clause_store.specs.Candidates.{version_sets}
-use Rattle.resolver_encoding.specs.Called.{IsNamedIn}
+use Rattle.resolver_encoding.specs.Called.{IsNamedBy, IsSeeingEach, IsWantedBy}
 use Rattle.resolver_encoding.specs.Notes.{notes_in}
-use Rattle.resolver_encoding.proofs.EncodingLemmas.{IsAskStep-of, IsAskStep-trans}
+use Rattle.resolver_encoding.proofs.EncodingLemmas.{IsAskStep-trans, IsAskStep-weaker}
+use Rattle.resolver_encoding.proofs.RequirementLemmas.{listed_wanted, named_wanted}
 use Rattle.resolver_encoding.proofs.encoding.Encoding.choose.Goals as goal
 
 pub returns-clause-step : goal.returns-clause-step
 returns-clause-step g c =
     let u = g.D.Interner.universe c.args.provider.now in
-    let Called = IsNamedIn u (version_sets u c.args.requirement) in
-    IsAskStep-trans u Called (λ root. ⊤) _ _ _ c.in_ok-ask_named.ensures.step (IsAskStep-of u Called (λ root. ⊤) _ _ c.in_ok-see_all.ensures.step)
+    let r = c.args.requirement in
+    let list = c.deref.result.now in
+    IsAskStep-trans u (IsWantedBy u r) (λ root. ⊤) _ _ _
+    (IsAskStep-weaker u (IsNamedBy u (version_sets u r)) (IsWantedBy u r) (named_wanted u r) (λ root. ⊤) (λ root. ⊤) (λ root _. tt) _ _ c.in_ok-ask_named.ensures.step)
+    (IsAskStep-weaker u (IsSeeingEach list) (IsWantedBy u r) (listed_wanted u r list (c.deref.ensures.value ∙ c.in_ok-choices.ensures.candidates)) (λ root. ⊤) (λ root. ⊤) (λ root _. tt) _ _ c.in_ok-see_all.ensures.step)
 
 pub returns-clause-asked : goal.returns-clause-asked
 returns-clause-asked g c =
     let u = g.D.Interner.universe c.args.provider.now in
-    All-weaker (λ v. Contains (notes_in c.ask_named.new.self).asked (u.version_set_name v)) (λ v. Contains (notes_in c.see_all.new.self).asked (u.version_set_name v)) (λ v h. let Has : List g.row.N.Denot → Type 0 = λ list. Contains list (u.version_set_name v) in subst Has (sym c.in_ok-see_all.ensures.step.asked) h) (version_sets u c.args.requirement) c.in_ok-ask_named.ensures.asked
+    All-weaker (λ v. Contains (notes_in c.ask_named.new.self).asked (u.version_set_name v)) (λ v. Contains (notes_in c.see_all.new.self).asked (u.version_set_name v)) (λ v h. c.in_ok-see_all.ensures.step.asked (u.version_set_name v) h) (version_sets u c.args.requirement) c.in_ok-ask_named.ensures.asked
 
 pub returns-clause-seen : goal.returns-clause-seen
 returns-clause-seen g c =

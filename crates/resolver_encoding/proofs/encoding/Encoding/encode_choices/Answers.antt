@@ -7,7 +7,7 @@ use Rattle.resolver_clause_store.specs.declared.ClauseKind.{ClauseKind}
 use Rattle.resolver_clause_store.specs.declared.ClauseKind.TheVariants.{Requires}
 use Rattle.resolver_encoding.specs.Encodings.{IsTrueUnder, idle}
 use Rattle.resolver_encoding.specs.Notes.{notes_in}
-use Rattle.resolver_encoding.proofs.EncodingLemmas.{Extends-within, IsClauseOf-zip, IsStep-requirement, IsStep-trans, IsStep-weaker, requirement_listed}
+use Rattle.resolver_encoding.proofs.EncodingLemmas.{IsClauseOf-zip, IsStep-requirement, IsStep-trans, IsStep-weaker, requirement_listed}
 use Rattle.resolver_encoding.proofs.encoding.Encoding.encode_choices.Goals as goal
 
 pub returns-clause-step : goal.returns-clause-step
@@ -33,7 +33,7 @@ returns-clause-step g c =
       prepared = record {
         helpers = λ v h. All-contains (Contains mid.helped) list.items v helped h;
         packages = λ v h. let Has : List g.row.N.Denot → Type 0 = λ names. Contains names (u.version_set_name v) in subst Has (sym grown.asked) (All-contains (λ w. Contains (notes_in c.args.self.now).asked (u.version_set_name w)) (version_sets u r) v c.requires.asked h);
-        candidates = λ s h. let Has : List g.row.S.Denot → Type 0 = λ list. Contains list s in Extends-within _ _ grown.seen s (All-contains (Contains (notes_in c.args.self.now).seen) c.args.choices.now.candidates.items s c.requires.seen (subst Has (sym c.requires.candidates) h));
+        candidates = λ s h. let Has : List g.row.S.Denot → Type 0 = λ list. Contains list s in subst Has (sym grown.seen) (All-contains (Contains (notes_in c.args.self.now).seen) c.args.choices.now.candidates.items s c.requires.seen (subst Has (sym c.requires.candidates) h));
         once = c.requires.once;
       };
     }))

@@ -6,6 +6,7 @@ use Rattle.resolver_encoding.specs.Encodings.{asking_for}
 use Rattle.resolver_encoding.specs.Notes.{notes_in}
 use Rattle.resolver_clause_store.proofs.SetLemmas.{All-done, Contains-item}
 use Rattle.resolver_encoding.proofs.EncodingLemmas.{IsStep-same, IsStep-trans, KeepsLimits-same, KeepsLimits-trans}
+use Rattle.resolver_encoding.proofs.Lists.{here}
 use Rattle.resolver_encoding.proofs.NoteLemmas.{All-grown}
 use Rattle.resolver_encoding.proofs.encoding.Encoding.exclude_each.Goals as goal
 
@@ -35,7 +36,7 @@ pub loop-solvable-preserved : goal.loop-solvable-preserved
 loop-solvable-preserved g c =
     let u = g.D.Interner.universe c.args.provider.now in
     let before = c.loop-solvable.invariant in
-    let step = c.in_ok-exclude.ensures.step in
+    let step = c.in_ok-exclude.ensures.step (asking_for c.args.name) (here c.args.name _) in
     let Free : List _ → Type 0 = λ list. (Contains list c.loop-solvable-item.result.0 → ⊥) → Contains (notes_in c.exclude.new.self).kinds (Excluded c.loop-solvable-item.result.0 c.loop-solvable-item.result.1) in
     record {
       bounded = c.exclude.ensures.bounded;

@@ -25,6 +25,7 @@ pub returns-clause-nothing : goal.returns-clause-nothing
 returns-clause-nothing g c =
     let added = c.in_ok-add_clause.ensures.added in
     record {
+      none_seen = ap (λ n. n.seen) added ∙ c.requires.nothing_read.none_seen;
       none_asked = ap (λ n. n.asked) added ∙ c.requires.nothing_read.none_asked;
       none_read = ap (λ n. n.read) added ∙ c.requires.nothing_read.none_read;
       none_deferred = ap (λ n. n.deferred) added ∙ c.requires.nothing_read.none_deferred;

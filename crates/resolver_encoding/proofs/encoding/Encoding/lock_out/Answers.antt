@@ -1,11 +1,10 @@
-use Rattle.std.proofs.Common.{◌≡◌, ◌∷◌, sym, subst, Contains}
+use Rattle.std.proofs.Common.{◌≡◌, ◌++◌, sym, subst, Contains}
 use Rattle.std.specs.Prelude.{⊤, Some}
 use Rattle.resolver_clause_store.specs.declared.ClauseKind.TheVariants.{Lock}
-use Rattle.resolver_encoding.specs.Encodings.{asking_for}
 use Rattle.resolver_encoding.specs.Notes.{notes_in}
-use Rattle.resolver_encoding.proofs.Lists.{here}
 use Rattle.resolver_encoding.proofs.EncodingLemmas.{clause_listed}
 use Rattle.resolver_encoding.proofs.NoteLemmas.{IsStep-plain, not_same}
+use Rattle.resolver_encoding.proofs.TurnLemmas.{AddsPlainly-clause}
 use Rattle.resolver_encoding.proofs.encoding.Encoding.lock_out.Goals as goal
 
 pub returns-clause-step : goal.returns-clause-step
@@ -13,10 +12,13 @@ returns-clause-step g c =
     let u = g.D.Interner.universe c.args.provider.now in
     let Locked : g.row.N.Denot → Type 0 = λ n. (u.package_named n).locked ≡ Some c.args.locked in
     let Listed : g.row.N.Denot → Type 0 = λ n. Contains (u.package_named n).listed c.args.candidate in
-    let Asks : g.row.N.Denot → Type 0 = λ n. Contains (c.args.name ∷ (notes_in c.args.self.now).asked) n in
     let apart = not_same g.S.PartialEq.eq g.met.D.Interner.solvables_are_values c.args.candidate c.args.locked c.eq.result c.eq.ensures c.if-eq.false in
-    IsStep-plain u (asking_for c.args.name) (λ root. ⊤) (notes_in c.args.self.now) _ (Lock c.args.locked c.args.candidate) c.in_ok-add_pair.ensures.added tt
-    (λ root _ _ codes _. (subst Locked (sym c.requires.named) c.requires.lock, subst Listed (sym c.requires.named) c.requires.listed, apart)) tt (subst Asks (sym c.requires.named) (here c.args.name _), c.if-is_among.ensures) tt
+    λ doing inside. let Asks : g.row.N.Denot → Type 0 = λ n. Contains (doing.asking ++ (notes_in c.args.self.now).asked) n in
+    IsStep-plain u doing (λ root. ⊤) (notes_in c.args.self.now) _ (Lock c.args.locked c.args.candidate) c.in_ok-add_pair.ensures.added tt
+    (λ root _ _ codes _. (subst Locked (sym c.requires.named) c.requires.lock, subst Listed (sym c.requires.named) c.requires.listed, apart)) tt (subst Asks (sym c.requires.named) inside, c.if-is_among.ensures) tt
 
 pub returns-clause-forbidden : goal.returns-clause-forbidden
 returns-clause-forbidden g c = λ differ free. clause_listed (g.D.Interner.universe c.args.provider.now) (notes_in c.args.self.now) _ _ _ c.in_ok-add_pair.ensures.added
+
+pub returns-clause-plain : goal.returns-clause-plain
+returns-clause-plain g c = AddsPlainly-clause (g.D.Interner.universe c.args.provider.now) (notes_in c.args.self.now) _ _ _ c.in_ok-add_pair.ensures.added

@@ -6,6 +6,7 @@ use Rattle.resolver_encoding.specs.Encodings.{asking_for}
 use Rattle.resolver_encoding.specs.Notes.{notes_in}
 use Rattle.resolver_clause_store.proofs.SetLemmas.{All-done, Contains-item}
 use Rattle.resolver_encoding.proofs.EncodingLemmas.{IsStep-same, IsStep-trans, KeepsLimits-same, KeepsLimits-trans}
+use Rattle.resolver_encoding.proofs.Lists.{here}
 use Rattle.resolver_encoding.proofs.NoteLemmas.{All-grown}
 use Rattle.resolver_encoding.proofs.encoding.Encoding.lock_out_others.Goals as goal
 
@@ -37,7 +38,7 @@ loop-candidate-preserved g c =
     let u = g.D.Interner.universe c.args.provider.now in
     let t = c.in-Some.locked in
     let before = c.loop-candidate.invariant in
-    let step = c.in_ok-lock_out.ensures.step in
+    let step = c.in_ok-lock_out.ensures.step (asking_for c.args.name) (here c.args.name _) in
     let Free : List g.row.S.Denot → Type 0 = λ list. (c.candidate-item.result ≡ t → ⊥) → (Contains list c.candidate-item.result → ⊥) → Contains (notes_in c.lock_out.new.self).kinds (Lock t c.candidate-item.result) in
     record {
       bounded = c.lock_out.ensures.bounded;

@@ -20,6 +20,7 @@ loop-other-init g c = record {
   begun = All-nil (λ t. Contains (notes_in c.args.self.now).kinds (HasBit c.args.name t c.args.index false));
   groups = refl;
   seen = refl;
+  requirements = refl;
 }
 
 pub loop-other-preserved : goal.loop-other-preserved
@@ -47,6 +48,7 @@ loop-other-preserved g c =
       begun = All-grown (λ x. Contains old.kinds (HasBit n x i false)) (λ x. Contains new.kinds (HasBit n x i false)) c.args.earlier.now j t (λ y h. step.kinds _ h) (omega arith) c.other-item.is before.begun (clause_listed u old new _ _ adds);
       groups = ap (λ x. x.groups) adds.is ∙ before.groups;
       seen = ap (λ x. x.seen) adds.is ∙ before.seen;
+      requirements = ap (λ x. x.requirements) adds.is ∙ before.requirements;
     }
 
 pub returns-clause-begun : goal.returns-clause-begun

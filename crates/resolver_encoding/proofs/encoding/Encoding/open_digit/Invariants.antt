@@ -13,4 +13,5 @@ invariant-loop-other g l = record {
   begun : All (λ t. Contains (notes_in l.self).kinds (HasBit l.name t l.index false)) (take l.other-index l.earlier);
   groups : (notes_in l.self).groups ≡ (notes_in l.fn.self).groups;
   seen : (notes_in l.self).seen ≡ (notes_in l.fn.self).seen;
+  requirements : (notes_in l.self).requirements ≡ (notes_in l.fn.self).requirements;
 }

@@ -2,6 +2,7 @@ use Rattle.std.proofs.Common.{◌≡◌, ap, arith, sym, subst, ◌≤◌, lengt
 use Rattle.resolver_encoding.specs.Notes.{notes_in}
 use Rattle.resolver_encoding.specs.SoFar.{IsProgress}
 use Rattle.resolver_encoding.specs.declared.progress.Progress.{Progress}
+use Rattle.resolver_encoding.proofs.ReachLemmas.{near_after}
 use Rattle.resolver_encoding.proofs.SoFarLemmas.{all_asked, lawful_solvables, progress, read_more, so_far}
 use Rattle.resolver_encoding.proofs.encoding.Encoding.read_chosen.Goals as goal
 
@@ -37,6 +38,10 @@ returns-clause-asked g c = λ root so.
     let half = reading.keeps root so.half in
     all_asked u set old mid new reading c.in_ok-fired.ensures.firing root c.args.from so c.in_ok-read.ensures.here (c.in_ok-fired.ensures.quiet half.encoding.sound_waiting)
     (lawful_solvables u g.S.PartialEq.eq (g.met.D.Interner.lawful_ids c.args.provider.now) (g.met.D.Interner.solvables_compare c.args.provider.now) g.met.D.Interner.solvables_are_values) (g.met.D.DependencyProvider.lawful_packages c.args.provider.now)
+
+pub returns-clause-near : goal.returns-clause-near
+returns-clause-near g c = λ root seeds so near all.
+    near_after (g.D.Interner.universe c.args.provider.now) root seeds c.args.chosen.now.keys (notes_in c.args.self.now) (notes_in c.read_each.new.self) (notes_in c.fire_deferred.new.self) c.in_ok-read.ensures.reading c.in_ok-fired.ensures.firing so.half near all
 
 pub returns-clause-more : goal.returns-clause-more
 returns-clause-more g c =

@@ -1,32 +1,34 @@
-use Rattle.std.proofs.Common.{◌≡◌, ◌∙◌, sym, subst, Contains, List}
+use Rattle.std.proofs.Common.{sym, subst, Contains, List}
 use Rattle.std.specs.Prelude.{⊤}
+use Rattle.resolver_encoding.specs.Called.{IsAsking}
 use Rattle.resolver_encoding.specs.Encodings.{AsksWithin}
 use Rattle.resolver_encoding.specs.Notes.{notes_in}
 use Rattle.resolver_encoding.proofs.EncodingLemmas.{IsAskStep-of, IsAskStep-trans, IsAskStep-weaker, IsEncodingOf-asked}
+use Rattle.resolver_encoding.proofs.NoteLemmas.{asking_same}
 use Rattle.resolver_encoding.proofs.encoding.Encoding.read_constraint.Goals as goal
 
 pub constrain_by_helper-requires-clause-encoding : goal.constrain_by_helper-requires-clause-encoding
 constrain_by_helper-requires-clause-encoding g c =
     let u = g.D.Interner.universe c.args.provider.now in
     let Premise = AsksWithin u c.args.by c.args.version_set in
-    let Called : g.row.N.Denot → Type 0 = λ n. c.version_set_name.result ≡ n in
+    let Called = IsAsking c.version_set_name.result in
     IsEncodingOf-asked u Called Premise (notes_in c.args.self.now) _ c.requires.encoding (IsAskStep-weaker u Called Called (λ n h. h) (λ root. ⊤) Premise (λ root asks. tt) _ _ c.in_ok-ask.ensures.step)
 
 pub returns-then-forbidden-lt-CONSTRAINT_HELPER_THRESHOLD-clause-step : goal.returns-then-forbidden-lt-CONSTRAINT_HELPER_THRESHOLD-clause-step
 returns-then-forbidden-lt-CONSTRAINT_HELPER_THRESHOLD-clause-step g c =
     let u = g.D.Interner.universe c.args.provider.now in
     let Premise = AsksWithin u c.args.by c.args.version_set in
-    let Named : g.row.N.Denot → Type 0 = λ n. c.version_set_name.result ≡ n in
-    let Called : g.row.N.Denot → Type 0 = λ n. u.version_set_name c.args.version_set ≡ n in
-    IsAskStep-trans u Called Premise _ _ _ (IsAskStep-weaker u Named Called (λ n h. sym c.version_set_name.ensures ∙ h) (λ root. ⊤) Premise (λ root asks. tt) _ _ c.in_ok-ask.ensures.step) (IsAskStep-of u Called Premise _ _ c.in_ok-constrain_each.ensures.step)
+    let Named = IsAsking c.version_set_name.result in
+    let Called = IsAsking (u.version_set_name c.args.version_set) in
+    IsAskStep-trans u Called Premise _ _ _ (IsAskStep-weaker u Named Called (asking_same _ _ c.version_set_name.ensures) (λ root. ⊤) Premise (λ root asks. tt) _ _ c.in_ok-ask.ensures.step) (IsAskStep-of u Called Premise _ _ c.in_ok-constrain_each.ensures.step)
 
 pub returns-clause-step : goal.returns-clause-step
 returns-clause-step g c =
     let u = g.D.Interner.universe c.args.provider.now in
     let Premise = AsksWithin u c.args.by c.args.version_set in
-    let Named : g.row.N.Denot → Type 0 = λ n. c.version_set_name.result ≡ n in
-    let Called : g.row.N.Denot → Type 0 = λ n. u.version_set_name c.args.version_set ≡ n in
-    IsAskStep-trans u Called Premise _ _ _ (IsAskStep-weaker u Named Called (λ n h. sym c.version_set_name.ensures ∙ h) (λ root. ⊤) Premise (λ root asks. tt) _ _ c.in_ok-ask.ensures.step) (IsAskStep-of u Called Premise _ _ c.in_ok-constrain_by_helper.ensures.step)
+    let Named = IsAsking c.version_set_name.result in
+    let Called = IsAsking (u.version_set_name c.args.version_set) in
+    IsAskStep-trans u Called Premise _ _ _ (IsAskStep-weaker u Named Called (asking_same _ _ c.version_set_name.ensures) (λ root. ⊤) Premise (λ root asks. tt) _ _ c.in_ok-ask.ensures.step) (IsAskStep-of u Called Premise _ _ c.in_ok-constrain_by_helper.ensures.step)
 
 pub returns-then-forbidden-lt-CONSTRAINT_HELPER_THRESHOLD-clause-asked : goal.returns-then-forbidden-lt-CONSTRAINT_HELPER_THRESHOLD-clause-asked
 returns-then-forbidden-lt-CONSTRAINT_HELPER_THRESHOLD-clause-asked g c =

@@ -1,8 +1,8 @@
-use Rattle.std.proofs.Common.{arith, refl, ◌≡◌, get_or, All, Contains}
+use Rattle.std.proofs.Common.{arith, refl, get_or, All, Contains}
 use Rattle.std.proofs.Common.{◌<◌, length}
 use Rattle.std.proofs.lemmas.List.Elements.{All-get_or, All-nil}
 use Rattle.resolver_clause_store.specs.Universe.{Demands}
-use Rattle.resolver_encoding.specs.Called.{IsNamedIn}
+use Rattle.resolver_encoding.specs.Called.{IsAsking, IsNamedBy}
 use Rattle.resolver_encoding.specs.Encodings.{AsksWithin, IsConstraintRead}
 use Rattle.resolver_encoding.specs.Notes.{notes_in}
 use Rattle.resolver_clause_store.proofs.SetLemmas.{All-done}
@@ -17,7 +17,7 @@ loop-version_set-init g c =
     record {
       bounded = c.requires.bounded;
       limits = KeepsLimits-same _;
-      step = IsAskStep-same u (IsNamedIn u c.args.constraints.now) (λ root. All (λ v. AsksWithin u c.args.by v root) c.args.constraints.now) (notes_in c.args.self.now);
+      step = IsAskStep-same u (IsNamedBy u c.args.constraints.now) (λ root. All (λ v. AsksWithin u c.args.by v root) c.args.constraints.now) (notes_in c.args.self.now);
       read = All-nil (IsConstraintRead u (notes_in c.args.self.now).kinds c.args.by);
       asked = All-nil (λ v. Contains (notes_in c.args.self.now).asked (u.version_set_name v));
       is_true = c.requires.is_true;
@@ -30,7 +30,7 @@ read_constraint-requires-clause-encoding g c =
     let i = c.loop-version_set.version_set-index in
     let below : i < length xs = omega arith in
     let AllAsk : Demands → Type 0 = λ root. All (λ v. AsksWithin u c.args.by v root) xs in
-    IsEncodingOf-weaker u AllAsk (AsksWithin u c.args.by _) (λ root all. All-get_or (λ v. AsksWithin u c.args.by v root) xs i _ below all) (notes_in c.loop-version_set.self) (IsEncodingOf-asked u (IsNamedIn u xs) AllAsk _ _ c.requires.encoding c.loop-version_set.invariant.step)
+    IsEncodingOf-weaker u AllAsk (AsksWithin u c.args.by _) (λ root all. All-get_or (λ v. AsksWithin u c.args.by v root) xs i _ below all) (notes_in c.loop-version_set.self) (IsEncodingOf-asked u (IsNamedBy u xs) AllAsk _ _ c.requires.encoding c.loop-version_set.invariant.step)
 
 pub loop-version_set-preserved : goal.loop-version_set-preserved
 loop-version_set-preserved g c =
@@ -43,8 +43,8 @@ loop-version_set-preserved g c =
     record {
       bounded = c.read_constraint.ensures.bounded;
       limits = KeepsLimits-trans _ _ _ before.limits c.read_constraint.ensures.limits;
-      step = IsAskStep-trans u (IsNamedIn u xs) (λ root. All (λ v. AsksWithin u c.args.by v root) c.args.constraints.now) _ _ _ before.step
-          (IsAskStep-weaker u (λ n. u.version_set_name (get_or xs i _) ≡ n) (IsNamedIn u xs) (λ n is. named_here u xs i _ _ n below refl is) (AsksWithin u c.args.by _) (λ root. All (λ v. AsksWithin u c.args.by v root) c.args.constraints.now) (λ root all. All-get_or (λ v. AsksWithin u c.args.by v root) xs i _ below all) _ _ step);
+      step = IsAskStep-trans u (IsNamedBy u xs) (λ root. All (λ v. AsksWithin u c.args.by v root) c.args.constraints.now) _ _ _ before.step
+          (IsAskStep-weaker u (IsAsking (u.version_set_name (get_or xs i _))) (IsNamedBy u xs) (λ call is. named_here u xs i _ _ call below refl is) (AsksWithin u c.args.by _) (λ root. All (λ v. AsksWithin u c.args.by v root) c.args.constraints.now) (λ root all. All-get_or (λ v. AsksWithin u c.args.by v root) xs i _ below all) _ _ step);
       read = All-grown_at (IsConstraintRead u (notes_in c.loop-version_set.self).kinds c.args.by) (IsConstraintRead u (notes_in c.read_constraint.new.self).kinds c.args.by) xs i _ (λ v h. IsConstraintRead-within u _ _ step.kinds c.args.by v h) below before.read c.in_ok-read_constraint.ensures.read;
       asked = All-grown_at (λ v. Contains (notes_in c.loop-version_set.self).asked (u.version_set_name v)) (λ v. Contains (notes_in c.read_constraint.new.self).asked (u.version_set_name v)) xs i _ (λ v h. step.asked _ h) below before.asked c.in_ok-read_constraint.ensures.asked;
       is_true = c.read_constraint.ensures.is_true;

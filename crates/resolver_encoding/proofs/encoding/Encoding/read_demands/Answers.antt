@@ -4,7 +4,7 @@ use Rattle.std.proofs.lemmas.List.Elements.{All-contains_itself, All-weaker}
 use Rattle.resolver_clause_store.specs.Universe.{Demands}
 use Rattle.resolver_clause_store.specs.declared.ConditionalRequirement.{ConditionalRequirement}
 use Rattle.resolver_report.specs.TrueRules.{demands_by}
-use Rattle.resolver_encoding.specs.Called.{IsCalledByEach, IsDemanded, IsNamedIn, IsPlainlyNamed}
+use Rattle.resolver_encoding.specs.Called.{Call, IsCalledByEach, IsDemanded, IsNamedBy, IsPlainlyNamed}
 use Rattle.resolver_encoding.specs.Encodings.{AsksFor, AsksWithin, IsLeft, IsUnmet}
 use Rattle.resolver_encoding.specs.Notes.{notes_in}
 use Rattle.resolver_encoding.specs.ReadState.{Deferred, IsReadRequirement}
@@ -21,9 +21,9 @@ read_requirements-requires-clause-encoding g c =
     let vs = c.args.constraints.now in
     let Premise : Demands → Type 0 = λ root. demands_by u root by ≡ record { requirements = rs; constraints = vs } in
     let AllAsk : Demands → Type 0 = λ d. All (λ r. Contains d.requirements r) rs in
-    let Plainly : g.row.N.Denot → Type 0 = λ n. (r : ConditionalRequirement) × Contains rs r × IsPlainlyNamed u r n in
+    let Plainly : Call g.row.N.Denot g.row.S.Denot → Type 0 = λ n. (r : ConditionalRequirement) × Contains rs r × IsPlainlyNamed u r n in
     let first = IsEncodingOf-asked u Plainly Premise _ _ c.requires.encoding (IsAskStep-weaker u Plainly Plainly (λ n h. h) (λ root. ⊤) Premise (λ root _. tt) _ _ c.in_ok-ask_plain_each.ensures.step) in
-    let second = IsEncodingOf-asked u (IsNamedIn u vs) Premise _ _ first (IsAskStep-weaker u (IsNamedIn u vs) (IsNamedIn u vs) (λ n h. h) (λ root. ⊤) Premise (λ root _. tt) _ _ c.in_ok-ask_each.ensures.step) in
+    let second = IsEncodingOf-asked u (IsNamedBy u vs) Premise _ _ first (IsAskStep-weaker u (IsNamedBy u vs) (IsNamedBy u vs) (λ n h. h) (λ root. ⊤) Premise (λ root _. tt) _ _ c.in_ok-ask_each.ensures.step) in
     IsEncodingOf-weaker u Premise (λ root. All (λ r. AsksFor u by r root) rs) (λ root same. subst AllAsk (sym same) (All-contains_itself rs)) (notes_in c.ask_each.new.self) second
 
 pub read_constraints-requires-clause-encoding : goal.read_constraints-requires-clause-encoding
@@ -36,9 +36,9 @@ read_constraints-requires-clause-encoding g c =
     let Premise : Demands → Type 0 = λ root. demands_by u root by ≡ record { requirements = rs; constraints = vs } in
     let AllAsk : Demands → Type 0 = λ d. All (λ r. Contains d.requirements r) rs in
     let AllWithin : Demands → Type 0 = λ d. All (λ v. Contains d.constraints v) vs in
-    let Plainly : g.row.N.Denot → Type 0 = λ n. (r : ConditionalRequirement) × Contains rs r × IsPlainlyNamed u r n in
+    let Plainly : Call g.row.N.Denot g.row.S.Denot → Type 0 = λ n. (r : ConditionalRequirement) × Contains rs r × IsPlainlyNamed u r n in
     let first = IsEncodingOf-asked u Plainly Premise _ _ c.requires.encoding (IsAskStep-weaker u Plainly Plainly (λ n h. h) (λ root. ⊤) Premise (λ root _. tt) _ _ c.in_ok-ask_plain_each.ensures.step) in
-    let second = IsEncodingOf-asked u (IsNamedIn u vs) Premise _ _ first (IsAskStep-weaker u (IsNamedIn u vs) (IsNamedIn u vs) (λ n h. h) (λ root. ⊤) Premise (λ root _. tt) _ _ c.in_ok-ask_each.ensures.step) in
+    let second = IsEncodingOf-asked u (IsNamedBy u vs) Premise _ _ first (IsAskStep-weaker u (IsNamedBy u vs) (IsNamedBy u vs) (λ n h. h) (λ root. ⊤) Premise (λ root _. tt) _ _ c.in_ok-ask_each.ensures.step) in
     let third = IsEncodingOf-read u (IsUnmet u set by) (IsCalledByEach u set rs) Premise _ _ second (IsReadStep-weaker u (IsUnmet u set by) (IsCalledByEach u set rs) (IsCalledByEach u set rs) (λ n h. h) (λ root. All (λ r. AsksFor u by r root) rs) Premise (λ root same. subst AllAsk (sym same) (All-contains_itself rs)) _ _ c.in_ok-read_requirements.ensures.step) in
     IsEncodingOf-weaker u Premise (λ root. All (λ v. AsksWithin u by v root) vs) (λ root same. subst AllWithin (sym same) (All-contains_itself vs)) (notes_in c.read_requirements.new.self) third
 
@@ -53,16 +53,16 @@ returns-clause-step g c =
     let Premise : Demands → Type 0 = λ root. demands_by u root by ≡ demands in
     let AllAsk : Demands → Type 0 = λ d. All (λ r. Contains d.requirements r) rs in
     let AllWithin : Demands → Type 0 = λ d. All (λ v. Contains d.constraints v) vs in
-    let Plainly : g.row.N.Denot → Type 0 = λ n. (r : ConditionalRequirement) × Contains rs r × IsPlainlyNamed u r n in
+    let Plainly : Call g.row.N.Denot g.row.S.Denot → Type 0 = λ n. (r : ConditionalRequirement) × Contains rs r × IsPlainlyNamed u r n in
     let Demanded = IsDemanded u set demands in
     let Defers = IsUnmet u set by in
     let asked = IsAskStep-trans u Demanded Premise _ _ _
     (IsAskStep-weaker u Plainly Demanded (λ n h. inl (plainly_called u set rs n h)) (λ root. ⊤) Premise (λ root _. tt) _ _ c.in_ok-ask_plain_each.ensures.step)
-    (IsAskStep-weaker u (IsNamedIn u vs) Demanded (λ n h. inr h) (λ root. ⊤) Premise (λ root _. tt) _ _ c.in_ok-ask_each.ensures.step) in
+    (IsAskStep-weaker u (IsNamedBy u vs) Demanded (λ n h. inr h) (λ root. ⊤) Premise (λ root _. tt) _ _ c.in_ok-ask_each.ensures.step) in
     let required = IsReadStep-trans u Defers Demanded Premise _ _ _ (IsReadStep-of u Defers Demanded Premise _ _ asked)
     (IsReadStep-weaker u Defers (IsCalledByEach u set rs) Demanded (λ n h. inl h) (λ root. All (λ r. AsksFor u by r root) rs) Premise (λ root same. subst AllAsk (sym same) (All-contains_itself rs)) _ _ c.in_ok-read_requirements.ensures.step) in
     IsReadStep-trans u Defers Demanded Premise _ _ _ required
-    (IsReadStep-of u Defers Demanded Premise _ _ (IsAskStep-weaker u (IsNamedIn u vs) Demanded (λ n h. inr h) (λ root. All (λ v. AsksWithin u by v root) vs) Premise (λ root same. subst AllWithin (sym same) (All-contains_itself vs)) _ _ c.in_ok-read_constraints.ensures.step))
+    (IsReadStep-of u Defers Demanded Premise _ _ (IsAskStep-weaker u (IsNamedBy u vs) Demanded (λ n h. inr h) (λ root. All (λ v. AsksWithin u by v root) vs) Premise (λ root same. subst AllWithin (sym same) (All-contains_itself vs)) _ _ c.in_ok-read_constraints.ensures.step))
 
 pub returns-clause-read : goal.returns-clause-read
 returns-clause-read g c =

@@ -1,7 +1,7 @@
 use Rattle.std.proofs.Common.{refl, inl, inr}
 use Rattle.std.specs.Prelude.{map}
-use Rattle.resolver_clause_store.specs.Candidates.{matching, version_sets}
-use Rattle.resolver_encoding.specs.Called.{IsCalledBy, IsNamedIn}
+use Rattle.resolver_clause_store.specs.Candidates.{matching}
+use Rattle.resolver_encoding.specs.Called.{IsCalledBy, IsWantedBy}
 use Rattle.resolver_encoding.specs.Encodings.{AsksFor, IsTrueUnder, IsUnmet}
 use Rattle.resolver_encoding.specs.Statements.{Implies}
 use Rattle.resolver_encoding.proofs.EncodingLemmas.{IsAskStep-weaker, IsReadStep-of}
@@ -19,7 +19,7 @@ returns-then-met-clause-step g c =
     let implies : Implies u (map (matching u) list) r.condition = disjunct_implies u r.condition c.requires.disjunct.lists c.args.disjunct.now list c.requires.disjunct.are c.requires.disjunct.listed c.in_ok-each_once.ensures.same in
     let met = holds_if c.in_ok-met.met _ _ c.if-met.true (rw c.deref.ensures.value at c.in_ok-met.ensures.met) in
     IsReadStep-of u (IsUnmet u set by) (IsCalledBy u set r) (AsksFor u by r) _ _
-    (IsAskStep-weaker u (IsNamedIn u (version_sets u r.requirement)) (IsCalledBy u set r) (λ n named. (active_where u set (map (matching u) list) r.condition implies met, named))
+    (IsAskStep-weaker u (IsWantedBy u r.requirement) (IsCalledBy u set r) (λ n named. (active_where u set (map (matching u) list) r.condition implies met, named))
     (IsTrueUnder u by list r.requirement) (AsksFor u by r) (λ root asks. (r, asks, refl, implies)) _ _ c.in_ok-encode_disjunct.ensures.step)
 
 pub returns-then-met-clause-read : goal.returns-then-met-clause-read

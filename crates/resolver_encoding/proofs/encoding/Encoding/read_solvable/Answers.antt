@@ -4,7 +4,7 @@ use Rattle.resolver_clause_store.specs.Universe.{Demands, Needs, known}
 use Rattle.resolver_clause_store.specs.Valid.{demands_of}
 use Rattle.resolver_clause_store.specs.declared.By.TheVariants.{Solvable}
 use Rattle.resolver_report.specs.TrueRules.{demands_by}
-use Rattle.resolver_encoding.specs.Called.{IsDemanded}
+use Rattle.resolver_encoding.specs.Called.{Call, IsDemanded}
 use Rattle.resolver_encoding.specs.Encodings.{IsUnmet}
 use Rattle.resolver_encoding.specs.Notes.{notes_in}
 use Rattle.resolver_encoding.proofs.EncodingLemmas.{IsAskStep-of, IsEncodingOf-weaker, IsReadStep-of, IsReadStep-weaker}
@@ -42,6 +42,6 @@ returns-in_ok-read_demands-in-Known-clause-step g c =
     let demands : Demands = record { requirements = c.deref-in-Known-2.result.now; constraints = c.deref-in-Known-3.result.now } in
     let copied : demands ≡ record { requirements = c.in-Known.known.requirements.items; constraints = c.in-Known.known.constrains.items } = λ i. record { requirements = copied_requirements i; constraints = copied_constraints i } in
     let same : demands_of (u.needs c.args.solvable) ≡ demands = demands_known _ _ answer ∙ sym copied in
-    let Demanded : g.row.N.Denot → Demands → Type 0 = λ n d. IsDemanded u set d n in
+    let Demanded : Call g.row.N.Denot g.row.S.Denot → Demands → Type 0 = λ n d. IsDemanded u set d n in
     IsReadStep-weaker u (IsUnmet u set (Solvable c.args.solvable)) (IsDemanded u set demands) (IsDemanded u set (demands_of (u.needs c.args.solvable))) (λ n h. subst (Demanded n) (sym same) h)
     (λ root. demands_by u root (Solvable c.args.solvable) ≡ demands) (λ root. ⊤) (λ root _. same) _ _ c.in_ok-read_demands-in-Known.ensures.step

@@ -1,18 +1,23 @@
-use Rattle.std.proofs.Common.{◌∙◌, refl, sym, subst, Contains, List, length}
+use Rattle.std.proofs.Common.{◌≡◌, ◌∷◌, ◌++◌, [], ◌∙◌, inl, inr, ⊎_elim, refl, sym, subst, Contains, List, length}
 use Rattle.std.proofs.lemmas.Option.{slice_get_within}
 use Rattle.std.specs.Prelude.{⊤}
-use Rattle.std.proofs.lemmas.List.Elements.{Contains-push}
+use Rattle.std.proofs.lemmas.List.Elements.{Contains-push, Contains-push_cases}
 use Rattle.resolver_clause_store.specs.declared.Origin.TheVariants.{Solvable}
 use Rattle.resolver_clause_store.specs.Variables.{limit_in, origins_in}
 use Rattle.resolver_clause_store.proofs.PlaceLemmas.{place_in}
+use Rattle.resolver_encoding.specs.Called.{IsSeeing}
 use Rattle.resolver_encoding.specs.Encodings.{Grows, coding_for, idle}
 use Rattle.resolver_encoding.specs.Groups.{AreGroups}
 use Rattle.resolver_encoding.specs.declared.groups.Groups.{Groups}
 use Rattle.resolver_encoding.specs.Notes.{notes_in}
-use Rattle.resolver_encoding.proofs.EncodingLemmas.{IsStep-trans}
+use Rattle.resolver_encoding.proofs.EncodingLemmas.{IsAskStep-of, IsAskStep-same, IsAskStep-trans, IsStep-trans}
 use Rattle.resolver_encoding.proofs.NoteLemmas.{IsStep-origins}
 use Rattle.resolver_encoding.proofs.SeeLemmas.{IsStep-seen}
+use Rattle.resolver_encoding.proofs.SoFarLemmas.{IsWithin-equal}
 use Rattle.resolver_encoding.proofs.encoding.Encoding.see.Goals as goal
+
+pub returns-then-is_among-clause-step : goal.returns-then-is_among-clause-step
+returns-then-is_among-clause-step g c = IsAskStep-same (g.D.Interner.universe c.args.provider.now) (IsSeeing c.args.solvable) (λ root. ⊤) (notes_in c.args.self.now)
 
 pub returns-clause-step : goal.returns-clause-step
 returns-clause-step g c =
@@ -29,12 +34,15 @@ returns-clause-step g c =
     let Sound : Groups g.row.N.Denot g.row.S.Denot → Type 0 = λ gs. AreGroups gs in
     let same_groups = code.groups ∙ begun.groups in
     let step = IsStep-trans u (coding_for n k s) (λ root. ⊤) _ _ _ begun.step code.step in
-    IsStep-trans u idle (λ root. ⊤) _ _ _ (IsStep-origins u idle (λ root. ⊤) old _ (origins_in c.intern.new.self) (limit_in c.intern.new.self) grows c.intern.ensures.limit refl)
+    IsAskStep-trans u (IsSeeing s) (λ root. ⊤) _ _ _ (IsAskStep-of u (IsSeeing s) (λ root. ⊤) _ _ (IsStep-origins u idle (λ root. ⊤) old _ (origins_in c.intern.new.self) (limit_in c.intern.new.self) grows c.intern.ensures.limit refl))
     (IsStep-seen u g.N.PartialEq.eq g.S.PartialEq.eq g.met.D.Interner.names_are_values g.met.D.Interner.solvables_are_values n k s _ mid _ c.add.new.self list (sym c.solvable_name-name.ensures) c.if-is_among.ensures
     step same_groups (code.seen ∙ begun.seen) (λ i. record mid { seen = c.in_ok-append.ensures.keys i; groups = c.add.new.self }) c.in_ok-add.ensures.added
     (place_in mid.origins _ (Solvable s) (step.origins.kept _ (Solvable s) c.in_ok-intern.ensures.here))
     c.named-number.ensures.each_at c.named-number.ensures.every_at refl code.code
     (λ i begins sound j t at. code.step.kinds _ (begun.begun i begins sound j t at)))
+
+pub returns-clause-asked : goal.returns-clause-asked
+returns-clause-asked g c = c.in_ok-add_code.ensures.step.asked ∙ c.in_ok-begin_digit.ensures.step.asked
 
 pub begin_digit-requires-clause-below : goal.begin_digit-requires-clause-below
 begin_digit-requires-clause-below g c = λ sound k t at. slice_get_within c.named-number.result.now k t (c.named-number.ensures.every_at sound k t at)
@@ -43,3 +51,11 @@ pub returns-clause-seen : goal.returns-clause-seen
 returns-clause-seen g c =
     let Has : List g.row.S.Denot → Type 0 = λ list. Contains list c.args.solvable in
     subst Has (sym c.in_ok-append.ensures.keys) (Contains-push c.add_code.new.self.seen.keys c.args.solvable)
+
+pub returns-clause-only : goal.returns-clause-only
+returns-clause-only g c = λ t h.
+    let mid = notes_in c.add_code.new.self in
+    ⊎_elim
+    (λ (before : Contains mid.seen t). inl (IsWithin-equal mid.seen (notes_in c.args.self.now).seen (sym (c.in_ok-add_code.ensures.seen ∙ c.in_ok-begin_digit.ensures.seen)) t before))
+    (λ (last : c.args.solvable ≡ t). inr (sym last))
+    (Contains-push_cases mid.seen c.args.solvable t (IsWithin-equal c.append.new.set.keys (mid.seen ++ c.args.solvable ∷ []) (sym c.in_ok-append.ensures.keys) t h))

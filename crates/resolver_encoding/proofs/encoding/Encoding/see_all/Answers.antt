@@ -1,18 +1,18 @@
 use Rattle.std.proofs.Common.{arith, Contains}
 use Rattle.std.specs.Prelude.{⊤}
 use Rattle.std.proofs.lemmas.List.Elements.{All-nil}
-use Rattle.resolver_encoding.specs.Encodings.{idle}
+use Rattle.resolver_encoding.specs.Called.{IsSeeing, IsSeeingEach}
 use Rattle.resolver_encoding.specs.Notes.{notes_in}
 use Rattle.resolver_clause_store.proofs.SetLemmas.{All-done}
-use Rattle.resolver_encoding.proofs.EncodingLemmas.{Extends-within, IsStep-same, IsStep-trans, KeepsLimits-same, KeepsLimits-trans}
-use Rattle.resolver_encoding.proofs.NoteLemmas.{All-grown}
+use Rattle.resolver_encoding.proofs.EncodingLemmas.{Extends-within, IsAskStep-same, IsAskStep-trans, IsAskStep-weaker, KeepsLimits-same, KeepsLimits-trans}
+use Rattle.resolver_encoding.proofs.NoteLemmas.{All-grown, seen_here}
 use Rattle.resolver_encoding.proofs.encoding.Encoding.see_all.Goals as goal
 
 pub loop-candidate-init : goal.loop-candidate-init
 loop-candidate-init g c = record {
   bounded = c.requires.bounded;
   limits = KeepsLimits-same _;
-  step = IsStep-same (g.D.Interner.universe c.args.provider.now) idle (λ root. ⊤) (notes_in c.args.self.now);
+  step = IsAskStep-same (g.D.Interner.universe c.args.provider.now) (IsSeeingEach c.args.candidates.now) (λ root. ⊤) (notes_in c.args.self.now);
   seen = All-nil (Contains (notes_in c.args.self.now).seen);
 }
 
@@ -23,7 +23,8 @@ loop-candidate-preserved g c =
     record {
       bounded = c.see.ensures.bounded;
       limits = KeepsLimits-trans _ _ _ before.limits c.see.ensures.limits;
-      step = IsStep-trans u idle (λ root. ⊤) _ _ _ before.step c.in_ok-see.ensures.step;
+      step = IsAskStep-trans u (IsSeeingEach c.args.candidates.now) (λ root. ⊤) _ _ _ before.step
+          (IsAskStep-weaker u (IsSeeing c.candidate-item.result) (IsSeeingEach c.args.candidates.now) (seen_here c.args.candidates.now c.loop-candidate.candidate-index c.candidate-item.result (omega arith) c.candidate-item.is) (λ root. ⊤) (λ root. ⊤) (λ root _. tt) _ _ c.in_ok-see.ensures.step);
       seen = All-grown (Contains c.loop-candidate.self.seen.keys) (Contains c.see.new.self.seen.keys) c.args.candidates.now c.loop-candidate.candidate-index c.candidate-item.result (λ y h. Extends-within _ _ c.in_ok-see.ensures.step.seen y h) (omega arith) c.candidate-item.is before.seen c.in_ok-see.ensures.seen;
     }
 

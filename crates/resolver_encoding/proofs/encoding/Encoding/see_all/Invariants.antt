@@ -1,6 +1,7 @@
 use Rattle.std.proofs.Common.{All, Contains, take}
 use Rattle.std.specs.Prelude.{⊤}
-use Rattle.resolver_encoding.specs.Encodings.{IsStepWhile, KeepsLimits, idle}
+use Rattle.resolver_encoding.specs.Called.{IsSeeingEach}
+use Rattle.resolver_encoding.specs.Encodings.{IsAskStep, KeepsLimits}
 use Rattle.resolver_encoding.specs.Notes.{IsBounded, notes_in}
 use Rattle.resolver_encoding.proofs.encoding.Encoding.see_all.Given as goal
 
@@ -8,6 +9,6 @@ abbrev pub invariant-loop-candidate : goal.invariant-loop-candidate
 invariant-loop-candidate g l = record {
   bounded : IsBounded l.self;
   limits : KeepsLimits (notes_in l.fn.self) (notes_in l.self);
-  step : IsStepWhile (g.D.Interner.universe l.provider) idle (λ root. ⊤) (notes_in l.fn.self) (notes_in l.self);
+  step : IsAskStep (g.D.Interner.universe l.provider) (IsSeeingEach l.candidates) (λ root. ⊤) (notes_in l.fn.self) (notes_in l.self);
   seen : All (Contains (notes_in l.self).seen) (take l.candidate-index l.candidates);
 }

@@ -8,6 +8,7 @@ use Rattle.resolvo.specs.declared.contradiction.Source.TheVariants.{Learnt}
 use Rattle.resolvo.proofs.JustifiedLemmas.{justified-gains, extends-gains, chosen-extends}
 use Rattle.resolvo.proofs.ClauseSearchLemmas.{asserted-free, asserted-unit, below-push, chosen-grows, chosen-undone, derived-push, false-below, grows-push, justified-grows, justified-undone}
 use Rattle.resolvo.proofs.LoadLemmas.{first-after, first-undone, loaded-learnt}
+use Rattle.resolvo.proofs.TurnLemmas.{below-asserted, forced-assumed, held-jumped, keeps-turn, none-gains, none-trans, none-undone, turn-jumped}
 use Rattle.resolvo.proofs.clause_search.ClauseSearch.jump_back.Goals as goal
 
 pub returns-clause-consistent : goal.returns-clause-consistent
@@ -19,8 +20,8 @@ returns-clause-consistent c =
     let items : c.push.new.self.items ≡ longer = c.in_ok-push.ensures.items in
     let here : c.len-number.result ≡ length table = search rules in
     let last : clause_at longer c.len-number.result ≡ c.args.learnt.literals.items = rw here (clause_at-last table c.args.learnt.literals) in
-    let free = asserted-free _ c.undo_until.new.self _ _ _ learnt.asserting c.undo_until.ensures in
-    let unit = asserted-unit _ c.undo_until.new.self _ _ _ learnt.asserting c.undo_until.ensures in
+    let free = asserted-free _ c.undo_until.new.self _ _ _ _ learnt.asserting (below-asserted _ _ _ c.max-back.result _ _ learnt.asserting c.requires.above c.max-back.ensures) c.undo_until.ensures in
+    let unit = asserted-unit _ c.undo_until.new.self _ _ _ _ learnt.asserting (omega (arith, c.max-back.ensures)) c.undo_until.ensures in
     let size : variable_count c.force.new.self ≡ variable_count c.args.self.now.trail = c.in_ok-force.ensures.ok.size ∙ c.undo_until.ensures.size in
     let grows = grows-push table c.args.learnt.literals in
     let long : length longer ≡ length table + 1 = length-append table (c.args.learnt.literals ∷ []) in
@@ -28,13 +29,14 @@ returns-clause-consistent c =
     let chosen = chosen-grows table longer _ c.undo_until.new.self grows it.inside (chosen-undone _ _ _ _ _ it.chosen c.undo_until.ensures) in
     record {
       below = rw (items, size) (below-push _ table _ it.below (false-below c.args.self.now.trail _ learnt.falsified));
-      derived = rw (items, c.in_ok-push-2.ensures.items) (derived-push table _ _ (Learnt c.args.learnt.causes) it.derived learnt.within (λ none. learnt.follows));
-      justified = rw items (justified-gains longer _ _ _ _ _ justified c.in_ok-force.ensures.ok free (rw here (simp length-append (omega arith))) (rw last unit));
+      derived = rw (items, c.in_ok-push-2.ensures.items) (derived-push table _ _ (Learnt c.args.learnt.causes) it.derived learnt.within (λ none. learnt.follows) (λ none. learnt.drawn));
+      justified = rw items (justified-gains longer _ _ _ _ _ justified c.in_ok-force.ensures.ok free (rw here (simp length-append (omega arith))) (rw last learnt.asserting.contains) (rw last unit));
       chosen = rw items (chosen-extends longer _ _ _ chosen (extends-gains _ _ _ _ _ c.in_ok-force.ensures.ok free));
       inside = rw items (λ k d b. omega (arith, it.inside k d b, long));
       places = rw items (λ k d b. omega (arith, it.places k d b, long));
       count = rw items (omega (arith, it.count, long));
       kept = omega (arith, c.min-self.ensures, c.len.ensures, c.in_ok-force.ensures.ok.count);
+      turn = turn-jumped _ c.undo_until.new.self _ _ _ _ _ _ it.turn c.undo_until.ensures (omega (arith, c.max-back.ensures)) (keeps-gains _ _ _ _ _ c.in_ok-force.ensures.ok free) (c.min-self.ensures ∙ ap (min c.args.self.now.kept) c.len.ensures);
     }
 
 pub returns-clause-same : goal.returns-clause-same
@@ -43,7 +45,7 @@ returns-clause-same c =
     let old = c.args.self.now in
     let gains = c.in_ok-force.ensures.ok in
     let middle = c.undo_until.new.self in
-    let free = asserted-free _ middle _ _ _ c.requires.learnt.asserting c.undo_until.ensures in
+    let free = asserted-free _ middle _ _ _ _ c.requires.learnt.asserting (below-asserted _ _ _ c.max-back.result _ _ c.requires.learnt.asserting c.requires.above c.max-back.ensures) c.undo_until.ensures in
     let count : c.min-self.result ≡ min old.kept (length_of middle) = c.min-self.ensures ∙ ap (min old.kept) c.len.ensures in
     record {
       loaded = λ given numbers loaded. record {
@@ -55,12 +57,16 @@ returns-clause-same c =
       kept = λ base keeps.
           let Keeps : ℕ → Type 0 = λ n. KeepsPlaces base c.force.new.self n in
           subst Keeps (sym count) (first-after middle c.force.new.self _ (keeps_all middle c.force.new.self (keeps-gains _ _ _ _ _ gains free)) base (first-undone old.trail middle old.kept _ c.undo_until.ensures base keeps));
+      turn = keeps-turn old _ refl refl (none-trans _ middle _ (none-undone _ _ _ c.undo_until.ensures) (none-gains _ _ _ _ _ gains (forced-assumed _))) (held-jumped _ middle _ _ _ _ _ it.turn c.undo_until.ensures (omega (arith, c.max-back.ensures)) (keeps-gains _ _ _ _ _ gains free));
     }
 
 pub returns-clause-jump : goal.returns-clause-jump
 returns-clause-jump c =
     let here : c.len-number.result ≡ length c.args.self.now.table.items = search rules in
-    record { middle = c.undo_until.new.self; undone = c.undo_until.ensures; gains = rw here at c.in_ok-force.ensures.ok }
+    record { middle = c.undo_until.new.self; undone = rw c.max-back.ensures at c.undo_until.ensures; gains = rw here at c.in_ok-force.ensures.ok }
 
 pub returns-clause-stored : goal.returns-clause-stored
 returns-clause-stored c = rw c.in_ok-push.ensures.items (clause_at-last c.args.self.now.table.items c.args.learnt.literals)
+
+pub force-requires-clause-free : goal.force-requires-clause-free
+force-requires-clause-free c = asserted-free _ _ _ _ _ _ c.requires.learnt.asserting (below-asserted _ _ _ c.max-back.result _ _ c.requires.learnt.asserting c.requires.above c.max-back.ensures) c.undo_until.ensures

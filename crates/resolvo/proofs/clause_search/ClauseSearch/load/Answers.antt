@@ -1,5 +1,6 @@
-use Rattle.std.proofs.Common.{arith, ◌∙◌}
+use Rattle.std.proofs.Common.{ap, arith, length, sym, ◌∙◌}
 use Rattle.resolvo.proofs.LoadLemmas.{consistent-grown, first-grown, loaded-trail}
+use Rattle.resolvo.proofs.TurnLemmas.{turn-grown, turn-trans}
 use Rattle.resolvo.proofs.clause_search.ClauseSearch.load.Goals as goal
 
 pub load_clauses-requires-clause-consistent : goal.load_clauses-requires-clause-consistent
@@ -21,3 +22,13 @@ returns-clause-variables c = c.in_ok-load_requirements.ensures.same.variables �
 pub returns-clause-kept : goal.returns-clause-kept
 returns-clause-kept c = λ base keeps.
     c.in_ok-load_requirements.ensures.same.kept base (c.in_ok-load_clauses.ensures.same.kept base (first-grown c.args.self.now.trail _ _ _ c.in_ok-grow.ensures.ok base keeps))
+
+pub returns-clause-turn : goal.returns-clause-turn
+returns-clause-turn c =
+    turn-trans _ _ _ (turn-trans _ _ _ (turn-grown c.args.self.now _ _ c.requires.consistent c.in_ok-grow.ensures.ok) c.in_ok-load_clauses.ensures.same.turn) c.in_ok-load_requirements.ensures.same.turn
+
+pub returns-clause-set : goal.returns-clause-set
+returns-clause-set c = record { was = λ v slot at. sym (c.in_ok-grow.ensures.ok.slots v) ∙ c.in_ok-load_clauses.ensures.same.set.was v slot (c.in_ok-load_requirements.ensures.same.set.was v slot at) }
+
+pub returns-clause-marked : goal.returns-clause-marked
+returns-clause-marked c = λ all. c.in_ok-load_requirements.ensures.same.marked (c.in_ok-load_clauses.ensures.same.marked (all ∙ sym (ap length c.in_ok-grow.ensures.ok.order)))

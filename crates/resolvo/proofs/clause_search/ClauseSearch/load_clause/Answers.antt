@@ -10,7 +10,7 @@ returns-clause-consistent c =
     let end : c.len-place.result ≡ length c.args.self.now.table.items = search rules in
     let copied : c.in_ok-copy.copy.items ≡ c.args.literals.now = search rules in
     let Below : List Literal → Type 0 = λ l. IsBelow (variable_count c.args.self.now.trail) l in
-    consistent-given c.args.self.now _ c.in_ok-copy.copy _ _ _ c.requires.consistent (subst Below (sym copied) c.requires.below) end c.in_ok-push.ensures.items c.in_ok-push-2.ensures.items c.in_ok-push-3.ensures.items refl c.undo_until.ensures refl (c.min-self.ensures ∙ ap (min c.args.self.now.kept) c.len.ensures)
+    consistent-given c.args.self.now _ c.in_ok-copy.copy _ _ _ c.requires.consistent (subst Below (sym copied) c.requires.below) end c.in_ok-push.ensures.items c.in_ok-push-2.ensures.items c.in_ok-push-3.ensures.items refl c.undo_until.ensures c.level_for-level.ensures.low refl (c.min-self.ensures ∙ ap (min c.args.self.now.kept) c.len.ensures) refl refl
 
 pub returns-clause-loaded : goal.returns-clause-loaded
 returns-clause-loaded c = λ given numbers copy same loaded.
@@ -20,9 +20,9 @@ returns-clause-loaded c = λ given numbers copy same loaded.
     loaded-clause c.args.self.now _ given numbers copy c.in_ok-copy.copy _ _ c.requires.consistent first end (copied ∙ sym same) c.in_ok-push.ensures.items c.in_ok-push-2.ensures.items c.in_ok-push-3.ensures.items refl loaded
 
 pub returns-clause-same : goal.returns-clause-same
-returns-clause-same c = same-undone _ _ _ c.undo_until.ensures refl (c.min-self.ensures ∙ ap (min c.args.self.now.kept) c.len.ensures)
+returns-clause-same c = same-undone c.args.self.now _ _ c.requires.consistent c.undo_until.ensures c.level_for-level.ensures.low refl (c.min-self.ensures ∙ ap (min c.args.self.now.kept) c.len.ensures) refl refl
 
-pub returns-clause-start : goal.returns-clause-start
-returns-clause-start c = λ falsified.
+pub returns-clause-undone : goal.returns-clause-undone
+returns-clause-undone c = λ falsified.
     let Undone : ℕ → Type 0 = λ level. IsUndone c.args.self.now.trail c.undo_until.new.self level in
-    subst Undone (c.level_for-level.ensures falsified) c.undo_until.ensures
+    subst Undone (c.level_for-level.ensures.falsified falsified) c.undo_until.ensures

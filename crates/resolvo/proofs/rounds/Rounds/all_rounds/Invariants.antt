@@ -1,13 +1,13 @@
 use Rattle.std.proofs.Common.{length, ◌-◌}
 use Rattle.resolver_clause_store.specs.Caches.{IsTrueCache}
-use Rattle.resolvo.specs.RoundStates.{AreRounds, KeepsRead, KeepsRoom, notes_of}
+use Rattle.resolvo.specs.RoundStates.{AreRounds, GoesOn, KeepsRoom, notes_of}
 use Rattle.resolvo.proofs.rounds.Rounds.all_rounds.Given as goal
 
 abbrev pub invariant-rounds : goal.invariant-rounds
 invariant-rounds g l = record {
   is_true : IsTrueCache (g.D.Interner.universe l.provider) l.cache;
   rounds : AreRounds (g.D.Interner.universe l.provider) l.self;
-  keeps : KeepsRead (g.D.Interner.universe l.provider) l.initial.self l.self;
+  keeps : GoesOn (g.D.Interner.universe l.provider) l.initial.self l.self;
   room : KeepsRoom l.initial.self l.self;
 }
 

@@ -1,4 +1,46 @@
+use Rattle.std.proofs.Common.{[], arith, refl, ◌≡◌, ◌<◌, ◌∙◌}
+use Rattle.resolver_clause_store.specs.Outcomes.{IsCore}
+use Rattle.resolver_clause_store.specs.Universe.{Demands}
+use Rattle.resolvo.specs.ClauseSearches.{IsRefused, base_of, trail_of}
+use Rattle.resolvo.specs.RoundStates.{IsAnswering, IsFound, notes_of}
+use Rattle.resolvo.specs.declared.rounds.Found.{Found}
+use Rattle.resolvo.specs.declared.rounds.Found.TheVariants.{Answer, Contradiction, Refused}
+use Rattle.resolvo.proofs.GoingLemmas.{still_all}
+use Rattle.resolvo.proofs.SoftLemmas.{between_begun, between_held, rounds_held}
 use Rattle.resolvo.proofs.rounds.Rounds.find.Goals as goal
 
-pub returns-clause-read : goal.returns-clause-read
-returns-clause-read g c = c.in_ok-found.ensures.keeps _ c.in_ok-begin.ensures.read
+pub soft_turns-requires-clause-rounds : goal.soft_turns-requires-clause-rounds
+soft_turns-requires-clause-rounds g c =
+    rounds_held (g.D.Interner.universe c.args.provider.now) c.all_rounds.new.self c.hold.new.self c.hold.ensures.trail c.hold.ensures.count c.in_ok-all_rounds.ensures.rounds c.hold.ensures.consistent c.hold.ensures.loaded
+
+pub returns-in_ok-soft_turns-in-Answer-clause-done : goal.returns-in_ok-soft_turns-in-Answer-clause-done
+returns-in_ok-soft_turns-in-Answer-clause-done g c =
+    let u = g.D.Interner.universe c.args.provider.now in
+    let root : Demands = record { requirements = c.args.requirements.now; constraints = c.args.constraints.now } in
+    let rest = c.all_rounds.new.self in
+    let found : IsFound u rest c.in_ok-all_rounds.field-0 = c.in_ok-all_rounds.ensures.found in
+    let answering : IsAnswering u rest = rw c.in-Answer.is at found in
+    let begun = c.in_ok-begin.ensures in
+    let first = between_begun u root c.begin.new.self rest begun.read begun.near begun.exempt begun.turn c.in_ok-all_rounds.ensures.keeps answering in
+    let w = c.in_ok-soft_turns-in-Answer.ensures.between root (between_held u rest c.hold.new.self c.hold.ensures.trail c.hold.ensures.count root [] first) in
+    (w.0, λ e. w.1, w.2)
+
+pub returns-in-Contradiction-clause-done : goal.returns-in-Contradiction-clause-done
+returns-in-Contradiction-clause-done g c =
+    let u = g.D.Interner.universe c.args.provider.now in
+    let root : Demands = record { requirements = c.args.requirements.now; constraints = c.args.constraints.now } in
+    let rest = c.all_rounds.new.self in
+    let found : IsFound u rest c.in_ok-all_rounds.field-0 = c.in_ok-all_rounds.ensures.found in
+    let core : IsCore (notes_of rest).table c.in-Contradiction.core.items = rw c.in-Contradiction.is at found in
+    ([], λ e. cc, (c.in_ok-all_rounds.ensures.keeps.read root c.in_ok-begin.ensures.read, core))
+
+pub returns-in-Refused-clause-done : goal.returns-in-Refused-clause-done
+returns-in-Refused-clause-done g c =
+    let u = g.D.Interner.universe c.args.provider.now in
+    let rest = c.all_rounds.new.self in
+    let found : IsFound u rest c.in_ok-all_rounds.field-0 = c.in_ok-all_rounds.ensures.found in
+    let refused : IsRefused (notes_of rest).table (trail_of rest.search) (base_of rest.search) = rw c.in-Refused.is at found in
+    absurd (omega (arith, refused.turn, c.in_ok-all_rounds.ensures.keeps.turn.base, c.in_ok-begin.ensures.turn.base))
+
+pub soft_turns-requires-clause-counted : goal.soft_turns-requires-clause-counted
+soft_turns-requires-clause-counted g c = still_all c.all_rounds.new.self (record c.all_rounds.new.self { search = c.hold.new.self }) refl c.hold.ensures.clauses c.hold.ensures.learnt c.in_ok-all_rounds.ensures.counted

@@ -26,4 +26,4 @@ returns-clause-followed g c =
     let With : List (Origin g.row.N.Denot g.row.S.Denot) → Type 0 = λ origins. Followed origins (trail_of old.search) in
     followed old c.kept.result c.cut.new.self c.follow.new.self c.mark.new.self c.requires.loaded c.requires.mark c.kept.ensures.value c.cut.ensures
     (subst With c.variables.ensures (subst For c.trail.ensures c.in_ok-follow.ensures.follows))
-    c.mark.ensures.trail c.mark.ensures.clauses c.mark.ensures.learnt
+    c.mark.ensures.trail c.mark.ensures.clauses c.mark.ensures.learnt c.mark.ensures.turn c.mark.ensures.count

@@ -4,7 +4,9 @@ use Rattle.resolver_encoding.specs.Notes.{notes_in}
 use Rattle.resolver_encoding.specs.declared.encoding.Encoding.{Encoding}
 use Rattle.resolvo.specs.ClauseSearches.{trail_of}
 use Rattle.resolvo.specs.RoundStates.{notes_of}
-use Rattle.resolvo.proofs.RoundLemmas.{chosen_known, keeps_more, read_more, reading_first}
+use Rattle.resolvo.proofs.RoundLemmas.{chosen_known, read_first, read_more, reading_first}
+use Rattle.resolvo.proofs.GoingLemmas.{drawn_or_assumed, goes_read}
+use Rattle.resolver_encoding.proofs.ReachLemmas.{positives_seen}
 use Rattle.resolvo.proofs.rounds.Rounds.read.Goals as goal
 
 pub read_chosen-requires-clause-reading : goal.read_chosen-requires-clause-reading
@@ -20,4 +22,10 @@ pub returns-clause-rounds : goal.returns-clause-rounds
 returns-clause-rounds g c = read_more (g.D.Interner.universe c.args.provider.now) c.args.self.now c.follow.new.self c.in_ok-from.from c.solvables.result.now.keys c.read_chosen.new.self c.requires.rounds c.in_ok-from.ensures.following c.solvables.ensures c.in_ok-progress.ensures.bounded c.in_ok-progress.ensures.more c.in_ok-progress.ensures.read
 
 pub returns-clause-keeps : goal.returns-clause-keeps
-returns-clause-keeps g c = keeps_more (g.D.Interner.universe c.args.provider.now) c.args.self.now c.follow.new.self c.in_ok-from.from c.solvables.result.now.keys c.read_chosen.new.self c.in_ok-from.ensures.following c.solvables.ensures c.in_ok-progress.ensures.read
+returns-clause-keeps g c =
+    let old = c.args.self.now in
+    goes_read (g.D.Interner.universe c.args.provider.now) old c.follow.new.self c.in_ok-from.from c.solvables.result.now.keys c.read_chosen.new.self c.requires.loaded c.in_ok-from.ensures.following c.in_ok-from.ensures.followed c.solvables.ensures
+    c.in_ok-progress.ensures.more c.in_ok-progress.ensures.read c.in_ok-progress.ensures.near
+    (c.in_ok-progress.ensures.asked c.requires.rounds.reading.root (read_first (g.D.Interner.universe c.args.provider.now) c.requires.rounds.reading.root old c.follow.new.self c.in_ok-from.from c.solvables.result.now.keys c.in_ok-from.ensures.following c.solvables.ensures c.requires.rounds.reading.so_far)).stays
+    (drawn_or_assumed old.search (notes_of old).table (notes_of old).requirements c.requires.rounds.consistent c.requires.loaded.loaded)
+    (λ root encoding. positives_seen (g.D.Interner.universe c.args.provider.now) root (notes_of old) encoding)

@@ -1,27 +1,21 @@
-use Rattle.std.proofs.Common.{ap, length, ◌∙◌, ◌≡◌}
-use Rattle.resolver_clause_store.specs.TrailView.{variable_count}
-use Rattle.resolvo.specs.ClauseSearches.{IsLoaded, trail_of}
-use Rattle.resolvo.specs.RoundStates.{chosen_of, notes_of}
-use Rattle.resolvo.proofs.RoundLemmas.{given_below, given_inside, loaded_all, searched}
+use Rattle.std.proofs.Common.{◌∙◌}
+use Rattle.resolvo.specs.RoundStates.{notes_of}
+use Rattle.resolvo.proofs.RoundLemmas.{searched}
+use Rattle.resolvo.proofs.TurnLemmas.{turn-trans}
 use Rattle.resolvo.proofs.rounds.Rounds.search.Goals as goal
-
-pub load-requires-clause-below : goal.load-requires-clause-below
-load-requires-clause-below g c = given_below (g.D.Interner.universe c.args.provider.now) (chosen_of c.args.self.now) (notes_of c.args.self.now) c.len.result c.literals.result.now c.requires.rounds.reading (c.len.ensures ∙ ap length c.variables.ensures) c.literals.ensures
-
-pub load-requires-clause-inside : goal.load-requires-clause-inside
-load-requires-clause-inside g c = given_inside (g.D.Interner.universe c.args.provider.now) (chosen_of c.args.self.now) (notes_of c.args.self.now) c.literals.result.now c.requirements.result.now c.requires.rounds.reading c.literals.ensures c.requirements.ensures
 
 pub returns-clause-rounds : goal.returns-clause-rounds
 returns-clause-rounds g c =
-    let notes = notes_of c.args.self.now in
-    let loaded : IsLoaded notes.table notes.requirements c.run.new.self = loaded_all notes.table c.literals.result.now notes.requirements c.requirements.result.now c.args.self.now.search c.load.new.self c.run.new.self c.requires.rounds.loaded c.literals.ensures c.requirements.ensures c.in_ok-load.ensures.loaded c.in_ok-outcome.ensures.loaded in
-    let size : variable_count (trail_of c.run.new.self) ≡ length notes.origins = c.in_ok-outcome.ensures.variables ∙ c.in_ok-load.ensures.variables ∙ c.len.ensures ∙ ap length c.variables.ensures in
-    searched (g.D.Interner.universe c.args.provider.now) c.args.self.now c.load.new.self c.run.new.self c.requires.rounds c.in_ok-outcome.ensures.consistent loaded size c.in_ok-load.ensures.kept c.in_ok-outcome.ensures.kept
+    let mid = c.load.new.self in
+    let up = c.in_ok-load.ensures.loaded in
+    searched (g.D.Interner.universe c.args.provider.now) mid c.run.new.self c.in_ok-load.ensures.rounds c.in_ok-outcome.ensures.consistent
+    (c.in_ok-outcome.ensures.loaded (notes_of mid).table (notes_of mid).requirements up.loaded) (c.in_ok-outcome.ensures.variables ∙ up.variables) c.in_ok-outcome.ensures.kept
 
 pub returns-clause-loaded : goal.returns-clause-loaded
 returns-clause-loaded g c =
-    let notes = notes_of c.args.self.now in
-    record {
-      loaded = loaded_all notes.table c.literals.result.now notes.requirements c.requirements.result.now c.args.self.now.search c.load.new.self c.run.new.self c.requires.rounds.loaded c.literals.ensures c.requirements.ensures c.in_ok-load.ensures.loaded c.in_ok-outcome.ensures.loaded;
-      variables = c.in_ok-outcome.ensures.variables ∙ c.in_ok-load.ensures.variables ∙ c.len.ensures ∙ ap length c.variables.ensures;
-    }
+    let mid = c.load.new.self in
+    let up = c.in_ok-load.ensures.loaded in
+    record { loaded = c.in_ok-outcome.ensures.loaded (notes_of mid).table (notes_of mid).requirements up.loaded; variables = c.in_ok-outcome.ensures.variables ∙ up.variables }
+
+pub returns-clause-turn : goal.returns-clause-turn
+returns-clause-turn g c = turn-trans c.args.self.now.search c.load.new.self.search c.run.new.self c.in_ok-load.ensures.turn c.in_ok-outcome.ensures.turn

@@ -1,25 +1,19 @@
-use Rattle.std.proofs.Common.{subst, sym, ◌∙◌, ◌≡◌}
-use Rattle.std.specs.Prelude.{OnOk, length}
+use Rattle.std.proofs.Common.{List, refl, subst, sym, ◌∙◌, ◌≡◌}
+use Rattle.std.specs.Prelude.{IfOk, Ok, Option}
 use Rattle.resolver_clause_store.specs.Universe.{Demands}
 use Rattle.resolver_encoding.specs.Refusals.{IsStop}
-use Rattle.resolver_encoding.specs.SoFar.{IsReadSoFar}
-use Rattle.resolvo.specs.Answers.{IsPlainAnswer}
-use Rattle.resolvo.specs.Problems.{demands_in}
+use Rattle.resolvo.specs.Answers.{IsSoftAnswer}
+use Rattle.resolvo.specs.Problems.{AreItems, demands_in, soft_in}
 use Rattle.resolvo.specs.Refusals.{CountsRead, CountsRefuted, IsRefusal}
-use Rattle.resolvo.specs.RoundStates.{IsStuck, chosen_of, notes_of}
-use Rattle.resolvo.specs.Solvers.{IsAtLimit}
-use Rattle.resolvo.proofs.OutcomeLemmas.{OnOk-weaker, at_limit, same_demands, still_sound, stop_weaker}
+use Rattle.resolvo.specs.RoundStates.{IsDone, IsStuck}
+use Rattle.resolvo.specs.Solvers.{IsAtLimit, exempt_in}
+use Rattle.resolvo.specs.declared.rounds.Found.TheVariants.{Answer}
+use Rattle.resolvo.proofs.OutcomeLemmas.{IfOk-both, at_limit, found_at, same_demands, soft_given, still_sound, stop_weaker}
 use Rattle.resolvo.proofs.RefusalLemmas.{IfErr-weaker, IfOk-weaker}
 use Rattle.resolvo.proofs.solver.Solver.solve.Goals as goal
 
 pub outcome-requires-clause-sound : goal.outcome-requires-clause-sound
-outcome-requires-clause-sound g c = still_sound g.D.Interner.universe (record c.args.self.now { cache = c.find-found.new.cache }) c.count.new.self c.find-found.ensures.is_true c.requires.sound.fits c.count.ensures.rest
-
-pub outcome-requires-clause-table : goal.outcome-requires-clause-table
-outcome-requires-clause-table g c =
-    let rounds = c.find-found.new.self in
-    OnOk-weaker (IsReadSoFar (g.D.Interner.universe c.args.self.now.provider) (record { requirements = c.root_requirements.result.now; constraints = c.root_constraints.result.now }) (chosen_of rounds) (notes_of rounds)) (length (notes_of rounds).table ≡ length (notes_of rounds).kinds)
-    (λ so_far. so_far.half.encoding.encoded.count) c.find-found.result c.find-found.ensures.read
+outcome-requires-clause-sound g c = still_sound g.D.Interner.universe _ c.count.new.self c.find-found.ensures.is_true c.requires.sound.fits c.count.ensures.rest
 
 pub outcome-requires-clause-stop : goal.outcome-requires-clause-stop
 outcome-requires-clause-stop g c =
@@ -39,11 +33,21 @@ returns-clause-answer g c =
     let s = c.count.new.self in
     let rounds = c.find-found.new.self in
     let root = demands_in c.args.problem in
+    let given : Demands = record { requirements = c.root_requirements.result.now; constraints = c.root_constraints.result.now } in
+    let same : given ≡ root = same_demands root c.root_requirements.result.now c.root_constraints.result.now c.root_requirements.ensures c.root_constraints.ensures in
     let provider : s.provider ≡ p = c.count.ensures.rest.provider in
-    let ReadFor : g.row.D.Denot → Demands → Type 0 = λ q d. OnOk c.find-found.result (IsReadSoFar (g.D.Interner.universe q) d (chosen_of rounds) (notes_of rounds)) in
-    let By : g.row.D.Denot → Type 0 = λ q. ReadFor q root in
-    let read : ReadFor s.provider root = subst By (sym provider) (subst (ReadFor p) (same_demands root c.root_requirements.result.now c.root_constraints.result.now c.root_requirements.ensures c.root_constraints.ensures) c.find-found.ensures.read) in
-    IfOk-weaker (λ chosen. (d : Demands) → ReadFor s.provider d → IsPlainAnswer (g.D.Interner.universe s.provider) d chosen.items) (λ chosen. IsPlainAnswer (g.D.Interner.universe p) root chosen.items) (λ chosen h. let For : g.row.D.Denot → Type 0 = λ q. IsPlainAnswer (g.D.Interner.universe q) root chosen.items in subst For provider (h root read)) c.outcome.result c.outcome.ensures.answer
+    let Gives : List g.row.D-SolvableId.Denot → Type 0 = λ xs. AreItems g.S.Iterator.next_gives (soft_in c.args.problem) xs in
+    let From : Option g.row.S.Denot → Type 0 = λ o. IfOk c.find-found.result (λ f. (xs : List g.row.D-SolvableId.Denot) × (f ≡ Answer → AreItems g.S.Iterator.next_gives o xs) × IsDone (g.D.Interner.universe p) given xs rounds f) in
+    let w = soft_given Gives (λ f. f ≡ Answer) (λ xs f. IsDone (g.D.Interner.universe p) given xs rounds f) c.find-found.result (subst From c.take-soft.ensures.value c.find-found.ensures.done) in
+    let DoneFor : g.row.D.Denot → Demands → Type 0 = λ q d. IfOk c.find-found.result (IsDone (g.D.Interner.universe q) d w.0 rounds) in
+    let DoneBy : g.row.D.Denot → Type 0 = λ q. DoneFor q root in
+    let done : DoneFor s.provider root = subst DoneBy (sym provider) (subst (DoneFor p) same w.2) in
+    IfOk-both (λ chosen. (d : Demands) (xs : List g.row.D-SolvableId.Denot) → IfOk c.find-found.result (IsDone (g.D.Interner.universe s.provider) d xs rounds) → IsSoftAnswer (g.D.Interner.universe s.provider) d xs chosen.items (exempt_in c.outcome.new.self))
+    (λ chosen. (xs : List g.row.D-SolvableId.Denot) × Gives xs × IsSoftAnswer (g.D.Interner.universe p) root xs chosen.items (exempt_in c.outcome.new.self))
+    (c.find-found.result ≡ Ok Answer)
+    (λ chosen h is. let For : g.row.D.Denot → Type 0 = λ q. IsSoftAnswer (g.D.Interner.universe q) root w.0 chosen.items (exempt_in c.outcome.new.self) in
+    (w.0, found_at (λ f. f ≡ Answer → Gives w.0) c.find-found.result Answer is w.1 refl, subst For provider (h root w.0 done)))
+    c.outcome.result c.outcome.ensures.answer c.outcome.ensures.found
 
 pub returns-clause-refusal : goal.returns-clause-refusal
 returns-clause-refusal g c =
@@ -51,11 +55,18 @@ returns-clause-refusal g c =
     let s = c.count.new.self in
     let rounds = c.find-found.new.self in
     let root = demands_in c.args.problem in
+    let given : Demands = record { requirements = c.root_requirements.result.now; constraints = c.root_constraints.result.now } in
+    let same : given ≡ root = same_demands root c.root_requirements.result.now c.root_constraints.result.now c.root_requirements.ensures c.root_constraints.ensures in
     let provider : s.provider ≡ p = c.count.ensures.rest.provider in
-    let ReadFor : g.row.D.Denot → Demands → Type 0 = λ q d. OnOk c.find-found.result (IsReadSoFar (g.D.Interner.universe q) d (chosen_of rounds) (notes_of rounds)) in
-    let By : g.row.D.Denot → Type 0 = λ q. ReadFor q root in
-    let read : ReadFor s.provider root = subst By (sym provider) (subst (ReadFor p) (same_demands root c.root_requirements.result.now c.root_constraints.result.now c.root_requirements.ensures c.root_constraints.ensures) c.find-found.ensures.read) in
-    IfErr-weaker (λ e. (d : Demands) → ReadFor s.provider d → IsRefusal (g.D.Interner.universe s.provider) (g.D.DependencyProvider.may_cancel s.provider) d (IsAtLimit c.outcome.new.self) e) (λ e. IsRefusal (g.D.Interner.universe p) (g.D.DependencyProvider.may_cancel p) root (IsAtLimit c.outcome.new.self) e) (λ e h. let For : g.row.D.Denot → Type 0 = λ q. IsRefusal (g.D.Interner.universe q) (g.D.DependencyProvider.may_cancel q) root (IsAtLimit c.outcome.new.self) e in subst For provider (h root read)) c.outcome.result c.outcome.ensures.refusal
+    let Gives : List g.row.D-SolvableId.Denot → Type 0 = λ xs. AreItems g.S.Iterator.next_gives c.take-soft.result xs in
+    let w = soft_given Gives (λ f. f ≡ Answer) (λ xs f. IsDone (g.D.Interner.universe p) given xs rounds f) c.find-found.result c.find-found.ensures.done in
+    let DoneFor : g.row.D.Denot → Demands → Type 0 = λ q d. IfOk c.find-found.result (IsDone (g.D.Interner.universe q) d w.0 rounds) in
+    let DoneBy : g.row.D.Denot → Type 0 = λ q. DoneFor q root in
+    let done : DoneFor s.provider root = subst DoneBy (sym provider) (subst (DoneFor p) same w.2) in
+    IfErr-weaker (λ e. (d : Demands) (xs : List g.row.D-SolvableId.Denot) → IfOk c.find-found.result (IsDone (g.D.Interner.universe s.provider) d xs rounds) → IsRefusal (g.D.Interner.universe s.provider) (g.D.DependencyProvider.may_cancel s.provider) d (IsAtLimit c.outcome.new.self) e)
+    (λ e. IsRefusal (g.D.Interner.universe p) (g.D.DependencyProvider.may_cancel p) root (IsAtLimit c.outcome.new.self) e)
+    (λ e h. let For : g.row.D.Denot → Type 0 = λ q. IsRefusal (g.D.Interner.universe q) (g.D.DependencyProvider.may_cancel q) root (IsAtLimit c.outcome.new.self) e in subst For provider (h root w.0 done))
+    c.outcome.result c.outcome.ensures.refusal
 
 pub returns-clause-counted : goal.returns-clause-counted
 returns-clause-counted g c =
@@ -63,11 +74,18 @@ returns-clause-counted g c =
     let s = c.count.new.self in
     let rounds = c.find-found.new.self in
     let root = demands_in c.args.problem in
+    let given : Demands = record { requirements = c.root_requirements.result.now; constraints = c.root_constraints.result.now } in
+    let same : given ≡ root = same_demands root c.root_requirements.result.now c.root_constraints.result.now c.root_requirements.ensures c.root_constraints.ensures in
     let provider : s.provider ≡ p = c.count.ensures.rest.provider in
-    let ReadFor : g.row.D.Denot → Demands → Type 0 = λ q d. OnOk c.find-found.result (IsReadSoFar (g.D.Interner.universe q) d (chosen_of rounds) (notes_of rounds)) in
-    let By : g.row.D.Denot → Type 0 = λ q. ReadFor q root in
-    let read : ReadFor s.provider root = subst By (sym provider) (subst (ReadFor p) (same_demands root c.root_requirements.result.now c.root_constraints.result.now c.root_requirements.ensures c.root_constraints.ensures) c.find-found.ensures.read) in
-    IfErr-weaker (λ e. (d : Demands) → ReadFor s.provider d → CountsRefuted (g.D.Interner.universe s.provider) d c.outcome.new.self e) (λ e. CountsRefuted (g.D.Interner.universe p) root c.outcome.new.self e) (λ e h. let For : g.row.D.Denot → Type 0 = λ q. CountsRefuted (g.D.Interner.universe q) root c.outcome.new.self e in subst For provider (h root read)) c.outcome.result c.outcome.ensures.counted
+    let Gives : List g.row.D-SolvableId.Denot → Type 0 = λ xs. AreItems g.S.Iterator.next_gives c.take-soft.result xs in
+    let w = soft_given Gives (λ f. f ≡ Answer) (λ xs f. IsDone (g.D.Interner.universe p) given xs rounds f) c.find-found.result c.find-found.ensures.done in
+    let DoneFor : g.row.D.Denot → Demands → Type 0 = λ q d. IfOk c.find-found.result (IsDone (g.D.Interner.universe q) d w.0 rounds) in
+    let DoneBy : g.row.D.Denot → Type 0 = λ q. DoneFor q root in
+    let done : DoneFor s.provider root = subst DoneBy (sym provider) (subst (DoneFor p) same w.2) in
+    IfErr-weaker (λ e. (d : Demands) (xs : List g.row.D-SolvableId.Denot) → IfOk c.find-found.result (IsDone (g.D.Interner.universe s.provider) d xs rounds) → CountsRefuted (g.D.Interner.universe s.provider) d c.outcome.new.self e)
+    (λ e. CountsRefuted (g.D.Interner.universe p) root c.outcome.new.self e)
+    (λ e h. let For : g.row.D.Denot → Type 0 = λ q. CountsRefuted (g.D.Interner.universe q) root c.outcome.new.self e in subst For provider (h root w.0 done))
+    c.outcome.result c.outcome.ensures.counted
 
 pub returns-clause-counted_answer : goal.returns-clause-counted_answer
 returns-clause-counted_answer g c =
@@ -75,8 +93,15 @@ returns-clause-counted_answer g c =
     let s = c.count.new.self in
     let rounds = c.find-found.new.self in
     let root = demands_in c.args.problem in
+    let given : Demands = record { requirements = c.root_requirements.result.now; constraints = c.root_constraints.result.now } in
+    let same : given ≡ root = same_demands root c.root_requirements.result.now c.root_constraints.result.now c.root_requirements.ensures c.root_constraints.ensures in
     let provider : s.provider ≡ p = c.count.ensures.rest.provider in
-    let ReadFor : g.row.D.Denot → Demands → Type 0 = λ q d. OnOk c.find-found.result (IsReadSoFar (g.D.Interner.universe q) d (chosen_of rounds) (notes_of rounds)) in
-    let By : g.row.D.Denot → Type 0 = λ q. ReadFor q root in
-    let read : ReadFor s.provider root = subst By (sym provider) (subst (ReadFor p) (same_demands root c.root_requirements.result.now c.root_constraints.result.now c.root_requirements.ensures c.root_constraints.ensures) c.find-found.ensures.read) in
-    IfOk-weaker (λ chosen. (d : Demands) → ReadFor s.provider d → CountsRead (g.D.Interner.universe s.provider) d chosen.items c.outcome.new.self) (λ chosen. CountsRead (g.D.Interner.universe p) root chosen.items c.outcome.new.self) (λ chosen h. let For : g.row.D.Denot → Type 0 = λ q. CountsRead (g.D.Interner.universe q) root chosen.items c.outcome.new.self in subst For provider (h root read)) c.outcome.result c.outcome.ensures.counted_answer
+    let Gives : List g.row.D-SolvableId.Denot → Type 0 = λ xs. AreItems g.S.Iterator.next_gives c.take-soft.result xs in
+    let w = soft_given Gives (λ f. f ≡ Answer) (λ xs f. IsDone (g.D.Interner.universe p) given xs rounds f) c.find-found.result c.find-found.ensures.done in
+    let DoneFor : g.row.D.Denot → Demands → Type 0 = λ q d. IfOk c.find-found.result (IsDone (g.D.Interner.universe q) d w.0 rounds) in
+    let DoneBy : g.row.D.Denot → Type 0 = λ q. DoneFor q root in
+    let done : DoneFor s.provider root = subst DoneBy (sym provider) (subst (DoneFor p) same w.2) in
+    IfOk-weaker (λ chosen. (d : Demands) (xs : List g.row.D-SolvableId.Denot) → IfOk c.find-found.result (IsDone (g.D.Interner.universe s.provider) d xs rounds) → CountsRead (g.D.Interner.universe s.provider) d chosen.items c.outcome.new.self)
+    (λ chosen. CountsRead (g.D.Interner.universe p) root chosen.items c.outcome.new.self)
+    (λ chosen h. let For : g.row.D.Denot → Type 0 = λ q. CountsRead (g.D.Interner.universe q) root chosen.items c.outcome.new.self in subst For provider (h root w.0 done))
+    c.outcome.result c.outcome.ensures.counted_answer

@@ -1,0 +1,259 @@
+-- How far reading goes: what is demanded in a set that is near is near, too.
+use Rattle.std.proofs.Common.{◌≡◌, ◌⊎◌, ◌<◌, true, false, List, [], ◌∷◌, ◌++◌, arith, refl, sym, ap, ◌∙◌, subst, ⊎_elim, inl, inr, length, map, get_or, Contains, All, Vec, Global}
+use Rattle.std.specs.Option.{option_map_or}
+use Rattle.std.proofs.lemmas.Bool.{true≢false}
+use Rattle.std.proofs.lemmas.Option.{get_or_from_slice_get, slice_get-get_or, slice_get_within}
+use Rattle.std.proofs.lemmas.List.Elements.{All-contains, Contains-append_cases, Contains-get_or}
+use Rattle.resolver_clause_store.specs.Formula.{clause_at}
+use Rattle.resolver_clause_store.specs.Lists.{IsWithin}
+use Rattle.resolver_clause_store.specs.Universe.{Universe, Demands}
+use Rattle.resolver_clause_store.specs.Candidates.{matching, requirement_candidates}
+use Rattle.resolver_clause_store.specs.Conditions.{IsActive}
+use Rattle.resolver_clause_store.specs.Near.{IsNamed, IsNear}
+use Rattle.resolver_clause_store.specs.Valid.{Constrains, Requires}
+use Rattle.resolver_clause_store.specs.declared.By.{By}
+use Rattle.resolver_clause_store.specs.declared.By.TheVariants.{Root as ByRoot, Solvable as BySolvable}
+use Rattle.resolver_clause_store.specs.declared.ClauseKind.{ClauseKind}
+use Rattle.resolver_clause_store.specs.declared.ClauseKind.TheVariants.{InstallRoot, Requires as RequiresKind, AnyOf, GateRequires, Constrains as ConstrainsKind, ForbidMultipleInstances, ConstrainsExcluded, ConstrainsParent, HasBit, Lock, Excluded}
+use Rattle.resolver_clause_store.specs.declared.ConditionalRequirement.{ConditionalRequirement}
+use Rattle.resolver_clause_store.specs.declared.Literal.{Literal}
+use Rattle.resolver_clause_store.specs.declared.Origin.{Origin}
+use Rattle.resolver_clause_store.specs.declared.Origin.TheVariants.{Root, Solvable, Bit, Gate, ConstraintHelper, ConditionHelper}
+use Rattle.resolver_clause_store.specs.declared.Requirement.{Requirement}
+use Rattle.resolver_clause_store.specs.declared.VersionSetId.{VersionSetId}
+use Rattle.resolver_clause_store.proofs.NearLemmas.{IsNamed-within, IsNear-closed, IsNear-more, OptionalConditionHolds-within}
+use Rattle.resolver_clause_store.proofs.PlaceLemmas.{place_of_member}
+use Rattle.resolver_report.specs.Rules.{IsPresent}
+use Rattle.resolver_report.specs.TrueRules.{demands_by}
+use Rattle.resolver_encoding.specs.Atoms.{Atom, atom, atoms_of, origin_by}
+use Rattle.resolver_encoding.specs.Called.{Call, IsDemanded, IsNamedBy, IsSeeing, IsWantedBy, to_ask, to_see}
+use Rattle.resolver_encoding.specs.Encodings.{HasUsualHelper, IsAskStep, IsEncoding, IsFollowed, IsReadStep, IsTrueEntry, IsUnmet, Notes}
+use Rattle.resolver_encoding.specs.Reach.{AreNear}
+use Rattle.resolver_encoding.specs.ReadState.{Deferred}
+use Rattle.resolver_encoding.specs.SoFar.{IsBare, IsFiring, IsHalfRead, IsReadSoFar, IsReadingOf}
+use Rattle.resolver_encoding.specs.Statements.{AllMeet}
+use Rattle.resolver_encoding.specs.Trails.{origin_at}
+use Rattle.resolver_encoding.proofs.Lists.{Contains-map_back, cons_cases, none_in}
+use Rattle.resolver_encoding.proofs.RequirementLemmas.{active_where}
+use Rattle.resolver_encoding.proofs.SoFarLemmas.{demanded_asked}
+
+module _ {N S : Type 0} (u : Universe N S) (root : Demands) (seeds : List S) where
+  abbrev Near : S → Type 0
+  Near s = IsNear u root seeds s
+
+  -- the package is named by what is near, or the candidate is near
+  abbrev pub IsLed : Call N S → Type 0
+  IsLed (to_ask n) = IsNamed u root Near n
+  IsLed (to_see s) = Near s
+
+  requires_by : (by : By S) (read : List S) → IsPresent by read → ((s : S) → Contains read s → Near s) → (r : ConditionalRequirement) → Contains (demands_by u root by).requirements r → Requires u root Near r
+  requires_by ByRoot read present near r asks = inl asks
+  requires_by (BySolvable s) read present near r asks = inr (s, near s present, asks)
+
+  constrains_by : (by : By S) (read : List S) → IsPresent by read → ((s : S) → Contains read s → Near s) → (v : VersionSetId) → Contains (demands_by u root by).constraints v → Constrains u root Near v
+  constrains_by ByRoot read present near v asks = inl asks
+  constrains_by (BySolvable s) read present near v asks = inr (s, near s present, asks)
+
+  -- a requirement that is active leads no farther
+  wanted_led : (r : ConditionalRequirement) → Requires u root Near r → IsActive u Near r → (call : Call N S) → IsWantedBy u r.requirement call → IsLed call
+  wanted_led r asked active (to_ask n) named = inr (r, named.0, asked, active, named.1, named.2)
+  wanted_led r asked active (to_see s) listed = IsNear-closed u root seeds s (r, asked, active, listed)
+
+  named_led : (list : List VersionSetId) → ((v : VersionSetId) → Contains list v → Constrains u root Near v) → (call : Call N S) → IsNamedBy u list call → IsLed call
+  named_led list constrains (to_ask n) named = inl (named.0, constrains named.0 named.1, named.2)
+  named_led list constrains (to_see s) named = absurd named
+
+  -- nor does what the root, or what was read, demands in a set
+  demanded_led : (set read : List S) → ((s : S) → Contains set s → Near s) → ((s : S) → Contains read s → Near s) → (by : By S) → IsPresent by read → (call : Call N S) → IsDemanded u set (demands_by u root by) call → IsLed call
+  demanded_led set read set_near near by present call demanded = ⊎_elim
+      (λ w. wanted_led w.0 (requires_by by read present near w.0 w.1) (OptionalConditionHolds-within u (Contains set) Near set_near w.0.condition w.2.0) call w.2.1)
+      (λ named. named_led (demands_by u root by).constraints (constrains_by by read present near) call named)
+      demanded
+
+  -- nor does a disjunct that was put off, and is met in the set
+  entry_led : (set read : List S) → ((s : S) → Contains set s → Near s) → ((s : S) → Contains read s → Near s) → (e : Deferred S) → IsTrueEntry u root e → IsPresent e.by read → AllMeet set (map (matching u) e.disjunct) → (call : Call N S) → IsWantedBy u e.requirement call → IsLed call
+  entry_led set read set_near near e entry present met call wanted =
+      let is_true = entry.is_true in
+      let Wanted : Requirement → Type 0 = λ r. IsWantedBy u r call in
+      wanted_led is_true.0 (requires_by e.by read present near is_true.0 is_true.1)
+      (OptionalConditionHolds-within u (Contains set) Near set_near is_true.0.condition (active_where u set (map (matching u) e.disjunct) is_true.0.condition is_true.3 met))
+      call (subst Wanted (sym is_true.2) wanted)
+
+  followed_led : (notes : Notes N S) → AreNear u root seeds notes → (call : Call N S) → IsFollowed notes call → IsLed call
+  followed_led notes near (to_ask n) h = near.asked n h
+  followed_led notes near (to_see s) h = near.seen s h
+
+  near_where : (notes : Notes N S) → ((s : S) → Contains notes.read s → Near s) → ((call : Call N S) → IsFollowed notes call → IsLed call) → AreNear u root seeds notes
+  near_where notes read led = record { seen = λ s h. led (to_see s) h; read = read; asked = λ n h. led (to_ask n) h }
+
+  -- after a step that goes no farther
+  pub AreNear-called : (Called : Call N S → Type 0) (Premise : Demands → Type 0) (old new : Notes N S) → IsAskStep u Called Premise old new → ((call : Call N S) → Called call → IsLed call) → AreNear u root seeds old → AreNear u root seeds new
+  AreNear-called Called Premise old new step led near =
+      let Has : S → List S → Type 0 = λ s list. Contains list s in
+      near_where new (λ s h. near.read s (subst (Has s) step.read h))
+      (λ call h. ⊎_elim (λ earlier. followed_led old near call earlier) (λ called. led call called) (step.called call h))
+
+  -- after one more was registered that is near itself
+  pub AreNear-seen : (s : S) (Premise : Demands → Type 0) (old new : Notes N S) → IsAskStep u (IsSeeing s) Premise old new → IsNear u root seeds s → AreNear u root seeds old → AreNear u root seeds new
+  AreNear-seen s Premise old new step here near = AreNear-called (IsSeeing s) Premise old new step led near
+    where
+      led : (call : Call N S) → IsSeeing s call → IsLed call
+      led (to_ask n) seeing = absurd seeing
+      led (to_see t) same = subst Near same here
+
+  -- after one more reading of a set that is near
+  pub near_after : (set : List S) (old mid new : Notes N S) → IsReadingOf u set old mid → IsFiring u set mid new → IsHalfRead u root old → AreNear u root seeds old → All (IsNear u root seeds) set → AreNear u root seeds new
+  near_after set old mid new reading firing before near all =
+      let set_near : (s : S) → Contains set s → Near s = λ s h. All-contains (IsNear u root seeds) set s all h in
+      let mid_near : (s : S) → Contains mid.read s → Near s = λ s h. ⊎_elim (λ earlier. near.read s earlier) (λ chosen. set_near s chosen) (reading.read_chosen s h) in
+      let half : IsHalfRead u root mid = reading.keeps root before in
+      let Has : S → List S → Type 0 = λ s list. Contains list s in
+      near_where new (λ s h. mid_near s (subst (Has s) firing.read h))
+      (λ call h. ⊎_elim
+      (λ (was : IsFollowed mid call). ⊎_elim
+      (λ (earlier : IsFollowed old call). followed_led old near call earlier)
+      (λ w. demanded_led set mid.read set_near mid_near (BySolvable w.0) w.1 call w.2)
+      (reading.called call was))
+      (λ w. entry_led set mid.read set_near mid_near w.0 (half.encoding.left_true w.0 w.1) (half.left_read w.0 w.1) w.2 call w.3)
+      (firing.called call h))
+
+  -- what is near stays so with more seeds
+  pub AreNear-more : (more : List S) → IsWithin seeds more → (notes : Notes N S) → AreNear u root seeds notes → AreNear u root more notes
+  AreNear-more more within notes near =
+      let on : (s : S) → IsNear u root seeds s → IsNear u root more s = IsNear-more u root seeds more within in
+      record {
+        seen = λ s h. on s (near.seen s h);
+        read = λ s h. on s (near.read s h);
+        asked = λ n h. IsNamed-within u root (IsNear u root seeds) (IsNear u root more) on n (near.asked n h);
+      }
+
+-- the root alone leads to what it demands without a condition
+module _ {N S : Type 0} (u : Universe N S) (root : Demands) (seeds : List S) (bare new : Notes N S)
+    (step : IsReadStep u (IsUnmet u [] ByRoot) (IsDemanded u [] root) (λ r. demands_by u r ByRoot ≡ root) bare new) (nothing : IsBare bare) where
+  none_followed : (call : Call N S) → IsFollowed bare call → ⊥
+  none_followed (to_ask n) h = let Has : List N → Type 0 = λ list. Contains list n in none_in n (subst Has nothing.none_asked h)
+  none_followed (to_see s) h = let Has : List S → Type 0 = λ list. Contains list s in none_in s (subst Has nothing.none_seen h)
+
+  none_read : (s : S) → Contains new.read s → ⊥
+  none_read s h = let Has : List S → Type 0 = λ list. Contains list s in none_in s (subst Has (step.read ∙ nothing.none_read) h)
+
+  pub root_near : AreNear u root seeds new
+  root_near = near_where u root seeds new (λ s h. absurd (none_read s h))
+      (λ call h. ⊎_elim
+      (λ (before : IsFollowed bare call). absurd (none_followed call before))
+      (λ demanded. demanded_led u root seeds [] [] (λ s k. absurd (none_in s k)) (λ s k. absurd (none_in s k)) ByRoot tt call demanded)
+      (step.called call h))
+
+-- what the root and a set that was read name was asked
+pub asked_named : {N S : Type 0} (u : Universe N S) (root : Demands) (set : List S) (notes : Notes N S) → IsReadSoFar u root set notes → (n : N) → IsNamed u root (Contains set) n → Contains notes.asked n
+asked_named u root set notes so n named = ⊎_elim
+    (λ w. ⊎_elim
+    (λ asks. demanded_asked u set root notes so.half so.none ByRoot tt n (inr (w.0, asks, w.2)))
+    (λ by. demanded_asked u set root notes so.half so.none (BySolvable by.0) (so.set_read by.0 by.1) n (inr (w.0, by.2, w.2)))
+    w.1)
+    (λ w. ⊎_elim
+    (λ asks. demanded_asked u set root notes so.half so.none ByRoot tt n (inl (w.0, asks, (w.3, (w.1, w.4, w.5)))))
+    (λ by. demanded_asked u set root notes so.half so.none (BySolvable by.0) (so.set_read by.0 by.1) n (inl (w.0, by.2, (w.3, (w.1, w.4, w.5)))))
+    w.2)
+    named
+
+-- a positive atom of a solvable stands in a clause that asks for candidates, and is one of them
+module _ {N S : Type 0} (u : Universe N S) (s : S) where
+  -- the clause asks for the solvable among its candidates
+  abbrev AsksForIt : ClauseKind N S → Type 0
+  AsksForIt (RequiresKind by disjunct r) = Contains (requirement_candidates u r) s
+  AsksForIt (GateRequires r) = Contains (requirement_candidates u r) s
+  AsksForIt kind = ⊥
+
+  abbrev IsIt : Atom N S → Type 0
+  IsIt a = (a.positive ≡ true) × (a.origin ≡ Solvable s)
+
+  same_solvable : (t : S) (o : Origin N S) → o ≡ Solvable t → o ≡ Solvable s → t ≡ s
+  same_solvable t o one other = cc
+
+  not_root : (o : Origin N S) → o ≡ Root → o ≡ Solvable s → ⊥
+  not_root o one other = cc
+
+  by_not : (by : By S) → IsIt (atom (origin_by by) false) → ⊥
+  by_not by it = true≢false (sym it.0)
+
+  helpers_not : (list : List VersionSetId) (a : Atom N S) → Contains (map (λ v. atom (ConditionHelper v) false) list) a → IsIt a → ⊥
+  helpers_not list a h it =
+      let w = Contains-map_back (λ (v : VersionSetId). atom (ConditionHelper v) false) list a h in
+      true≢false (sym it.0 ∙ ap (λ (b : Atom N S). b.positive) (sym w.2))
+
+  candidate_is : (list : List S) (a : Atom N S) → Contains (map (λ t. atom (Solvable t) true) list) a → IsIt a → Contains list s
+  candidate_is list a h it =
+      let w = Contains-map_back (λ (t : S). atom (Solvable t) true) list a h in
+      let Has : S → Type 0 = λ t. Contains list t in
+      subst Has (same_solvable w.0 a.origin (ap (λ (b : Atom N S). b.origin) (sym w.2)) it.1) w.1
+
+  only_atom : (a b : Atom N S) → Contains (a ∷ []) b → IsIt b → IsIt a
+  only_atom a b h it = ⊎_elim (λ (is : a ≡ b). subst IsIt (sym is) it) (λ (none : Contains [] b). absurd (none_in b none)) (cons_cases a [] b h)
+
+  one_of_two : (a b c : Atom N S) → Contains (a ∷ b ∷ []) c → IsIt c → IsIt a ⊎ IsIt b
+  one_of_two a b c h it = ⊎_elim (λ (is : a ≡ c). inl (subst IsIt (sym is) it)) (λ (later : Contains (b ∷ []) c). inr (only_atom b c later it)) (cons_cases a (b ∷ []) c h)
+
+  neither : (a b c : Atom N S) → (IsIt a → ⊥) → (IsIt b → ⊥) → Contains (a ∷ b ∷ []) c → IsIt c → ⊥
+  neither a b c first second h it = ⊎_elim first second (one_of_two a b c h it)
+
+  asks_for_it : (kind : ClauseKind N S) → HasUsualHelper kind → (a : Atom N S) → Contains (atoms_of u kind) a → IsIt a → AsksForIt kind
+  asks_for_it InstallRoot usual a h it = not_root Root refl (only_atom (atom Root true) a h it).1
+  asks_for_it (RequiresKind by disjunct r) usual a h it =
+      let helpers : List (Atom N S) = map (λ v. atom (ConditionHelper v) false) disjunct.items in
+      let candidates : List (Atom N S) = map (λ t. atom (Solvable t) true) (requirement_candidates u r) in
+      ⊎_elim
+      (λ (is : atom (origin_by by) false ≡ a). absurd (by_not by (subst IsIt (sym is) it)))
+      (λ (later : Contains (helpers ++ candidates) a). ⊎_elim
+      (λ (helper : Contains helpers a). absurd (helpers_not disjunct.items a helper it))
+      (λ (candidate : Contains candidates a). candidate_is (requirement_candidates u r) a candidate it)
+      (Contains-append_cases helpers candidates a later))
+      (cons_cases (atom (origin_by by) false) (helpers ++ candidates) a h)
+  asks_for_it (GateRequires r) usual a h it =
+      let candidates : List (Atom N S) = map (λ t. atom (Solvable t) true) (requirement_candidates u r) in
+      ⊎_elim
+      (λ (is : atom (Gate r) false ≡ a). absurd (true≢false (sym (subst IsIt (sym is) it).0)))
+      (λ (candidate : Contains candidates a). candidate_is (requirement_candidates u r) a candidate it)
+      (cons_cases (atom (Gate r) false) candidates a h)
+  asks_for_it (AnyOf Root t) usual a h it = usual
+  asks_for_it (AnyOf (Solvable q) t) usual a h it = usual
+  asks_for_it (AnyOf (Bit n i) t) usual a h it = usual
+  asks_for_it (AnyOf (ConstraintHelper v) t) usual a h it = usual
+  asks_for_it (AnyOf (Gate r) t) usual a h it = neither (atom (Gate r) true) (atom (Solvable t) false) a (λ i. cc) (λ i. true≢false (sym i.0)) h it
+  asks_for_it (AnyOf (ConditionHelper v) t) usual a h it = neither (atom (ConditionHelper v) true) (atom (Solvable t) false) a (λ i. cc) (λ i. true≢false (sym i.0)) h it
+  asks_for_it (ConstrainsKind by v t) usual a h it = neither (atom (origin_by by) false) (atom (Solvable t) false) a (by_not by) (λ i. true≢false (sym i.0)) h it
+  asks_for_it (ForbidMultipleInstances n t q) usual a h it = neither (atom (Solvable t) false) (atom (Solvable q) false) a (λ i. true≢false (sym i.0)) (λ i. true≢false (sym i.0)) h it
+  asks_for_it (ConstrainsExcluded t v) usual a h it = neither (atom (Solvable t) false) (atom (ConstraintHelper v) true) a (λ i. true≢false (sym i.0)) (λ i. cc) h it
+  asks_for_it (ConstrainsParent by v) usual a h it = neither (atom (origin_by by) false) (atom (ConstraintHelper v) false) a (by_not by) (λ i. true≢false (sym i.0)) h it
+  asks_for_it (HasBit n t i b) usual a h it = neither (atom (Solvable t) false) (atom (Bit n i) b) a (λ j. true≢false (sym j.0)) (λ j. cc) h it
+  asks_for_it (Lock t q) usual a h it = neither (atom Root false) (atom (Solvable q) false) a (λ i. true≢false (sym i.0)) (λ i. true≢false (sym i.0)) h it
+  asks_for_it (Excluded t reason) usual a h it = true≢false (sym (only_atom (atom (Solvable t) false) a h it).0)
+
+  asked_seen : (root : Demands) (notes : Notes N S) → IsEncoding u root notes → (kind : ClauseKind N S) → Contains notes.kinds kind → AsksForIt kind → Contains notes.seen s
+  asked_seen root notes encoding (RequiresKind by disjunct r) inside asks = encoding.candidates by disjunct r inside s asks
+  asked_seen root notes encoding (GateRequires r) inside asks = encoding.gate_candidates r inside s asks
+  asked_seen root notes encoding InstallRoot inside asks = absurd asks
+  asked_seen root notes encoding (AnyOf helper t) inside asks = absurd asks
+  asked_seen root notes encoding (ConstrainsKind by v t) inside asks = absurd asks
+  asked_seen root notes encoding (ForbidMultipleInstances n t q) inside asks = absurd asks
+  asked_seen root notes encoding (ConstrainsExcluded t v) inside asks = absurd asks
+  asked_seen root notes encoding (ConstrainsParent by v) inside asks = absurd asks
+  asked_seen root notes encoding (HasBit n t i b) inside asks = absurd asks
+  asked_seen root notes encoding (Lock t q) inside asks = absurd asks
+  asked_seen root notes encoding (Excluded t reason) inside asks = absurd asks
+
+-- what a clause asks for was seen
+pub positives_seen : {N S : Type 0} (u : Universe N S) (root : Demands) (notes : Notes N S) → IsEncoding u root notes → (clause : Vec Literal Global) → Contains notes.table clause → (l : Literal) → Contains clause.items l →
+    l.positive ≡ true → (s : S) → origin_at notes.origins l.variable ≡ Solvable s → Contains notes.seen s
+positives_seen {N} {S} u root notes encoding clause listed l inside positive s stands =
+    let at = place_of_member notes.table clause listed in
+    let number = at.0 in
+    let below : number < length notes.kinds = omega (arith, slice_get_within notes.table number clause at.1, encoding.encoded.count) in
+    let kind : ClauseKind N S = get_or notes.kinds number InstallRoot in
+    let kind_at = slice_get-get_or notes.kinds number InstallRoot below in
+    let has_kind : Contains notes.kinds kind = Contains-get_or notes.kinds number InstallRoot below in
+    let items : clause_at notes.table number ≡ clause.items = ap (λ o. option_map_or (λ (c : Vec Literal Global). c.items) o []) at.1 in
+    let Has : List Literal → Type 0 = λ list. Contains list l in
+    let a = (encoding.encoded.each number kind kind_at).atoms.each_literal l (subst Has (sym items) inside) in
+    let origin : a.0.origin ≡ Solvable s = sym (get_or_from_slice_get notes.origins l.variable a.0.origin Root a.2.origin) ∙ stands in
+    asked_seen u s root notes encoding kind has_kind (asks_for_it u s kind (All-contains HasUsualHelper notes.kinds kind encoding.each_usual has_kind) a.0 a.1 (sym a.2.positive ∙ positive, origin))

@@ -1,0 +1,310 @@
+-- Turns of soft requirements: a solvable is registered, exempt, and exempt no longer.
+use Rattle.std.proofs.Common.{◌≡◌, ◌≢◌, ◌⊎◌, Bool, true, false, List, [], ◌∷◌, ◌++◌, refl, sym, ap, ◌∙◌, subst, ⊎_elim, inl, inr, All, Contains}
+use Rattle.std.specs.Prelude.{Option, Some, ⊤}
+use Rattle.std.proofs.lemmas.Bool.{cases_Bool, true≢false}
+use Rattle.std.proofs.lemmas.List.Elements.{All-contains, Contains-append_left, Contains-push_cases}
+use Rattle.resolver_clause_store.specs.Laws.{IsIdentity}
+use Rattle.resolver_clause_store.specs.Lists.{IsWithin}
+use Rattle.resolver_clause_store.specs.Universe.{Universe, Demands}
+use Rattle.resolver_clause_store.specs.Variables.{Keeps}
+use Rattle.resolver_clause_store.specs.declared.By.TheVariants.{Root as ByRoot}
+use Rattle.resolver_clause_store.specs.declared.ClauseKind.{ClauseKind}
+use Rattle.resolver_clause_store.specs.declared.ClauseKind.TheVariants.{Lock, Excluded}
+use Rattle.resolver_clause_store.specs.declared.Origin.TheVariants.{Solvable}
+use Rattle.resolver_clause_store.specs.declared.StringId.{StringId}
+use Rattle.resolver_clause_store.proofs.PlaceLemmas.{Keeps-same}
+use Rattle.resolver_encoding.specs.Atoms.{Atom}
+use Rattle.resolver_encoding.specs.Called.{IsSeeing}
+use Rattle.resolver_encoding.specs.Encodings.{AddsClause, IsEncoding, IsEncodingWhile, IsLeft, IsStep, IsStepWhile, Notes, owing_for, IsAskStep}
+use Rattle.resolver_encoding.specs.ReadState.{Deferred}
+use Rattle.resolver_encoding.specs.SoFar.{IsHalfRead}
+use Rattle.resolver_encoding.specs.Truth.{AreDue}
+use Rattle.resolver_encoding.specs.Turns.{AddsPlainly, IsPaid, IsRegistered, IsTurnEnd, StaysRead}
+use Rattle.resolver_encoding.proofs.EncodingLemmas.{Extends-same, IsWithin-same}
+use Rattle.resolver_encoding.proofs.Lists.{cons_cases, here, there}
+use Rattle.resolver_encoding.proofs.ReadLemmas.{AreDemandsRead-grown, AreNeedsRead-grown}
+use Rattle.resolver_encoding.proofs.SoFarLemmas.{Contains-kept, IsPresent-within, IsWithin-equal}
+
+module _ {N S : Type 0} (u : Universe N S) where
+  -- what was read stays read where clauses are added, and nothing is read or put off
+  module _ (old new : Notes N S) (origins : Keeps old.origins new.origins) (kinds : IsWithin old.kinds new.kinds) (asked : new.asked ≡ old.asked) (read : new.read ≡ old.read) (deferred : new.deferred ≡ old.deferred)
+      (keeps : (root : Demands) → IsEncoding u root old → IsEncoding u root new) where
+    left_on : (e : Deferred S) → IsLeft old e → IsLeft new e
+    left_on e h = IsWithin-equal old.deferred new.deferred deferred (Some e) h
+
+    left_back : (e : Deferred S) → IsLeft new e → IsLeft old e
+    left_back e h = IsWithin-equal new.deferred old.deferred (sym deferred) (Some e) h
+
+    asked_on : IsWithin old.asked new.asked
+    asked_on = IsWithin-equal old.asked new.asked asked
+
+    read_back : IsWithin new.read old.read
+    read_back = IsWithin-equal new.read old.read (sym read)
+
+    half_on : (root : Demands) → IsHalfRead u root old → IsHalfRead u root new
+    half_on root half = record {
+      encoding = keeps root half.encoding;
+      root_read = AreDemandsRead-grown u old new kinds left_on asked_on ByRoot root half.root_read;
+      each_read = λ s h. AreNeedsRead-grown u old new kinds left_on asked_on s (u.needs s) (half.each_read s (read_back s h));
+      read_known = λ s h. Contains-kept old.origins new.origins origins (Solvable s) (half.read_known s (read_back s h));
+      left_read = λ e h. IsPresent-within e.by old.read new.read (IsWithin-equal old.read new.read read) (half.left_read e (left_back e h));
+    }
+
+    pub StaysRead-of : StaysRead u old new
+    StaysRead-of = record {
+      half = half_on;
+      so_far = λ root set so. record {
+        half = half_on root so.half;
+        set_read = λ s h. IsWithin-equal old.read new.read read s (so.set_read s h);
+        none = record { none = λ e h met. so.none.none e (left_back e h) met };
+      };
+    }
+
+  pub StaysRead-same : (notes : Notes N S) → StaysRead u notes notes
+  StaysRead-same notes = record { half = λ root h. h; so_far = λ root set h. h }
+
+  -- a step that saw one solvable
+  pub IsRegistered-of : (s : S) (old new : Notes N S) → IsAskStep u (IsSeeing s) (λ root. ⊤) old new → Contains new.seen s → ((t : S) → Contains new.seen t → Contains old.seen t ⊎ (t ≡ s)) → new.requirements ≡ old.requirements → new.asked ≡ old.asked → IsRegistered u s old new
+  IsRegistered-of s old new step seen only plain asked = record {
+    origins = step.origins;
+    table = step.table;
+    kinds = step.kinds;
+    requirements = plain;
+    seen = step.seen;
+    here = seen;
+    only = only;
+    asked = asked;
+    read = step.read;
+    deferred = step.deferred;
+    waiting = step.waiting;
+    exempt = step.exempt;
+    stays = StaysRead-of old new step.origins step.kinds asked step.read step.deferred (λ root before. step.keeps root tt before);
+  }
+
+  -- other exemptions, of which the clauses make nothing wrong
+  with_exempt : (root : Demands) (old : Notes N S) (exempt : List S) → AreDue u old.asked exempt old.kinds → ((t : S) → Contains old.exempt t → Contains exempt t) → IsEncoding u root old → IsEncoding u root (record old { exempt = exempt })
+  with_exempt root old exempt due wider start = record {
+    root_first = start.root_first;
+    distinct = start.distinct;
+    encoded = start.encoded;
+    codes = start.codes;
+    own_codes = start.own_codes;
+    each_true = start.each_true;
+    each_usual = start.each_usual;
+    due = due;
+    installs = start.installs;
+    listed = start.listed;
+    ask = start.ask;
+    helpers = start.helpers;
+    packages = start.packages;
+    candidates = start.candidates;
+    once = start.once;
+    gate_packages = start.gate_packages;
+    gate_candidates = start.gate_candidates;
+    gated = start.gated;
+    excluded = start.excluded;
+    follow = start.follow;
+    locks = λ s t h free lock inside differ. start.locks s t h (λ k. free (wider s k)) lock inside differ;
+    exclusions = λ s reason h free inside. start.exclusions s reason h (λ k. free (wider s k)) inside;
+    registered = start.registered;
+    placed = start.placed;
+    coding = start.coding;
+    coded = start.coded;
+    digits = start.digits;
+    sound_groups = start.sound_groups;
+    grouped = start.grouped;
+    members = start.members;
+    left_true = start.left_true;
+    indexed = start.indexed;
+    sound_waiting = start.sound_waiting;
+  }
+
+  -- of a package that was not asked no lock and no exclusion speaks
+  AreDue-exempting : (asked : List N) (exempt : List S) (kinds : List (ClauseKind N S)) (s : S) → (Contains asked (u.name s) → ⊥) → AreDue u asked exempt kinds → AreDue u asked (exempt ++ s ∷ []) kinds
+  AreDue-exempting asked exempt kinds s unasked due =
+      let Asked : S → Type 0 = λ t. Contains asked (u.name t) → ⊥ in
+      let free : (t : S) → Contains asked (u.name t) → (Contains exempt t → ⊥) → Contains (exempt ++ s ∷ []) t → ⊥ =
+      λ t h k inside. ⊎_elim k (λ (is : s ≡ t). subst Asked is unasked h) (Contains-push_cases exempt s t inside) in
+      record {
+        locks = λ r t h. let w = due.locks r t h in (w.0, free t w.0 w.1);
+        exclusions = λ t reason h. ⊎_elim (λ w. inl (w.0, free t w.0 w.1)) (λ e. inr e) (due.exclusions t reason h);
+      }
+
+  -- a solvable becomes exempt whose package was not asked
+  pub StaysRead-exempting : (s : S) (old new : Notes N S) → (Contains old.asked (u.name s) → ⊥) → new ≡ record old { exempt = old.exempt ++ s ∷ [] } → StaysRead u old new
+  StaysRead-exempting s old new unasked is =
+      let Stays : Notes N S → Type 0 = λ n. StaysRead u old n in
+      subst Stays (sym is) (StaysRead-of old (record old { exempt = old.exempt ++ s ∷ [] }) (Keeps-same old.origins) (IsWithin-same old.kinds) refl refl refl
+      (λ root start. with_exempt root old (old.exempt ++ s ∷ []) (AreDue-exempting old.asked old.exempt old.kinds s unasked start.due) (λ t h. Contains-append_left old.exempt (s ∷ []) t h) start))
+
+  -- the last exempt one is exempt no longer, and its clauses are owed
+  module _ (s : S) (old : Notes N S) (shorter : List S) (last : old.exempt ≡ shorter ++ s ∷ []) where
+    abbrev pub opened_notes : Notes N S
+    opened_notes = record old { exempt = shorter }
+
+    was_exempt : (t : S) → Contains shorter t → Contains old.exempt t
+    was_exempt t h = IsWithin-equal (shorter ++ s ∷ []) old.exempt last t (Contains-append_left shorter (s ∷ []) t h)
+
+    still_free : (t : S) → Contains old.exempt t → Contains (s ∷ shorter) t
+    still_free t h =
+        let Has : S → Type 0 = λ q. Contains (s ∷ shorter) q in
+        ⊎_elim
+        (λ (k : Contains shorter t). there s shorter t k)
+        (λ (is : s ≡ t). subst Has is (here s shorter))
+        (Contains-push_cases shorter s t (IsWithin-equal old.exempt (shorter ++ s ∷ []) (sym last) t h))
+
+    owing_opened : (root : Demands) → IsEncoding u root old → IsEncodingWhile u (owing_for s) root opened_notes
+    owing_opened root start = record {
+      root_first = start.root_first;
+      distinct = start.distinct;
+      encoded = start.encoded;
+      codes = start.codes;
+      own_codes = start.own_codes;
+      each_true = start.each_true;
+      each_usual = start.each_usual;
+      due = record {
+        locks = λ r t h. let w = start.due.locks r t h in (w.0, λ k. w.1 (was_exempt t k));
+        exclusions = λ t reason h. ⊎_elim (λ w. inl (w.0, λ k. w.1 (was_exempt t k))) (λ e. inr e) (start.due.exclusions t reason h);
+      };
+      installs = start.installs;
+      listed = start.listed;
+      ask = start.ask;
+      helpers = start.helpers;
+      packages = start.packages;
+      candidates = start.candidates;
+      once = start.once;
+      gate_packages = start.gate_packages;
+      gate_candidates = start.gate_candidates;
+      gated = start.gated;
+      excluded = start.excluded;
+      follow = start.follow;
+      locks = λ r t h free lock inside differ. start.locks r t h (λ k. free (still_free r k)) lock inside differ;
+      exclusions = λ r reason h free inside. start.exclusions r reason h (λ k. free (still_free r k)) inside;
+      registered = start.registered;
+      placed = start.placed;
+      coding = start.coding;
+      coded = start.coded;
+      digits = start.digits;
+      sound_groups = start.sound_groups;
+      grouped = start.grouped;
+      members = start.members;
+      left_true = start.left_true;
+      indexed = start.indexed;
+      sound_waiting = start.sound_waiting;
+    }
+
+    -- the clauses were made
+    module _ (same : S → S → Bool) (solvables : IsIdentity same) (new : Notes N S) (paid : IsPaid u s new) where
+      abbrev LockOf : S → S → Type 0
+      LockOf t r = Contains new.asked (u.name r) → (Contains new.exempt r → ⊥) → (u.package_named (u.name r)).locked ≡ Some t → Contains (u.package_named (u.name r)).listed r → r ≢ t → Contains new.kinds (Lock t r)
+
+      abbrev ExclusionOf : StringId → S → Type 0
+      ExclusionOf reason r = Contains new.asked (u.name r) → (Contains new.exempt r → ⊥) → Contains (u.package_named (u.name r)).excluded (r, reason) → Contains new.kinds (Excluded r reason)
+
+      not_owed : (r : S) → same s r ≡ false → (Contains new.exempt r → ⊥) → Contains (s ∷ new.exempt) r → ⊥
+      not_owed r differ free h =
+          let Same : S → Type 0 = λ q. same s q ≡ false in
+          ⊎_elim
+          (λ (is : s ≡ r). true≢false (sym (solvables.itself s) ∙ subst Same (sym is) differ))
+          (λ (k : Contains new.exempt r). free k)
+          (cons_cases s new.exempt r h)
+
+      owing_closed : (root : Demands) → IsEncodingWhile u (owing_for s) root new → IsEncoding u root new
+      owing_closed root start = record {
+        root_first = start.root_first;
+        distinct = start.distinct;
+        encoded = start.encoded;
+        codes = start.codes;
+        own_codes = start.own_codes;
+        each_true = start.each_true;
+        each_usual = start.each_usual;
+        due = start.due;
+        installs = start.installs;
+        listed = start.listed;
+        ask = start.ask;
+        helpers = start.helpers;
+        packages = start.packages;
+        candidates = start.candidates;
+        once = start.once;
+        gate_packages = start.gate_packages;
+        gate_candidates = start.gate_candidates;
+        gated = start.gated;
+        excluded = start.excluded;
+        follow = start.follow;
+        locks = λ r t h free lock inside differ. ⊎_elim
+            (λ (is : same s r ≡ true). subst (LockOf t) (solvables.alone s r is) (paid.lock t) h free lock inside differ)
+            (λ (apart : same s r ≡ false). start.locks r t h (not_owed r apart free) lock inside differ)
+            (cases_Bool (same s r));
+        exclusions = λ r reason h free inside. ⊎_elim
+            (λ (is : same s r ≡ true). subst (ExclusionOf reason) (solvables.alone s r is) (paid.exclusions reason) h free inside)
+            (λ (apart : same s r ≡ false). start.exclusions r reason h (not_owed r apart free) inside)
+            (cases_Bool (same s r));
+        registered = start.registered;
+        placed = start.placed;
+        coding = start.coding;
+        coded = start.coded;
+        digits = start.digits;
+        sound_groups = start.sound_groups;
+        grouped = start.grouped;
+        members = start.members;
+        left_true = start.left_true;
+        indexed = start.indexed;
+        sound_waiting = start.sound_waiting;
+      }
+
+      pub IsTurnEnd-paid : IsStepWhile u (owing_for s) (λ root. ⊤) opened_notes new → AddsPlainly opened_notes new → IsTurnEnd u old new
+      IsTurnEnd-paid step plainly = record {
+        origins = step.origins;
+        table = step.table;
+        kinds = step.kinds;
+        requirements = plainly.requirements;
+        seen = plainly.seen;
+        asked = step.asked;
+        read = step.read;
+        deferred = step.deferred;
+        waiting = step.waiting;
+        stays = StaysRead-of old new step.origins step.kinds step.asked step.read step.deferred (λ root before. owing_closed root (step.keeps root tt (owing_opened root before)));
+      }
+
+  -- what a package lists, locks and excludes, as it was found
+  pub IsPaid-found : (s : S) (old mid new : Notes N S) (n : N) → n ≡ u.name s → IsWithin mid.kinds new.kinds → mid.exempt ≡ old.exempt → new.exempt ≡ mid.exempt → (listed : List S) (locked : Option S) (excluded : List (S × StringId)) →
+      listed ≡ (u.package_named n).listed → locked ≡ (u.package_named n).locked → excluded ≡ (u.package_named n).excluded →
+      ((t : S) → locked ≡ Some t → Contains listed s → s ≢ t → (Contains old.exempt s → ⊥) → Contains mid.kinds (Lock t s)) →
+      All (λ e. e.0 ≡ s → (Contains mid.exempt s → ⊥) → Contains new.kinds (Excluded e.0 e.1)) excluded → IsPaid u s new
+  IsPaid-found s old mid new n named within same_mid same_new listed locked excluded lists locks excludes lock exclusions = record {
+    lock = λ t asked free is inside differ. within (Lock t s) (lock t (locks ∙ ap (λ m. (u.package_named m).locked) named ∙ is)
+        (IsWithin-equal (u.package_named (u.name s)).listed listed (lists ∙ ap (λ m. (u.package_named m).listed) named) s inside) differ
+        (λ k. free (IsWithin-equal old.exempt new.exempt (same_new ∙ same_mid) s k)));
+    exclusions = λ reason asked free inside. All-contains (λ e. e.0 ≡ s → (Contains mid.exempt s → ⊥) → Contains new.kinds (Excluded e.0 e.1)) excluded (s, reason) exclusions
+        (IsWithin-equal (u.package_named (u.name s)).excluded excluded (excludes ∙ ap (λ m. (u.package_named m).excluded) named) (s, reason) inside) refl
+        (λ k. free (IsWithin-equal mid.exempt new.exempt same_new s k));
+  }
+
+  pub IsPaid-unasked : (s : S) (notes : Notes N S) → (Contains notes.asked (u.name s) → ⊥) → IsPaid u s notes
+  IsPaid-unasked s notes unasked = record {
+    lock = λ t asked free is inside differ. absurd (unasked asked);
+    exclusions = λ reason asked free inside. absurd (unasked asked);
+  }
+
+  pub AddsPlainly-same : (notes : Notes N S) → AddsPlainly notes notes
+  AddsPlainly-same notes = record { requirements = refl; seen = refl }
+
+  pub AddsPlainly-trans : (one two three : Notes N S) → AddsPlainly one two → AddsPlainly two three → AddsPlainly one three
+  AddsPlainly-trans one two three first second = record { requirements = second.requirements ∙ first.requirements; seen = second.seen ∙ first.seen }
+
+  pub AddsPlainly-clause : (old new : Notes N S) (kind : ClauseKind N S) (atoms : List (Atom N S)) → AddsClause old new kind atoms → AddsPlainly old new
+  AddsPlainly-clause old new kind atoms adds = record { requirements = ap (λ (n : Notes N S). n.requirements) adds.is; seen = ap (λ (n : Notes N S). n.seen) adds.is }
+
+  pub IsTurnEnd-same : (notes : Notes N S) → IsTurnEnd u notes notes
+  IsTurnEnd-same notes = record {
+    origins = Keeps-same notes.origins;
+    table = Extends-same notes.table;
+    kinds = IsWithin-same notes.kinds;
+    requirements = refl;
+    seen = refl;
+    asked = refl;
+    read = refl;
+    deferred = refl;
+    waiting = refl;
+    stays = StaysRead-same notes;
+  }

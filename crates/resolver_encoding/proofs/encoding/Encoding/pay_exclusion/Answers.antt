@@ -1,0 +1,5 @@
+use Rattle.resolver_encoding.specs.Encodings.{owing_for}
+use Rattle.resolver_encoding.proofs.encoding.Encoding.pay_exclusion.Goals as goal
+
+pub returns-clause-step : goal.returns-clause-step
+returns-clause-step g c = c.in_ok-exclude.ensures.step (owing_for c.args.solvable) c.requires.asked

@@ -1,0 +1,130 @@
+//! Turns of soft requirements.
+
+ghost use Rattle.resolver_clause_store.specs.Caches.{IsTrueCache};
+ghost use Rattle.resolver_encoding.specs.Encodings.{IsUnread};
+ghost use Rattle.resolver_encoding.specs.Notes.{IsBounded, notes_in};
+
+use super::*;
+
+/// Begins the turn of a solvable behind the root's, and reads these, as if they were all that is chosen.
+fn begin<
+    N: Copy + Eq + Hash + Drop,
+    S: Copy + Eq + Hash + Drop,
+    D: DependencyProvider<NameId = N, SolvableId = S>,
+>(
+    encoding: &mut Encoding<N, S>,
+    provider: &D,
+    cache: &mut Cache<N, S>,
+    requirements: &[ConditionalRequirement],
+    solvable: S,
+    given: &[S],
+) -> Result<(), Interrupted<D::Cancel>>
+    requires bounded { IsBounded encoding.old }
+    requires is_true { IsTrueCache (D.universe provider.now) cache.old }
+    requires nothing_read { IsUnread (notes_in encoding.old) }
+    ensures bounded { IsBounded encoding.new }
+    ensures is_true { IsTrueCache (D.universe provider.now) cache.new }
+{
+    encoding.read_root(provider, cache, requirements, &[])?;
+    encoding.register(provider, solvable)?;
+    encoding.begin_turn(provider, solvable)?;
+    read_given(encoding, provider, cache, given)?;
+    Ok(())
+}
+
+/// What an encoding has when the turn of a solvable has begun, and when it was refused: how many clauses, and how many
+/// exempt ones.
+type Turn = (usize, usize, usize, usize);
+
+/// The turn of a solvable that is refused.
+fn refused(
+    encoding: &mut Encoding<u32, u32>,
+    alloc: Global,
+    provider: &TestProvider,
+    requirements: &[ConditionalRequirement],
+    solvable: u32,
+    given: &[u32],
+) -> Result<Turn, Interrupted<u8>>
+    requires bounded { IsBounded encoding.old }
+    requires nothing_read { IsUnread (notes_in encoding.old) }
+{
+    let mut cache = Cache::new(alloc);
+    begin(
+        encoding,
+        provider,
+        &mut cache,
+        requirements,
+        solvable,
+        given,
+    )?;
+    let clauses = encoding.clause_count();
+    let exempt = encoding.exempt().len();
+    encoding.end_turn(provider, &mut cache, exempt.saturating_sub(1))?;
+    Ok((
+        clauses,
+        exempt,
+        encoding.clause_count(),
+        encoding.exempt().len(),
+    ))
+}
+
+/// Whether the turn came to this.
+fn is_turn(outcome: &Result<Turn, Interrupted<u8>>, wanted: Turn) -> bool {
+    match outcome {
+        Ok(turn) => *turn == wanted,
+        Err(_) => false,
+    }
+}
+
+#[test]
+fn a_lock_that_was_spared_comes_at_the_end_of_a_refused_turn(rt: HostRuntime) -> Result<(), Fail> {
+    let provider = provider_of(rt.alloc(), &[(74, 70)], &[])?;
+    let mut encoding = limited(rt.alloc(), 100, 100, None)?;
+    let outcome = refused(&mut encoding, rt.alloc(), &provider, &[], 74, &[74]);
+    let right = is_turn(&outcome, (4, 1, 5, 0)) & is_clause(&encoding, 4, &[ROOT, is_absent(74)]);
+    assert!(rt; right);
+    Ok(())
+}
+
+#[test]
+fn an_exclusion_that_was_spared_comes_at_the_end_of_a_refused_turn(
+    rt: HostRuntime,
+) -> Result<(), Fail> {
+    let provider = provider_of(rt.alloc(), &[(84, 80)], &[])?;
+    let mut encoding = limited(rt.alloc(), 100, 100, None)?;
+    let outcome = refused(&mut encoding, rt.alloc(), &provider, &[], 84, &[84]);
+    let right = is_turn(&outcome, (4, 1, 5, 0)) & is_clause(&encoding, 4, &[is_absent(84)]);
+    assert!(rt; right);
+    Ok(())
+}
+
+#[test]
+fn a_package_that_was_not_asked_brings_no_clause(rt: HostRuntime) -> Result<(), Fail> {
+    let provider = provider_of(rt.alloc(), &[], &[])?;
+    let mut encoding = limited(rt.alloc(), 100, 100, None)?;
+    let outcome = refused(&mut encoding, rt.alloc(), &provider, &[], 74, &[74]);
+    assert!(rt; is_turn(&outcome, (1, 1, 1, 0)));
+    Ok(())
+}
+
+#[test]
+fn a_package_that_was_asked_spares_nobody(rt: HostRuntime) -> Result<(), Fail> {
+    let provider = provider_of(rt.alloc(), &[], &[])?;
+    let mut encoding = limited(rt.alloc(), 100, 100, None)?;
+    let outcome = refused(&mut encoding, rt.alloc(), &provider, &[always(71)], 74, &[]);
+    let right = is_turn(&outcome, (5, 0, 5, 0)) & is_clause(&encoding, 1, &[ROOT, is_absent(74)]);
+    assert!(rt; right);
+    Ok(())
+}
+
+#[test]
+fn a_soft_solvable_is_kept_apart_from_its_package(rt: HostRuntime) -> Result<(), Fail> {
+    let provider = provider_of(rt.alloc(), &[], &[])?;
+    let mut encoding = limited(rt.alloc(), 100, 100, None)?;
+    let outcome = refused(&mut encoding, rt.alloc(), &provider, &[always(11)], 14, &[]);
+    let right = is_turn(&outcome, (4, 0, 4, 0))
+        & is_clause(&encoding, 2, &[is_absent(11), bit(1, 0, false)])
+        & is_clause(&encoding, 3, &[is_absent(14), bit(1, 0, true)]);
+    assert!(rt; right);
+    Ok(())
+}

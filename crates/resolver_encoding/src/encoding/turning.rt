@@ -1,0 +1,223 @@
+//! Turns of soft requirements.
+
+ghost use Rattle.std.specs.Prelude.{◌≡◌, ◌≢◌, ◌≤◌, ◌+◌, All, Contains, IfErr, IfOk, OnOk, Some, length, slice_get, take, ⊤};
+ghost use Rattle.resolver_clause_store.specs.Caches.{IsTrueCache};
+ghost use Rattle.resolver_clause_store.specs.SoftRun.{Exempts};
+ghost use Rattle.resolver_clause_store.specs.declared.ClauseKind.TheVariants.{Excluded as ExcludedKind, Lock as LockKind};
+ghost use Rattle.resolver_clause_store.specs.declared.Origin.TheVariants.{Solvable as SolvableOrigin};
+ghost use Rattle.resolver_encoding.specs.Encodings.{IsFull, IsStepWhile, KeepsLimits, owing_for};
+ghost use Rattle.resolver_encoding.specs.Refusals.{IsShortage, IsStop};
+ghost use Rattle.resolver_encoding.specs.Turns.{AddsPlainly, IsPaid, IsRegistered, IsTurnEnd, StaysRead};
+
+use super::Encoding;
+use resolver_clause_store::{
+    Cache, DependencyProvider, Exhausted, Interner, Interrupted, Origin, StringId, Variable,
+    append, has, is_among,
+};
+use std::hash::Hash;
+
+impl<N: Copy + Eq + Hash + Drop, S: Copy + Eq + Hash + Drop> Encoding<N, S> {
+    ghost use Rattle.resolver_encoding.specs.Notes.{IsBounded, notes_in};
+
+    /// The solvables that are exempt from locks and exclusions, in the order in which they became so.
+    pub fn exempt(&self) -> &[S]
+        ensures { result.now ≡ (notes_in self.now).exempt }
+    {
+        self.exempt.as_slice()
+    }
+
+    /// Registers a solvable with those of its package, if that is new. Answers its variable.
+    ///
+    /// Registered solvables of a package exclude each other.
+    pub fn register<D: DependencyProvider<NameId = N, SolvableId = S>>(
+        &mut self,
+        provider: &D,
+        solvable: S,
+    ) -> Result<Variable, Exhausted>
+        requires bounded { IsBounded self.old }
+        ensures bounded { IsBounded self.new }
+        ensures registered { OnOk result (IsRegistered (D.universe provider.now) solvable (notes_in self.old) (notes_in self.new)) }
+        ensures variable { IfOk result (λ v. slice_get (notes_in self.new).origins v ≡ Some (SolvableOrigin solvable)) }
+        ensures limits { KeepsLimits (notes_in self.old) (notes_in self.new) }
+        ensures refusal { IfErr result (IsShortage (IsFull (notes_in self.new))) }
+    {
+        let variable = self.variables.intern(Origin::Solvable(solvable))?;
+        self.see(provider, solvable)?;
+        Ok(variable)
+    }
+
+    /// Makes a soft solvable exempt from locks and exclusions if its package was not asked.
+    ///
+    /// Where its package is asked later, it stays exempt.
+    pub fn begin_turn<D: DependencyProvider<NameId = N, SolvableId = S>>(
+        &mut self,
+        provider: &D,
+        solvable: S,
+    ) -> Result<(), Exhausted>
+        requires bounded { IsBounded self.old }
+        ensures bounded { IsBounded self.new }
+        ensures only { notes_in self.new ≡ record (notes_in self.old) { exempt = (notes_in self.new).exempt } }
+        ensures few { length (notes_in self.new).exempt ≤ length (notes_in self.old).exempt + 1 }
+        ensures exempts { OnOk result ((Contains (notes_in self.old).exempt solvable → ⊥) → Exempts (D.universe provider.now) (notes_in self.old).asked (notes_in self.old).exempt solvable (notes_in self.new).exempt) }
+        ensures stays { OnOk result (StaysRead (D.universe provider.now) (notes_in self.old) (notes_in self.new)) }
+        ensures memory { IfErr result (λ e. e ≡ Exhausted.Memory) }
+    {
+        let name = provider.solvable_name(solvable);
+        if is_among(&self.asked, &name) {
+            return Ok(());
+        }
+        if is_among(&self.exempt, &solvable) {
+            return Ok(());
+        }
+        append(&mut self.exempt, solvable)?;
+        Ok(())
+    }
+
+    /// Makes the lock's clause for a solvable that its package lists.
+    fn pay_lock<D: DependencyProvider<NameId = N, SolvableId = S>>(
+        &mut self,
+        provider: &D,
+        name: N,
+        listed: &[S],
+        locked: Option<S>,
+        solvable: S,
+    ) -> Result<(), Exhausted>
+        requires bounded { IsBounded self.old }
+        requires named { (D.universe provider.now).name solvable ≡ name }
+        requires asked { Contains (notes_in self.old).asked name }
+        requires listed { listed.now ≡ ((D.universe provider.now).package_named name).listed }
+        requires locked { locked ≡ ((D.universe provider.now).package_named name).locked }
+        ensures bounded { IsBounded self.new }
+        ensures step { OnOk result (IsStepWhile (D.universe provider.now) (owing_for solvable) (λ root. ⊤) (notes_in self.old) (notes_in self.new)) }
+        ensures plain { OnOk result (AddsPlainly (notes_in self.old) (notes_in self.new)) }
+        ensures paid { OnOk result ((t : S) → locked ≡ Some t → Contains listed.now solvable → solvable ≢ t → (Contains (notes_in self.old).exempt solvable → ⊥) → Contains (notes_in self.new).kinds (LockKind t solvable)) }
+        ensures limits { KeepsLimits (notes_in self.old) (notes_in self.new) }
+        ensures refusal { IfErr result (IsShortage (IsFull (notes_in self.new))) }
+    {
+        let Some(locked) = locked else {
+            return Ok(());
+        };
+        if !has(listed, &solvable) {
+            return Ok(());
+        }
+        self.lock_out(provider, name, locked, solvable)?;
+        Ok(())
+    }
+
+    /// Makes the clause of an exclusion if it is one of the solvable.
+    fn pay_exclusion<D: DependencyProvider<NameId = N, SolvableId = S>>(
+        &mut self,
+        provider: &D,
+        name: N,
+        excluded: S,
+        reason: StringId,
+        solvable: S,
+    ) -> Result<(), Exhausted>
+        requires bounded { IsBounded self.old }
+        requires named { (D.universe provider.now).name excluded ≡ name }
+        requires asked { Contains (notes_in self.old).asked name }
+        requires excluded { Contains ((D.universe provider.now).package_named name).excluded (excluded, reason) }
+        ensures bounded { IsBounded self.new }
+        ensures step { OnOk result (IsStepWhile (D.universe provider.now) (owing_for solvable) (λ root. ⊤) (notes_in self.old) (notes_in self.new)) }
+        ensures plain { OnOk result (AddsPlainly (notes_in self.old) (notes_in self.new)) }
+        ensures paid { OnOk result (excluded ≡ solvable → (Contains (notes_in self.old).exempt solvable → ⊥) → Contains (notes_in self.new).kinds (ExcludedKind excluded reason)) }
+        ensures limits { KeepsLimits (notes_in self.old) (notes_in self.new) }
+        ensures refusal { IfErr result (IsShortage (IsFull (notes_in self.new))) }
+    {
+        if excluded != solvable {
+            return Ok(());
+        }
+        self.exclude(provider, name, excluded, reason)?;
+        Ok(())
+    }
+
+    /// Makes the clauses of a solvable's exclusions.
+    fn pay_exclusions<D: DependencyProvider<NameId = N, SolvableId = S>>(
+        &mut self,
+        provider: &D,
+        name: N,
+        excluded: &[(S, StringId)],
+        solvable: S,
+    ) -> Result<(), Exhausted>
+        requires bounded { IsBounded self.old }
+        requires asked { Contains (notes_in self.old).asked name }
+        requires excluded { excluded.now ≡ ((D.universe provider.now).package_named name).excluded }
+        ensures bounded { IsBounded self.new }
+        ensures step { OnOk result (IsStepWhile (D.universe provider.now) (owing_for solvable) (λ root. ⊤) (notes_in self.old) (notes_in self.new)) }
+        ensures plain { OnOk result (AddsPlainly (notes_in self.old) (notes_in self.new)) }
+        ensures paid { OnOk result (All (λ e. e.0 ≡ solvable → (Contains (notes_in self.old).exempt solvable → ⊥) → Contains (notes_in self.new).kinds (ExcludedKind e.0 e.1)) excluded.now) }
+        ensures limits { KeepsLimits (notes_in self.old) (notes_in self.new) }
+        ensures refusal { IfErr result (IsShortage (IsFull (notes_in self.new))) }
+    {
+        for (other, reason) in excluded {
+            self.pay_exclusion(provider, name, *other, *reason, solvable)?;
+        }
+        Ok(())
+    }
+
+    /// Makes the clauses that a solvable was spared, if its package was asked.
+    fn pay<D: DependencyProvider<NameId = N, SolvableId = S>>(
+        &mut self,
+        provider: &D,
+        cache: &mut Cache<N, S>,
+        solvable: S,
+    ) -> Result<(), Interrupted<D::Cancel>>
+        requires bounded { IsBounded self.old }
+        requires is_true { IsTrueCache (D.universe provider.now) cache.old }
+        ensures bounded { IsBounded self.new }
+        ensures is_true { IsTrueCache (D.universe provider.now) cache.new }
+        ensures step { OnOk result (IsStepWhile (D.universe provider.now) (owing_for solvable) (λ root. ⊤) (notes_in self.old) (notes_in self.new)) }
+        ensures plain { OnOk result (AddsPlainly (notes_in self.old) (notes_in self.new)) }
+        ensures paid { OnOk result (IsPaid (D.universe provider.now) solvable (notes_in self.new)) }
+        ensures limits { KeepsLimits (notes_in self.old) (notes_in self.new) }
+        ensures refusal { IfErr result (IsStop (D.may_cancel provider.now) (IsFull (notes_in self.new))) }
+    {
+        let name = provider.solvable_name(solvable);
+        if !is_among(&self.asked, &name) {
+            return Ok(());
+        }
+        cache.ask_candidates(provider, name)?;
+        let package = cache.candidates(name);
+        self.pay_lock(
+            provider,
+            name,
+            &package.candidates,
+            package.locked,
+            solvable,
+        )?;
+        self.pay_exclusions(provider, name, &package.excluded, solvable)?;
+        Ok(())
+    }
+
+    /// Ends the turn of a soft solvable that was refused: where it became exempt in this turn, it is so no longer, and
+    /// the clauses that it was spared are made.
+    ///
+    /// The number is how many were exempt before the turn. The turn of one that was accepted needs no such call.
+    pub fn end_turn<D: DependencyProvider<NameId = N, SolvableId = S>>(
+        &mut self,
+        provider: &D,
+        cache: &mut Cache<N, S>,
+        exempt_before: usize,
+    ) -> Result<(), Interrupted<D::Cancel>>
+        requires bounded { IsBounded self.old }
+        requires is_true { IsTrueCache (D.universe provider.now) cache.old }
+        requires one_turn { length (notes_in self.old).exempt ≤ exempt_before + 1 }
+        ensures bounded { IsBounded self.new }
+        ensures is_true { IsTrueCache (D.universe provider.now) cache.new }
+        ensures ended { OnOk result (IsTurnEnd (D.universe provider.now) (notes_in self.old) (notes_in self.new)) }
+        ensures exempt { OnOk result ((notes_in self.new).exempt ≡ take exempt_before (notes_in self.old).exempt) }
+        ensures limits { KeepsLimits (notes_in self.old) (notes_in self.new) }
+        ensures refusal { IfErr result (IsStop (D.may_cancel provider.now) (IsFull (notes_in self.new))) }
+    {
+        if self.exempt.len() <= exempt_before {
+            return Ok(());
+        }
+        match self.exempt.pop() {
+            None => Ok(()),
+            Some(solvable) => {
+                self.pay(provider, cache, solvable)?;
+                Ok(())
+            }
+        }
+    }
+}

@@ -1,0 +1,673 @@
+-- What a soft requirement's turn does to the rounds.
+use Rattle.std.proofs.Common.{◌≡◌, ◌≢◌, ℕ, suc, ◌+◌, ◌-◌, ◌<◌, ◌≤◌, ◌⊎◌, List, [], ◌∷◌, rules, Bool, true, false, ◌++◌, append-nil, length, length-append, take, arith, inl, inr, refl, sym, ap, ◌∙◌, subst, ⊎_elim, Contains, Option, Some, None, Vec, Global}
+use Rattle.std.specs.Prelude.{slice_get}
+use Rattle.std.specs.Option.{option_map, option_map_or}
+use Rattle.std.proofs.Math.Seq.{take-append_seam}
+use Rattle.std.proofs.lemmas.Bool.{cases_Bool, cases_eq, false≢true}
+use Rattle.std.proofs.lemmas.Option.{same_Some, none-some, get_or_from_slice_get}
+use Rattle.std.proofs.lemmas.List.Elements.{Contains-append_cases, Contains-append_left, Contains-append_right}
+use Rattle.resolver_clause_store.specs.Laws.{IsIdentity}
+use Rattle.resolver_clause_store.specs.Lists.{HasNoRepeats, IsWithin}
+use Rattle.resolver_clause_store.specs.Near.{IsNamed, IsNear}
+use Rattle.resolver_clause_store.specs.SoftRun.{Exempts, IsAsked, SoftRun, accepted, asked_before, chosen_before, not_asked, refused, start}
+use Rattle.resolver_clause_store.specs.TrailView.{Gains, IsCut, KeepsPlaces, length_of, level_of, slot_of, variable_at, variable_count}
+use Rattle.resolver_clause_store.specs.Universe.{Universe, Demands}
+use Rattle.resolver_clause_store.specs.Valid.{IsValid}
+use Rattle.resolver_clause_store.specs.Variables.{AreDistinct, Keeps}
+use Rattle.resolver_clause_store.specs.declared.Literal.{Literal}
+use Rattle.resolver_clause_store.specs.declared.Origin.{Origin}
+use Rattle.resolver_clause_store.specs.declared.Origin.TheVariants.{Root, Solvable}
+use Rattle.resolver_clause_store.specs.declared.Reason.TheVariants.{Assumed}
+use Rattle.resolver_clause_store.specs.declared.Slot.{Slot}
+use Rattle.resolver_clause_store.specs.declared.Trail.{Trail}
+use Rattle.resolver_clause_store.proofs.KeptLemmas.{keeps_all, keeps_places, keeps_through, slot_at}
+use Rattle.resolver_clause_store.proofs.PlaceLemmas.{Keeps-same, Keeps-trans}
+use Rattle.resolver_clause_store.proofs.SlotLemmas.{slot-within}
+use Rattle.resolver_clause_store.proofs.TrailLemmas.{gains-cases, keeps-gains}
+use Rattle.resolver_encoding.specs.Atoms.{Atom, atom}
+use Rattle.resolver_encoding.specs.Encodings.{Extends, Notes}
+use Rattle.resolver_encoding.specs.Notes.{IsBounded, notes_in}
+use Rattle.resolver_encoding.specs.Reach.{AreNear}
+use Rattle.resolver_encoding.specs.ReadState.{AreSeeds}
+use Rattle.resolver_encoding.specs.SoFar.{IsReadSoFar}
+use Rattle.resolver_encoding.specs.Trails.{AreAssumed, Follows, atoms_before, chosen_in, origin_at, solvable_if, solvables_before, value_of}
+use Rattle.resolver_encoding.specs.Turns.{IsRegistered, IsTurnEnd}
+use Rattle.resolver_encoding.specs.declared.chosen.Chosen.{Chosen}
+use Rattle.resolver_encoding.specs.declared.encoding.Encoding.{Encoding}
+use Rattle.resolver_encoding.proofs.Bridge.{before-back, has_value, is_chosen, stands, true_before}
+use Rattle.resolver_encoding.proofs.EncodingLemmas.{Extends-same, Extends-trans, Extends-within}
+use Rattle.resolver_encoding.proofs.Lists.{cons_cases, here, none_in, there}
+use Rattle.resolver_encoding.proofs.TrailLemmas.{before_extends, follows_still, none_at, same_before, same_origin}
+use Rattle.resolvo.specs.Answers.{RefusesAnyway}
+use Rattle.resolvo.specs.ClauseSearches.{IsConsistent, IsRootTurn, KeepsLoaded, KeepsMark, KeepsTurn, base_of, held_of, kept_of, trail_of}
+use Rattle.resolvo.specs.RoundStates.{AreRounds, GoesOn, HasAssumed, HasMark, IsAnswering, IsFollowing, IsBetween, IsBetweenFor, IsRefusing, IsSearchOf, IsStill, chosen_of, notes_of}
+use Rattle.resolvo.specs.declared.clause_search.ClauseSearch.{ClauseSearch}
+use Rattle.resolvo.specs.declared.rounds.Rounds.{Rounds}
+use Rattle.resolvo.proofs.RoundLemmas.{Keeps-longer, keeps_itself, so_far_less}
+use Rattle.resolver_encoding.proofs.ReachLemmas.{AreNear-more, asked_named}
+use Rattle.resolvo.proofs.GoingLemmas.{assumed_still}
+
+-- clauses were added, and nothing was asked for, read or put off
+pub record IsAddition {N S : Type 0} (u : Universe N S) (old new : Notes N S) : Type 0 where
+  pub origins : Keeps old.origins new.origins
+  pub table : Extends old.table new.table
+  pub requirements : new.requirements ≡ old.requirements
+  pub asked : new.asked ≡ old.asked
+  pub read : new.read ≡ old.read
+  pub keeps : (root : Demands) (set : List S) → IsReadSoFar u root set old → IsReadSoFar u root set new
+
+pub registered_adds : {N S : Type 0} (u : Universe N S) (s : S) (old new : Notes N S) → IsRegistered u s old new → IsAddition u old new
+registered_adds u s old new r = record { origins = r.origins; table = r.table; requirements = r.requirements; asked = r.asked; read = r.read; keeps = r.stays.so_far }
+
+pub ended_adds : {N S : Type 0} (u : Universe N S) (old new : Notes N S) → IsTurnEnd u old new → IsAddition u old new
+ended_adds u old new e = record { origins = e.origins; table = e.table; requirements = e.requirements; asked = e.asked; read = e.read; keeps = e.stays.so_far }
+
+-- a list with one more behind
+pub last_in : {X : Type 0} (xs : List X) (x : X) → Contains (xs ++ x ∷ []) x
+last_in xs x = Contains-append_right xs (x ∷ []) x (here x [])
+
+pub earlier_in : {X : Type 0} (xs : List X) (x y : X) → Contains xs y → Contains (xs ++ x ∷ []) y
+earlier_in xs x y h = Contains-append_left xs (x ∷ []) y h
+
+pub pushed_cases : {X : Type 0} (xs : List X) (x y : X) → Contains (xs ++ x ∷ []) y → Contains xs y ⊎ (x ≡ y)
+pushed_cases xs x y h = ⊎_elim
+    (λ old. inl old)
+    (λ new. ⊎_elim (λ e. inr e) (λ none. absurd (none_in y none)) (cons_cases x [] y new))
+    (Contains-append_cases xs (x ∷ []) y h)
+
+-- whether something is in a list, where equal values are one
+pub in_or_not : {X : Type 0} (eq : X → X → Bool) → IsIdentity eq → (xs : List X) (x : X) → Contains xs x ⊎ (Contains xs x → ⊥)
+in_or_not eq same [] x = inr (λ h. none_in x h)
+in_or_not eq same (y ∷ xs) x = ⊎_elim
+    (λ (e : eq y x ≡ true). let Among : _ → Type 0 = λ z. Contains (y ∷ xs) z in inl (subst Among (same.alone y x e) (here y xs)))
+    (λ (apart : eq y x ≡ false). ⊎_elim
+    (λ h. inl (there y xs x h))
+    (λ never. inr (λ h. ⊎_elim (λ (e : y ≡ x). false≢true (sym apart ∙ ap (eq y) (sym e) ∙ same.itself y)) (λ t. never t) (cons_cases y xs x h)))
+    (in_or_not eq same xs x))
+    (cases_Bool (eq y x))
+
+-- what was assumed last is so while the turn goes on
+pub still_assumed : (old new : ClauseSearch) (v : ℕ) → IsConsistent old → KeepsTurn old new → HasAssumed old v → HasAssumed new v
+still_assumed old new v consistent turn it =
+    let places : KeepsPlaces (trail_of old) (trail_of new) (held_of new) = turn.places (trail_of old) (keeps_itself (trail_of old) (held_of old) consistent.turn.inside) in
+    let some : 0 < held_of old = consistent.turn.some it.base in
+    record {
+      base = omega (arith, it.base, turn.base);
+      place = ap (λ n. variable_at (trail_of new) (n - 1)) turn.held ∙ places.variables (held_of old - 1) (omega (arith, some, turn.held)) ∙ it.place;
+    }
+
+pub assumed_inside : (it : ClauseSearch) (v : ℕ) → IsConsistent it → HasAssumed it v → v < variable_count (trail_of it)
+assumed_inside it v consistent assumed =
+    let w = slot_at (trail_of it) (held_of it - 1) (omega (arith, consistent.turn.some assumed.base, consistent.turn.inside)) in
+    let inside : variable_at (trail_of it) (held_of it - 1) < variable_count (trail_of it) = slot-within _ (variable_at (trail_of it) (held_of it - 1)) w.0.place (ap (option_map (λ (slot : Slot). slot.place)) w.1) in
+    omega (arith, inside, assumed.place)
+
+module _ {N S : Type 0} where
+  -- the variable of a solvable that a trail makes true
+  pub chosen_slot : (origins : List (Origin N S)) (trail : Trail) → variable_count trail ≡ length origins → (s : S) → Contains (solvables_before origins trail (length_of trail)) s →
+      (v : ℕ) × (slot : Slot) × (slot_of trail v ≡ Some slot) × (slice_get origins v ≡ Some (Solvable s)) × (slot.value ≡ true)
+  chosen_slot origins trail size s h =
+      let w = before-back origins trail size (length_of trail) (atom (Solvable s) true) (true_before origins trail (length_of trail) s h) in
+      let v : ℕ = variable_at trail w.0 in
+      let p = slot_at trail w.0 w.1 in
+      let inside : v < variable_count trail = slot-within _ v p.0.place (ap (option_map (λ (slot : Slot). slot.place)) p.1) in
+      (v, p.0, p.1, stands origins trail size v (omega (arith, inside, size)) ∙ ap (λ (a : Atom N S). Some a.origin) w.2, sym (ap (λ o. option_map_or (λ (q : Slot). q.value) o false) p.1) ∙ ap (λ (a : Atom N S). a.positive) w.2)
+
+  -- and back
+  pub slot_chosen : (origins : List (Origin N S)) (trail : Trail) → variable_count trail ≡ length origins → (v : ℕ) (slot : Slot) (s : S) → slot_of trail v ≡ Some slot → origin_at origins v ≡ Solvable s → slot.value ≡ true →
+      Contains (solvables_before origins trail (length_of trail)) s
+  slot_chosen origins trail size v slot s at origin value =
+      let Entry : Origin N S → Bool → Type 0 = λ o b. Contains (atoms_before origins trail (length_of trail)) (atom o b) in
+      let Valued : Bool → Type 0 = λ b. Entry (Solvable s) b in
+      let Stands : Origin N S → Type 0 = λ o. Entry o slot.value in
+      (is_chosen origins trail).each_chosen s (subst Valued value (subst Stands origin (has_value origins trail size (length_of trail) v slot at (trail.listed v slot at).0)))
+
+  -- a solvable whose variable is not true is not chosen
+  pub unchosen : (origins : List (Origin N S)) (trail : Trail) → AreDistinct origins → variable_count trail ≡ length origins → (v : ℕ) (s : S) → slice_get origins v ≡ Some (Solvable s) → ((slot : Slot) → slot_of trail v ≡ Some slot → slot.value ≡ true → ⊥) →
+      Contains (solvables_before origins trail (length_of trail)) s → ⊥
+  unchosen origins trail distinct size v s origin never h =
+      let w = chosen_slot origins trail size s h in
+      let same : w.0 ≡ v = distinct.same w.0 v (Solvable s) w.3 origin in
+      never w.1 (ap (slot_of trail) (sym same) ∙ w.2) w.4
+
+  -- what is asked for, where what was read is near the seeds
+  pub asked_for : (u : Universe N S) (root : Demands) (chosen seeds : List S) (notes : Notes N S) → IsReadSoFar u root chosen notes → AreNear u root seeds notes → IsAsked u root chosen seeds notes.asked
+  asked_for u root chosen seeds notes so near = record { named = asked_named u root chosen notes so; near = near.asked }
+
+  -- clauses that were added change nothing of the rounds
+  pub rounds_added : (u : Universe N S) (old : Rounds N S) (encoding : Encoding N S) → AreRounds u old → IsBounded encoding → IsAddition u (notes_of old) (notes_in encoding) → AreRounds u (record old { encoding = encoding })
+  rounds_added u old encoding rounds bounded adds =
+      let longer : length (notes_of old).origins ≤ length (notes_in encoding).origins = Keeps-longer (notes_of old).origins (notes_in encoding).origins Root adds.origins in
+      let Asking : List ℕ → Type 0 = λ list. Extends rounds.loaded.numbers list in
+      let mark : HasMark old = rounds.mark in
+      record {
+        bounded = bounded;
+        reading = record { root = rounds.reading.root; so_far = adds.keeps rounds.reading.root (chosen_of old) rounds.reading.so_far };
+        consistent = rounds.consistent;
+        loaded = record {
+          given = rounds.loaded.given;
+          numbers = rounds.loaded.numbers;
+          loaded = rounds.loaded.loaded;
+          clauses = Extends-trans rounds.loaded.given (notes_of old).table (notes_in encoding).table rounds.loaded.clauses adds.table;
+          asking = subst Asking (sym adds.requirements) rounds.loaded.asking;
+        };
+        variables = omega (arith, rounds.variables, longer);
+        mark = record {
+          base = mark.base;
+          follows = follows_still (notes_of old).origins (notes_in encoding).origins mark.base mark.base (length_of mark.base) adds.origins mark.known (keeps_itself mark.base (length_of mark.base) (omega arith)) old.chosen mark.follows;
+          kept = mark.kept;
+          known = omega (arith, mark.known, longer);
+        };
+      }
+
+  pub still_added : (u : Universe N S) (old : Rounds N S) (encoding : Encoding N S) → AreRounds u old → Keeps (notes_of old).origins (notes_in encoding).origins → IsStill old → IsStill (record old { encoding = encoding })
+  still_added u old encoding rounds keeps still =
+      let trail : Trail = trail_of old.search in
+      record {
+        held = still.held;
+        marked = still.marked;
+        chosen = still.chosen ∙ sym (same_before (notes_of old).origins (notes_in encoding).origins trail trail (length_of trail) keeps rounds.variables (keeps_itself trail (length_of trail) (omega arith)) (length_of trail) (omega arith));
+      }
+
+  -- a soft requirement was registered
+  module _ (u : Universe N S) (root : Demands) (done : List S) (s : S) (old : Rounds N S) (encoding : Encoding N S) (rounds : AreRounds u old) (adds : IsAddition u (notes_of old) (notes_in encoding)) (exempt : (notes_in encoding).exempt ≡ (notes_of old).exempt)
+      (only : (t : S) → Contains (notes_in encoding).seen t → Contains (notes_of old).seen t ⊎ (t ≡ s)) (more : IsWithin (notes_of old).seen (notes_in encoding).seen) (b : IsBetween u root done old) where
+    near_registered : AreNear u root (done ++ s ∷ []) (notes_in encoding)
+    near_registered =
+        let before : AreNear u root (done ++ s ∷ []) (notes_of old) = AreNear-more u root done (done ++ s ∷ []) (λ t h. earlier_in done s t h) (notes_of old) b.near in
+        let Near : S → Type 0 = λ t. IsNear u root (done ++ s ∷ []) t in
+        let Read : List S → Type 0 = λ list. (t : S) → Contains list t → Near t in
+        let Asked : List N → Type 0 = λ list. (n : N) → Contains list n → IsNamed u root (IsNear u root (done ++ s ∷ [])) n in
+        record {
+          seen = λ t h. ⊎_elim (λ was. before.seen t was) (λ e. subst Near (sym e) (0, last_in done s)) (only t h);
+          read = subst Read (sym adds.read) before.read;
+          asked = subst Asked (sym adds.asked) before.asked;
+        }
+
+    pub between_registered : IsBetweenFor u root done (done ++ s ∷ []) (record old { encoding = encoding })
+    between_registered =
+        let RunWith : List S → List N → Type 0 = λ e a. SoftRun u root RefusesAnyway b.first done b.taken (chosen_of old) e a in
+        let RunFor : List S → Type 0 = λ e. RunWith e (notes_in encoding).asked in
+        let SeedsWith : List N → List S → Type 0 = λ a e. AreSeeds u b.taken (chosen_of old) a (notes_in encoding).seen e in
+        let SeedsFor : List N → Type 0 = λ a. SeedsWith a (notes_in encoding).exempt in
+        let Exempt : List S → Type 0 = λ e. IsWithin e b.taken in
+        record {
+          first = b.first;
+          taken = b.taken;
+          refused = b.refused;
+          run = subst RunFor (sym exempt) (subst (RunWith (notes_of old).exempt) (sym adds.asked) b.run);
+          read = adds.keeps root (chosen_of old) b.read;
+          once = b.once;
+          assumed = assumed_still (notes_of old).origins (notes_in encoding).origins (trail_of old.search) (trail_of old.search) b.taken b.refused adds.origins rounds.variables (λ v slot at reason. at) b.assumed;
+          seeded = subst SeedsFor (sym adds.asked) (subst (SeedsWith (notes_of old).asked) (sym exempt) (record { seed_chosen = b.seeded.seed_chosen; seed_registered = λ t h. more t (b.seeded.seed_registered t h); seed_free = b.seeded.seed_free }));
+          within = b.within;
+          exempt = subst Exempt (sym exempt) b.exempt;
+          near = near_registered;
+        }
+
+  -- what was added was loaded
+  pub between_loaded : (u : Universe N S) (root : Demands) (done seeds : List S) (old new : Rounds N S) → variable_count (trail_of old.search) ≤ length (notes_of old).origins → IsSearchOf old new → KeepsTurn old.search new.search → IsBetweenFor u root done seeds old → IsBetweenFor u root done seeds new
+  between_loaded u root done seeds old new known same turn b =
+      let Between : Encoding N S → Chosen S → Type 0 = λ e c. IsBetweenFor u root done seeds (record new { encoding = e; chosen = c }) in
+      let WithChosen : Chosen S → Type 0 = λ c. Between new.encoding c in
+      let WithEncoding : Encoding N S → Type 0 = λ e. Between e old.chosen in
+      subst WithChosen (sym same.chosen) (subst WithEncoding (sym same.encoding) (record {
+        first = b.first;
+        taken = b.taken;
+        refused = b.refused;
+        run = b.run;
+        read = b.read;
+        once = b.once;
+        assumed = assumed_still (notes_of old).origins (notes_of old).origins (trail_of old.search) (trail_of new.search) b.taken b.refused (Keeps-same (notes_of old).origins) known turn.assumed.was b.assumed;
+        seeded = b.seeded;
+        within = b.within;
+        exempt = b.exempt;
+        near = b.near;
+      }))
+
+  -- one that is decided is skipped
+  pub skipped : (u : Universe N S) (eq : N → N → Bool) → IsIdentity eq → (root : Demands) (done : List S) (s : S) (v : ℕ) (slot : Slot) (r : Rounds N S) → AreDistinct (notes_of r).origins → variable_count (trail_of r.search) ≡ length (notes_of r).origins → IsStill r →
+      slice_get (notes_of r).origins v ≡ Some (Solvable s) → slot_of (trail_of r.search) v ≡ Some slot → IsBetweenFor u root done (done ++ s ∷ []) r → IsBetween u root (done ++ s ∷ []) r
+  skipped u eq names root done s v slot r distinct size still origin at b =
+      let asks : IsAsked u root (chosen_of r) (done ++ s ∷ []) (notes_of r).asked = asked_for u root (chosen_of r) (done ++ s ∷ []) (notes_of r) b.read b.near in
+      let Run : Type 0 = SoftRun u root RefusesAnyway b.first (done ++ s ∷ []) b.taken (chosen_of r) (notes_of r).exempt (notes_of r).asked in
+      let Has : List S → Type 0 = λ list. Contains list s in
+      let run : Run = ⊎_elim
+      (λ (on : slot.value ≡ true). chosen_before b.run (subst Has (sym still.chosen) (slot_chosen (notes_of r).origins (trail_of r.search) size v slot s at (get_or_from_slice_get (notes_of r).origins v (Solvable s) Root origin) on)) (λ n h. h) asks)
+      (λ (off : slot.value ≡ false).
+      let never : Contains (chosen_of r) s → ⊥ = λ h. unchosen (notes_of r).origins (trail_of r.search) distinct size v s origin (λ other is on. false≢true (sym off ∙ ap (λ (q : Slot). q.value) (same_Some _ _ (sym at ∙ is)) ∙ on)) (subst Has still.chosen h) in
+      ⊎_elim
+      (λ was. refused b.run never (asked_before was) tt (λ n h. h) asks)
+      (λ not. refused b.run never (not_asked not) tt (λ n h. h) asks)
+      (in_or_not eq names (notes_of r).asked (u.name s)))
+      (cases_Bool slot.value)
+      in
+      record {
+        first = b.first;
+        taken = b.taken;
+        refused = b.refused;
+        run = run;
+        read = b.read;
+        once = b.once;
+        assumed = b.assumed;
+        seeded = b.seeded;
+        within = λ t h. earlier_in done s t (b.within t h);
+        exempt = b.exempt;
+        near = b.near;
+      }
+
+  -- what is chosen once the turn was undone was chosen before
+  pub refused_within : (u : Universe N S) (old : Rounds N S) (cut new : Trail) (v : ℕ) (chosen : List S) → AreRounds u old → 0 < base_of old.search → IsCut (trail_of old.search) cut (held_of old.search - 1) →
+      Gains cut new (record { variable = v; positive = false }) (level_of cut + 1) Assumed → slot_of cut v ≡ None → chosen ≡ solvables_before (notes_of old).origins new (length_of new) → IsWithin chosen (chosen_of old)
+  refused_within u old cut new v chosen rounds base is_cut gains free is t h =
+      let origins : List (Origin N S) = (notes_of old).origins in
+      let n : ℕ = held_of old.search - 1 in
+      let some : 0 < held_of old.search = rounds.consistent.turn.some base in
+      let mark : HasMark old = rounds.mark in
+      let marked : n ≤ kept_of old.search = omega (arith, rounds.consistent.turn.marked, some) in
+      let made : Slot = record { value = false; level = level_of cut + 1; place = length_of cut; reason = Assumed } in
+      let stands_last : variable_at new n ≡ v = ap (variable_at new) (sym is_cut.length) ∙ (new.listed v made gains.here).1 in
+      let off : value_of new v ≡ false = ap (λ o. option_map_or (λ (q : Slot). q.value) o false) gains.here in
+      let size : length_of new ≡ suc n = omega (arith, gains.count, is_cut.length) in
+      let nothing : [] ≡ solvable_if (origin_at origins (variable_at new n)) (value_of new (variable_at new n)) = none_at (origin_at origins (variable_at new n)) (value_of new (variable_at new n)) (ap (value_of new) stands_last ∙ off) in
+      let cut_kept : KeepsPlaces (trail_of old.search) cut n = keeps_places (trail_of old.search) cut n (omega (arith, rounds.consistent.turn.inside)) (λ x slot at below. is_cut.kept x slot at below) in
+      let all_kept : KeepsPlaces (trail_of old.search) new n = keeps_through (trail_of old.search) cut new n (length_of cut) cut_kept (keeps_all cut new (keeps-gains cut new (record { variable = v; positive = false }) (level_of cut + 1) Assumed gains free)) (omega (arith, is_cut.length)) in
+      let first : solvables_before origins new n ≡ solvables_before origins (trail_of old.search) n = same_before origins origins (trail_of old.search) new n (Keeps-same origins) rounds.variables all_kept n (omega arith) in
+      let again : solvables_before origins (trail_of old.search) n ≡ solvables_before origins mark.base n = same_before origins origins mark.base (trail_of old.search) (kept_of old.search) (Keeps-same origins) mark.known mark.kept n marked in
+      let Has : List S → Type 0 = λ list. Contains list t in
+      let there_before : Contains (solvables_before origins mark.base n) t = subst Has (is ∙ ap (solvables_before origins new) size ∙ ap (λ list. solvables_before origins new n ++ list) (sym nothing) ∙ append-nil (solvables_before origins new n) ∙ first ∙ again) h in
+      subst Has (sym mark.follows.is) (Extends-within (solvables_before origins mark.base n) (solvables_before origins mark.base (length_of mark.base)) (before_extends origins mark.base n (length_of mark.base) (omega (arith, marked, mark.kept.were))) t there_before)
+
+  -- a list that follows the trail again, and has no more than before
+  pub rounds_followed : (u : Universe N S) (before old new : Rounds N S) (from : ℕ) → AreRounds u before → old.encoding ≡ before.encoding → IsFollowing old new from → IsWithin (chosen_of new) (chosen_of before) → AreRounds u new
+  rounds_followed u before old new from rounds same following within =
+      let encoding : before.encoding ≡ new.encoding = sym (following.encoding ∙ same) in
+      let Bounded : Encoding N S → Type 0 = λ e. IsBounded e in
+      let Read : Encoding N S → Type 0 = λ e. IsReadSoFar u rounds.reading.root (chosen_of new) (notes_in e) in
+      record {
+        bounded = subst Bounded encoding rounds.bounded;
+        reading = record { root = rounds.reading.root; so_far = subst Read encoding (so_far_less u rounds.reading.root (chosen_of new) (chosen_of before) (notes_of before) within rounds.reading.so_far) };
+        consistent = following.consistent;
+        loaded = record { given = (notes_of new).table; numbers = (notes_of new).requirements; loaded = following.loaded.loaded; clauses = Extends-same (notes_of new).table; asking = Extends-same (notes_of new).requirements };
+        variables = omega (arith, following.loaded.variables);
+        mark = following.mark;
+      }
+
+  -- the turn of a soft requirement that is not decided: it may be exempt, and is assumed
+  module _ (u : Universe N S) (root : Demands) (done : List S) (s : S) (v : ℕ) (old : Rounds N S) (encoding : Encoding N S) (search : ClauseSearch)
+      (known : variable_count (trail_of old.search) ≡ length (notes_of old).origins) (distinct : AreDistinct (notes_of old).origins) (still : IsStill old)
+      (origin : slice_get (notes_of old).origins v ≡ Some (Solvable s)) (free : slot_of (trail_of old.search) v ≡ None) (seen : Contains (notes_of old).seen s)
+      (only : notes_in encoding ≡ record (notes_of old) { exempt = (notes_in encoding).exempt })
+      (exempts : (Contains (notes_of old).exempt s → ⊥) → Exempts u (notes_of old).asked (notes_of old).exempt s (notes_in encoding).exempt)
+      (stays : (d : Demands) (set : List S) → IsReadSoFar u d set (notes_of old) → IsReadSoFar u d set (notes_in encoding))
+      (gains : Gains (trail_of old.search) (trail_of search) (record { variable = v; positive = true }) (level_of (trail_of old.search) + 1) Assumed)
+      (held : held_of search ≡ length_of (trail_of search)) (b : IsBetweenFor u root done (done ++ s ∷ []) old) where
+    abbrev t0 : Trail
+    t0 = trail_of old.search
+
+    abbrev n0 : ℕ
+    n0 = length_of t0
+
+    abbrev begun : Rounds N S
+    begun = record old { encoding = encoding; search = search }
+
+    same_origins : (notes_in encoding).origins ≡ (notes_of old).origins
+    same_origins = ap (λ (n : Notes N S). n.origins) only
+
+    keeps_begun : Keeps (notes_of old).origins (notes_in encoding).origins
+    keeps_begun = let Kept : List (Origin N S) → Type 0 = λ os. Keeps (notes_of old).origins os in subst Kept (sym same_origins) (Keeps-same (notes_of old).origins)
+
+    begun_known : variable_count (trail_of search) ≤ length (notes_in encoding).origins
+    begun_known = omega (arith, gains.size, known, ap length same_origins)
+
+    first_places : KeepsPlaces t0 (trail_of search) n0
+    first_places = keeps_all t0 (trail_of search) (keeps-gains t0 (trail_of search) (record { variable = v; positive = true }) (level_of t0 + 1) Assumed gains free)
+
+    not_chosen : Contains (chosen_of old) s → ⊥
+    not_chosen h = let Has : List S → Type 0 = λ list. Contains list s in unchosen (notes_of old).origins t0 distinct known v s origin (λ slot at on. none-some _ (sym free ∙ at)) (subst Has still.chosen h)
+
+    made_exempt : Exempts u (notes_of old).asked (notes_of old).exempt s (notes_in encoding).exempt
+    made_exempt = exempts (λ h. not_chosen (b.seeded.seed_chosen s (b.exempt s h)))
+
+    abbrev taken_now : List S
+    taken_now = b.taken ++ s ∷ []
+
+    begun_assumed : AreAssumed (notes_in encoding).origins taken_now b.refused (trail_of search)
+    begun_assumed =
+        let Kept : List (Origin N S) → Type 0 = λ os. AreAssumed os taken_now b.refused (trail_of search) in
+        subst Kept (sym same_origins) (record {
+          taken = λ x slot at reason value. ⊎_elim
+              (λ made. (s, ap (origin_at (notes_of old).origins) made.0 ∙ get_or_from_slice_get (notes_of old).origins v (Solvable s) Root origin, last_in b.taken s))
+              (λ was. let w = b.assumed.taken x slot was reason value in (w.0, w.1, earlier_in b.taken s w.0 w.2))
+              (gains-cases t0 (trail_of search) (record { variable = v; positive = true }) (level_of t0 + 1) Assumed gains x slot at);
+          left_out = λ x slot at reason value. ⊎_elim
+              (λ made. absurd (false≢true (sym value ∙ ap (λ (q : Slot). q.value) made.1)))
+              (λ was. b.assumed.left_out x slot was reason value)
+              (gains-cases t0 (trail_of search) (record { variable = v; positive = true }) (level_of t0 + 1) Assumed gains x slot at);
+        })
+
+    begun_near : AreNear u root (done ++ s ∷ []) (notes_in encoding)
+    begun_near = let Near : Notes N S → Type 0 = λ n. AreNear u root (done ++ s ∷ []) n in subst Near (sym only) (record { seen = b.near.seen; read = b.near.read; asked = b.near.asked })
+
+    same_asked : (notes_in encoding).asked ≡ (notes_of old).asked
+    same_asked = ap (λ (n : Notes N S). n.asked) only
+
+    same_seen : (notes_in encoding).seen ≡ (notes_of old).seen
+    same_seen = ap (λ (n : Notes N S). n.seen) only
+
+    within_now : IsWithin taken_now (done ++ s ∷ [])
+    within_now t h = ⊎_elim (λ was. earlier_in done s t (b.within t was)) (λ e. let Has : S → Type 0 = λ x. Contains (done ++ s ∷ []) x in subst Has e (last_in done s)) (pushed_cases b.taken s t h)
+
+    module _ (rest : Rounds N S) (goes : GoesOn u begun rest) where
+      abbrev t2 : Trail
+      t2 = trail_of rest.search
+
+      abbrev o2 : List (Origin N S)
+      o2 = (notes_of rest).origins
+
+      places : KeepsPlaces (trail_of search) t2 (held_of search)
+      places = let Held : ℕ → Type 0 = λ n. KeepsPlaces (trail_of search) t2 n in subst Held goes.turn.held (goes.turn.places (trail_of search) (keeps_itself (trail_of search) (held_of search) (omega (arith, held))))
+
+      keeps_rest : Keeps (notes_of old).origins o2
+      keeps_rest = Keeps-trans (notes_of old).origins (notes_in encoding).origins o2 keeps_begun goes.origins
+
+      origin_rest : origin_at o2 v ≡ Solvable s
+      origin_rest = get_or_from_slice_get o2 v (Solvable s) Root (keeps_rest.kept v (Solvable s) origin)
+
+      first_rest : KeepsPlaces t0 t2 n0
+      first_rest = keeps_through t0 (trail_of search) t2 n0 (held_of search) first_places places (omega (arith, held, gains.count))
+
+      prefix : solvables_before o2 t2 n0 ≡ chosen_of old
+      prefix = same_before (notes_of old).origins o2 t0 t2 n0 keeps_rest (omega (arith, known)) first_rest n0 (omega arith) ∙ sym still.chosen
+
+      rest_read : IsReadSoFar u root (chosen_of rest) (notes_of rest)
+      rest_read = goes.read root (stays root (chosen_of old) b.read)
+
+      rest_near : AreNear u root (done ++ s ∷ []) (notes_of rest)
+      rest_near = goes.near root (done ++ s ∷ []) taken_now b.refused (stays root (chosen_of old) b.read) within_now begun_assumed begun_near
+
+      asked_rest : IsWithin (notes_of old).asked (notes_of rest).asked
+      asked_rest n h = let Has : List N → Type 0 = λ list. Contains list n in goes.asked n (subst Has (sym same_asked) h)
+
+      seen_rest : IsWithin (notes_of old).seen (notes_of rest).seen
+      seen_rest t h = let Has : List S → Type 0 = λ list. Contains list t in goes.seen t (subst Has (sym same_seen) h)
+
+      -- it was accepted
+      module _ (answering : IsAnswering u rest) where
+        stays_chosen : IsWithin (chosen_of old) (chosen_of rest)
+        stays_chosen t h =
+            let Has : List S → Type 0 = λ list. Contains list t in
+            subst Has (sym answering.chosen) (Extends-within (solvables_before o2 t2 n0) (solvables_before o2 t2 (length_of t2)) (before_extends o2 t2 n0 (length_of t2) first_rest.are) t (subst Has (sym prefix) h))
+
+        now_chosen : Contains (chosen_of rest) s
+        now_chosen =
+            let made : Slot = record { value = true; level = level_of t0 + 1; place = n0; reason = Assumed } in
+            let at : slot_of t2 v ≡ Some made = places.slots v made gains.here (omega (arith, held, gains.count)) in
+            let Has : List S → Type 0 = λ list. Contains list s in
+            subst Has (sym answering.chosen) (slot_chosen o2 t2 answering.variables v made s at origin_rest refl)
+
+        rest_exempts : Exempts u (notes_of old).asked (notes_of old).exempt s (notes_of rest).exempt
+        rest_exempts = let Made : List S → Type 0 = λ e. Exempts u (notes_of old).asked (notes_of old).exempt s e in subst Made (sym goes.exempt) made_exempt
+
+        more_exempt : (e : List S) → Exempts u (notes_of old).asked (notes_of old).exempt s e → IsWithin (notes_of old).exempt e
+        more_exempt e (asked_before was) = λ t h. h
+        more_exempt e (not_asked not) = λ t h. earlier_in (notes_of old).exempt s t h
+
+        few_exempt : (e : List S) → Exempts u (notes_of old).asked (notes_of old).exempt s e → IsWithin e taken_now
+        few_exempt e (asked_before was) = λ t h. earlier_in b.taken s t (b.exempt t h)
+        few_exempt e (not_asked not) = λ t h. ⊎_elim (λ was. earlier_in b.taken s t (b.exempt t was)) (λ same. let Has : S → Type 0 = λ x. Contains taken_now x in subst Has same (last_in b.taken s)) (pushed_cases (notes_of old).exempt s t h)
+
+        freed : (e : List S) → Exempts u (notes_of old).asked (notes_of old).exempt s e → Contains e s ⊎ Contains (notes_of old).asked (u.name s)
+        freed e (asked_before was) = inr was
+        freed e (not_asked not) = inl (last_in (notes_of old).exempt s)
+
+        now_seeded : AreSeeds u taken_now (chosen_of rest) (notes_of rest).asked (notes_of rest).seen (notes_of rest).exempt
+        now_seeded = record {
+          seed_chosen = λ t h. ⊎_elim (λ was. stays_chosen t (b.seeded.seed_chosen t was)) (λ e. let Has : S → Type 0 = λ x. Contains (chosen_of rest) x in subst Has e now_chosen) (pushed_cases b.taken s t h);
+          seed_registered = λ t h. ⊎_elim (λ was. seen_rest t (b.seeded.seed_registered t was)) (λ e. let Has : S → Type 0 = λ x. Contains (notes_of rest).seen x in subst Has e (seen_rest s seen)) (pushed_cases b.taken s t h);
+          seed_free = λ t h. ⊎_elim
+              (λ was. ⊎_elim (λ free_before. inl (more_exempt (notes_of rest).exempt rest_exempts t free_before)) (λ asked. inr (asked_rest (u.name t) asked)) (b.seeded.seed_free t was))
+              (λ e. let Free : S → Type 0 = λ x. Contains (notes_of rest).exempt x ⊎ Contains (notes_of rest).asked (u.name x) in subst Free e (⊎_elim (λ is. inl is) (λ asked. inr (asked_rest (u.name s) asked)) (freed (notes_of rest).exempt rest_exempts)))
+              (pushed_cases b.taken s t h);
+        }
+
+        pub between_accepted : IsBetween u root (done ++ s ∷ []) rest
+        between_accepted =
+            let now_assumed : AreAssumed o2 taken_now b.refused t2 = assumed_still (notes_in encoding).origins o2 (trail_of search) t2 taken_now b.refused goes.origins begun_known goes.turn.assumed.was begun_assumed in
+            let answer = answering.answer root taken_now b.refused rest_read now_assumed now_seeded in
+            record {
+              first = b.first;
+              taken = taken_now;
+              refused = b.refused;
+              run = accepted b.run not_chosen rest_exempts stays_chosen now_chosen answer.valid answer.reached asked_rest (asked_for u root (chosen_of rest) (done ++ s ∷ []) (notes_of rest) rest_read rest_near);
+              read = rest_read;
+              once = answering.once;
+              assumed = now_assumed;
+              seeded = now_seeded;
+              within = within_now;
+              exempt = few_exempt (notes_of rest).exempt rest_exempts;
+              near = rest_near;
+            }
+
+      -- it was refused
+      module _ (count : ℕ) (counted : count ≡ length (notes_of old).exempt) (rounds : AreRounds u rest) (after : Rounds N S) (refusing : IsRefusing u v count rest after) (quiet : IsStill after) where
+        abbrev t3 : Trail
+        t3 = trail_of after.search
+
+        abbrev o3 : List (Origin N S)
+        o3 = (notes_of after).origins
+
+        held_rest : held_of rest.search ≡ n0 + 1
+        held_rest = omega (arith, goes.turn.held, held, gains.count)
+
+        size_cut : length_of refusing.cut ≡ n0
+        size_cut = omega (arith, refusing.is_cut.length, held_rest)
+
+        loaded_places : KeepsPlaces t0 (trail_of refusing.loaded) n0
+        loaded_places =
+            let all : KeepsPlaces (trail_of search) (trail_of refusing.loaded) (held_of search) = let Held : ℕ → Type 0 = λ n. KeepsPlaces (trail_of search) t2 n in
+            let Later : ℕ → Type 0 = λ n. KeepsPlaces (trail_of search) (trail_of refusing.loaded) n in
+            subst Later (refusing.turn.held ∙ goes.turn.held) (refusing.turn.places (trail_of search) (subst Held (sym goes.turn.held) places)) in
+            keeps_through t0 (trail_of search) (trail_of refusing.loaded) n0 (held_of search) first_places all (omega (arith, held, gains.count))
+
+        cut_places : KeepsPlaces (trail_of refusing.loaded) refusing.cut n0
+        cut_places = keeps_places (trail_of refusing.loaded) refusing.cut n0 loaded_places.are (λ x slot at below. refusing.is_cut.kept x slot at (omega (arith, below, held_rest)))
+
+        last_places : KeepsPlaces t0 t3 n0
+        last_places = keeps_through t0 refusing.cut t3 n0 (length_of refusing.cut)
+            (keeps_through t0 (trail_of refusing.loaded) refusing.cut n0 n0 loaded_places cut_places (omega arith))
+            (keeps_all refusing.cut t3 (keeps-gains refusing.cut t3 (record { variable = v; positive = false }) (level_of refusing.cut + 1) Assumed refusing.gains refusing.free))
+            (omega (arith, size_cut))
+
+        keeps_after : Keeps (notes_of old).origins o3
+        keeps_after = Keeps-trans (notes_of old).origins o2 o3 keeps_rest refusing.ended.origins
+
+        same_chosen : chosen_of after ≡ chosen_of old
+        same_chosen =
+            let made : Slot = record { value = false; level = level_of refusing.cut + 1; place = length_of refusing.cut; reason = Assumed } in
+            let stands_last : variable_at t3 n0 ≡ v = ap (variable_at t3) (sym size_cut) ∙ (t3.listed v made refusing.gains.here).1 in
+            let off : value_of t3 v ≡ false = ap (λ o. option_map_or (λ (q : Slot). q.value) o false) refusing.gains.here in
+            let size : length_of t3 ≡ suc n0 = omega (arith, refusing.gains.count, size_cut) in
+            let nothing : [] ≡ solvable_if (origin_at o3 (variable_at t3 n0)) (value_of t3 (variable_at t3 n0)) = none_at (origin_at o3 (variable_at t3 n0)) (value_of t3 (variable_at t3 n0)) (ap (value_of t3) stands_last ∙ off) in
+            let first : solvables_before o3 t3 n0 ≡ chosen_of old = same_before (notes_of old).origins o3 t0 t3 n0 keeps_after (omega (arith, known)) last_places n0 (omega arith) ∙ sym still.chosen in
+            quiet.chosen ∙ ap (solvables_before o3 t3) size ∙ ap (λ list. solvables_before o3 t3 n0 ++ list) (sym nothing) ∙ append-nil (solvables_before o3 t3 n0) ∙ first
+
+        old_within : IsWithin (chosen_of old) (chosen_of rest)
+        old_within t h =
+            let mark : HasMark rest = rounds.mark in
+            let marked : n0 ≤ kept_of rest.search = omega (arith, rounds.consistent.turn.marked, held_rest) in
+            let Has : List S → Type 0 = λ list. Contains list t in
+            let same : solvables_before o2 t2 n0 ≡ solvables_before o2 mark.base n0 = same_before o2 o2 mark.base t2 (kept_of rest.search) (Keeps-same o2) mark.known mark.kept n0 marked in
+            subst Has (sym mark.follows.is) (Extends-within (solvables_before o2 mark.base n0) (solvables_before o2 mark.base (length_of mark.base)) (before_extends o2 mark.base n0 (length_of mark.base) (omega (arith, marked, mark.kept.were))) t (subst Has (sym prefix ∙ same) h))
+
+        after_assumed : AreAssumed o3 b.taken (b.refused ++ s ∷ []) t3
+        after_assumed =
+            let origin_after : (x : ℕ) (slot : Slot) → slot_of t0 x ≡ Some slot → origin_at o3 x ≡ origin_at (notes_of old).origins x = λ x slot at.
+            let inside : x < variable_count t0 = slot-within _ x slot.place (ap (option_map (λ (q : Slot). q.place)) at) in
+            same_origin (notes_of old).origins o3 t0 t0 0 keeps_after (omega (arith, known)) (keeps_itself t0 0 (omega arith)) x (omega (arith, inside, known))
+            in
+            let back : (x : ℕ) (slot : Slot) → slot_of refusing.cut x ≡ Some slot → slot.reason ≡ Assumed → slot_of t0 x ≡ Some slot = λ x slot at reason.
+            let before : slot_of (trail_of search) x ≡ Some slot = goes.turn.assumed.was x slot (refusing.turn.assumed.was x slot (refusing.is_cut.stays x slot at) reason) reason in
+            ⊎_elim
+            (λ made. absurd (none-some _ (sym refusing.free ∙ ap (slot_of refusing.cut) (sym made.0) ∙ at)))
+            (λ was. was)
+            (gains-cases t0 (trail_of search) (record { variable = v; positive = true }) (level_of t0 + 1) Assumed gains x slot before)
+            in
+            record {
+              taken = λ x slot at reason value. ⊎_elim
+                  (λ made. absurd (false≢true (sym (ap (λ (q : Slot). q.value) made.1) ∙ value)))
+                  (λ was. let w = b.assumed.taken x slot (back x slot was reason) reason value in (w.0, origin_after x slot (back x slot was reason) ∙ w.1, w.2))
+                  (gains-cases refusing.cut t3 (record { variable = v; positive = false }) (level_of refusing.cut + 1) Assumed refusing.gains x slot at);
+              left_out = λ x slot at reason value. ⊎_elim
+                  (λ made. (s, ap (origin_at o3) made.0 ∙ get_or_from_slice_get o3 v (Solvable s) Root (keeps_after.kept v (Solvable s) origin), last_in b.refused s))
+                  (λ was. let w = b.assumed.left_out x slot (back x slot was reason) reason value in (w.0, origin_after x slot (back x slot was reason) ∙ w.1, earlier_in b.refused s w.0 w.2))
+                  (gains-cases refusing.cut t3 (record { variable = v; positive = false }) (level_of refusing.cut + 1) Assumed refusing.gains x slot at);
+            }
+
+        exempt_cases : (e : List S) → Exempts u (notes_of old).asked (notes_of old).exempt s e → (e ≡ (notes_of old).exempt) ⊎ (e ≡ (notes_of old).exempt ++ s ∷ [])
+        exempt_cases e (asked_before was) = inl refl
+        exempt_cases e (not_asked not) = inr refl
+
+        exempt_after : (notes_of after).exempt ≡ (notes_of old).exempt
+        exempt_after =
+            let before : List S = (notes_of old).exempt in
+            refusing.exempt ∙ ap (λ n. take n (notes_of rest).exempt) counted ∙ ap (take (length before)) goes.exempt ∙
+            ⊎_elim
+            (λ (e : (notes_in encoding).exempt ≡ before). ap (take (length before)) (e ∙ sym (append-nil before)) ∙ take-append_seam before [])
+            (λ (e : (notes_in encoding).exempt ≡ before ++ s ∷ []). ap (take (length before)) e ∙ take-append_seam before (s ∷ []))
+            (exempt_cases (notes_in encoding).exempt made_exempt)
+
+        asked_after : IsWithin (notes_of old).asked (notes_of after).asked
+        asked_after n h = let Has : List N → Type 0 = λ list. Contains list n in subst Has (sym refusing.ended.asked) (asked_rest n h)
+
+        near_same : AreNear u root (done ++ s ∷ []) (notes_of after)
+        near_same =
+            let Read : List S → Type 0 = λ list. (t : S) → Contains list t → IsNear u root (done ++ s ∷ []) t in
+            let Asked : List N → Type 0 = λ list. (n : N) → Contains list n → IsNamed u root (IsNear u root (done ++ s ∷ [])) n in
+            record { seen = subst Read (sym refusing.ended.seen) rest_near.seen; read = subst Read (sym refusing.ended.read) rest_near.read; asked = subst Asked (sym refusing.ended.asked) rest_near.asked }
+
+        pub between_refused : IsBetween u root (done ++ s ∷ []) after
+        between_refused =
+            let read_after : IsReadSoFar u root (chosen_of old) (notes_of after) = so_far_less u root (chosen_of old) (chosen_of rest) (notes_of after) old_within (refusing.ended.stays.so_far root (chosen_of rest) rest_read) in
+            let Read : List S → Type 0 = λ list. IsReadSoFar u root list (notes_of after) in
+            let Run : List S → List S → Type 0 = λ c e. SoftRun u root RefusesAnyway b.first (done ++ s ∷ []) b.taken c e (notes_of after).asked in
+            let RunFor : List S → Type 0 = λ c. Run c (notes_of after).exempt in
+            let Seeded : List S → List S → Type 0 = λ c e. AreSeeds u b.taken c (notes_of after).asked (notes_of after).seen e in
+            let SeededFor : List S → Type 0 = λ c. Seeded c (notes_of after).exempt in
+            let Once : List S → Type 0 = λ list. HasNoRepeats list in
+            let Exempt : List S → Type 0 = λ e. IsWithin e b.taken in
+            let Has : List S → S → Type 0 = λ list t. Contains list t in
+            record {
+              first = b.first;
+              taken = b.taken;
+              refused = b.refused ++ s ∷ [];
+              run = subst RunFor (sym same_chosen) (subst (Run (chosen_of old)) (sym exempt_after) (refused b.run not_chosen made_exempt tt asked_after (asked_for u root (chosen_of old) (done ++ s ∷ []) (notes_of after) read_after near_same)));
+              read = subst Read (sym same_chosen) read_after;
+              once = subst Once (sym same_chosen) b.once;
+              assumed = after_assumed;
+              seeded = subst SeededFor (sym same_chosen) (subst (Seeded (chosen_of old)) (sym exempt_after) (record {
+                seed_chosen = b.seeded.seed_chosen;
+                seed_registered = λ t h. let Seen : List S → Type 0 = λ list. Contains list t in subst Seen (sym refusing.ended.seen) (seen_rest t (b.seeded.seed_registered t h));
+                seed_free = λ t h. ⊎_elim (λ e. inl e) (λ asked. inr (asked_after (u.name t) asked)) (b.seeded.seed_free t h);
+              }));
+              within = λ t h. earlier_in done s t (b.within t h);
+              exempt = subst Exempt (sym exempt_after) b.exempt;
+              near = near_same;
+            }
+
+  -- before a turn, where nothing but the exemptions changed and a variable was assumed
+  pub rounds_assumed : (u : Universe N S) (old : Rounds N S) (encoding : Encoding N S) (search : ClauseSearch) (v : ℕ) → AreRounds u old → IsBounded encoding → notes_in encoding ≡ record (notes_of old) { exempt = (notes_in encoding).exempt } →
+      ((d : Demands) (set : List S) → IsReadSoFar u d set (notes_of old) → IsReadSoFar u d set (notes_in encoding)) → IsConsistent search → KeepsLoaded old.search search → variable_count (trail_of search) ≡ variable_count (trail_of old.search) → KeepsMark old.search search →
+      AreRounds u (record old { encoding = encoding; search = search })
+  rounds_assumed u old encoding search v rounds bounded only stays consistent loads size mark =
+      let origins : (notes_of old).origins ≡ (notes_in encoding).origins = sym (ap (λ (n : Notes N S). n.origins) only) in
+      let Follow : List (Origin N S) → Type 0 = λ os. Follows old.chosen os rounds.mark.base (length_of rounds.mark.base) in
+      let Table : List (Vec Literal Global) → Type 0 = λ table. Extends rounds.loaded.given table in
+      let Asking : List ℕ → Type 0 = λ list. Extends rounds.loaded.numbers list in
+      record {
+        bounded = bounded;
+        reading = record { root = rounds.reading.root; so_far = stays rounds.reading.root (chosen_of old) rounds.reading.so_far };
+        consistent = consistent;
+        loaded = record {
+          given = rounds.loaded.given;
+          numbers = rounds.loaded.numbers;
+          loaded = loads rounds.loaded.given rounds.loaded.numbers rounds.loaded.loaded;
+          clauses = subst Table (sym (ap (λ (n : Notes N S). n.table) only)) rounds.loaded.clauses;
+          asking = subst Asking (sym (ap (λ (n : Notes N S). n.requirements) only)) rounds.loaded.asking;
+        };
+        variables = omega (arith, size, rounds.variables, ap length origins);
+        mark = record { base = rounds.mark.base; follows = subst Follow origins rounds.mark.follows; kept = mark rounds.mark.base rounds.mark.kept; known = omega (arith, rounds.mark.known, ap length origins) };
+      }
+
+  -- what is held from now on
+  module _ (u : Universe N S) (old : Rounds N S) (search : ClauseSearch) (trail : trail_of search ≡ trail_of old.search) (count : kept_of search ≡ kept_of old.search) where
+    pub rounds_held : AreRounds u old → IsConsistent search → KeepsLoaded old.search search → AreRounds u (record old { search = search })
+    rounds_held rounds consistent loads =
+        let Kept : Trail → ℕ → Type 0 = λ t n. KeepsPlaces rounds.mark.base t n in
+        let KeptIn : Trail → Type 0 = λ t. Kept t (kept_of search) in
+        record {
+          bounded = rounds.bounded;
+          reading = rounds.reading;
+          consistent = consistent;
+          loaded = record { given = rounds.loaded.given; numbers = rounds.loaded.numbers; loaded = loads rounds.loaded.given rounds.loaded.numbers rounds.loaded.loaded; clauses = rounds.loaded.clauses; asking = rounds.loaded.asking };
+          variables = omega (arith, ap variable_count trail, rounds.variables);
+          mark = record { base = rounds.mark.base; follows = rounds.mark.follows; kept = subst KeptIn (sym trail) (subst (Kept (trail_of old.search)) (sym count) rounds.mark.kept); known = rounds.mark.known };
+        }
+
+    pub still_held : held_of search ≡ length_of (trail_of search) → kept_of old.search ≡ length_of (trail_of old.search) → chosen_of old ≡ solvables_before (notes_of old).origins (trail_of old.search) (length_of (trail_of old.search)) → IsStill (record old { search = search })
+    still_held held marked chosen = record {
+      held = held;
+      marked = count ∙ marked ∙ ap length_of (sym trail);
+      chosen = chosen ∙ ap (λ (t : Trail). solvables_before (notes_of old).origins t (length_of t)) (sym trail);
+    }
+
+    pub between_held : (root : Demands) (done : List S) → IsBetween u root done old → IsBetween u root done (record old { search = search })
+    between_held root done b =
+        let Assuming : Trail → Type 0 = λ t. AreAssumed (notes_of old).origins b.taken b.refused t in
+        record {
+          first = b.first;
+          taken = b.taken;
+          refused = b.refused;
+          run = b.run;
+          read = b.read;
+          once = b.once;
+          assumed = subst Assuming (sym trail) b.assumed;
+          seeded = b.seeded;
+          within = b.within;
+          exempt = b.exempt;
+          near = b.near;
+        }
+
+-- the variable that was assumed
+pub just_assumed : (old new : ClauseSearch) (v : ℕ) → Gains (trail_of old) (trail_of new) (record { variable = v; positive = true }) (level_of (trail_of old) + 1) Assumed → base_of new ≡ level_of (trail_of old) + 1 → held_of new ≡ length_of (trail_of new) → HasAssumed new v
+just_assumed old new v gains base held =
+    let made : Slot = record { value = true; level = level_of (trail_of old) + 1; place = length_of (trail_of old); reason = Assumed } in
+    let place : held_of new - 1 ≡ length_of (trail_of old) = omega (arith, held, gains.count) in
+    record { base = omega (arith, base); place = ap (variable_at (trail_of new)) place ∙ ((trail_of new).listed v made gains.here).1 }
+
+-- the root's turn ended with an answer: no soft requirement had its turn yet
+pub between_begun : {N S : Type 0} (u : Universe N S) (root : Demands) (old rest : Rounds N S) → IsReadSoFar u root (chosen_of old) (notes_of old) → AreNear u root [] (notes_of old) → (notes_of old).exempt ≡ [] → IsRootTurn old.search → GoesOn u old rest → IsAnswering u rest → IsBetween u root [] rest
+between_begun {N} {S} u root old rest read near exempt turn goes answering =
+    let none_old : AreAssumed (notes_of old).origins [] [] (trail_of old.search) = record { taken = λ v slot at reason value. absurd (turn.none v slot at reason); left_out = λ v slot at reason value. absurd (turn.none v slot at reason) } in
+    let none : AreAssumed (notes_of rest).origins [] [] (trail_of rest.search) = record { taken = λ v slot at reason value. absurd (turn.none v slot (goes.turn.assumed.was v slot at reason) reason); left_out = λ v slot at reason value. absurd (turn.none v slot (goes.turn.assumed.was v slot at reason) reason) } in
+    let seeded : AreSeeds u [] (chosen_of rest) (notes_of rest).asked (notes_of rest).seen (notes_of rest).exempt = record { seed_chosen = λ s h. absurd (none_in s h); seed_registered = λ s h. absurd (none_in s h); seed_free = λ s h. absurd (none_in s h) } in
+    let now : IsReadSoFar u root (chosen_of rest) (notes_of rest) = goes.read root read in
+    let close : AreNear u root [] (notes_of rest) = goes.near root [] [] [] read (λ s h. h) none_old near in
+    let answer = answering.answer root [] [] now none seeded in
+    let free : (notes_of rest).exempt ≡ [] = goes.exempt ∙ exempt in
+    let Valid : List S → Type 0 = λ e. IsValid u root (chosen_of rest) e in
+    let Run : List S → Type 0 = λ e. SoftRun u root RefusesAnyway (chosen_of rest) [] [] (chosen_of rest) e (notes_of rest).asked in
+    let Within : List S → Type 0 = λ e. IsWithin e [] in
+    record {
+      first = chosen_of rest;
+      taken = [];
+      refused = [];
+      run = subst Run (sym free) (start (subst Valid free answer.valid) answer.reached (asked_for u root (chosen_of rest) [] (notes_of rest) now close));
+      read = now;
+      once = answering.once;
+      assumed = none;
+      seeded = seeded;
+      within = λ s h. h;
+      exempt = subst Within (sym free) (λ s h. h);
+      near = close;
+    }

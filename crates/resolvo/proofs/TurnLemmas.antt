@@ -1,0 +1,327 @@
+-- Turns: what is held of a trail, and what begins and ends a turn.
+use Rattle.std.proofs.Common.{◌≡◌, ℕ, ◌+◌, ◌-◌, ◌<◌, ◌≤◌, List, length, min, max, Some, None, arith, inl, inr, refl, sym, ap, ◌∙◌, subst, ⊎_elim}
+use Rattle.std.specs.Prelude.{Vec}
+use Rattle.std.specs.List.{All}
+use Rattle.std.specs.declared.alloc.Global.{Global}
+use Rattle.std.proofs.lemmas.Bool.{both_ways}
+use Rattle.std.proofs.lemmas.Option.{same_Some}
+use Rattle.resolver_clause_store.specs.declared.Literal.{Literal}
+use Rattle.resolver_clause_store.specs.declared.RequirementClause.{RequirementClause}
+use Rattle.resolver_clause_store.specs.declared.Reason.{Reason}
+use Rattle.resolver_clause_store.specs.declared.Reason.TheVariants.{Assumed, Decided, Forced}
+use Rattle.resolver_clause_store.specs.declared.Slot.{Slot}
+use Rattle.resolver_clause_store.specs.declared.Trail.{Trail}
+use Rattle.resolver_clause_store.specs.Formula.{FollowsFrom}
+use Rattle.resolver_clause_store.specs.Outcomes.{IsFalseBefore, IsImplied}
+use Rattle.resolver_clause_store.specs.Slots.{is_decided}
+use Rattle.resolver_clause_store.specs.TrailView.{Gains, IsCut, IsGrown, IsTop, IsUndone, KeepsPlaces, length_of, level_of, slot_of, variable_at, variable_count}
+use Rattle.resolver_clause_store.proofs.KeptLemmas.{keeps_all, keeps_grown, keeps_places, keeps_through, keeps_trans, slot_at}
+use Rattle.resolver_clause_store.proofs.SlotLemmas.{level-last, none-from}
+use Rattle.resolver_clause_store.proofs.TrailLemmas.{Keeps, gains-cases, keeps-gains, value-false}
+use Rattle.resolvo.specs.declared.analyze.Learnt.{Learnt}
+use Rattle.resolvo.specs.declared.clause_search.ClauseSearch.{ClauseSearch}
+use Rattle.resolvo.specs.declared.contradiction.Source.{Source}
+use Rattle.resolvo.specs.ClauseSearches.{AssumesNone, IsConsistent, IsLoaded, IsRefused, IsRootTurn, IsTurn, KeepsFirst, KeepsTurn}
+use Rattle.resolvo.specs.Derivations.{AreGiven, IsDerived}
+use Rattle.resolvo.specs.Propagation.{AreChosen, Extends, IsJustified}
+use Rattle.resolvo.specs.Resolvents.{IsAsserting, IsFalseAt, IsLearnt, level_in}
+use Rattle.resolvo.proofs.ClauseSearchLemmas.{implied}
+use Rattle.resolvo.proofs.JustifiedLemmas.{chosen-kept, justified-decides}
+use Rattle.resolvo.proofs.LevelLemmas.{level-in}
+
+-- a slot at a place that is kept was there
+keeps-back : (old new : Trail) (count variable : ℕ) (slot : Slot) → KeepsPlaces old new count → slot_of new variable ≡ Some slot → slot.place < count → slot_of old variable ≡ Some slot
+keeps-back old new count variable slot keeps at below =
+    let s = slot_at old slot.place (omega (arith, below, keeps.were)) in
+    let named : variable_at old slot.place ≡ variable = sym (keeps.variables slot.place below) ∙ (new.listed variable slot at).1 in
+    let was : slot_of old variable ≡ Some s.0 = ap (λ v. slot_of old v) (sym named) ∙ s.1 in
+    let here : slot_of new variable ≡ Some s.0 = keeps.slots variable s.0 was (omega (arith, s.2, below)) in
+    was ∙ sym here ∙ at
+
+pub keeps-fewer : (old new : Trail) (count fewer : ℕ) → KeepsPlaces old new count → fewer ≤ count → KeepsPlaces old new fewer
+keeps-fewer old new count fewer keeps less = record {
+  were = omega (arith, keeps.were, less);
+  are = omega (arith, keeps.are, less);
+  variables = λ place below. keeps.variables place (omega (arith, below, less));
+  slots = λ v s at below. keeps.slots v s at (omega (arith, below, less));
+}
+
+pub first-held : (old new : Trail) (held : ℕ) → KeepsPlaces old new held → KeepsFirst old held new held
+first-held old new held keeps = λ base k. keeps_through base old new held held k keeps (omega arith)
+
+pub turn-kept : (old new : Trail) (base held kept left : ℕ) → IsTurn old base held kept → KeepsPlaces old new held → held ≤ left + 1 → IsTurn new base held left
+turn-kept old new base held kept left turn keeps marked = record {
+  inside = keeps.are;
+  low = λ v s at below. turn.low v s (keeps-back old new held v s keeps at below) below;
+  some = turn.some;
+  marked = marked;
+}
+
+-- what is held stays where the levels above the base are undone
+pub held-undone : (old new : Trail) (base held kept level : ℕ) → IsTurn old base held kept → IsUndone old new level → base ≤ level → KeepsPlaces old new held
+held-undone old new base held kept level turn undone high = keeps_places old new held turn.inside (λ v s at below. undone.kept v s at (omega (arith, turn.low v s at below, high)))
+
+pub turn-undone : (old new : Trail) (base held kept level left : ℕ) → IsTurn old base held kept → IsUndone old new level → base ≤ level → left ≡ min kept (length_of new) → IsTurn new base held left
+turn-undone old new base held kept level left turn undone high is =
+    let keeps = held-undone old new base held kept level turn undone high in
+    turn-kept old new base held kept left turn keeps (omega (arith, turn.marked, keeps.are, is))
+
+-- and where a literal is set then
+pub held-jumped : (old middle new : Trail) (base held kept level : ℕ) → IsTurn old base held kept → IsUndone old middle level → base ≤ level → Keeps middle new → KeepsPlaces old new held
+held-jumped old middle new base held kept level turn undone high keeps =
+    let first = held-undone old middle base held kept level turn undone high in
+    keeps_through old middle new held held first (keeps-fewer middle new (length_of middle) held (keeps_all middle new keeps) first.are) (omega arith)
+
+pub turn-jumped : (old middle new : Trail) (base held kept level left : ℕ) → IsTurn old base held kept → IsUndone old middle level → base ≤ level → Keeps middle new → left ≡ min kept (length_of middle) → IsTurn new base held left
+turn-jumped old middle new base held kept level left turn undone high keeps is =
+    let first = held-undone old middle base held kept level turn undone high in
+    turn-kept old new base held kept left turn (held-jumped old middle new base held kept level turn undone high keeps) (omega (arith, turn.marked, first.are, is))
+
+-- no step but the beginning of a turn assumes a variable
+pub none-undone : (old new : Trail) (level : ℕ) → IsUndone old new level → AssumesNone old new
+none-undone old new level undone = record { was = λ v s at reason. (undone.stays v s at).0 }
+
+pub none-grown : (old new : Trail) (variables : ℕ) → IsGrown old new variables → AssumesNone old new
+none-grown old new variables grown = record { was = λ v s at reason. sym (grown.slots v) ∙ at }
+
+pub none-extends : (old new : Trail) → Extends old new → AssumesNone old new
+none-extends old new extends = record { was = λ v s at reason. ⊎_elim (λ was. was) (λ forced. absurd (both_ways _ forced (ap is_decided reason))) (extends.only v s at) }
+
+pub none-trans : (a b c : Trail) → AssumesNone a b → AssumesNone b c → AssumesNone a c
+none-trans a b c first second = record { was = λ v s at reason. first.was v s (second.was v s at reason) reason }
+
+pub none-gains : (old new : Trail) (literal : Literal) (level : ℕ) (reason : Reason) → Gains old new literal level reason → (reason ≡ Assumed → ⊥) → AssumesNone old new
+none-gains old new literal level reason gains other = record {
+  was = λ v s at assumed. ⊎_elim
+      (λ w. absurd (other (sym (ap (λ (t : Slot). t.reason) w.1) ∙ assumed)))
+      (λ was. was)
+      (gains-cases old new literal level reason gains v s at);
+}
+
+pub forced-assumed : (n : ℕ) → Forced n ≡ Assumed → ⊥
+forced-assumed n e = absurd cc
+
+pub decided-assumed : (n : ℕ) → Decided n ≡ Assumed → ⊥
+decided-assumed n e = absurd cc
+
+assumed-forced : (n : ℕ) → Assumed ≡ Forced n → ⊥
+assumed-forced n e = absurd cc
+
+assumed-decided : (n : ℕ) → Assumed ≡ Decided n → ⊥
+assumed-decided n e = absurd cc
+
+pub keeps-none : (it : ClauseSearch) → KeepsTurn it it
+keeps-none it = record { base = refl; held = refl; assumed = record { was = λ v s at reason. at }; places = λ base k. k }
+
+pub turn-trans : (a b c : ClauseSearch) → KeepsTurn a b → KeepsTurn b c → KeepsTurn a c
+turn-trans a b c first second = record {
+  base = second.base ∙ first.base;
+  held = second.held ∙ first.held;
+  assumed = none-trans a.trail b.trail c.trail first.assumed second.assumed;
+  places = λ base k. second.places base (first.places base k);
+}
+
+-- the turn stays where the trail keeps what is held
+pub keeps-turn : (old new : ClauseSearch) → new.base ≡ old.base → new.held ≡ old.held → AssumesNone old.trail new.trail → KeepsPlaces old.trail new.trail old.held → KeepsTurn old new
+keeps-turn old new base held assumed keeps = record {
+  base = base;
+  held = held;
+  assumed = assumed;
+  places = let Held : ℕ → Type 0 = λ n. KeepsFirst old.trail old.held new.trail n in subst Held (sym held) (first-held old.trail new.trail old.held keeps);
+}
+
+pub root-kept : (old new : ClauseSearch) → KeepsTurn old new → IsRootTurn old → IsRootTurn new
+root-kept old new keeps root = record {
+  base = keeps.base ∙ root.base;
+  none = λ v s at reason. root.none v s (keeps.assumed.was v s at reason) reason;
+}
+
+-- where the whole trail is held
+pub turn-whole : (trail : Trail) (base held kept : ℕ) → IsTop trail base → base ≤ length_of trail → held ≡ length_of trail → held ≤ kept + 1 → IsTurn trail base held kept
+turn-whole trail base held kept top bound whole marked = record {
+  inside = omega (arith, whole);
+  low = λ v s at below. top v s at;
+  some = λ above. omega (arith, above, bound, whole);
+  marked = marked;
+}
+
+pub level-gained : (old new : Trail) (literal : Literal) (level : ℕ) (reason : Reason) → Gains old new literal level reason → level_of new ≡ level
+level-gained old new literal level reason gains = level-last new literal.variable _ gains.here (omega (arith, gains.count))
+
+-- an assumption is no decision for a requirement
+chosen-assumes : (table : List (Vec Literal Global)) (requirements : List RequirementClause) (old new : Trail) (literal : Literal) (level : ℕ) → AreChosen table requirements old → Gains old new literal level Assumed → slot_of old literal.variable ≡ None → AreChosen table requirements new
+chosen-assumes table requirements old new literal level chosen gains free = record {
+  each = λ v s n at decided. ⊎_elim
+      (λ w. absurd (assumed-decided n (sym (ap (λ (t : Slot). t.reason) w.1) ∙ decided)))
+      (λ was. chosen-kept table requirements old new v s (keeps-gains old new literal level _ gains free) (chosen.each v s n was decided))
+      (gains-cases old new literal level _ gains v s at);
+}
+
+pub consistent-assumed : (it : ClauseSearch) (trail : Trail) (literal : Literal) (level base held : ℕ) → IsConsistent it → Gains it.trail trail literal level Assumed → slot_of it.trail literal.variable ≡ None → it.kept ≡ length_of it.trail → IsTop trail base → base ≤ length_of trail → held ≡ length_of trail → IsConsistent (record it { trail = trail; base = base; held = held })
+consistent-assumed it trail literal level base held holds gains free marked top bound whole = record {
+  below = λ n k d b. omega (arith, holds.below n k d b, gains.size);
+  derived = holds.derived;
+  justified = justified-decides it.table.items it.trail trail literal level Assumed assumed-forced holds.justified gains free;
+  chosen = chosen-assumes it.table.items it.requirements.items it.trail trail literal level holds.chosen gains free;
+  inside = holds.inside;
+  places = holds.places;
+  count = holds.count;
+  kept = omega (arith, holds.kept, gains.count);
+  turn = turn-whole trail base held it.kept top bound whole (omega (arith, whole, marked, gains.count));
+}
+
+pub consistent-marked : (it : ClauseSearch) (kept : ℕ) → kept ≡ length_of it.trail → IsConsistent it → IsConsistent (record it { kept = kept })
+consistent-marked it kept whole holds = record {
+  below = holds.below;
+  derived = holds.derived;
+  justified = holds.justified;
+  chosen = holds.chosen;
+  inside = holds.inside;
+  places = holds.places;
+  count = holds.count;
+  kept = omega (arith, whole);
+  turn = record { inside = holds.turn.inside; low = holds.turn.low; some = holds.turn.some; marked = omega (arith, holds.turn.inside, whole) };
+}
+
+pub consistent-held : (it : ClauseSearch) (base held : ℕ) → it.kept ≡ length_of it.trail → IsTop it.trail base → base ≤ length_of it.trail → held ≡ length_of it.trail → IsConsistent it → IsConsistent (record it { base = base; held = held })
+consistent-held it base held marked top bound whole holds = record {
+  below = holds.below;
+  derived = holds.derived;
+  justified = holds.justified;
+  chosen = holds.chosen;
+  inside = holds.inside;
+  places = holds.places;
+  count = holds.count;
+  kept = holds.kept;
+  turn = turn-whole it.trail base held it.kept top bound whole (omega (arith, whole, marked));
+}
+
+-- a trail of which the first places are left
+false_before-cut : (old new : Trail) (count variable : ℕ) (slot : Slot) (literal : Literal) → IsCut old new count → slot_of new variable ≡ Some slot → IsFalseBefore old slot.place literal → IsFalseBefore new slot.place literal
+false_before-cut old new count variable slot literal cut at f = record {
+  slot = f.slot;
+  is = cut.kept _ _ f.is (omega (arith, f.earlier, (new.listed variable slot at).0, cut.length));
+  false_there = f.false_there;
+  earlier = f.earlier;
+}
+
+justified-cut : (table : List (Vec Literal Global)) (old new : Trail) (count : ℕ) → IsJustified table old → IsCut old new count → IsJustified table new
+justified-cut table old new count justified cut = record {
+  within = λ v s n at reason. justified.within v s n (cut.stays v s at) reason;
+  forced = λ v s n at reason k d below. ⊎_elim (λ e. inl e) (λ f. inr (false_before-cut old new count v s _ cut at f)) (justified.forced v s n (cut.stays v s at) reason k d below);
+  contains = λ v s n at reason. justified.contains v s n (cut.stays v s at) reason;
+}
+
+chosen-cut : (table : List (Vec Literal Global)) (requirements : List RequirementClause) (old new : Trail) (count : ℕ) → AreChosen table requirements old → IsCut old new count → AreChosen table requirements new
+chosen-cut table requirements old new count chosen cut = record {
+  each = λ v s n at decided.
+      let c = chosen.each v s n (cut.stays v s at) decided in
+      record {
+        requirement = c.requirement;
+        listed = c.listed;
+        value = c.value;
+        before = c.before;
+        after = c.after;
+        clause = c.clause;
+        false_before = λ k d below. false_before-cut old new count v s _ cut at (c.false_before k d below);
+      };
+}
+
+pub consistent-cut : (it : ClauseSearch) (trail : Trail) (count kept base : ℕ) → IsConsistent it → IsCut it.trail trail count → count + 1 ≡ it.held → kept ≡ min it.kept count → IsTop trail base → base ≤ length_of trail → IsConsistent (record it { trail = trail; kept = kept; base = base; held = count })
+consistent-cut it trail count kept base holds cut last is top bound = record {
+  below = λ n k d b. omega (arith, holds.below n k d b, cut.size);
+  derived = holds.derived;
+  justified = justified-cut it.table.items it.trail trail count holds.justified cut;
+  chosen = chosen-cut it.table.items it.requirements.items it.trail trail count holds.chosen cut;
+  inside = holds.inside;
+  places = holds.places;
+  count = holds.count;
+  kept = omega (arith, is, cut.length);
+  turn = turn-whole trail base count kept top bound (sym cut.length) (omega (arith, is, last, holds.turn.marked));
+}
+
+pub cut-free : (old new : Trail) (count : ℕ) → IsCut old new count → count < length_of old → slot_of new (variable_at old count) ≡ None
+cut-free old new count cut less = none-from (slot_of new (variable_at old count)) (λ s at.
+    let t = slot_at old count less in
+    let same : t.0 ≡ s = same_Some _ _ (sym t.1 ∙ cut.stays _ s at) in
+    omega (arith, ap (λ (x : Slot). x.place) same, t.2, (new.listed _ s at).0, cut.length))
+
+pub first-cut : (old new : Trail) (kept count left : ℕ) → IsCut old new count → count ≤ length_of old → left ≡ min kept count → KeepsFirst old kept new left
+first-cut old new kept count left cut within is =
+    let Left : ℕ → Type 0 = λ n. KeepsFirst old kept new n in
+    subst Left (sym is) (λ base k. keeps_trans base old new kept count k (keeps_places old new count within (λ v s at below. cut.kept v s at below)))
+
+-- what is loaded does not depend on the turn
+pub loaded-turn : (it : ClauseSearch) (trail : Trail) (kept base held : ℕ) (given : List (Vec Literal Global)) (numbers : List ℕ) → IsLoaded given numbers it → IsLoaded given numbers (record it { trail = trail; kept = kept; base = base; held = held })
+loaded-turn it trail kept base held given numbers loaded = record { clauses = loaded.clauses; requirements = loaded.requirements; inside = loaded.inside }
+
+-- more variables, and a descent
+pub turn-grown : (it : ClauseSearch) (trail : Trail) (variables : ℕ) → IsConsistent it → IsGrown it.trail trail variables → KeepsTurn it (record it { trail = trail })
+turn-grown it trail variables holds grown = keeps-turn it (record it { trail = trail }) refl refl (none-grown it.trail trail variables grown) (keeps-fewer it.trail trail (length_of it.trail) it.held (keeps_grown it.trail trail variables grown) holds.turn.inside)
+
+pub turn-descended : (it : ClauseSearch) (trail : Trail) → IsConsistent it → AssumesNone it.trail trail → KeepsPlaces it.trail trail (length_of it.trail) → KeepsTurn it (record it { trail = trail })
+turn-descended it trail holds assumed keeps = keeps-turn it (record it { trail = trail }) refl refl assumed (keeps-fewer it.trail trail (length_of it.trail) it.held keeps holds.turn.inside)
+
+pub consistent-descended : (it : ClauseSearch) (trail : Trail) → IsConsistent it → variable_count trail ≡ variable_count it.trail → IsJustified it.table.items trail → AreChosen it.table.items it.requirements.items trail → KeepsPlaces it.trail trail (length_of it.trail) → IsConsistent (record it { trail = trail })
+consistent-descended it trail holds size justified chosen keeps = record {
+  below = λ n k d b. omega (arith, holds.below n k d b, size);
+  derived = holds.derived;
+  justified = justified;
+  chosen = chosen;
+  inside = holds.inside;
+  places = holds.places;
+  count = holds.count;
+  kept = omega (arith, holds.kept, keeps.are);
+  turn = turn-kept it.trail trail it.base it.held it.kept it.kept holds.turn (keeps-fewer it.trail trail (length_of it.trail) it.held keeps holds.turn.inside) holds.turn.marked;
+}
+
+-- a learnt clause is implied by the given ones
+implied-learnt : (given table : List (Vec Literal Global)) (sources : List Source) (causes : List ℕ) (literals : List Literal) → IsDerived table sources → AreGiven given table sources → All (λ n. n < length table) causes → FollowsFrom table causes literals → IsImplied given literals
+implied-learnt given table sources causes literals derived are within follows = λ values holds. follows values (λ k d below. implied given table sources _ derived are (within k d below) values holds)
+
+-- a learnt clause that is false at the base refuses
+pub refused : (it : ClauseSearch) (given : List (Vec Literal Global)) (numbers : List ℕ) (learnt : Learnt) → IsConsistent it → IsLoaded given numbers it → IsLearnt it.table.items it.trail learnt → level_in it.trail learnt.literal.variable ≤ it.base → IsRefused given it.trail it.base
+refused it given numbers learnt holds loaded is low =
+    let a = is.asserting in
+    let top : a.slot.level ≤ it.base = omega (arith, low, level-in it.trail learnt.literal.variable a.slot a.is) in
+    record {
+      turn = omega (arith, a.above, top);
+      clause = learnt.literals.items;
+      implied = implied-learnt given it.table.items it.sources.items learnt.causes.items learnt.literals.items holds.derived loaded.clauses.are is.within is.follows;
+      low = λ k d below.
+          let v = value-false _ _ (is.falsified k d below) in
+          record {
+            slot = v.0;
+            is = v.1;
+            false_there = v.2;
+            low = ⊎_elim
+                (λ e. omega (arith, ap (λ (t : Slot). t.level) (same_Some _ _ (sym v.1 ∙ ap (λ (l : Literal). slot_of it.trail l.variable) e ∙ a.is)), top))
+                (λ (f : IsFalseAt it.trail learnt.jump _). omega (arith, ap (λ (t : Slot). t.level) (same_Some _ _ (sym v.1 ∙ f.is)), f.low, a.above, top))
+                (a.others k d below);
+          };
+    }
+
+-- the level that is jumped to is below the one of the literal that is set
+pub below-asserted : (trail : Trail) (jump base back : ℕ) (literal : Literal) (literals : List Literal) → IsAsserting trail jump literal literals → base < level_in trail literal.variable → back ≡ max jump base → back < level_in trail literal.variable
+below-asserted trail jump base back literal literals asserting above is = omega (arith, is, asserting.above, above, level-in trail literal.variable asserting.slot asserting.is)
+
+-- a trail that was taken back to where a turn began is as it was then
+pub record IsBack (start back : Trail) : Type 0 where
+  pub size : variable_count back ≡ variable_count start
+  pub length : length_of back ≡ length_of start
+  pub kept : (variable : ℕ) (slot : Slot) → slot_of start variable ≡ Some slot → slot_of back variable ≡ Some slot
+  pub stays : (variable : ℕ) (slot : Slot) → slot_of back variable ≡ Some slot → slot_of start variable ≡ Some slot
+
+pub turned-back : (start begun ended back : Trail) (literal : Literal) (level : ℕ) → Gains start begun literal level Assumed → slot_of start literal.variable ≡ None → KeepsPlaces begun ended (length_of begun) → variable_count ended ≡ variable_count begun → IsCut ended back (length_of begun - 1) → IsBack start back
+turned-back start begun ended back literal level gains free keeps size cut =
+    let count : length_of begun ≡ length_of start + 1 = gains.count in
+    let first = keeps_through start begun ended (length_of start) (length_of begun) (keeps_all start begun (keeps-gains start begun literal level Assumed gains free)) keeps (omega (arith, count)) in
+    let long : length_of back ≡ length_of start = omega (arith, cut.length, count) in
+    record {
+      size = cut.size ∙ size ∙ gains.size;
+      length = long;
+      kept = λ v s at.
+          let below : s.place < length_of start = (start.listed v s at).0 in
+          cut.kept v s (first.slots v s at below) (omega (arith, below, count));
+      stays = λ v s at. keeps-back start ended (length_of start) v s first (cut.stays v s at) (omega (arith, (back.listed v s at).0, long));
+    }

@@ -1,0 +1,26 @@
+use Rattle.std.proofs.Common.{arith}
+use Rattle.resolvo.proofs.TurnLemmas.{consistent-cut, cut-free, first-cut, loaded-turn}
+use Rattle.resolvo.proofs.clause_search.ClauseSearch.retract.Goals as goal
+
+pub returns-clause-consistent : goal.returns-clause-consistent
+returns-clause-consistent c =
+    let turn = c.requires.consistent.turn in
+    consistent-cut c.args.self.now _ _ _ _ c.requires.consistent c.cut.ensures (omega (arith, turn.some c.requires.turn)) c.min-self.ensures c.level-self.ensures.top c.level-self.ensures.bound
+
+pub returns-clause-loaded : goal.returns-clause-loaded
+returns-clause-loaded c = λ given numbers loaded. loaded-turn c.args.self.now _ _ _ _ given numbers loaded
+
+pub returns-clause-free : goal.returns-clause-free
+returns-clause-free c =
+    let turn = c.requires.consistent.turn in
+    cut-free _ _ _ c.cut.ensures (omega (arith, turn.some c.requires.turn, turn.inside))
+
+pub returns-clause-count : goal.returns-clause-count
+returns-clause-count c =
+    let turn = c.requires.consistent.turn in
+    omega (arith, c.min-self.ensures, turn.some c.requires.turn, turn.marked, c.cut.ensures.length)
+
+pub returns-clause-kept : goal.returns-clause-kept
+returns-clause-kept c =
+    let turn = c.requires.consistent.turn in
+    first-cut _ _ _ _ _ c.cut.ensures (omega (arith, turn.some c.requires.turn, turn.inside)) c.min-self.ensures

@@ -1,0 +1,15 @@
+use Rattle.std.proofs.Common.{[]}
+use Rattle.resolver_clause_store.specs.Caches.{IsTrueCache}
+use Rattle.resolver_clause_store.specs.Universe.{Demands}
+use Rattle.resolvo.specs.RoundStates.{AreRounds, HasAllClauses, IsBetween, IsStill, KeepsRoom}
+use Rattle.resolvo.proofs.rounds.Rounds.all_turns.Given as goal
+
+abbrev pub invariant-loop-solvable : goal.invariant-loop-solvable
+invariant-loop-solvable g l = record {
+  is_true : IsTrueCache (g.D.Interner.universe l.provider) l.cache;
+  rounds : AreRounds (g.D.Interner.universe l.provider) l.self;
+  still : IsStill l.self;
+  counted : HasAllClauses l.self;
+  room : KeepsRoom l.fn.self l.self;
+  between : (root : Demands) → IsBetween (g.D.Interner.universe l.provider) root [] l.fn.self → IsBetween (g.D.Interner.universe l.provider) root l.yielded l.self;
+}

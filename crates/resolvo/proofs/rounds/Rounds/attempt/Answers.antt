@@ -1,0 +1,42 @@
+use Rattle.std.proofs.Common.{[], ap, length, refl, ◌∷◌, ◌++◌, ◌≡◌, ◌∙◌}
+use Rattle.resolver_encoding.specs.Notes.{notes_in}
+use Rattle.resolvo.specs.ClauseSearches.{trail_of}
+use Rattle.resolvo.specs.RoundStates.{HasAssumed, notes_of}
+use Rattle.resolvo.proofs.GoingLemmas.{still_all}
+use Rattle.resolvo.proofs.SoftLemmas.{between_accepted, between_held, between_refused, just_assumed, rounds_assumed, rounds_held, still_assumed}
+use Rattle.resolvo.proofs.rounds.Rounds.attempt.Goals as goal
+
+pub is_answered-requires-clause-rounds : goal.is_answered-requires-clause-rounds
+is_answered-requires-clause-rounds g c =
+    rounds_assumed (g.D.Interner.universe c.args.provider.now) c.args.self.now c.begin_turn.new.self c.assume.new.self c.args.variable c.requires.rounds c.begin_turn.ensures.bounded c.begin_turn.ensures.only c.in_ok-begin_turn.ensures.stays.so_far
+    c.in_ok-assume.ensures.consistent c.in_ok-assume.ensures.loaded c.in_ok-assume.ensures.gains.size c.in_ok-assume.ensures.kept
+
+pub returns-then-answered-clause-rounds : goal.returns-then-answered-clause-rounds
+returns-then-answered-clause-rounds g c =
+    rounds_held (g.D.Interner.universe c.args.provider.now) c.is_answered.new.self c.hold.new.self c.hold.ensures.trail c.hold.ensures.count c.in_ok-answered.ensures.rounds c.hold.ensures.consistent c.hold.ensures.loaded
+
+pub returns-then-answered-clause-between : goal.returns-then-answered-clause-between
+returns-then-answered-clause-between g c = λ root done seen b.
+    let u = g.D.Interner.universe c.args.provider.now in
+    let old = c.args.self.now in
+    between_held u c.is_answered.new.self c.hold.new.self c.hold.ensures.trail c.hold.ensures.count root (done ++ c.args.solvable ∷ [])
+    (between_accepted u root done c.args.solvable c.args.variable old c.begin_turn.new.self c.assume.new.self c.requires.loaded.variables c.requires.rounds.reading.so_far.half.encoding.distinct c.requires.still
+    c.requires.stands c.requires.free seen c.begin_turn.ensures.only c.in_ok-begin_turn.ensures.exempts c.in_ok-begin_turn.ensures.stays.so_far c.in_ok-assume.ensures.gains c.in_ok-assume.ensures.held b
+    c.is_answered.new.self c.in_ok-answered.ensures.keeps (c.in_ok-answered.ensures.answer c.if-answered.true))
+
+pub refuse-requires-clause-assumed : goal.refuse-requires-clause-assumed
+refuse-requires-clause-assumed g c =
+    let old = c.args.self.now in
+    still_assumed c.assume.new.self c.is_answered.new.self.search c.args.variable c.in_ok-assume.ensures.consistent c.in_ok-answered.ensures.keeps.turn
+    (just_assumed old.search c.assume.new.self c.args.variable c.in_ok-assume.ensures.gains c.in_ok-assume.ensures.base c.in_ok-assume.ensures.held)
+
+pub returns-clause-between : goal.returns-clause-between
+returns-clause-between g c = λ root done seen b.
+    let u = g.D.Interner.universe c.args.provider.now in
+    let old = c.args.self.now in
+    between_refused u root done c.args.solvable c.args.variable old c.begin_turn.new.self c.assume.new.self c.requires.loaded.variables c.requires.rounds.reading.so_far.half.encoding.distinct c.requires.still
+    c.requires.stands c.requires.free seen c.begin_turn.ensures.only c.in_ok-begin_turn.ensures.exempts c.in_ok-begin_turn.ensures.stays.so_far c.in_ok-assume.ensures.gains c.in_ok-assume.ensures.held b
+    c.is_answered.new.self c.in_ok-answered.ensures.keeps (length c.exempt-exempt.result.now) (ap length c.exempt-exempt.ensures) c.in_ok-answered.ensures.rounds c.refuse.new.self c.in_ok-refuse.ensures.refused c.in_ok-refuse.ensures.still
+
+pub returns-then-answered-clause-counted : goal.returns-then-answered-clause-counted
+returns-then-answered-clause-counted g c = still_all c.is_answered.new.self (record c.is_answered.new.self { search = c.hold.new.self }) refl c.hold.ensures.clauses c.hold.ensures.learnt c.in_ok-answered.ensures.counted

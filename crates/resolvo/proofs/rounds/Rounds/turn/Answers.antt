@@ -1,0 +1,70 @@
+use Rattle.std.proofs.Common.{[], arith, List, Some, subst, sym, ◌++◌, ◌+◌, ◌<◌, ◌∙◌, ◌∷◌, ◌≡◌}
+use Rattle.std.specs.Prelude.{Contains, length, slice_get}
+use Rattle.resolver_encoding.proofs.EncodingLemmas.{Extends-within}
+use Rattle.std.proofs.lemmas.Option.{slice_get_within}
+use Rattle.resolver_clause_store.specs.TrailView.{slot_of, variable_count}
+use Rattle.resolver_clause_store.specs.declared.Origin.TheVariants.{Solvable as SolvableOrigin}
+use Rattle.resolver_clause_store.specs.declared.Trail.{Trail}
+use Rattle.resolver_encoding.specs.Notes.{notes_in}
+use Rattle.resolver_encoding.specs.declared.encoding.Encoding.{Encoding}
+use Rattle.resolvo.specs.ClauseSearches.{trail_of}
+use Rattle.resolvo.specs.RoundStates.{IsStill, notes_of}
+use Rattle.resolvo.proofs.SoftLemmas.{between_loaded, between_registered, registered_adds, rounds_added, skipped, still_added}
+use Rattle.resolvo.proofs.rounds.Rounds.turn.Goals as goal
+
+pub load-requires : goal.load-requires
+load-requires g c =
+    let u = g.D.Interner.universe c.args.provider.now in
+    let old = c.args.self.now in
+    record { rounds = rounds_added u old c.register.new.self c.requires.rounds c.register.ensures.bounded (registered_adds u c.args.solvable (notes_of old) (notes_in c.register.new.self) c.in_ok-variable.ensures.registered) }
+
+pub slot-requires : goal.slot-requires
+slot-requires g c =
+    let inside : c.in_ok-variable.variable < length (notes_in c.register.new.self).origins = slice_get_within (notes_in c.register.new.self).origins c.in_ok-variable.variable (SolvableOrigin c.args.solvable) c.in_ok-variable.ensures.variable in
+    let up = c.in_ok-load.ensures.loaded in
+    let Origins : Encoding g.row.N.Denot g.row.S.Denot → Type 0 = λ e. c.in_ok-variable.variable < length (notes_in e).origins in
+    let now : c.in_ok-variable.variable < length (notes_of c.load.new.self).origins = subst Origins (sym c.in_ok-load.ensures.same.encoding) inside in
+    let Count : Trail → Type 0 = λ t. c.in_ok-variable.variable < variable_count t in
+    subst Count (sym c.trail.ensures) (omega (arith, now, up.variables))
+
+pub attempt-requires-clause-still : goal.attempt-requires-clause-still
+attempt-requires-clause-still g c =
+    let u = g.D.Interner.universe c.args.provider.now in
+    let old = c.args.self.now in
+    c.in_ok-load.ensures.still (still_added u old c.register.new.self c.requires.rounds c.in_ok-variable.ensures.registered.origins c.requires.still)
+
+pub returns-in-Some-clause-still : goal.returns-in-Some-clause-still
+returns-in-Some-clause-still g c =
+    let u = g.D.Interner.universe c.args.provider.now in
+    let old = c.args.self.now in
+    c.in_ok-load.ensures.still (still_added u old c.register.new.self c.requires.rounds c.in_ok-variable.ensures.registered.origins c.requires.still)
+
+pub returns-in-Some-clause-between : goal.returns-in-Some-clause-between
+returns-in-Some-clause-between g c = λ root done b.
+    let u = g.D.Interner.universe c.args.provider.now in
+    let old = c.args.self.now in
+    let e = c.register.new.self in
+    let new = c.load.new.self in
+    let registered = c.in_ok-variable.ensures.registered in
+    let adds = registered_adds u c.args.solvable (notes_of old) (notes_in e) registered in
+    let after = between_registered u root done c.args.solvable old e c.requires.rounds adds registered.exempt registered.only (Extends-within (notes_of old).seen (notes_in e).seen registered.seen) b in
+    let loaded = between_loaded u root done (done ++ c.args.solvable ∷ []) (record old { encoding = e }) new (rounds_added u old e c.requires.rounds c.register.ensures.bounded adds).variables c.in_ok-load.ensures.same c.in_ok-load.ensures.turn after in
+    let Stands : Encoding g.row.N.Denot g.row.S.Denot → Type 0 = λ x. slice_get (notes_in x).origins c.in_ok-variable.variable ≡ Some (SolvableOrigin c.args.solvable) in
+    let At : Trail → Type 0 = λ t. slot_of t c.in_ok-variable.variable ≡ Some c.in-Some.field-0 in
+    skipped u g.N.PartialEq.eq g.met.D.Interner.names_are_values root done c.args.solvable c.in_ok-variable.variable c.in-Some.field-0 new c.in_ok-load.ensures.rounds.reading.so_far.half.encoding.distinct c.in_ok-load.ensures.loaded.variables
+    (c.in_ok-load.ensures.still (still_added u old e c.requires.rounds registered.origins c.requires.still))
+    (subst Stands (sym c.in_ok-load.ensures.same.encoding) c.in_ok-variable.ensures.variable)
+    (subst At c.trail.ensures (sym c.slot.ensures ∙ c.in-Some.is)) loaded
+
+pub returns-in_ok-attempt-in-None-clause-between : goal.returns-in_ok-attempt-in-None-clause-between
+returns-in_ok-attempt-in-None-clause-between g c = λ root done b.
+    let u = g.D.Interner.universe c.args.provider.now in
+    let old = c.args.self.now in
+    let e = c.register.new.self in
+    let new = c.load.new.self in
+    let registered = c.in_ok-variable.ensures.registered in
+    let adds = registered_adds u c.args.solvable (notes_of old) (notes_in e) registered in
+    let after = between_registered u root done c.args.solvable old e c.requires.rounds adds registered.exempt registered.only (Extends-within (notes_of old).seen (notes_in e).seen registered.seen) b in
+    let loaded = between_loaded u root done (done ++ c.args.solvable ∷ []) (record old { encoding = e }) new (rounds_added u old e c.requires.rounds c.register.ensures.bounded adds).variables c.in_ok-load.ensures.same c.in_ok-load.ensures.turn after in
+    let Seen : Encoding g.row.N.Denot g.row.S.Denot → Type 0 = λ x. Contains (notes_in x).seen c.args.solvable in
+    c.in_ok-attempt-in-None.ensures.between root done (subst Seen (sym c.in_ok-load.ensures.same.encoding) registered.here) loaded
