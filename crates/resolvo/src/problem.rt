@@ -128,6 +128,3 @@ impl<Id, S: Drop> Problem<Id, S> {
         }
     }
 }
-
-#[cfg(test)]
-mod tests;
