@@ -5,6 +5,8 @@ pub mod DisjunctLemmas
 pub mod PartialLemmas
 pub mod RequirementLemmas
 pub mod NearLemmas
+pub mod FirstChoiceLemmas
+pub mod FirstChoiceExamples
 pub mod SoftRunLemmas
 pub mod ValidLemmas
 pub mod CacheLemmas
