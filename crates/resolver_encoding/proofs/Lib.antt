@@ -19,8 +19,10 @@ pub mod Reached
 pub mod Reading
 pub mod SoFarLemmas
 pub mod ReachLemmas
+pub mod HintLemmas
 pub mod RoundLemmas
 pub mod Bridge
+pub mod PromiseLemmas
 pub mod Spared
 pub mod CoreLemmas
 pub mod CoreRules
@@ -28,3 +30,4 @@ pub mod StatedLemmas
 pub mod TrailLemmas
 pub mod TurnLemmas
 pub mod EncodedLemmas
+pub mod LeftOutLemmas

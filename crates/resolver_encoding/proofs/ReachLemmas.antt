@@ -101,19 +101,28 @@ module _ {N S : Type 0} (u : Universe N S) (root : Demands) (seeds : List S) whe
       led (to_ask n) seeing = absurd seeing
       led (to_see t) same = subst Near same here
 
+  -- after what is near was read, in a set that is near
+  pub near_read : (set : List S) (Reads : S → Type 0) (old new : Notes N S) → IsReadingOf u set Reads old new → AreNear u root seeds old → All (IsNear u root seeds) set → ((s : S) → Reads s → IsNear u root seeds s) → AreNear u root seeds new
+  near_read set Reads old new reading near all reads =
+      let set_near : (s : S) → Contains set s → Near s = λ s h. All-contains (IsNear u root seeds) set s all h in
+      let new_near : (s : S) → Contains new.read s → Near s = λ s h. ⊎_elim (λ earlier. near.read s earlier) (λ may. reads s may) (reading.reads s h) in
+      near_where new new_near
+      (λ call h. ⊎_elim
+      (λ (earlier : IsFollowed old call). followed_led old near call earlier)
+      (λ w. demanded_led set new.read set_near new_near (BySolvable w.0) w.1 call w.2)
+      (reading.called call h))
+
   -- after one more reading of a set that is near
-  pub near_after : (set : List S) (old mid new : Notes N S) → IsReadingOf u set old mid → IsFiring u set mid new → IsHalfRead u root old → AreNear u root seeds old → All (IsNear u root seeds) set → AreNear u root seeds new
+  pub near_after : (set : List S) (old mid new : Notes N S) → IsReadingOf u set (Contains set) old mid → IsFiring u set mid new → IsHalfRead u root old → AreNear u root seeds old → All (IsNear u root seeds) set → AreNear u root seeds new
   near_after set old mid new reading firing before near all =
       let set_near : (s : S) → Contains set s → Near s = λ s h. All-contains (IsNear u root seeds) set s all h in
-      let mid_near : (s : S) → Contains mid.read s → Near s = λ s h. ⊎_elim (λ earlier. near.read s earlier) (λ chosen. set_near s chosen) (reading.read_chosen s h) in
+      let here : AreNear u root seeds mid = near_read set (Contains set) old mid reading near all set_near in
+      let mid_near : (s : S) → Contains mid.read s → Near s = here.read in
       let half : IsHalfRead u root mid = reading.keeps root before in
       let Has : S → List S → Type 0 = λ s list. Contains list s in
       near_where new (λ s h. mid_near s (subst (Has s) firing.read h))
       (λ call h. ⊎_elim
-      (λ (was : IsFollowed mid call). ⊎_elim
-      (λ (earlier : IsFollowed old call). followed_led old near call earlier)
-      (λ w. demanded_led set mid.read set_near mid_near (BySolvable w.0) w.1 call w.2)
-      (reading.called call was))
+      (λ (was : IsFollowed mid call). followed_led mid here call was)
       (λ w. entry_led set mid.read set_near mid_near w.0 (half.encoding.left_true w.0 w.1) (half.left_read w.0 w.1) w.2 call w.3)
       (firing.called call h))
 

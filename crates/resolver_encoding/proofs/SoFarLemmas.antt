@@ -65,8 +65,8 @@ met_in_parts {N} {S} u first second (v ∷ vs) met =
     (Contains-append_cases first second at.shared at.in_second)
 
 module _ {N S : Type 0} (u : Universe N S) (set : List S) where
-  pub IsReadingOf-same : (notes : Notes N S) → IsReadingOf u set notes notes
-  IsReadingOf-same notes = record {
+  pub IsReadingOf-same : (Reads : S → Type 0) (notes : Notes N S) → IsReadingOf u set Reads notes notes
+  IsReadingOf-same Reads notes = record {
     origins = Keeps-same notes.origins;
     table = Extends-same notes.table;
     requirements = Extends-same notes.requirements;
@@ -74,15 +74,15 @@ module _ {N S : Type 0} (u : Universe N S) (set : List S) where
     asked = IsWithin-same notes.asked;
     called = λ n h. inl h;
     read = Extends-same notes.read;
-    read_chosen = λ s h. inl h;
+    reads = λ s h. inl h;
     deferred = Extends-same notes.deferred;
     unmet = λ e h. inl h;
     exempt = refl;
     keeps = λ root before. before;
   }
 
-  pub IsReadingOf-trans : (one two three : Notes N S) → IsReadingOf u set one two → IsReadingOf u set two three → IsReadingOf u set one three
-  IsReadingOf-trans one two three first second = record {
+  pub IsReadingOf-trans : (Reads : S → Type 0) (one two three : Notes N S) → IsReadingOf u set Reads one two → IsReadingOf u set Reads two three → IsReadingOf u set Reads one three
+  IsReadingOf-trans Reads one two three first second = record {
     origins = Keeps-trans one.origins two.origins three.origins first.origins second.origins;
     table = Extends-trans one.table two.table three.table first.table second.table;
     requirements = Extends-trans one.requirements two.requirements three.requirements first.requirements second.requirements;
@@ -93,11 +93,27 @@ module _ {N S : Type 0} (u : Universe N S) (set : List S) where
         (λ called. inr called)
         (second.called n h);
     read = Extends-trans one.read two.read three.read first.read second.read;
-    read_chosen = λ s h. ⊎_elim (λ before. first.read_chosen s before) (λ chosen. inr chosen) (second.read_chosen s h);
+    reads = λ s h. ⊎_elim (λ before. first.reads s before) (λ may. inr may) (second.reads s h);
     deferred = Extends-trans one.deferred two.deferred three.deferred first.deferred second.deferred;
     unmet = λ e h. ⊎_elim (λ before. first.unmet e before) (λ never. inr never) (second.unmet e h);
     exempt = second.exempt ∙ first.exempt;
     keeps = λ root before. second.keeps root (first.keeps root before);
+  }
+
+  pub IsReadingOf-weaker : (Reads More : S → Type 0) → ((s : S) → Reads s → More s) → (old new : Notes N S) → IsReadingOf u set Reads old new → IsReadingOf u set More old new
+  IsReadingOf-weaker Reads More weaker old new h = record {
+    origins = h.origins;
+    table = h.table;
+    requirements = h.requirements;
+    seen = h.seen;
+    asked = h.asked;
+    called = h.called;
+    read = h.read;
+    reads = λ s k. ⊎_elim (λ before. inl before) (λ may. inr (weaker s may)) (h.reads s k);
+    deferred = h.deferred;
+    unmet = h.unmet;
+    exempt = h.exempt;
+    keeps = h.keeps;
   }
 
   -- disjuncts were taken out
@@ -168,7 +184,7 @@ module _ {N S : Type 0} (u : Universe N S) (set : List S) where
       demanded
 
   -- solvables were read, and then disjuncts taken out
-  module _ (old mid new : Notes N S) (reading : IsReadingOf u set old mid) (firing : IsFiring u set mid new) where
+  module _ (old mid new : Notes N S) (reading : IsReadingOf u set (Contains set) old mid) (firing : IsFiring u set mid new) where
     pub read_more : IsReadMore u set old new
     read_more = record {
       origins = Keeps-trans old.origins mid.origins new.origins reading.origins firing.origins;
@@ -176,7 +192,7 @@ module _ {N S : Type 0} (u : Universe N S) (set : List S) where
       requirements = Extends-trans old.requirements mid.requirements new.requirements reading.requirements firing.requirements;
       seen = Extends-trans old.seen mid.seen new.seen reading.seen firing.seen;
       read = record { more = reading.read.more; is = firing.read ∙ reading.read.is };
-      read_chosen = λ s h. reading.read_chosen s (IsWithin-equal new.read mid.read (sym firing.read) s h);
+      reads = λ s h. ⊎_elim (λ before. inl before) (λ chosen. inr (inl chosen)) (reading.reads s (IsWithin-equal new.read mid.read (sym firing.read) s h));
       taken = λ i e at. ⊎_elim (λ still. inl still) (λ fired. inr fired.0) (firing.taken i e (place_on old.deferred mid.deferred reading.deferred i (Some e) at));
       exempt = firing.exempt ∙ reading.exempt;
     }
@@ -292,10 +308,10 @@ IsEncoding-read u root notes read before = record {
   sound_waiting = before.sound_waiting;
 }
 
--- the clauses of a solvable of the set are there, and it is noted as read
+-- the clauses of a solvable are there, and it is noted as read
 module _ {N S : Type 0} (u : Universe N S) (set : List S) (s : S) (old mid new : Notes N S)
     (step : IsReadStep u (IsUnmet u set (BySolvable s)) (IsDemanded u set (demands_of (u.needs s))) (λ root. ⊤) old mid)
-    (needs : AreNeedsRead u mid s (u.needs s)) (chosen : Contains set s) (has_variable : Contains old.origins (Solvable s)) (is : new ≡ record mid { read = mid.read ++ s ∷ [] }) where
+    (needs : AreNeedsRead u mid s (u.needs s)) (has_variable : Contains old.origins (Solvable s)) (is : new ≡ record mid { read = mid.read ++ s ∷ [] }) where
   abbrev noted : Notes N S
   noted = record mid { read = mid.read ++ s ∷ [] }
 
@@ -328,9 +344,9 @@ module _ {N S : Type 0} (u : Universe N S) (set : List S) (s : S) (old mid new :
         (step.defers e h);
   }
 
-  pub IsReadingOf-read : IsReadingOf u set old new
+  pub IsReadingOf-read : IsReadingOf u set (λ t. s ≡ t) old new
   IsReadingOf-read =
-      let Reading : Notes N S → Type 0 = λ n. IsReadingOf u set old n in
+      let Reading : Notes N S → Type 0 = λ n. IsReadingOf u set (λ t. s ≡ t) old n in
       subst Reading (sym is) (record {
         origins = step.origins;
         table = step.table;
@@ -339,10 +355,7 @@ module _ {N S : Type 0} (u : Universe N S) (set : List S) (s : S) (old mid new :
         asked = step.asked;
         called = λ n h. ⊎_elim (λ before. inl before) (λ demanded. inr (s, Contains-push mid.read s, demanded)) (step.called n h);
         read = record { more = s ∷ []; is = ap (λ list. list ++ s ∷ []) step.read };
-        read_chosen = λ t h. ⊎_elim
-            (λ (before : Contains mid.read t). inl (earlier_read t before))
-            (λ (last : s ≡ t). let InSet : S → Type 0 = λ q. Contains set q in inr (subst InSet last chosen))
-            (Contains-push_cases mid.read s t h);
+        reads = λ t h. ⊎_elim (λ (before : Contains mid.read t). inl (earlier_read t before)) (λ (last : s ≡ t). inr last) (Contains-push_cases mid.read s t h);
         deferred = step.deferred;
         unmet = λ e h. ⊎_elim (λ before. inl before) (λ (unmet : IsUnmet u set (BySolvable s) e). inr unmet.never) (step.defers e h);
         exempt = step.exempt;

@@ -15,7 +15,9 @@ pub mod Encodings
 pub mod Trails
 pub mod Notes
 pub mod Called
-pub mod SoFar
+pub mod Hints
 pub mod Reach
+pub mod SoFar
 pub mod TestProvider
 pub mod Turns
+pub mod LeftOut

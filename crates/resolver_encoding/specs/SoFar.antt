@@ -3,6 +3,7 @@ use Rattle.std.specs.Prelude.{Bool, true, false, ℕ, ◌≡◌, ◌<◌, ◌⊎
 use Rattle.resolver_clause_store.specs.Universe.{Universe, Demands}
 use Rattle.resolver_clause_store.specs.Candidates.{matching}
 use Rattle.resolver_clause_store.specs.Lists.{IsWithin}
+use Rattle.resolver_clause_store.specs.Near.{IsNear}
 use Rattle.resolver_clause_store.specs.Valid.{demands_of}
 use Rattle.resolver_clause_store.specs.Variables.{Keeps}
 use Rattle.resolver_clause_store.specs.declared.VersionSetId.{VersionSetId}
@@ -12,6 +13,8 @@ use Rattle.resolver_report.specs.Rules.{IsPresent}
 use Rattle.resolver_encoding.specs.Called.{Call, IsDemanded, IsWantedBy}
 use Rattle.resolver_encoding.specs.Encodings.{AreDemandsRead, AreNeedsRead, Extends, IsEncoding, IsFollowed, IsLeft, Notes}
 use Rattle.resolver_encoding.specs.Groups.{AreGroups, IsNamed}
+use Rattle.resolver_encoding.specs.Hints.{IsListedFrom}
+use Rattle.resolver_encoding.specs.Reach.{AreNear}
 use Rattle.resolver_encoding.specs.ReadState.{Deferred, HasClause, NoneFires}
 use Rattle.resolver_encoding.specs.Statements.{AllMeet}
 use Rattle.resolver_encoding.specs.declared.groups.Groups.{Groups}
@@ -45,15 +48,15 @@ pub record IsReading {N S : Type 0} (u : Universe N S) (set : List S) (notes : N
 abbrev pub left_count : {N S : Type 0} → Notes N S → ℕ
 left_count notes = count_by is_some notes.deferred
 
--- What one more reading does: each new solvable of the set is read and no other, and a disjunct that was put off is taken
--- out only where it is met in the set.
+-- What one more reading does: besides new solvables of the set candidates of new clauses alone are read, and a disjunct that
+-- was put off is taken out only where it is met in the set.
 pub record IsReadMore {N S : Type 0} (u : Universe N S) (set : List S) (old new : Notes N S) : Type 0 where
   pub origins : Keeps old.origins new.origins
   pub table : Extends old.table new.table
   pub requirements : Extends old.requirements new.requirements
   pub seen : Extends old.seen new.seen
   pub read : Extends old.read new.read
-  pub read_chosen : (s : S) → Contains new.read s → Contains old.read s ⊎ Contains set s
+  pub reads : (s : S) → Contains new.read s → Contains old.read s ⊎ (Contains set s ⊎ IsListedFrom new (length old.requirements) s)
   pub taken : (i : ℕ) (e : Deferred S) → slice_get old.deferred i ≡ Some (Some e) → (slice_get new.deferred i ≡ Some (Some e)) ⊎ AllMeet set (map (matching u) e.disjunct)
   pub exempt : new.exempt ≡ old.exempt
 
@@ -133,9 +136,9 @@ pub record IsFiring {N S : Type 0} (u : Universe N S) (set : List S) (old new : 
   pub exempt : new.exempt ≡ old.exempt
   pub keeps : (root : Demands) → IsEncoding u root old → IsEncoding u root new
 
--- Solvables of the set were read. Packages were asked and candidates registered that they demand, and disjuncts put off that are
--- not met in the set.
-pub record IsReadingOf {N S : Type 0} (u : Universe N S) (set : List S) (old new : Notes N S) : Type 0 where
+-- Such solvables were read. Packages were asked and candidates registered that they demand in the set, and disjuncts put off
+-- that are not met in it.
+pub record IsReadingOf {N S : Type 0} (u : Universe N S) (set : List S) (Reads : S → Type 0) (old new : Notes N S) : Type 0 where
   pub origins : Keeps old.origins new.origins
   pub table : Extends old.table new.table
   pub requirements : Extends old.requirements new.requirements
@@ -143,7 +146,7 @@ pub record IsReadingOf {N S : Type 0} (u : Universe N S) (set : List S) (old new
   pub asked : IsWithin old.asked new.asked
   pub called : (call : Call N S) → IsFollowed new call → IsFollowed old call ⊎ ((s : S) × Contains new.read s × IsDemanded u set (demands_of (u.needs s)) call)
   pub read : Extends old.read new.read
-  pub read_chosen : (s : S) → Contains new.read s → Contains old.read s ⊎ Contains set s
+  pub reads : (s : S) → Contains new.read s → Contains old.read s ⊎ Reads s
   pub deferred : Extends old.deferred new.deferred
   pub unmet : (e : Deferred S) → IsLeft new e → IsLeft old e ⊎ (AllMeet set (map (matching u) e.disjunct) → ⊥)
   pub exempt : new.exempt ≡ old.exempt
@@ -155,3 +158,8 @@ pub record IsBare {N S : Type 0} (notes : Notes N S) : Type 0 where
   pub none_asked : notes.asked ≡ []
   pub none_read : notes.read ≡ []
   pub none_deferred : notes.deferred ≡ []
+
+-- Candidates of clauses from this place on were read. What was near stays so, with a set that is near.
+pub record IsHintedReading {N S : Type 0} (u : Universe N S) (set : List S) (from : ℕ) (old new : Notes N S) : Type 0 where
+  pub reading : IsReadingOf u set (IsListedFrom new from) old new
+  pub near : (root : Demands) (seeds : List S) → AreNear u root seeds old → All (IsNear u root seeds) set → AreNear u root seeds new

@@ -6,7 +6,7 @@ use Rattle.std.proofs.lemmas.List.Elements.{All-nil, All-cons, All-contains}
 use Rattle.std.proofs.lemmas.List.Kept.{AllPairs-cons}
 use Rattle.std.proofs.lemmas.List.Sorted.{IsPermutation-reverse}
 use Rattle.resolver_clause_store.specs.Filtering.{Splits-filter}
-use Rattle.resolver_clause_store.specs.Universe.{Universe, Package, known, unknown, hint_none}
+use Rattle.resolver_clause_store.specs.Universe.{Universe, Hint, Package, known, unknown, hint_all, hint_none}
 use Rattle.resolver_clause_store.specs.Laws.{IsIdentity, HasLawfulIds, IsLawfulPackage, HasLawfulPackages}
 use Rattle.resolver_clause_store.specs.declared.ConditionId.{ConditionId}
 use Rattle.resolver_clause_store.specs.declared.ConditionalRequirement.{ConditionalRequirement}
@@ -25,6 +25,10 @@ takes v s = cond (nat_eq (v.0 % 10) 0) true (nat_eq (s % 10) (v.0 % 10))
 abbrev pub stated_by : {X : Type 0} → List (ℕ × X) → ℕ → List X
 stated_by statements s = map (λ e. e.1) (filter (λ e. nat_eq e.0 s) statements)
 
+-- what a package hints about the dependencies of its solvables
+abbrev pub hint_by : ℕ → Hint ℕ
+hint_by n = cond (nat_eq (n / 10) 1) hint_all hint_none
+
 -- a package that the provider knows, and one that it does not
 abbrev pub known_package : ℕ → Package ℕ
 known_package n = record {
@@ -32,7 +36,7 @@ known_package n = record {
   favored = None;
   locked = cond (nat_eq n 7) (Some (10 * n + 1)) None;
   excluded = cond (nat_eq n 8) ((10 * n + 4, record { 0 = 5 }) ∷ []) [];
-  hint = hint_none;
+  hint = hint_by n;
 }
 
 abbrev pub unknown_package : Package ℕ

@@ -27,7 +27,7 @@ fn is_true_at(trail: &Trail, place: usize) -> bool
 }
 
 /// The solvable that a variable stands for, if it does for one.
-fn as_solvable<N: Drop, S: Drop>(origin: Option<Origin<N, S>>) -> Option<S>
+pub(crate) fn as_solvable<N: Drop, S: Drop>(origin: Option<Origin<N, S>>) -> Option<S>
     ensures { result ≡ solvable_found origin }
 {
     match origin {

@@ -13,6 +13,7 @@ mod deferring;
 mod firing;
 mod gating;
 mod helping;
+mod hinting;
 mod reading;
 mod requiring;
 mod seeing;

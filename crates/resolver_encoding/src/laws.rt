@@ -2,6 +2,7 @@
 
 ghost use Rattle.std.specs.Prelude.{All, Bool, Contains, List, Vec, length, map, ℕ, ◌<◌, ◌≡◌, ◌≤◌, []};
 ghost use Rattle.std.specs.declared.alloc.Global.{Global};
+ghost use Rattle.resolver_clause_store.specs.FirstChoice.{TakesFirstChoices};
 ghost use Rattle.resolver_clause_store.specs.Formula.{MakesTrue, Satisfies};
 ghost use Rattle.resolver_clause_store.specs.Lists.{HasNoRepeats};
 ghost use Rattle.resolver_clause_store.specs.Outcomes.{IsCore, IsFinished};
@@ -85,6 +86,17 @@ pub fn finished_searches_are_answers<N, S>()
         IsAnswerBy u root (solvables_before notes.origins trail (length_of trail)) seeds notes.exempt }
     ensures once { (origins : List (Origin N S)) (trail : Trail) → AreDistinct origins → variable_count trail ≡ length origins →
         HasNoRepeats (solvables_before origins trail (length_of trail)) }
+{}
+
+/// The answer of a finished search over what was read so far, where nothing was assumed, takes first choices: where these are
+/// promised, it has just their members.
+///
+/// The call does nothing: its contract is the law.
+pub fn finished_searches_answer_first_choices<N, S>()
+    ensures { (u : Universe N S) (root : Demands) (notes : Notes N S) (requirements : List RequirementClause) (trail : Trail) →
+        HasLawfulSolvables u → HasLawfulPackages u → IsReadSoFar u root (solvables_before notes.origins trail (length_of trail)) notes → AreAssumed notes.origins [] [] trail →
+        map (λ r. r.number) requirements ≡ notes.requirements → variable_count trail ≡ length notes.origins → IsFinished notes.table requirements trail →
+        TakesFirstChoices u root (solvables_before notes.origins trail (length_of trail)) }
 {}
 
 /// The rules that the clauses of a core state, where the clauses are those of an encoding: they are true, and no set obeys

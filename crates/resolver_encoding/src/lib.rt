@@ -23,7 +23,7 @@ pub use encoding::{Encoding, EncodingParts};
 pub use explain::rules_of_clauses;
 pub use laws::{
     answers_satisfy_true_clauses, chosen_lists_stay, core_rules_explain,
-    cores_of_encodings_explain, finished_searches_are_answers, finished_trails_are_answers,
-    read_trails_are_answers,
+    cores_of_encodings_explain, finished_searches_answer_first_choices,
+    finished_searches_are_answers, finished_trails_are_answers, read_trails_are_answers,
 };
 pub use progress::Progress;

@@ -1,11 +1,14 @@
 //! A small provider.
 //!
 //! Package n has the solvables 10 n + 1 and 10 n + 4, the later one preferred. Version set 10 n + k takes 10 n + k, and
-//! with k = 0 both. Package 7 is locked to 71, package 8 excludes 84, and nobody knows what 94 needs. A condition below
-//! 1000 is a version set, and 1000 n + k joins the conditions n and k: by "or" if k is even, and else by "and".
+//! with k = 0 both. Package 7 is locked to 71, package 8 excludes 84, and nobody knows what 94 needs. Packages 10 to 19
+//! hint that the dependencies of all their solvables are cheap to ask for. A condition below 1000 is a version set, and
+//! 1000 n + k joins the conditions n and k: by "or" if k is even, and else by "and".
 
 ghost use Rattle.std.specs.Prelude.{◌≡◌, ℕ, IfErr, IfOk, refl};
+ghost use Rattle.resolver_clause_store.specs.Universe.{hint_of as hint_in};
 ghost use Rattle.resolver_encoding.specs.TestProvider.{
+  hint_by,
   numbers_are_values,
   stated_by as stated_in,
   takes as takes_in,
@@ -40,6 +43,16 @@ impl TestProvider {
         self.log
             .set(self.log.get().wrapping_mul(10).wrapping_add(name));
     }
+}
+
+/// What a package hints about the dependencies of its solvables.
+fn hint_of(name: u32) -> HintDependenciesAvailable<u32>
+    ensures { hint_in result ≡ hint_by name }
+{
+    if name / 10 == 1 {
+        return HintDependenciesAvailable::All;
+    }
+    HintDependenciesAvailable::None
 }
 
 /// What is stated of a solvable.
@@ -156,7 +169,7 @@ impl DependencyProvider for TestProvider {
             candidates: Vec::from_array(self.alloc, [first, last])?,
             favored: None,
             locked: if name == 7 { Some(first) } else { None },
-            hint_dependencies_available: HintDependenciesAvailable::None,
+            hint_dependencies_available: hint_of(name),
             excluded,
         }))
     }

@@ -12,6 +12,7 @@ ghost use Rattle.resolver_clause_store.specs.declared.Origin.TheVariants.{Solvab
 ghost use Rattle.resolver_report.specs.TrueRules.{demands_by};
 ghost use Rattle.resolver_encoding.specs.Called.{AreAsked, IsCalledByEach, IsCalledFor, IsDemanded, IsNamedBy, IsPlainlyNamed};
 ghost use Rattle.resolver_encoding.specs.Encodings.{AreDemandsRead, AreNeedsRead, AsksFor, AsksWithin, IsAskStep, IsConstraintRead, IsEncoding, IsEncodingOf, IsFull, IsLeft, IsReadStep, IsStep, IsUnmet, IsUnread, KeepsLimits};
+ghost use Rattle.resolver_encoding.specs.Hints.{AreHintsRead, IsListedFrom};
 ghost use Rattle.resolver_encoding.specs.Reach.{AreNear};
 ghost use Rattle.resolver_encoding.specs.ReadState.{IsReadRequirement};
 ghost use Rattle.resolver_encoding.specs.Refusals.{IsShortage, IsStop};
@@ -219,8 +220,8 @@ impl<N: Copy + Eq + Hash + Drop, S: Copy + Eq + Hash + Drop> Encoding<N, S> {
         }
     }
 
-    /// Reads a chosen solvable, if it was not read before.
-    fn read_new<D: DependencyProvider<NameId = N, SolvableId = S>>(
+    /// Reads a solvable, if it was not read before.
+    pub(super) fn read_new<D: DependencyProvider<NameId = N, SolvableId = S>>(
         &mut self,
         provider: &D,
         cache: &mut Cache<N, S>,
@@ -230,11 +231,10 @@ impl<N: Copy + Eq + Hash + Drop, S: Copy + Eq + Hash + Drop> Encoding<N, S> {
         requires bounded { IsBounded self.old }
         requires is_true { IsTrueCache (D.universe provider.now) cache.old }
         requires encoding { IsEncodingOf (D.universe provider.now) (λ root. ⊤) (notes_in self.old) }
-        requires chosen { Contains chosen.now.keys solvable }
         requires known { Contains (notes_in self.old).origins (SolvableOrigin solvable) }
         ensures bounded { IsBounded self.new }
         ensures is_true { IsTrueCache (D.universe provider.now) cache.new }
-        ensures reading { OnOk result (IsReadingOf (D.universe provider.now) chosen.now.keys (notes_in self.old) (notes_in self.new)) }
+        ensures reading { OnOk result (IsReadingOf (D.universe provider.now) chosen.now.keys (λ s. solvable ≡ s) (notes_in self.old) (notes_in self.new)) }
         ensures here { OnOk result (Contains (notes_in self.new).read solvable) }
         ensures more { OnOk result (IsMoreOrSame (notes_in self.old) (notes_in self.new)) }
         ensures limits { KeepsLimits (notes_in self.old) (notes_in self.new) }
@@ -263,7 +263,7 @@ impl<N: Copy + Eq + Hash + Drop, S: Copy + Eq + Hash + Drop> Encoding<N, S> {
         requires within { from ≤ length chosen.now.keys }
         ensures bounded { IsBounded self.new }
         ensures is_true { IsTrueCache (D.universe provider.now) cache.new }
-        ensures reading { OnOk result (IsReadingOf (D.universe provider.now) chosen.now.keys (notes_in self.old) (notes_in self.new)) }
+        ensures reading { OnOk result (IsReadingOf (D.universe provider.now) chosen.now.keys (Contains chosen.now.keys) (notes_in self.old) (notes_in self.new)) }
         ensures here { OnOk result (All (Contains (notes_in self.new).read) (drop from chosen.now.keys)) }
         ensures any_new { IfOk result (HasRead (notes_in self.old) (notes_in self.new)) }
         ensures fit { OnOk result (((s : S) → Contains (notes_in self.new).read s → Contains (notes_in self.new).origins (SolvableOrigin s)) → length (notes_in self.new).read ≤ length (notes_in self.new).origins) }
@@ -305,9 +305,11 @@ impl<N: Copy + Eq + Hash + Drop, S: Copy + Eq + Hash + Drop> Encoding<N, S> {
         Ok(())
     }
 
-    /// Reads the root: the clauses of what it asks for, and what is put off.
+    /// Reads the root: the clauses of what it asks for, and what is put off. Candidates whose dependencies are at hand are
+    /// read, too.
     ///
-    /// Of the packages those are asked that its constraints and its requirements without a condition name, and no others.
+    /// Of the packages those are asked that constraints and requirements without a condition name, of the root or of what was
+    /// read, and no others.
     pub fn read_root<D: DependencyProvider<NameId = N, SolvableId = S>>(
         &mut self,
         provider: &D,
@@ -321,9 +323,10 @@ impl<N: Copy + Eq + Hash + Drop, S: Copy + Eq + Hash + Drop> Encoding<N, S> {
         ensures bounded { IsBounded self.new }
         ensures is_true { IsTrueCache (D.universe provider.now) cache.new }
         ensures read { OnOk result (IsReadSoFar (D.universe provider.now) (record { requirements = requirements.now; constraints = constraints.now }) [] (notes_in self.new)) }
-        ensures asked { OnOk result (AreAsked (IsCalledFor (D.universe provider.now) (record { requirements = requirements.now; constraints = constraints.now }) [] []) [] (notes_in self.new).asked) }
+        ensures asked { OnOk result (AreAsked (IsCalledFor (D.universe provider.now) (record { requirements = requirements.now; constraints = constraints.now }) (notes_in self.new).read []) [] (notes_in self.new).asked) }
         ensures near { OnOk result ((seeds : List S) → AreNear (D.universe provider.now) (record { requirements = requirements.now; constraints = constraints.now }) seeds (notes_in self.new)) }
-        ensures none_read { OnOk result ((notes_in self.new).read ≡ []) }
+        ensures reads { OnOk result ((s : S) → Contains (notes_in self.new).read s → IsListedFrom (notes_in self.new) 0 s) }
+        ensures hinted { OnOk result (AreHintsRead (D.universe provider.now) 0 (notes_in self.new)) }
         ensures exempt { OnOk result ((notes_in self.new).exempt ≡ (notes_in self.old).exempt) }
         ensures limits { KeepsLimits (notes_in self.old) (notes_in self.new) }
         ensures refusal { IfErr result (IsStop (D.may_cancel provider.now) (IsFull (notes_in self.new))) }
@@ -331,13 +334,14 @@ impl<N: Copy + Eq + Hash + Drop, S: Copy + Eq + Hash + Drop> Encoding<N, S> {
         self.install_root(provider)?;
         let none = IndexSet::new(self.alloc);
         self.read_demands(provider, cache, &none, By::Root, requirements, constraints)?;
+        self.read_hinted(provider, cache, &none, 0)?;
         Ok(())
     }
 
     /// Reads what was chosen from this place of the set on, and takes out what was put off and holds now.
     ///
-    /// Each new solvable is read, and no other. Of the packages those are asked that the root or what was read demands in
-    /// this set, and no others.
+    /// Each new solvable is read, and each candidate of a new clause whose dependencies are at hand, and no other. Of the
+    /// packages those are asked that the root or what was read demands in this set, and no others.
     pub fn read_chosen<D: DependencyProvider<NameId = N, SolvableId = S>>(
         &mut self,
         provider: &D,
@@ -355,14 +359,17 @@ impl<N: Copy + Eq + Hash + Drop, S: Copy + Eq + Hash + Drop> Encoding<N, S> {
         ensures read { OnOk result ((root : Demands) → IsReadSoFar (D.universe provider.now) root (take from chosen.now.keys) (notes_in self.old) → IsReadSoFar (D.universe provider.now) root chosen.now.keys (notes_in self.new)) }
         ensures asked { OnOk result ((root : Demands) → IsReadSoFar (D.universe provider.now) root (take from chosen.now.keys) (notes_in self.old) → AreAsked (IsCalledFor (D.universe provider.now) root (notes_in self.new).read chosen.now.keys) (notes_in self.old).asked (notes_in self.new).asked) }
         ensures near { OnOk result ((root : Demands) (seeds : List S) → IsReadSoFar (D.universe provider.now) root (take from chosen.now.keys) (notes_in self.old) → AreNear (D.universe provider.now) root seeds (notes_in self.old) → All (IsNear (D.universe provider.now) root seeds) chosen.now.keys → AreNear (D.universe provider.now) root seeds (notes_in self.new)) }
+        ensures hinted { OnOk result (AreHintsRead (D.universe provider.now) (length (notes_in self.old).requirements) (notes_in self.new)) }
         ensures more { OnOk result (IsReadMore (D.universe provider.now) chosen.now.keys (notes_in self.old) (notes_in self.new)) }
         ensures progress { IfOk result (IsProgress (notes_in self.old) (notes_in self.new)) }
         ensures fit { OnOk result (length (notes_in self.new).read ≤ (notes_in self.new).variable_limit) }
         ensures limits { KeepsLimits (notes_in self.old) (notes_in self.new) }
         ensures refusal { IfErr result (IsStop (D.may_cancel provider.now) (IsFull (notes_in self.new))) }
     {
+        let clauses = self.asking_count();
         let read = self.read_each(provider, cache, chosen, from)?;
         let fired = self.fire_deferred(provider, cache, chosen, from)?;
-        Ok(progress_of(read, fired))
+        let hinted = self.read_hinted(provider, cache, chosen, clauses)?;
+        Ok(progress_of(read | hinted, fired))
     }
 }

@@ -507,6 +507,90 @@ fn the_packages_of_a_condition_are_not_asked(rt: HostRuntime) -> Result<(), Fail
 }
 
 #[test]
+fn hinted_candidates_are_read_at_once(rt: HostRuntime) -> Result<(), Fail> {
+    let provider = provider_of(rt.alloc(), &[(164, 174), (174, 24)], &[])?;
+    let mut encoding = limited(rt.alloc(), 100, 100, None)?;
+    let turns: [&[u32]; 3] = [&[], &[164], &[164, 174]];
+    let outcome = rounds_of(&mut encoding, rt.alloc(), &provider, &[always(160)], &turns);
+    let wanted = [
+        (Progress::Nothing, 6, 0, 3, 1772),
+        (Progress::Nothing, 6, 0, 3, 1772),
+        (Progress::Nothing, 6, 0, 3, 1772),
+    ];
+    let right = are_rounds(&outcome, &wanted)
+        & is_clause(&encoding, 4, &[is_absent(164), is_there(174)])
+        & is_clause(&encoding, 5, &[is_absent(174), is_there(24)]);
+    assert!(rt; right);
+    Ok(())
+}
+
+#[test]
+fn others_are_read_when_they_are_chosen(rt: HostRuntime) -> Result<(), Fail> {
+    let provider = provider_of(rt.alloc(), &[(64, 54), (54, 24)], &[])?;
+    let mut encoding = limited(rt.alloc(), 100, 100, None)?;
+    let turns: [&[u32]; 3] = [&[], &[64], &[64, 54]];
+    let outcome = rounds_of(&mut encoding, rt.alloc(), &provider, &[always(60)], &turns);
+    let wanted = [
+        (Progress::Nothing, 4, 0, 1, 6),
+        (Progress::Read, 5, 0, 2, 65),
+        (Progress::Read, 6, 0, 3, 652),
+    ];
+    assert!(rt; are_rounds(&outcome, &wanted));
+    Ok(())
+}
+
+#[test]
+fn a_hint_does_not_make_a_condition_hold(rt: HostRuntime) -> Result<(), Fail> {
+    let mut provider = provider_of(rt.alloc(), &[], &[])?;
+    provider.requirements.push((161, when(164, 174)))?;
+    let mut encoding = limited(rt.alloc(), 100, 100, None)?;
+    let turns: [&[u32]; 2] = [&[161], &[164]];
+    let outcome = rounds_of(&mut encoding, rt.alloc(), &provider, &[always(160)], &turns);
+    let wanted = [
+        (Progress::Nothing, 4, 1, 1, 16),
+        (Progress::Read, 6, 0, 2, 177),
+    ];
+    assert!(rt; are_rounds(&outcome, &wanted));
+    Ok(())
+}
+
+/// Reads the root and a solvable, and then the root again with the answers that were given.
+fn again(
+    first: &mut Encoding<u32, u32>,
+    second: &mut Encoding<u32, u32>,
+    alloc: Global,
+    provider: &TestProvider,
+    requirements: &[ConditionalRequirement],
+    solvable: u32,
+) -> Result<(), Interrupted<u8>>
+    requires first_bounded { IsBounded first.old }
+    requires first_unread { IsUnread (notes_in first.old) }
+    requires second_bounded { IsBounded second.old }
+    requires second_unread { IsUnread (notes_in second.old) }
+{
+    let mut cache = Cache::new(alloc);
+    first.read_root(provider, &mut cache, requirements, &[])?;
+    read_given(first, provider, &mut cache, &[solvable])?;
+    second.read_root(provider, &mut cache, requirements, &[])?;
+    Ok(())
+}
+
+#[test]
+fn candidates_whose_dependencies_are_cached_are_read_at_once(rt: HostRuntime) -> Result<(), Fail> {
+    let provider = provider_of(rt.alloc(), &[(21, 34), (24, 34)], &[])?;
+    let mut first = limited(rt.alloc(), 100, 100, None)?;
+    let mut second = limited(rt.alloc(), 100, 100, None)?;
+    let root = [always(20)];
+    let outcome = again(&mut first, &mut second, rt.alloc(), &provider, &root, 24);
+    let right = outcome.is_ok()
+        & (first.clause_count() == 5)
+        & (second.clause_count() == 5)
+        & is_clause(&second, 4, &[is_absent(24), is_there(34)]);
+    assert!(rt; right);
+    Ok(())
+}
+
+#[test]
 fn what_was_read_is_not_read_again(rt: HostRuntime) -> Result<(), Fail> {
     let provider = provider_of(rt.alloc(), &[(11, 24)], &[])?;
     let mut encoding = limited(rt.alloc(), 100, 100, None)?;

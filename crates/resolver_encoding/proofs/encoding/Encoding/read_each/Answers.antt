@@ -4,7 +4,7 @@ use Rattle.std.proofs.lemmas.List.Elements.{All-contains}
 use Rattle.resolver_clause_store.specs.declared.Origin.TheVariants.{Solvable}
 use Rattle.resolver_encoding.specs.Notes.{notes_in}
 use Rattle.resolver_encoding.proofs.EncodingLemmas.{Extends-within, KeepsLimits-same, KeepsLimits-trans}
-use Rattle.resolver_encoding.proofs.SoFarLemmas.{AreEach-done, AreEach-more, AreEach-none, Contains-kept, IsMoreOrSame-trans, IsReadingOf-same, IsReadingOf-trans, no_more_read}
+use Rattle.resolver_encoding.proofs.SoFarLemmas.{AreEach-done, AreEach-more, AreEach-none, Contains-kept, IsMoreOrSame-trans, IsReadingOf-same, IsReadingOf-trans, IsReadingOf-weaker, no_more_read}
 use Rattle.resolver_encoding.proofs.ReadLemmas.{seen_fit}
 use Rattle.resolver_encoding.proofs.encoding.Encoding.read_each.Goals as goal
 
@@ -16,7 +16,7 @@ loop-place-init g c =
       bounded = c.requires.bounded;
       limits = KeepsLimits-same _;
       half = c.requires.half;
-      reading = IsReadingOf-same u set (notes_in c.args.self.now);
+      reading = IsReadingOf-same u set (Contains set) (notes_in c.args.self.now);
       read = AreEach-none (Contains (notes_in c.args.self.now).read) set c.args.from;
       more = inl refl;
       is_true = c.requires.is_true;
@@ -24,12 +24,6 @@ loop-place-init g c =
 
 pub read_new-requires-clause-encoding : goal.read_new-requires-clause-encoding
 read_new-requires-clause-encoding g c = let half = c.loop-place.invariant.half in record { root = half.root; premise = tt; encoding = half.half.encoding }
-
-pub read_new-requires-clause-chosen : goal.read_new-requires-clause-chosen
-read_new-requires-clause-chosen g c =
-    let s = c.index-as_slice-place.result in
-    let At : List g.row.S.Denot → Type 0 = λ list. s ≡ get_or list c.loop-place.place s in
-    (c.loop-place.place, omega arith, sym (subst At c.as_slice.ensures.keys c.index-as_slice-place.is))
 
 pub read_new-requires-clause-known : goal.read_new-requires-clause-known
 read_new-requires-clause-known g c =
@@ -48,11 +42,13 @@ loop-place-preserved g c =
     let reading = c.in_ok-read_new.ensures.reading in
     let s = c.index-as_slice-place.result in
     let At : List g.row.S.Denot → Type 0 = λ list. s ≡ get_or list c.loop-place.place s in
+    let Among : g.row.S.Denot → Type 0 = λ t. Contains set t in
+    let inside : Contains set s = (c.loop-place.place, omega arith, sym (subst At c.as_slice.ensures.keys c.index-as_slice-place.is)) in
     record {
       bounded = c.read_new.ensures.bounded;
       limits = KeepsLimits-trans _ _ _ before.limits c.read_new.ensures.limits;
       half = record { root = before.half.root; half = reading.keeps before.half.root before.half.half };
-      reading = IsReadingOf-trans u set _ _ _ before.reading reading;
+      reading = IsReadingOf-trans u set (Contains set) _ _ _ before.reading (IsReadingOf-weaker u set (λ t. s ≡ t) (Contains set) (λ t same. subst Among same inside) _ _ reading);
       read = AreEach-more (Contains (notes_in c.loop-place.self).read) (Contains (notes_in c.read_new.new.self).read) set c.args.from c.loop-place.place s (λ t h. Extends-within _ _ reading.read t h) (omega arith) (subst At c.as_slice.ensures.keys c.index-as_slice-place.is) before.read c.in_ok-read_new.ensures.here;
       more = IsMoreOrSame-trans _ _ _ before.more c.in_ok-read_new.ensures.more;
       is_true = c.read_new.ensures.is_true;

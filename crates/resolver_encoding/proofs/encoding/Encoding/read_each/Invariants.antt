@@ -11,7 +11,7 @@ invariant-loop-place g l = record {
   bounded : IsBounded l.self;
   limits : KeepsLimits (notes_in l.fn.self) (notes_in l.self);
   half : IsHalfReading (g.D.Interner.universe l.provider) (notes_in l.self);
-  reading : IsReadingOf (g.D.Interner.universe l.provider) l.chosen.keys (notes_in l.fn.self) (notes_in l.self);
+  reading : IsReadingOf (g.D.Interner.universe l.provider) l.chosen.keys (Contains l.chosen.keys) (notes_in l.fn.self) (notes_in l.self);
   read : AreEach (Contains (notes_in l.self).read) l.chosen.keys l.from l.place;
   more : IsMoreOrSame (notes_in l.fn.self) (notes_in l.self);
   is_true : IsTrueCache (g.D.Interner.universe l.provider) l.cache;

@@ -1,10 +1,16 @@
-use Rattle.std.proofs.Common.{◌≡◌, ◌∙◌, refl, subst, List}
+use Rattle.std.proofs.Common.{◌≡◌, ◌∙◌, All, Contains, List, [], refl, subst, sym, ⊎_elim}
+use Rattle.std.proofs.lemmas.List.Elements.{All-nil}
 use Rattle.resolver_clause_store.specs.Universe.{Demands}
 use Rattle.resolver_clause_store.specs.declared.By.TheVariants.{Root}
 use Rattle.resolver_report.specs.TrueRules.{demands_by}
-use Rattle.resolver_encoding.specs.Called.{IsDemanded}
+use Rattle.resolver_clause_store.specs.Near.{IsNear}
+use Rattle.resolver_encoding.specs.Called.{AreAsked, IsCalledFor, IsDemanded}
+use Rattle.resolver_encoding.specs.SoFar.{IsReadingOf}
 use Rattle.resolver_encoding.specs.Encodings.{IsReadStep, IsUnmet}
+use Rattle.resolver_encoding.specs.Hints.{IsListedFrom}
 use Rattle.resolver_encoding.specs.Notes.{notes_in}
+use Rattle.resolver_encoding.proofs.HintLemmas.{asked_on, so_far_on}
+use Rattle.resolver_encoding.proofs.Lists.{none_in}
 use Rattle.resolver_encoding.proofs.ReachLemmas.{root_near}
 use Rattle.resolver_encoding.proofs.SoFarLemmas.{root_asked, root_so_far}
 use Rattle.resolver_encoding.proofs.encoding.Encoding.read_root.Goals as goal
@@ -14,37 +20,65 @@ read_demands-requires-clause-encoding g c =
     let root : Demands = record { requirements = c.args.requirements.now; constraints = c.args.constraints.now } in
     record { root = root; premise = refl; encoding = c.in_ok-install_root.ensures.installed root }
 
+pub read_hinted-requires-clause-half : goal.read_hinted-requires-clause-half
+read_hinted-requires-clause-half g c =
+    let u = g.D.Interner.universe c.args.provider.now in
+    let root : Demands = record { requirements = c.args.requirements.now; constraints = c.args.constraints.now } in
+    let bare = notes_in c.install_root.new.self in
+    let mid = notes_in c.read_demands.new.self in
+    let Step : List g.row.S.Denot → Type 0 = λ set. IsReadStep u (IsUnmet u set Root) (IsDemanded u set root) (λ r. demands_by u r Root ≡ root) bare mid in
+    let step = subst Step c.new-none.ensures.empty c.in_ok-read_demands.ensures.step in
+    let so = root_so_far u root bare mid step c.in_ok-install_root.ensures.nothing (c.in_ok-install_root.ensures.installed root) c.in_ok-read_demands.ensures.read in
+    record { root = root; half = so.half }
+
 pub returns-clause-read : goal.returns-clause-read
 returns-clause-read g c =
     let u = g.D.Interner.universe c.args.provider.now in
     let root : Demands = record { requirements = c.args.requirements.now; constraints = c.args.constraints.now } in
     let bare = notes_in c.install_root.new.self in
-    let new = notes_in c.read_demands.new.self in
-    let Step : List g.row.S.Denot → Type 0 = λ set. IsReadStep u (IsUnmet u set Root) (IsDemanded u set root) (λ r. demands_by u r Root ≡ root) bare new in
+    let mid = notes_in c.read_demands.new.self in
+    let new = notes_in c.read_hinted.new.self in
+    let Step : List g.row.S.Denot → Type 0 = λ set. IsReadStep u (IsUnmet u set Root) (IsDemanded u set root) (λ r. demands_by u r Root ≡ root) bare mid in
     let step = subst Step c.new-none.ensures.empty c.in_ok-read_demands.ensures.step in
-    root_so_far u root bare new step c.in_ok-install_root.ensures.nothing (c.in_ok-install_root.ensures.installed root) c.in_ok-read_demands.ensures.read
+    let Reading : List g.row.S.Denot → Type 0 = λ set. IsReadingOf u set (IsListedFrom new 0) mid new in
+    let reading = subst Reading c.new-none.ensures.empty c.in_ok-read_hinted.ensures.reading.reading in
+    let so = root_so_far u root bare mid step c.in_ok-install_root.ensures.nothing (c.in_ok-install_root.ensures.installed root) c.in_ok-read_demands.ensures.read in
+    so_far_on u [] root (IsListedFrom new 0) mid new so reading
 
 pub returns-clause-asked : goal.returns-clause-asked
 returns-clause-asked g c =
     let u = g.D.Interner.universe c.args.provider.now in
     let root : Demands = record { requirements = c.args.requirements.now; constraints = c.args.constraints.now } in
     let bare = notes_in c.install_root.new.self in
-    let new = notes_in c.read_demands.new.self in
-    let Step : List g.row.S.Denot → Type 0 = λ set. IsReadStep u (IsUnmet u set Root) (IsDemanded u set root) (λ r. demands_by u r Root ≡ root) bare new in
+    let mid = notes_in c.read_demands.new.self in
+    let new = notes_in c.read_hinted.new.self in
+    let Step : List g.row.S.Denot → Type 0 = λ set. IsReadStep u (IsUnmet u set Root) (IsDemanded u set root) (λ r. demands_by u r Root ≡ root) bare mid in
     let step = subst Step c.new-none.ensures.empty c.in_ok-read_demands.ensures.step in
-    root_asked u root bare new step c.in_ok-install_root.ensures.nothing (c.in_ok-install_root.ensures.installed root) c.in_ok-read_demands.ensures.read
+    let Reading : List g.row.S.Denot → Type 0 = λ set. IsReadingOf u set (IsListedFrom new 0) mid new in
+    let reading = subst Reading c.new-none.ensures.empty c.in_ok-read_hinted.ensures.reading.reading in
+    let so = root_so_far u root bare mid step c.in_ok-install_root.ensures.nothing (c.in_ok-install_root.ensures.installed root) c.in_ok-read_demands.ensures.read in
+    let Asked : List g.row.S.Denot → Type 0 = λ read. AreAsked (IsCalledFor u root read []) [] mid.asked in
+    let asked = root_asked u root bare mid step c.in_ok-install_root.ensures.nothing (c.in_ok-install_root.ensures.installed root) c.in_ok-read_demands.ensures.read in
+    let none : mid.read ≡ [] = step.read ∙ c.in_ok-install_root.ensures.nothing.none_read in
+    asked_on u [] root (IsListedFrom new 0) [] mid new so reading (subst Asked (sym none) asked)
 
 pub returns-clause-near : goal.returns-clause-near
 returns-clause-near g c = λ seeds.
     let u = g.D.Interner.universe c.args.provider.now in
     let root : Demands = record { requirements = c.args.requirements.now; constraints = c.args.constraints.now } in
     let bare = notes_in c.install_root.new.self in
-    let new = notes_in c.read_demands.new.self in
-    let Step : List g.row.S.Denot → Type 0 = λ set. IsReadStep u (IsUnmet u set Root) (IsDemanded u set root) (λ r. demands_by u r Root ≡ root) bare new in
-    root_near u root seeds bare new (subst Step c.new-none.ensures.empty c.in_ok-read_demands.ensures.step) c.in_ok-install_root.ensures.nothing
+    let mid = notes_in c.read_demands.new.self in
+    let Step : List g.row.S.Denot → Type 0 = λ set. IsReadStep u (IsUnmet u set Root) (IsDemanded u set root) (λ r. demands_by u r Root ≡ root) bare mid in
+    let step = subst Step c.new-none.ensures.empty c.in_ok-read_demands.ensures.step in
+    let AllNear : List g.row.S.Denot → Type 0 = λ set. All (IsNear u root seeds) set in
+    c.in_ok-read_hinted.ensures.reading.near root seeds (root_near u root seeds bare mid step c.in_ok-install_root.ensures.nothing)
+    (subst AllNear (sym c.new-none.ensures.empty) (All-nil (IsNear u root seeds)))
 
-pub returns-clause-none_read : goal.returns-clause-none_read
-returns-clause-none_read g c = c.in_ok-read_demands.ensures.step.read ∙ c.in_ok-install_root.ensures.nothing.none_read
+pub returns-clause-reads : goal.returns-clause-reads
+returns-clause-reads g c = λ s h.
+    let Has : List g.row.S.Denot → Type 0 = λ list. Contains list s in
+    let none = c.in_ok-read_demands.ensures.step.read ∙ c.in_ok-install_root.ensures.nothing.none_read in
+    ⊎_elim (λ (was : Contains (notes_in c.read_demands.new.self).read s). absurd (none_in s (subst Has none was))) (λ listed. listed) (c.in_ok-read_hinted.ensures.reading.reading.reads s h)
 
 pub returns-clause-exempt : goal.returns-clause-exempt
-returns-clause-exempt g c = c.in_ok-read_demands.ensures.step.exempt ∙ c.in_ok-install_root.ensures.exempt
+returns-clause-exempt g c = c.in_ok-read_hinted.ensures.reading.reading.exempt ∙ c.in_ok-read_demands.ensures.step.exempt ∙ c.in_ok-install_root.ensures.exempt

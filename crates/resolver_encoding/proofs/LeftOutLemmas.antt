@@ -1,0 +1,110 @@
+-- What is left out fits into no answer.
+use Rattle.std.proofs.Common.{◌≡◌, ℕ, ◌⊎◌, List, [], ◌∷◌, ◌++◌, arith, length-append, Bool, true, false, inl, inr, refl, sym, ap, ◌∙◌, subst, ⊎_elim, Contains, Some, Vec, Global}
+use Rattle.std.specs.Prelude.{map, slice_get}
+use Rattle.std.specs.Option.{option_map_or}
+use Rattle.std.proofs.Math.ListN.{get_or-append}
+use Rattle.std.proofs.lemmas.Bool.{both_ways, false≢true}
+use Rattle.std.proofs.lemmas.List.Elements.{Contains-append_cases, Contains-push_cases}
+use Rattle.resolver_clause_store.specs.Candidates.{requirement_candidates}
+use Rattle.resolver_clause_store.specs.Formula.{Satisfies, clause_at, clause_true}
+use Rattle.resolver_clause_store.specs.Lists.{IsWithin}
+use Rattle.resolver_clause_store.specs.SoftRun.{Exempts, FitsNowhere, asked_before, not_asked}
+use Rattle.resolver_clause_store.specs.Universe.{Universe, Demands}
+use Rattle.resolver_clause_store.specs.Variables.{Keeps}
+use Rattle.resolver_clause_store.specs.declared.By.{By}
+use Rattle.resolver_clause_store.specs.declared.ClauseKind.{ClauseKind}
+use Rattle.resolver_clause_store.specs.declared.ClauseKind.TheVariants.{GateRequires, Requires}
+use Rattle.resolver_clause_store.specs.declared.Literal.{Literal}
+use Rattle.resolver_clause_store.specs.declared.Origin.{Origin}
+use Rattle.resolver_clause_store.specs.declared.Origin.TheVariants.{ConditionHelper, Gate, Solvable}
+use Rattle.resolver_clause_store.specs.declared.Requirement.{Requirement}
+use Rattle.resolver_clause_store.specs.declared.VersionSetId.{VersionSetId}
+use Rattle.resolver_encoding.specs.Atoms.{Atom, atom, atoms_of, is_on, origin_by}
+use Rattle.resolver_encoding.specs.Encodings.{AsksForCandidates, Extends, IsEncoding, Notes}
+use Rattle.resolver_encoding.specs.LeftOut.{IsLeftOut}
+use Rattle.resolver_encoding.specs.Truth.{AreDue, HasLawfulSolvables, Spares, follows}
+use Rattle.resolver_encoding.specs.Values.{extension}
+use Rattle.resolver_encoding.proofs.Extended.{valid_satisfies}
+use Rattle.resolver_encoding.proofs.Lists.{Contains-map_back, cons_cases}
+use Rattle.resolver_encoding.proofs.Satisfied.{has-contains}
+use Rattle.resolver_encoding.proofs.Spared.{Spares-further}
+
+-- fewer clauses are true where more are
+pub satisfies_fewer : (values : ℕ → Bool) (table more : List (Vec Literal Global)) → Extends table more → Satisfies values more → Satisfies values table
+satisfies_fewer values table more extends holds =
+    let True : Vec Literal Global → Type 0 = λ clause. clause_true values clause.items ≡ true in
+    let Holds : List (Vec Literal Global) → Type 0 = λ list. Satisfies values list in
+    let all : Holds (table ++ extends.more) = subst Holds extends.is holds in
+    λ k d below. subst True (get_or-append table extends.more d k below) (all k d (omega (arith, below, length-append table extends.more)))
+
+-- what is left out stays so
+pub left_out_more : {N S : Type 0} (origins more : List (Origin N S)) (table longer : List (Vec Literal Global)) (set larger : List S) (s : S) → Keeps origins more → Extends table longer → IsWithin set larger → IsLeftOut origins table set s → IsLeftOut more longer larger s
+left_out_more origins more table longer set larger s keeps extends within out = record {
+  variable = out.variable;
+  stands = keeps.kept out.variable _ out.stands;
+  never = λ values holds are. out.never values (satisfies_fewer values table longer extends holds) (λ x t h is. are x t (within t h) (keeps.kept x _ is));
+}
+
+module _ {N S : Type 0} (u : Universe N S) where
+  -- among positive atoms there are solvables alone
+  candidate_in : (candidates : List S) (a : Atom N S) → Contains (map (λ s. atom (Solvable s) true) candidates) a → (s : S) × (a.origin ≡ Solvable s)
+  candidate_in candidates a h = let w = Contains-map_back (λ s. atom (Solvable s) true) candidates a h in (w.0, ap (λ (b : Atom N S). b.origin) (sym w.2))
+
+  negative : (a b : Atom N S) → b.positive ≡ false → b ≡ a → a.positive ≡ true → ⊥
+  negative a b off same on = false≢true (sym off ∙ ap (λ (c : Atom N S). c.positive) same ∙ on)
+
+  candidate_of : (kind : ClauseKind N S) → AsksForCandidates kind → (a : Atom N S) → Contains (atoms_of u kind) a → a.positive ≡ true → (s : S) × (a.origin ≡ Solvable s)
+  candidate_of kind asks a inside on =
+      let Found : Type 0 = (s : S) × (a.origin ≡ Solvable s) in
+      let Among : ClauseKind N S → Type 0 = λ k. Contains (atoms_of u k) a in
+      ⊎_elim
+      (λ (w : (by : By S) × (disjunct : Vec VersionSetId Global) × (r : Requirement) × (kind ≡ Requires by disjunct r)).
+      let helpers : List (Atom N S) = map (λ v. atom (ConditionHelper v) false) w.1.items in
+      let candidates : List (Atom N S) = map (λ s. atom (Solvable s) true) (requirement_candidates u w.2) in
+      let parent : Atom N S = atom (origin_by w.0) false in
+      let found : Found = ⊎_elim
+      (λ e. absurd (negative a parent refl e on))
+      (λ rest. ⊎_elim
+      (λ helper. let v = Contains-map_back (λ v. atom (ConditionHelper v) false) w.1.items a helper in absurd (negative a (atom (ConditionHelper v.0) false) refl v.2 on))
+      (λ candidate. candidate_in (requirement_candidates u w.2) a candidate)
+      (Contains-append_cases helpers candidates a rest))
+      (cons_cases parent (helpers ++ candidates) a (subst Among w.3 inside))
+      in
+      found)
+      (λ (w : (r : Requirement) × (kind ≡ GateRequires r)).
+      let gate : Atom N S = atom (Gate w.0) false in
+      let found : Found = ⊎_elim
+      (λ e. absurd (negative a gate refl e on))
+      (λ candidate. candidate_in (requirement_candidates u w.0) a candidate)
+      (cons_cases gate (map (λ s. atom (Solvable s) true) (requirement_candidates u w.0)) a (subst Among w.1 inside))
+      in
+      found)
+      asks
+
+  module _ (root : Demands) (notes : Notes N S) (encoding : IsEncoding u root notes) where
+    -- a positive literal of a clause that asks for candidates
+    pub asked_candidate : (number : ℕ) → Contains notes.requirements number → (l : Literal) → Contains (clause_at notes.table number) l → l.positive ≡ true → (s : S) × (slice_get notes.origins l.variable ≡ Some (Solvable s))
+    asked_candidate number listed l stands on =
+        let ask = encoding.ask number listed in
+        let a = (encoding.encoded.each number ask.0 ask.1).atoms.each_literal l stands in
+        let w = candidate_of ask.0 ask.2 a.0 a.1 (sym a.2.positive ∙ on) in
+        (w.0, a.2.origin ∙ ap Some w.1)
+
+    -- what is left out fits into no answer with exemptions that the clauses spare
+    pub left_out_nowhere : HasLawfulSolvables u → (set exempt : List S) (s : S) → Spares u exempt notes.kinds → IsLeftOut notes.origins notes.table set s → FitsNowhere u root set exempt s
+    left_out_nowhere lawful set exempt s spares out = λ larger within inside ok.
+        let on : (x : ℕ) (t : S) → Contains larger t → slice_get notes.origins x ≡ Some (Solvable t) → extension u (follows u encoding.codes) notes.origins larger x ≡ true =
+        λ x t h is. ap (λ o. option_map_or (is_on u (follows u encoding.codes) larger) o false) is ∙ has-contains u (follows u encoding.codes) lawful.same_solvable larger t h in
+        let holds = valid_satisfies u encoding.codes root notes.origins notes.table notes.kinds larger exempt lawful encoding.own_codes encoding.encoded encoding.each_true spares ok in
+        both_ways _ (out.never (extension u (follows u encoding.codes) notes.origins larger) holds (λ x t h is. on x t (within t h) is)) (on out.variable s inside out.stands)
+
+  -- the clauses spare what is exempt, and what becomes so in a package that was not asked for
+  pub spares_present : (asked : List N) (exempt : List S) (kinds : List (ClauseKind N S)) → AreDue u asked exempt kinds → Spares u exempt kinds
+  spares_present asked exempt kinds due = Spares-further u asked exempt exempt kinds due (λ s h. inl h)
+
+  pub spares_exempting : (asked : List N) (exempt : List S) (s : S) (more : List S) (kinds : List (ClauseKind N S)) → AreDue u asked exempt kinds → Exempts u asked exempt s more → Spares u more kinds
+  spares_exempting asked exempt s more kinds due (asked_before was) = spares_present asked exempt kinds due
+  spares_exempting asked exempt s more kinds due (not_asked free) = Spares-further u asked exempt (exempt ++ s ∷ []) kinds due (λ t h. ⊎_elim
+      (λ was. inl was)
+      (λ e. let Asked : S → Type 0 = λ x. Contains asked (u.name x) → ⊥ in inr (subst Asked e free))
+      (Contains-push_cases exempt s t h))

@@ -1,0 +1,76 @@
+use Rattle.std.proofs.Common.{◌∙◌, Contains, List, arith, inl, refl, subst, sym}
+use Rattle.std.proofs.lemmas.List.Elements.{All-nil}
+use Rattle.resolver_clause_store.proofs.PlaceLemmas.{Keeps-trans}
+use Rattle.resolver_clause_store.proofs.SetLemmas.{All-done}
+use Rattle.resolver_encoding.specs.Hints.{AreReadIfHinted, IsHinted}
+use Rattle.resolver_encoding.specs.Notes.{notes_in}
+use Rattle.resolver_encoding.proofs.EncodingLemmas.{Extends-trans, Extends-within, KeepsLimits-same, KeepsLimits-trans}
+use Rattle.resolver_encoding.proofs.HintLemmas.{candidates_same, candidates_seen, hinted_none, hinted_one, hinted_trans}
+use Rattle.resolver_encoding.proofs.NoteLemmas.{All-grown}
+use Rattle.resolver_encoding.proofs.SoFarLemmas.{IsMoreOrSame-trans}
+use Rattle.resolver_encoding.proofs.encoding.Encoding.read_candidates.Goals as goal
+
+pub loop-candidate-init : goal.loop-candidate-init
+loop-candidate-init g c =
+    let u = g.D.Interner.universe c.args.provider.now in
+    record {
+      bounded = c.requires.bounded;
+      limits = KeepsLimits-same _;
+      half = c.requires.half;
+      reading = hinted_none u c.args.chosen.now.keys c.args.place (notes_in c.args.self.now);
+      read = All-nil (λ s. IsHinted u s → Contains (notes_in c.args.self.now).read s);
+      more = inl refl;
+      is_true = c.requires.is_true;
+    }
+
+pub read_candidate-requires-clause-seen : goal.read_candidate-requires-clause-seen
+read_candidate-requires-clause-seen g c =
+    let u = g.D.Interner.universe c.args.provider.now in
+    let first = notes_in c.args.self.now in
+    let half = c.requires.half in
+    let s = c.candidate-item.result in
+    let Among : List g.row.S.Denot → Type 0 = λ list. Contains list s in
+    let inside : Contains c.args.candidates.now s = (c.loop-candidate.candidate-index, omega arith, sym c.candidate-item.is) in
+    Extends-within first.seen (notes_in c.loop-candidate.self).seen c.loop-candidate.invariant.reading.reading.seen s
+    (candidates_seen u half.root first half.half.encoding c.args.place s (subst Among c.requires.listed inside))
+
+pub loop-candidate-preserved : goal.loop-candidate-preserved
+loop-candidate-preserved g c =
+    let u = g.D.Interner.universe c.args.provider.now in
+    let set = c.args.chosen.now.keys in
+    let before = c.loop-candidate.invariant in
+    let half = c.requires.half in
+    let one = notes_in c.args.self.now in
+    let two = notes_in c.loop-candidate.self in
+    let three = notes_in c.read_candidate.new.self in
+    let first = before.reading.reading in
+    let reading = c.in_ok-read_candidate.ensures.reading in
+    let s = c.candidate-item.result in
+    let Among : List g.row.S.Denot → Type 0 = λ list. Contains list s in
+    let inside : Contains c.args.candidates.now s = (c.loop-candidate.candidate-index, omega arith, sym c.candidate-item.is) in
+    let listed = subst Among c.requires.listed inside in
+    let seen = Extends-within one.seen two.seen first.seen s (candidates_seen u half.root one half.half.encoding c.args.place s listed) in
+    let now = hinted_one u set half.root c.args.place s one two three half.half c.requires.within listed
+    (Keeps-trans one.origins two.origins three.origins first.origins reading.origins)
+    (Extends-trans one.table two.table three.table first.table reading.table)
+    (Extends-trans one.requirements two.requirements three.requirements first.requirements reading.requirements) seen reading in
+    record {
+      bounded = c.read_candidate.ensures.bounded;
+      limits = KeepsLimits-trans _ _ _ before.limits c.read_candidate.ensures.limits;
+      half = record { root = before.half.root; half = reading.keeps before.half.root before.half.half };
+      reading = hinted_trans u set half.root c.args.place one two three half.half before.reading now;
+      read = All-grown (λ t. IsHinted u t → Contains two.read t) (λ t. IsHinted u t → Contains three.read t) c.args.candidates.now c.loop-candidate.candidate-index s (λ t h hinted. Extends-within two.read three.read reading.read t (h hinted)) (omega arith) c.candidate-item.is before.read c.in_ok-read_candidate.ensures.here;
+      more = IsMoreOrSame-trans _ _ _ before.more c.in_ok-read_candidate.ensures.more;
+      is_true = c.read_candidate.ensures.is_true;
+    }
+
+pub returns-clause-here : goal.returns-clause-here
+returns-clause-here g c =
+    let u = g.D.Interner.universe c.args.provider.now in
+    let half = c.requires.half in
+    let one = notes_in c.args.self.now in
+    let new = notes_in c.loop-candidate.self in
+    let reading = c.loop-candidate.invariant.reading.reading in
+    let same = candidates_same u half.root one new half.half.encoding reading.origins reading.table reading.requirements c.args.place c.requires.within in
+    let Done : List g.row.S.Denot → Type 0 = λ list. AreReadIfHinted u new list in
+    subst Done (c.requires.listed ∙ sym same) (All-done (λ t. IsHinted u t → Contains new.read t) c.args.candidates.now c.loop-candidate.candidate-index (omega arith) c.loop-candidate.invariant.read)

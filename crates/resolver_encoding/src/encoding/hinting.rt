@@ -1,0 +1,260 @@
+//! Candidates that are read at once.
+
+ghost use Rattle.std.specs.Prelude.{◌≡◌, ◌<◌, ◌≤◌, ◌++◌, Contains, IfErr, IfOk, OnOk, length};
+ghost use Rattle.std.specs.Option.{option_to_list};
+ghost use Rattle.resolver_clause_store.specs.Caches.{IsAvailable, IsTrueCache};
+ghost use Rattle.resolver_clause_store.specs.Formula.{clause_at};
+ghost use Rattle.resolver_encoding.specs.Encodings.{IsFull, KeepsLimits};
+ghost use Rattle.resolver_encoding.specs.Hints.{AreHintsRead, AreHintsReadTo, AreReadIfHinted, IsHinted, candidates_at, literals_at, stated_by};
+ghost use Rattle.resolver_encoding.specs.Refusals.{IsStop};
+ghost use Rattle.resolver_encoding.specs.SoFar.{HasRead, IsHalfReading, IsHintedReading, IsMoreOrSame, IsReadingOf};
+
+use super::Encoding;
+use crate::chosen::as_solvable;
+use indexmap::IndexSet;
+use resolver_clause_store::{Cache, DependencyProvider, Exhausted, Interner, Interrupted, Literal};
+use std::hash::Hash;
+
+/// Puts what was found behind the others.
+fn push_found<T: Drop>(list: &mut Vec<T>, found: Option<T>) -> Result<(), Exhausted>
+    ensures pushed { OnOk result (list.new.items ≡ list.old.items ++ option_to_list found) }
+    ensures memory { IfErr result (λ e. e ≡ Exhausted.Memory) }
+{
+    match found {
+        Some(member) => {
+            list.push(member)?;
+            Ok(())
+        }
+        None => Ok(()),
+    }
+}
+
+impl<N: Copy + Eq + Hash + Drop, S: Copy + Eq + Hash + Drop> Encoding<N, S> {
+    ghost use Rattle.resolver_encoding.specs.Notes.{IsBounded, notes_in};
+
+    /// The solvable that a literal says is there, if it says so of one.
+    fn stated(&self, literal: Literal) -> Option<S>
+        ensures { result ≡ stated_by (notes_in self.now).origins literal }
+    {
+        if !literal.positive {
+            return None;
+        }
+        as_solvable(self.variables.origin(literal.variable))
+    }
+
+    /// The literals of a clause, and none where there is no such clause.
+    fn clause(&self, number: usize) -> &[Literal]
+        ensures { result.now ≡ clause_at (notes_in self.now).table number }
+    {
+        match self.literals.get(number) {
+            Some(literals) => literals.as_slice(),
+            None => &[],
+        }
+    }
+
+    /// The literals of the clause at a place of those that ask for candidates, and none where there is no such place.
+    fn asking_literals(&self, place: usize) -> &[Literal]
+        ensures { result.now ≡ literals_at (notes_in self.now) place }
+    {
+        match self.requirements.get(place) {
+            Some(asking) => self.clause(asking.number),
+            None => &[],
+        }
+    }
+
+    /// The candidates of the clause at a place of those that ask for candidates.
+    fn listed_candidates(&self, place: usize) -> Result<Vec<S>, Exhausted>
+        ensures candidates { IfOk result (λ list. list.items ≡ candidates_at (notes_in self.now) place) }
+        ensures memory { IfErr result (λ e. e ≡ Exhausted.Memory) }
+    {
+        let mut candidates = Vec::new(self.alloc);
+        for literal in self.asking_literals(place) {
+            push_found(&mut candidates, self.stated(*literal))?;
+        }
+        Ok(candidates)
+    }
+
+    /// How many clauses ask for candidates.
+    pub(super) fn asking_count(&self) -> usize
+        ensures { result ≡ length (notes_in self.now).requirements }
+    {
+        self.requirements.len()
+    }
+
+    /// Reads a registered candidate if its dependencies are at hand, unless it was read before.
+    fn read_if_at_hand<D: DependencyProvider<NameId = N, SolvableId = S>>(
+        &mut self,
+        provider: &D,
+        cache: &mut Cache<N, S>,
+        chosen: &IndexSet<S>,
+        candidate: S,
+    ) -> Result<(), Interrupted<D::Cancel>>
+        requires bounded { IsBounded self.old }
+        requires is_true { IsTrueCache (D.universe provider.now) cache.old }
+        requires half { IsHalfReading (D.universe provider.now) (notes_in self.old) }
+        requires seen { Contains (notes_in self.old).seen candidate }
+        ensures bounded { IsBounded self.new }
+        ensures is_true { IsTrueCache (D.universe provider.now) cache.new }
+        ensures reading { OnOk result (IsReadingOf (D.universe provider.now) chosen.now.keys (λ s. candidate ≡ s) (notes_in self.old) (notes_in self.new)) }
+        ensures here { OnOk result (IsAvailable (D.universe provider.now) cache.old candidate → Contains (notes_in self.new).read candidate) }
+        ensures only { OnOk result ((IsAvailable (D.universe provider.now) cache.old candidate → ⊥) → notes_in self.new ≡ notes_in self.old) }
+        ensures more { OnOk result (IsMoreOrSame (notes_in self.old) (notes_in self.new)) }
+        ensures limits { KeepsLimits (notes_in self.old) (notes_in self.new) }
+        ensures refusal { IfErr result (IsStop (D.may_cancel provider.now) (IsFull (notes_in self.new))) }
+    {
+        if !cache.are_dependencies_available_for(provider, candidate) {
+            return Ok(());
+        }
+        self.read_new(provider, cache, chosen, candidate)?;
+        Ok(())
+    }
+
+    /// Reads a candidate of a clause if its dependencies are at hand, unless it was read before.
+    ///
+    /// What its package lists was asked before, for the clause, and so what is hinted of it is known.
+    fn read_candidate<D: DependencyProvider<NameId = N, SolvableId = S>>(
+        &mut self,
+        provider: &D,
+        cache: &mut Cache<N, S>,
+        chosen: &IndexSet<S>,
+        candidate: S,
+    ) -> Result<(), Interrupted<D::Cancel>>
+        requires bounded { IsBounded self.old }
+        requires is_true { IsTrueCache (D.universe provider.now) cache.old }
+        requires half { IsHalfReading (D.universe provider.now) (notes_in self.old) }
+        requires seen { Contains (notes_in self.old).seen candidate }
+        ensures bounded { IsBounded self.new }
+        ensures is_true { IsTrueCache (D.universe provider.now) cache.new }
+        ensures reading { OnOk result (IsReadingOf (D.universe provider.now) chosen.now.keys (λ s. candidate ≡ s) (notes_in self.old) (notes_in self.new)) }
+        ensures here { OnOk result (IsHinted (D.universe provider.now) candidate → Contains (notes_in self.new).read candidate) }
+        ensures more { OnOk result (IsMoreOrSame (notes_in self.old) (notes_in self.new)) }
+        ensures limits { KeepsLimits (notes_in self.old) (notes_in self.new) }
+        ensures refusal { IfErr result (IsStop (D.may_cancel provider.now) (IsFull (notes_in self.new))) }
+    {
+        cache.ask_candidates(provider, provider.solvable_name(candidate))?;
+        self.read_if_at_hand(provider, cache, chosen, candidate)?;
+        Ok(())
+    }
+
+    /// Reads each of the candidates, of the clause at a place of those that ask for candidates, whose dependencies are at hand.
+    fn read_candidates<D: DependencyProvider<NameId = N, SolvableId = S>>(
+        &mut self,
+        provider: &D,
+        cache: &mut Cache<N, S>,
+        chosen: &IndexSet<S>,
+        place: usize,
+        candidates: &[S],
+    ) -> Result<(), Interrupted<D::Cancel>>
+        requires bounded { IsBounded self.old }
+        requires is_true { IsTrueCache (D.universe provider.now) cache.old }
+        requires half { IsHalfReading (D.universe provider.now) (notes_in self.old) }
+        requires listed { candidates.now ≡ candidates_at (notes_in self.old) place }
+        requires within { place < length (notes_in self.old).requirements }
+        ensures bounded { IsBounded self.new }
+        ensures is_true { IsTrueCache (D.universe provider.now) cache.new }
+        ensures reading { OnOk result (IsHintedReading (D.universe provider.now) chosen.now.keys place (notes_in self.old) (notes_in self.new)) }
+        ensures here { OnOk result (AreReadIfHinted (D.universe provider.now) (notes_in self.new) (candidates_at (notes_in self.new) place)) }
+        ensures more { OnOk result (IsMoreOrSame (notes_in self.old) (notes_in self.new)) }
+        ensures limits { KeepsLimits (notes_in self.old) (notes_in self.new) }
+        ensures refusal { IfErr result (IsStop (D.may_cancel provider.now) (IsFull (notes_in self.new))) }
+    {
+        for candidate in candidates {
+            self.read_candidate(provider, cache, chosen, *candidate)?;
+        }
+        Ok(())
+    }
+
+    /// Reads each candidate of the clause at a place of those that ask for candidates whose dependencies are at hand.
+    fn read_hinted_at<D: DependencyProvider<NameId = N, SolvableId = S>>(
+        &mut self,
+        provider: &D,
+        cache: &mut Cache<N, S>,
+        chosen: &IndexSet<S>,
+        place: usize,
+    ) -> Result<(), Interrupted<D::Cancel>>
+        requires bounded { IsBounded self.old }
+        requires is_true { IsTrueCache (D.universe provider.now) cache.old }
+        requires half { IsHalfReading (D.universe provider.now) (notes_in self.old) }
+        requires within { place < length (notes_in self.old).requirements }
+        ensures bounded { IsBounded self.new }
+        ensures is_true { IsTrueCache (D.universe provider.now) cache.new }
+        ensures reading { OnOk result (IsHintedReading (D.universe provider.now) chosen.now.keys place (notes_in self.old) (notes_in self.new)) }
+        ensures here { OnOk result (AreReadIfHinted (D.universe provider.now) (notes_in self.new) (candidates_at (notes_in self.new) place)) }
+        ensures more { OnOk result (IsMoreOrSame (notes_in self.old) (notes_in self.new)) }
+        ensures limits { KeepsLimits (notes_in self.old) (notes_in self.new) }
+        ensures refusal { IfErr result (IsStop (D.may_cancel provider.now) (IsFull (notes_in self.new))) }
+    {
+        let candidates = self.listed_candidates(place)?;
+        self.read_candidates(provider, cache, chosen, place, &candidates)?;
+        Ok(())
+    }
+
+    /// Reads each candidate, of the clauses between two places, whose dependencies are at hand. Answers whether there was a new
+    /// one.
+    fn read_hinted_each<D: DependencyProvider<NameId = N, SolvableId = S>>(
+        &mut self,
+        provider: &D,
+        cache: &mut Cache<N, S>,
+        chosen: &IndexSet<S>,
+        from: usize,
+        until: usize,
+    ) -> Result<bool, Interrupted<D::Cancel>>
+        requires bounded { IsBounded self.old }
+        requires is_true { IsTrueCache (D.universe provider.now) cache.old }
+        requires half { IsHalfReading (D.universe provider.now) (notes_in self.old) }
+        requires within { until ≤ length (notes_in self.old).requirements }
+        ensures bounded { IsBounded self.new }
+        ensures is_true { IsTrueCache (D.universe provider.now) cache.new }
+        ensures reading { OnOk result (IsHintedReading (D.universe provider.now) chosen.now.keys from (notes_in self.old) (notes_in self.new)) }
+        ensures here { OnOk result (AreHintsReadTo (D.universe provider.now) from until (notes_in self.new)) }
+        ensures any_new { IfOk result (HasRead (notes_in self.old) (notes_in self.new)) }
+        ensures fit { OnOk result (length (notes_in self.new).read ≤ (notes_in self.new).variable_limit) }
+        ensures limits { KeepsLimits (notes_in self.old) (notes_in self.new) }
+        ensures refusal { IfErr result (IsStop (D.may_cancel provider.now) (IsFull (notes_in self.new))) }
+    {
+        let before = self.read.len();
+        for place in from..until {
+            self.read_hinted_at(provider, cache, chosen, place)?;
+        }
+        if before < self.read.len() {
+            return Ok(true);
+        }
+        Ok(false)
+    }
+
+    /// Reads each candidate, of the clauses from a place on, whose dependencies are at hand, and so on for the clauses that
+    /// this makes. Answers whether there was a new one.
+    ///
+    /// What comes first is read first.
+    pub(super) fn read_hinted<D: DependencyProvider<NameId = N, SolvableId = S>>(
+        &mut self,
+        provider: &D,
+        cache: &mut Cache<N, S>,
+        chosen: &IndexSet<S>,
+        from: usize,
+    ) -> Result<bool, Interrupted<D::Cancel>>
+        requires bounded { IsBounded self.old }
+        requires is_true { IsTrueCache (D.universe provider.now) cache.old }
+        requires half { IsHalfReading (D.universe provider.now) (notes_in self.old) }
+        requires within { from ≤ length (notes_in self.old).requirements }
+        ensures bounded { IsBounded self.new }
+        ensures is_true { IsTrueCache (D.universe provider.now) cache.new }
+        ensures reading { OnOk result (IsHintedReading (D.universe provider.now) chosen.now.keys from (notes_in self.old) (notes_in self.new)) }
+        ensures here { OnOk result (AreHintsRead (D.universe provider.now) from (notes_in self.new)) }
+        ensures any_new { IfOk result (HasRead (notes_in self.old) (notes_in self.new)) }
+        ensures fit { OnOk result (length (notes_in self.new).read ≤ (notes_in self.new).variable_limit) }
+        ensures limits { KeepsLimits (notes_in self.old) (notes_in self.new) }
+        ensures refusal { IfErr result (IsStop (D.may_cancel provider.now) (IsFull (notes_in self.new))) }
+    {
+        let mut place = from;
+        let mut any = false;
+        'waves: loop {
+            let until = self.asking_count();
+            if !self.read_hinted_each(provider, cache, chosen, place, until)? {
+                return Ok(any);
+            }
+            any = true;
+            place = until;
+        }
+    }
+}
