@@ -114,7 +114,7 @@ derived-push table sources clause source derived within follows drawn =
           (cases_lt place (length table));
     }
 
-satisfied-at : (values : ℕ → Bool) (clauses : List (Vec Literal Global)) (n : ℕ) → Satisfies values clauses → n < length clauses → clause_true values (clause_at clauses n) ≡ true
+pub satisfied-at : (values : ℕ → Bool) (clauses : List (Vec Literal Global)) (n : ℕ) → Satisfies values clauses → n < length clauses → clause_true values (clause_at clauses n) ≡ true
 satisfied-at values [] n holds within = absurd (omega arith)
 satisfied-at values (d ∷ clauses) n holds within = subst (λ c. clause_true values c ≡ true) (sym (clause_at-get_or (d ∷ clauses) n d within)) (holds n d within)
 

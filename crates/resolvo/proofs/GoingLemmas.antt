@@ -2,6 +2,7 @@
 use Rattle.std.proofs.Common.{◌≡◌, ℕ, zero, suc, ◌+◌, ◌-◌, ◌<◌, ◌≤◌, ◌⊎◌, List, [], ◌∷◌, rules, true, false, ◌++◌, length, length-append, take, arith, inl, inr, refl, sym, ap, ◌∙◌, subst, ⊎_elim, All, Contains, get_or, Option, Some, None, Vec, Global}
 use Rattle.std.specs.Prelude.{map}
 use Rattle.std.specs.Option.{option_map, option_map_or}
+use Rattle.resolver_clause_store.specs.FirstChoice.{TakesFirstChoices}
 use Rattle.resolver_clause_store.specs.Laws.{HasLawfulPackages}
 use Rattle.resolver_clause_store.specs.Lists.{HasNoRepeats, IsWithin}
 use Rattle.resolver_clause_store.specs.Outcomes.{IsFinished}
@@ -21,9 +22,9 @@ use Rattle.resolver_clause_store.proofs.PlaceLemmas.{Keeps-same, Keeps-trans}
 use Rattle.resolver_clause_store.proofs.SlotLemmas.{slot-within}
 use Rattle.resolver_clause_store.specs.Variables.{Keeps}
 use Rattle.std.proofs.lemmas.List.Elements.{Contains-get_or}
-use Rattle.resolver_encoding.proofs.EncodingLemmas.{Extends-within}
+use Rattle.resolver_encoding.proofs.EncodingLemmas.{Extends-same, Extends-trans, Extends-within}
 use Rattle.resolver_encoding.specs.Atoms.{Atom, atom}
-use Rattle.resolver_encoding.specs.Encodings.{IsEncoding, Notes}
+use Rattle.resolver_encoding.specs.Encodings.{Extends, IsEncoding, Notes}
 use Rattle.resolver_encoding.specs.Notes.{notes_in}
 use Rattle.resolver_encoding.specs.declared.encoding.Encoding.{Encoding}
 use Rattle.resolver_encoding.specs.Reach.{AreNear}
@@ -33,6 +34,7 @@ use Rattle.resolver_encoding.specs.SoFar.{IsReadMore, IsReadSoFar}
 use Rattle.resolver_encoding.specs.TrailAtoms.{IsAnswerBy}
 use Rattle.resolver_encoding.specs.Truth.{HasLawfulSolvables}
 use Rattle.resolver_encoding.proofs.Bridge.{before-back, chosen_once, finished_is_valid, true_before}
+use Rattle.resolver_encoding.proofs.PromiseLemmas.{finished_is_first}
 use Rattle.resolver_encoding.proofs.TrailLemmas.{same_before, same_origin}
 use Rattle.resolvo.specs.ClauseSearches.{IsConsistent, IsLoaded, KeepsTurn, SetsNone, StaysMarked, clause_count_of, held_of, kept_of, learnt_count_of, trail_of}
 use Rattle.resolvo.specs.RoundStates.{AreRounds, GoesOn, HasAllClauses, HasFollowed, IsAnswering, IsFollowing, IsSearchOf, IsStill, IsUpToDate, KeepsNear, chosen_of, notes_of}
@@ -128,6 +130,7 @@ module _ {N S : Type 0} where
         (assumed_still (notes_of one).origins (notes_of two).origins (trail_of one.search) (trail_of two.search) taken refused first.origins known first.turn.assumed.was assumed)
         (first.near root done taken refused so within assumed near);
     origins = Keeps-trans (notes_of one).origins (notes_of two).origins (notes_of three).origins first.origins second.origins;
+    table = Extends-trans (notes_of one).table (notes_of two).table (notes_of three).table first.table second.table;
     exempt = second.exempt ∙ first.exempt;
     asked = λ n h. second.asked n (first.asked n h);
     seen = λ s h. second.seen s (first.seen s h);
@@ -142,6 +145,7 @@ module _ {N S : Type 0} where
         read = keeps_searched u old new new same (λ root so. so);
         near = λ root done taken refused so within assumed near. let Near : Encoding N S → Type 0 = λ e. AreNear u root done (notes_in e) in subst Near (sym same.encoding) near;
         origins = subst WithEncoding (sym same.encoding) (Keeps-same (notes_of old).origins);
+        table = let Table : Encoding N S → Type 0 = λ e. Extends (notes_of old).table (notes_in e).table in subst Table (sym same.encoding) (Extends-same (notes_of old).table);
         exempt = ap (λ (e : Encoding N S). (notes_in e).exempt) same.encoding;
         asked = let Asked : Encoding N S → Type 0 = λ e. IsWithin (notes_of old).asked (notes_in e).asked in subst Asked (sym same.encoding) (λ n h. h);
         seen = let Seen : Encoding N S → Type 0 = λ e. IsWithin (notes_of old).seen (notes_in e).seen in subst Seen (sym same.encoding) (λ s h. h);
@@ -169,12 +173,14 @@ module _ {N S : Type 0} where
     pub goes_read : GoesOn u old (record mid { encoding = encoding })
     goes_read =
         let Origins : Encoding N S → Type 0 = λ e. Keeps (notes_in e).origins (notes_in encoding).origins in
+        let Table : Encoding N S → Type 0 = λ e. Extends (notes_in e).table (notes_in encoding).table in
         let Asked : Encoding N S → Type 0 = λ e. IsWithin (notes_in e).asked (notes_in encoding).asked in
         let Seen : Encoding N S → Type 0 = λ e. IsWithin (notes_in e).seen (notes_in encoding).seen in
         record {
           read = keeps_more u old mid from keys encoding following is reads;
           near = keeps_near;
           origins = subst Origins following.encoding more.origins;
+          table = subst Table following.encoding more.table;
           exempt = more.exempt ∙ ap (λ (e : Encoding N S). (notes_in e).exempt) following.encoding;
           asked = subst Asked following.encoding asked_stays;
           seen = subst Seen following.encoding (Extends-within (notes_of mid).seen (notes_in encoding).seen more.seen);
@@ -192,12 +198,18 @@ module _ {N S : Type 0} where
       let OfTrail : Trail → Type 0 = λ t. With (notes_of new) t here in
       let OfChosen : List S → Type 0 = λ list. With (notes_of new) (trail_of new.search) list in
       let Once : List S → Type 0 = λ list. HasNoRepeats list in
+      let Promises : Notes N S → Trail → List S → Type 0 = λ notes trail chosen. (root : Demands) → IsReadSoFar u root chosen notes → AreAssumed notes.origins [] [] trail → TakesFirstChoices u root chosen in
+      let promise : Promises (notes_of old) (trail_of old.search) here = λ root so assumed. finished_is_first u root (notes_of old) requirements (trail_of old.search) lawful packages so assumed numbers up.variables finished in
+      let PromisesOf : Notes N S → Type 0 = λ n. Promises n (trail_of old.search) here in
+      let PromisesOn : Trail → Type 0 = λ t. Promises (notes_of new) t here in
+      let PromisesFor : List S → Type 0 = λ list. Promises (notes_of new) (trail_of new.search) list in
       record {
         marked = marked;
         chosen = followed.chosen ∙ ap (λ (n : Notes N S). solvables_before n.origins (trail_of old.search) (length_of (trail_of old.search))) (sym same) ∙ ap (λ (t : Trail). solvables_before (notes_of new).origins t (length_of t)) (sym followed.trail);
         variables = ap variable_count followed.trail ∙ up.variables ∙ ap (λ (n : Notes N S). length n.origins) (sym same);
         once = subst Once (sym followed.chosen) (chosen_once (notes_of old).origins (trail_of old.search) rounds.reading.so_far.half.encoding.distinct up.variables);
         answer = subst OfChosen (sym followed.chosen) (subst OfTrail (sym followed.trail) (subst OfNotes (sym same) answer));
+        promise = subst PromisesFor (sym followed.chosen) (subst PromisesOn (sym followed.trail) (subst PromisesOf (sym same) promise));
       }
 
   -- the clauses of the search are those that were read, and the learnt ones
@@ -212,6 +224,7 @@ module _ {N S : Type 0} where
     read = λ root so. so;
     near = λ root done taken refused so within assumed near. near;
     origins = Keeps-same (notes_of r).origins;
+    table = Extends-same (notes_of r).table;
     exempt = refl;
     asked = λ n h. h;
     seen = λ s h. h;

@@ -24,10 +24,15 @@ use Rattle.resolvo.specs.declared.contradiction.Source.TheVariants.{Given}
 use Rattle.resolvo.specs.declared.clause_search.ClauseSearch.{ClauseSearch}
 use Rattle.resolvo.specs.ClauseSearches.{AreLoaded, AssumesNone, IsConsistent, IsLoaded, IsSameProblem, IsSameSearch, KeepsFirst, numbers_of, place_of}
 use Rattle.resolvo.specs.Derivations.{IsDerived, given_at, number_of}
+use Rattle.resolvo.specs.Propagators.{IsPropagator}
+use Rattle.resolvo.specs.declared.propagator.Propagator.{Propagator}
 use Rattle.resolvo.specs.Propagation.{AllSettled, AreChosen, Extends, IsJustified}
 use Rattle.resolvo.proofs.ClauseSearchLemmas.{below-push, chosen-grows, chosen-undone, derived-push, grows-push, implied, justified-grows, justified-undone}
 use Rattle.resolvo.proofs.JustifiedLemmas.{chosen-extends, propagated, why}
 use Rattle.resolvo.proofs.TurnLemmas.{held-undone, keeps-fewer, keeps-none, keeps-turn, none-undone, turn-descended, turn-kept, turn-trans, turn-undone}
+use Rattle.resolvo.specs.declared.queue.DecideQueue.{DecideQueue}
+use Rattle.resolvo.specs.Queues.{IsQueued, StaysQueued}
+use Rattle.resolvo.proofs.QueueLemmas.{queued-grown, queued-longer}
 use Rattle.resolvo.proofs.SourceLemmas.{given_at-cases, given_at-last, given_at-push, given_within}
 
 -- a trail that only gains keeps what is kept
@@ -218,8 +223,8 @@ same-undone old new level it undone high learnt kept base held = record {
 }
 
 -- a search in which a given clause stands behind the others
-pub consistent-given : (old new : ClauseSearch) (clause : Vec Literal Global) (number place level : ℕ) → IsConsistent old → IsBelow (variable_count old.trail) clause.items → place ≡ length old.table.items → new.table.items ≡ old.table.items ++ clause ∷ [] → new.sources.items ≡ old.sources.items ++ Given number ∷ [] → new.places.items ≡ old.places.items ++ place ∷ [] → new.requirements.items ≡ old.requirements.items → IsUndone old.trail new.trail level → old.base ≤ level → new.learnt ≡ old.learnt → new.kept ≡ min old.kept (length_of new.trail) → new.base ≡ old.base → new.held ≡ old.held → IsConsistent new
-consistent-given old new clause number place level it below end table sources places requirements undone high learnt kept base held =
+pub consistent-given : (old new : ClauseSearch) (clause : Vec Literal Global) (number place level : ℕ) → IsConsistent old → IsBelow (variable_count old.trail) clause.items → place ≡ length old.table.items → new.table.items ≡ old.table.items ++ clause ∷ [] → new.sources.items ≡ old.sources.items ++ Given number ∷ [] → new.places.items ≡ old.places.items ++ place ∷ [] → new.requirements.items ≡ old.requirements.items → IsUndone old.trail new.trail level → old.base ≤ level → new.learnt ≡ old.learnt → new.kept ≡ min old.kept (length_of new.trail) → new.base ≡ old.base → new.held ≡ old.held → IsPropagator new.table.items new.trail new.propagator → IsQueued new.queue new.trail old.table.items old.requirements.items → IsConsistent new
+consistent-given old new clause number place level it below end table sources places requirements undone high learnt kept base held propagator queued =
     let grows = grows-push old.table.items clause in
     let longer : length (old.table.items ++ clause ∷ []) ≡ length old.table.items + 1 = length-append old.table.items (clause ∷ []) in
     record {
@@ -231,7 +236,9 @@ consistent-given old new clause number place level it below end table sources pl
       places = rw (table, places) (All-push (λ p. p < length (old.table.items ++ clause ∷ [])) old.places.items place (λ k d b. omega (arith, it.places k d b, longer)) (omega (arith, end, longer)));
       count = rw (table, places, learnt) (omega (arith, it.count, longer, length-append old.places.items (place ∷ [])));
       kept = omega (arith, kept);
+      propagator = propagator;
       turn = rw (base, held) (turn-undone old.trail new.trail old.base old.held old.kept level new.kept it.turn undone high kept);
+      queued = rw (table, requirements) (queued-grown new.queue new.trail old.table.items (old.table.items ++ clause ∷ []) old.requirements.items it.inside grows.same queued);
     }
 
 pub loaded-clause : (old new : ClauseSearch) (given : List (Vec Literal Global)) (numbers : List ℕ) (copy clause : Vec Literal Global) (number place : ℕ) → IsConsistent old → number ≡ length old.places.items → place ≡ length old.table.items → clause.items ≡ copy.items → new.table.items ≡ old.table.items ++ clause ∷ [] → new.sources.items ≡ old.sources.items ++ Given number ∷ [] → new.places.items ≡ old.places.items ++ place ∷ [] → new.requirements.items ≡ old.requirements.items → IsLoaded given numbers old → IsLoaded (given ++ copy ∷ []) numbers new
@@ -253,9 +260,9 @@ loaded-requirement old new given numbers requirement number inside here table so
 }
 
 -- a search in which a requirement stands behind the others
-pub consistent-requirement : (old new : ClauseSearch) (requirement : RequirementClause) → IsConsistent old → requirement.number < length old.table.items → new ≡ record old { requirements = new.requirements } → new.requirements.items ≡ old.requirements.items ++ requirement ∷ [] → IsConsistent new
-consistent-requirement old new requirement it inside same requirements =
-    let here : IsConsistent (record old { requirements = new.requirements }) = record {
+pub consistent-requirement : (old new : ClauseSearch) (requirement : RequirementClause) → IsConsistent old → requirement.number < length old.table.items → new ≡ record old { requirements = new.requirements; queue = new.queue } → new.requirements.items ≡ old.requirements.items ++ requirement ∷ [] → IsQueued new.queue old.trail old.table.items (old.requirements.items ++ requirement ∷ []) → IsConsistent new
+consistent-requirement old new requirement it inside same requirements queued =
+    let here : IsConsistent (record old { requirements = new.requirements; queue = new.queue }) = record {
       below = it.below;
       derived = it.derived;
       justified = it.justified;
@@ -264,7 +271,9 @@ consistent-requirement old new requirement it inside same requirements =
       places = it.places;
       count = it.count;
       kept = it.kept;
+      propagator = it.propagator;
       turn = it.turn;
+      queued = rw requirements queued;
     } in
     subst (λ s. IsConsistent s) (sym same) here
 
@@ -317,8 +326,8 @@ requirements-end it given requirements n end loaded =
     subst Loaded (take_all n (numbers_of requirements) (omega (arith, end, length-map requirements (λ (r : RequirementClause). r.number)))) loaded
 
 -- more variables without a value
-pub consistent-grown : (it : ClauseSearch) (trail : Trail) (variables : ℕ) → IsConsistent it → variable_count it.trail ≤ variables → IsGrown it.trail trail variables → IsConsistent (record it { trail = trail })
-consistent-grown it trail variables holds room grown = record {
+pub consistent-grown : (it : ClauseSearch) (trail : Trail) (propagator : Propagator) (queue : DecideQueue) (variables : ℕ) → IsConsistent it → variable_count it.trail ≤ variables → IsGrown it.trail trail variables → IsPropagator it.table.items trail propagator → StaysQueued it.queue queue → IsConsistent (record it { trail = trail; propagator = propagator; queue = queue })
+consistent-grown it trail propagator queue variables holds room grown propagates stays = record {
   below = λ n k d b. omega (arith, holds.below n k d b, grown.size, room);
   derived = holds.derived;
   justified = justified-grown it.table.items it.trail trail variables grown holds.justified;
@@ -327,23 +336,25 @@ consistent-grown it trail variables holds room grown = record {
   places = holds.places;
   count = holds.count;
   kept = omega (arith, holds.kept, ap length grown.order);
+  propagator = propagates;
   turn = turn-kept it.trail trail it.base it.held it.kept it.kept holds.turn (keeps-fewer it.trail trail (length_of it.trail) it.held (keeps_grown it.trail trail variables grown) holds.turn.inside) holds.turn.marked;
+  queued = stays trail it.table.items it.requirements.items (queued-longer it.queue it.trail trail it.table.items it.requirements.items (keeps_grown it.trail trail variables grown) holds.queued);
 }
 
--- what is loaded does not depend on the trail
-pub loaded-trail : (it : ClauseSearch) (trail : Trail) (given : List (Vec Literal Global)) (numbers : List ℕ) → IsLoaded given numbers it → IsLoaded given numbers (record it { trail = trail })
-loaded-trail it trail given numbers loaded = record { clauses = loaded.clauses; requirements = loaded.requirements; inside = loaded.inside }
+-- what is loaded does not depend on the trail, or on what propagation keeps
+pub loaded-trail : (it : ClauseSearch) (trail : Trail) (propagator : Propagator) (queue : DecideQueue) (given : List (Vec Literal Global)) (numbers : List ℕ) → IsLoaded given numbers it → IsLoaded given numbers (record it { trail = trail; propagator = propagator; queue = queue })
+loaded-trail it trail propagator queue given numbers loaded = record { clauses = loaded.clauses; requirements = loaded.requirements; inside = loaded.inside }
 
 pub first-grown : (old new : Trail) (count variables : ℕ) → IsGrown old new variables → KeepsFirst old count new count
 first-grown old new count variables grown = first-after old new count (keeps_grown old new variables grown)
 
 -- a step of a run
-pub problem-descended : (a b : ClauseSearch) (trail : Trail) → IsConsistent b → IsSameProblem a b → variable_count trail ≡ variable_count b.trail → KeepsPlaces b.trail trail (length_of b.trail) → AssumesNone b.trail trail → IsSameProblem a (record b { trail = trail })
-problem-descended a b trail it same size keeps assumed = record {
-  loaded = λ given numbers loaded. loaded-trail b trail given numbers (same.loaded given numbers loaded);
+pub problem-descended : (a b : ClauseSearch) (trail : Trail) (propagator : Propagator) (queue : DecideQueue) → IsConsistent b → IsSameProblem a b → variable_count trail ≡ variable_count b.trail → KeepsPlaces b.trail trail (length_of b.trail) → AssumesNone b.trail trail → IsSameProblem a (record b { trail = trail; propagator = propagator; queue = queue })
+problem-descended a b trail propagator queue it same size keeps assumed = record {
+  loaded = λ given numbers loaded. loaded-trail b trail propagator queue given numbers (same.loaded given numbers loaded);
   variables = size ∙ same.variables;
   kept = λ base k. first-after b.trail trail b.kept keeps base (same.kept base k);
-  turn = turn-trans a b (record b { trail = trail }) same.turn (turn-descended b trail it assumed keeps);
+  turn = turn-trans a b (record b { trail = trail; propagator = propagator; queue = queue }) same.turn (turn-descended b trail propagator queue it assumed keeps);
 }
 
 pub problem-trans : (a b c : ClauseSearch) → IsSameProblem a b → IsSameProblem b c → IsSameProblem a c

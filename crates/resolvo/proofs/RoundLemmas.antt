@@ -34,7 +34,8 @@ use Rattle.resolver_encoding.proofs.EncodingLemmas.{Extends-within}
 use Rattle.resolver_encoding.proofs.Lists.{Contains-slice}
 use Rattle.resolver_encoding.proofs.TrailLemmas.{before_extends, follows_still}
 use Rattle.resolvo.specs.ClauseSearches.{IsConsistent, IsLoaded, KeepsLoaded, KeepsMark, KeepsTurn, clause_count_of, kept_of, learnt_count_of, numbers_of, trail_of}
-use Rattle.resolvo.specs.RoundStates.{AreRounds, HasFollowed, HasLoaded, HasMark, IsFollowing, IsFresh, IsSearchOf, IsUpToDate, KeepsRead, KeepsRoom, chosen_of, notes_of}
+use Rattle.resolvo.specs.declared.owners.Owners.{Owners}
+use Rattle.resolvo.specs.RoundStates.{AreRounds, HasFollowed, HasLoaded, HasMark, IsFollowing, IsFresh, IsSearchOf, IsStill, IsUpToDate, KeepsRead, KeepsRoom, chosen_of, notes_of}
 use Rattle.resolvo.specs.declared.clause_search.ClauseSearch.{ClauseSearch}
 use Rattle.resolvo.specs.declared.rounds.Rounds.{Rounds}
 
@@ -130,6 +131,13 @@ module _ {N S : Type 0} where
   given_inside u set notes table requirements reading are numbers =
       let Inside : List (Vec Literal Global) → Type 0 = λ list. All (λ (r : RequirementClause). r.number < length list) requirements in
       subst Inside (sym are) (requirements_inside u reading.root notes reading.so_far.half.encoding requirements numbers)
+
+  -- the packages of variables do not matter
+  pub rounds_owned : (u : Universe N S) (r : Rounds N S) (owners : Owners N) → AreRounds u r → AreRounds u (record r { owners = owners })
+  rounds_owned u r owners rounds = record { bounded = rounds.bounded; reading = rounds.reading; consistent = rounds.consistent; loaded = rounds.loaded; variables = rounds.variables; mark = rounds.mark }
+
+  pub still_owned : (r : Rounds N S) (owners : Owners N) → IsStill r → IsStill (record r { owners = owners })
+  still_owned r owners still = record { held = still.held; marked = still.marked; chosen = still.chosen }
 
   -- the search has run over all that was read
   pub searched : (u : Universe N S) (old : Rounds N S) (new : ClauseSearch) → AreRounds u old → IsConsistent new → IsLoaded (notes_of old).table (notes_of old).requirements new → variable_count (trail_of new) ≡ length (notes_of old).origins →

@@ -3,13 +3,14 @@ use Rattle.std.proofs.Common.{◌≡◌, ◌≢◌, ℕ, suc, ◌+◌, ◌-◌, 
 use Rattle.std.specs.Prelude.{slice_get}
 use Rattle.std.specs.Option.{option_map, option_map_or}
 use Rattle.std.proofs.Math.Seq.{take-append_seam}
-use Rattle.std.proofs.lemmas.Bool.{cases_Bool, cases_eq, false≢true}
+use Rattle.std.proofs.lemmas.Bool.{cases_Bool, cases_eq, cases_lt, false≢true}
 use Rattle.std.proofs.lemmas.Option.{same_Some, none-some, get_or_from_slice_get}
 use Rattle.std.proofs.lemmas.List.Elements.{Contains-append_cases, Contains-append_left, Contains-append_right}
 use Rattle.resolver_clause_store.specs.Laws.{IsIdentity}
 use Rattle.resolver_clause_store.specs.Lists.{HasNoRepeats, IsWithin}
 use Rattle.resolver_clause_store.specs.Near.{IsNamed, IsNear}
-use Rattle.resolver_clause_store.specs.SoftRun.{Exempts, IsAsked, SoftRun, accepted, asked_before, chosen_before, not_asked, refused, start}
+use Rattle.resolver_clause_store.specs.SoftRun.{Exempts, FitsNowhere, IsAsked, SoftRun, accepted, asked_before, chosen_before, not_asked, refused, start}
+use Rattle.resolver_clause_store.specs.Slots.{is_decided}
 use Rattle.resolver_clause_store.specs.TrailView.{Gains, IsCut, KeepsPlaces, length_of, level_of, slot_of, variable_at, variable_count}
 use Rattle.resolver_clause_store.specs.Universe.{Universe, Demands}
 use Rattle.resolver_clause_store.specs.Valid.{IsValid}
@@ -17,7 +18,7 @@ use Rattle.resolver_clause_store.specs.Variables.{AreDistinct, Keeps}
 use Rattle.resolver_clause_store.specs.declared.Literal.{Literal}
 use Rattle.resolver_clause_store.specs.declared.Origin.{Origin}
 use Rattle.resolver_clause_store.specs.declared.Origin.TheVariants.{Root, Solvable}
-use Rattle.resolver_clause_store.specs.declared.Reason.TheVariants.{Assumed}
+use Rattle.resolver_clause_store.specs.declared.Reason.TheVariants.{Assumed, Decided}
 use Rattle.resolver_clause_store.specs.declared.Slot.{Slot}
 use Rattle.resolver_clause_store.specs.declared.Trail.{Trail}
 use Rattle.resolver_clause_store.proofs.KeptLemmas.{keeps_all, keeps_places, keeps_through, slot_at}
@@ -26,26 +27,30 @@ use Rattle.resolver_clause_store.proofs.SlotLemmas.{slot-within}
 use Rattle.resolver_clause_store.proofs.TrailLemmas.{gains-cases, keeps-gains}
 use Rattle.resolver_encoding.specs.Atoms.{Atom, atom}
 use Rattle.resolver_encoding.specs.Encodings.{Extends, Notes}
+use Rattle.resolver_encoding.specs.LeftOut.{IsLeftOut}
 use Rattle.resolver_encoding.specs.Notes.{IsBounded, notes_in}
 use Rattle.resolver_encoding.specs.Reach.{AreNear}
 use Rattle.resolver_encoding.specs.ReadState.{AreSeeds}
 use Rattle.resolver_encoding.specs.SoFar.{IsReadSoFar}
 use Rattle.resolver_encoding.specs.Trails.{AreAssumed, Follows, atoms_before, chosen_in, origin_at, solvable_if, solvables_before, value_of}
+use Rattle.resolver_encoding.specs.Truth.{HasLawfulSolvables, Spares}
 use Rattle.resolver_encoding.specs.Turns.{IsRegistered, IsTurnEnd}
 use Rattle.resolver_encoding.specs.declared.chosen.Chosen.{Chosen}
 use Rattle.resolver_encoding.specs.declared.encoding.Encoding.{Encoding}
 use Rattle.resolver_encoding.proofs.Bridge.{before-back, has_value, is_chosen, stands, true_before}
 use Rattle.resolver_encoding.proofs.EncodingLemmas.{Extends-same, Extends-trans, Extends-within}
+use Rattle.resolver_encoding.proofs.LeftOutLemmas.{left_out_more, left_out_nowhere, spares_exempting, spares_present}
 use Rattle.resolver_encoding.proofs.Lists.{cons_cases, here, none_in, there}
 use Rattle.resolver_encoding.proofs.TrailLemmas.{before_extends, follows_still, none_at, same_before, same_origin}
-use Rattle.resolvo.specs.Answers.{RefusesAnyway}
 use Rattle.resolvo.specs.ClauseSearches.{IsConsistent, IsRootTurn, KeepsLoaded, KeepsMark, KeepsTurn, base_of, held_of, kept_of, trail_of}
-use Rattle.resolvo.specs.RoundStates.{AreRounds, GoesOn, HasAssumed, HasMark, IsAnswering, IsFollowing, IsBetween, IsBetweenFor, IsRefusing, IsSearchOf, IsStill, chosen_of, notes_of}
+use Rattle.resolvo.specs.RoundStates.{AreRounds, GoesOn, HasAssumed, HasMark, IsAnswering, IsFollowing, IsBetween, IsBetweenFor, IsRefusing, IsSearchOf, IsStill, IsUnanswered, chosen_of, notes_of}
 use Rattle.resolvo.specs.declared.clause_search.ClauseSearch.{ClauseSearch}
 use Rattle.resolvo.specs.declared.rounds.Rounds.{Rounds}
 use Rattle.resolvo.proofs.RoundLemmas.{Keeps-longer, keeps_itself, so_far_less}
 use Rattle.resolver_encoding.proofs.ReachLemmas.{AreNear-more, asked_named}
 use Rattle.resolvo.proofs.GoingLemmas.{assumed_still}
+use Rattle.resolvo.proofs.RefusingLemmas.{trail_agrees}
+use Rattle.resolvo.proofs.TurnLemmas.{decided-assumed, keeps-back}
 
 -- clauses were added, and nothing was asked for, read or put off
 pub record IsAddition {N S : Type 0} (u : Universe N S) (old new : Notes N S) : Type 0 where
@@ -186,19 +191,21 @@ module _ {N S : Type 0} where
 
     pub between_registered : IsBetweenFor u root done (done ++ s ∷ []) (record old { encoding = encoding })
     between_registered =
-        let RunWith : List S → List N → Type 0 = λ e a. SoftRun u root RefusesAnyway b.first done b.taken (chosen_of old) e a in
+        let RunWith : List S → List N → Type 0 = λ e a. SoftRun u root (FitsNowhere u root) b.first done b.taken (chosen_of old) e a in
         let RunFor : List S → Type 0 = λ e. RunWith e (notes_in encoding).asked in
         let SeedsWith : List N → List S → Type 0 = λ a e. AreSeeds u b.taken (chosen_of old) a (notes_in encoding).seen e in
         let SeedsFor : List N → Type 0 = λ a. SeedsWith a (notes_in encoding).exempt in
         let Exempt : List S → Type 0 = λ e. IsWithin e b.taken in
         record {
           first = b.first;
+          promise = b.promise;
           taken = b.taken;
           refused = b.refused;
           run = subst RunFor (sym exempt) (subst (RunWith (notes_of old).exempt) (sym adds.asked) b.run);
           read = adds.keeps root (chosen_of old) b.read;
           once = b.once;
           assumed = assumed_still (notes_of old).origins (notes_in encoding).origins (trail_of old.search) (trail_of old.search) b.taken b.refused adds.origins rounds.variables (λ v slot at reason. at) b.assumed;
+          left_out = λ t h. left_out_more (notes_of old).origins (notes_in encoding).origins (notes_of old).table (notes_in encoding).table (chosen_of old) (chosen_of old) t adds.origins adds.table (λ x k. k) (b.left_out t h);
           seeded = subst SeedsFor (sym adds.asked) (subst (SeedsWith (notes_of old).asked) (sym exempt) (record { seed_chosen = b.seeded.seed_chosen; seed_registered = λ t h. more t (b.seeded.seed_registered t h); seed_free = b.seeded.seed_free }));
           within = b.within;
           exempt = subst Exempt (sym exempt) b.exempt;
@@ -213,12 +220,14 @@ module _ {N S : Type 0} where
       let WithEncoding : Encoding N S → Type 0 = λ e. Between e old.chosen in
       subst WithChosen (sym same.chosen) (subst WithEncoding (sym same.encoding) (record {
         first = b.first;
+        promise = b.promise;
         taken = b.taken;
         refused = b.refused;
         run = b.run;
         read = b.read;
         once = b.once;
         assumed = assumed_still (notes_of old).origins (notes_of old).origins (trail_of old.search) (trail_of new.search) b.taken b.refused (Keeps-same (notes_of old).origins) known turn.assumed.was b.assumed;
+        left_out = b.left_out;
         seeded = b.seeded;
         within = b.within;
         exempt = b.exempt;
@@ -226,30 +235,43 @@ module _ {N S : Type 0} where
       }))
 
   -- one that is decided is skipped
-  pub skipped : (u : Universe N S) (eq : N → N → Bool) → IsIdentity eq → (root : Demands) (done : List S) (s : S) (v : ℕ) (slot : Slot) (r : Rounds N S) → AreDistinct (notes_of r).origins → variable_count (trail_of r.search) ≡ length (notes_of r).origins → IsStill r →
+  pub skipped : (u : Universe N S) → HasLawfulSolvables u → (eq : N → N → Bool) → IsIdentity eq → (root : Demands) (done : List S) (s : S) (v : ℕ) (slot : Slot) (r : Rounds N S) → AreRounds u r → variable_count (trail_of r.search) ≡ length (notes_of r).origins → IsStill r →
       slice_get (notes_of r).origins v ≡ Some (Solvable s) → slot_of (trail_of r.search) v ≡ Some slot → IsBetweenFor u root done (done ++ s ∷ []) r → IsBetween u root (done ++ s ∷ []) r
-  skipped u eq names root done s v slot r distinct size still origin at b =
+  skipped u lawful eq names root done s v slot r rounds size still origin at b =
+      let encoding = b.read.half.encoding in
+      let stays : (x : ℕ) (other : Slot) (n : ℕ) (t : S) → slot_of (trail_of r.search) x ≡ Some other → other.reason ≡ Decided n → other.level ≤ slot.level → other.value ≡ true → slice_get (notes_of r).origins x ≡ Some (Solvable t) → Contains (chosen_of r) t =
+      λ x other n t is reason low on stands. let Chosen : List S → Type 0 = λ list. Contains list t in
+      subst Chosen (sym still.chosen) (slot_chosen (notes_of r).origins (trail_of r.search) size x other t is (get_or_from_slice_get (notes_of r).origins x (Solvable t) Root stands) on)
+      in
+      let left : slot.value ≡ false → IsLeftOut (notes_of r).origins (notes_of r).table (chosen_of r) s = λ off. record {
+        variable = v;
+        stands = origin;
+        never = λ values holds are. trail_agrees u root (notes_of r) encoding r.search rounds.consistent rounds.loaded (chosen_of r) b.taken b.refused rounds.variables b.assumed b.left_out values holds are slot.level
+            (λ t h x is. are x t (b.seeded.seed_chosen t h) is) stays v slot at (omega arith) ∙ off;
+      } in
       let asks : IsAsked u root (chosen_of r) (done ++ s ∷ []) (notes_of r).asked = asked_for u root (chosen_of r) (done ++ s ∷ []) (notes_of r) b.read b.near in
-      let Run : Type 0 = SoftRun u root RefusesAnyway b.first (done ++ s ∷ []) b.taken (chosen_of r) (notes_of r).exempt (notes_of r).asked in
+      let Run : Type 0 = SoftRun u root (FitsNowhere u root) b.first (done ++ s ∷ []) b.taken (chosen_of r) (notes_of r).exempt (notes_of r).asked in
       let Has : List S → Type 0 = λ list. Contains list s in
       let run : Run = ⊎_elim
       (λ (on : slot.value ≡ true). chosen_before b.run (subst Has (sym still.chosen) (slot_chosen (notes_of r).origins (trail_of r.search) size v slot s at (get_or_from_slice_get (notes_of r).origins v (Solvable s) Root origin) on)) (λ n h. h) asks)
       (λ (off : slot.value ≡ false).
-      let never : Contains (chosen_of r) s → ⊥ = λ h. unchosen (notes_of r).origins (trail_of r.search) distinct size v s origin (λ other is on. false≢true (sym off ∙ ap (λ (q : Slot). q.value) (same_Some _ _ (sym at ∙ is)) ∙ on)) (subst Has still.chosen h) in
+      let never : Contains (chosen_of r) s → ⊥ = λ h. unchosen (notes_of r).origins (trail_of r.search) encoding.distinct size v s origin (λ other is on. false≢true (sym off ∙ ap (λ (q : Slot). q.value) (same_Some _ _ (sym at ∙ is)) ∙ on)) (subst Has still.chosen h) in
       ⊎_elim
-      (λ was. refused b.run never (asked_before was) tt (λ n h. h) asks)
-      (λ not. refused b.run never (not_asked not) tt (λ n h. h) asks)
+      (λ was. refused b.run never (asked_before was) (left_out_nowhere u root (notes_of r) encoding lawful (chosen_of r) (notes_of r).exempt s (spares_present u (notes_of r).asked (notes_of r).exempt (notes_of r).kinds encoding.due) (left off)) (λ n h. h) asks)
+      (λ not. refused b.run never (not_asked not) (left_out_nowhere u root (notes_of r) encoding lawful (chosen_of r) ((notes_of r).exempt ++ s ∷ []) s (spares_exempting u (notes_of r).asked (notes_of r).exempt s ((notes_of r).exempt ++ s ∷ []) (notes_of r).kinds encoding.due (not_asked not)) (left off)) (λ n h. h) asks)
       (in_or_not eq names (notes_of r).asked (u.name s)))
       (cases_Bool slot.value)
       in
       record {
         first = b.first;
+        promise = b.promise;
         taken = b.taken;
         refused = b.refused;
         run = run;
         read = b.read;
         once = b.once;
         assumed = b.assumed;
+        left_out = b.left_out;
         seeded = b.seeded;
         within = λ t h. earlier_in done s t (b.within t h);
         exempt = b.exempt;
@@ -392,6 +414,22 @@ module _ {N S : Type 0} where
       seen_rest : IsWithin (notes_of old).seen (notes_of rest).seen
       seen_rest t h = let Has : List S → Type 0 = λ list. Contains list t in goes.seen t (subst Has (sym same_seen) h)
 
+      table_rest : Extends (notes_of old).table (notes_of rest).table
+      table_rest = let From : List (Vec Literal Global) → Type 0 = λ table. Extends table (notes_of rest).table in subst From (ap (λ (n : Notes N S). n.table) only) goes.table
+
+      -- the assumption
+      abbrev assumption : Slot
+      assumption = record { value = true; level = level_of t0 + 1; place = n0; reason = Assumed }
+
+      made_rest : slot_of t2 v ≡ Some assumption
+      made_rest = places.slots v assumption gains.here (omega (arith, held, gains.count))
+
+      rest_assumed : AreAssumed o2 taken_now b.refused t2
+      rest_assumed = assumed_still (notes_in encoding).origins o2 (trail_of search) t2 taken_now b.refused goes.origins begun_known goes.turn.assumed.was begun_assumed
+
+      left_rest : (larger : List S) → IsWithin (chosen_of old) larger → (t : S) → Contains b.refused t → IsLeftOut o2 (notes_of rest).table larger t
+      left_rest larger within t h = left_out_more (notes_of old).origins o2 (notes_of old).table (notes_of rest).table (chosen_of old) larger t keeps_rest table_rest within (b.left_out t h)
+
       -- it was accepted
       module _ (answering : IsAnswering u rest) where
         stays_chosen : IsWithin (chosen_of old) (chosen_of rest)
@@ -401,10 +439,8 @@ module _ {N S : Type 0} where
 
         now_chosen : Contains (chosen_of rest) s
         now_chosen =
-            let made : Slot = record { value = true; level = level_of t0 + 1; place = n0; reason = Assumed } in
-            let at : slot_of t2 v ≡ Some made = places.slots v made gains.here (omega (arith, held, gains.count)) in
             let Has : List S → Type 0 = λ list. Contains list s in
-            subst Has (sym answering.chosen) (slot_chosen o2 t2 answering.variables v made s at origin_rest refl)
+            subst Has (sym answering.chosen) (slot_chosen o2 t2 answering.variables v assumption s made_rest origin_rest refl)
 
         rest_exempts : Exempts u (notes_of old).asked (notes_of old).exempt s (notes_of rest).exempt
         rest_exempts = let Made : List S → Type 0 = λ e. Exempts u (notes_of old).asked (notes_of old).exempt s e in subst Made (sym goes.exempt) made_exempt
@@ -433,16 +469,17 @@ module _ {N S : Type 0} where
 
         pub between_accepted : IsBetween u root (done ++ s ∷ []) rest
         between_accepted =
-            let now_assumed : AreAssumed o2 taken_now b.refused t2 = assumed_still (notes_in encoding).origins o2 (trail_of search) t2 taken_now b.refused goes.origins begun_known goes.turn.assumed.was begun_assumed in
-            let answer = answering.answer root taken_now b.refused rest_read now_assumed now_seeded in
+            let answer = answering.answer root taken_now b.refused rest_read rest_assumed now_seeded in
             record {
               first = b.first;
+              promise = b.promise;
               taken = taken_now;
               refused = b.refused;
               run = accepted b.run not_chosen rest_exempts stays_chosen now_chosen answer.valid answer.reached asked_rest (asked_for u root (chosen_of rest) (done ++ s ∷ []) (notes_of rest) rest_read rest_near);
               read = rest_read;
               once = answering.once;
-              assumed = now_assumed;
+              assumed = rest_assumed;
+              left_out = left_rest (chosen_of rest) stays_chosen;
               seeded = now_seeded;
               within = within_now;
               exempt = few_exempt (notes_of rest).exempt rest_exempts;
@@ -450,7 +487,7 @@ module _ {N S : Type 0} where
             }
 
       -- it was refused
-      module _ (count : ℕ) (counted : count ≡ length (notes_of old).exempt) (rounds : AreRounds u rest) (after : Rounds N S) (refusing : IsRefusing u v count rest after) (quiet : IsStill after) where
+      module _ (lawful : HasLawfulSolvables u) (base : base_of search ≡ level_of t0 + 1) (unanswered : IsUnanswered rest) (count : ℕ) (counted : count ≡ length (notes_of old).exempt) (rounds : AreRounds u rest) (after : Rounds N S) (refusing : IsRefusing u v count rest after) (quiet : IsStill after) where
         abbrev t3 : Trail
         t3 = trail_of after.search
 
@@ -546,25 +583,81 @@ module _ {N S : Type 0} where
             let Asked : List N → Type 0 = λ list. (n : N) → Contains list n → IsNamed u root (IsNear u root (done ++ s ∷ [])) n in
             record { seen = subst Read (sym refusing.ended.seen) rest_near.seen; read = subst Read (sym refusing.ended.read) rest_near.read; asked = subst Asked (sym refusing.ended.asked) rest_near.asked }
 
+        -- what was decided at the levels up to the assumption's was chosen before
+        decided_before : (x : ℕ) (slot : Slot) (n : ℕ) → slot_of t2 x ≡ Some slot → slot.reason ≡ Decided n → slot.level ≤ base_of rest.search → slot.place < n0
+        decided_before x slot n at reason low = ⊎_elim
+            (λ (after_it : n0 < slot.place).
+            let above : level_of t0 + 1 < slot.level = (t2.rising v x assumption slot made_rest at after_it).1 (ap is_decided reason) in
+            omega (arith, above, low, goes.turn.base, base))
+            (λ (not_after : slot.place ≤ n0). ⊎_elim
+            (λ (here : slot.place ≡ n0).
+            let named : x ≡ v = sym (t2.listed x slot at).1 ∙ ap (variable_at t2) here ∙ (t2.listed v assumption made_rest).1 in
+            let same : slot ≡ assumption = same_Some _ _ (sym at ∙ ap (slot_of t2) named ∙ made_rest) in
+            absurd (decided-assumed n (sym reason ∙ ap (λ (q : Slot). q.reason) same)))
+            (λ (other : slot.place ≢ n0). omega (arith, not_after, other))
+            (cases_eq slot.place n0))
+            (cases_lt n0 slot.place)
+
+        decided_chosen : (x : ℕ) (slot : Slot) (n : ℕ) (t : S) → slot_of t2 x ≡ Some slot → slot.reason ≡ Decided n → slot.level ≤ base_of rest.search → slot.value ≡ true → slice_get o2 x ≡ Some (Solvable t) → Contains (chosen_of old) t
+        decided_chosen x slot n t at reason low on stands =
+            let was : slot_of t0 x ≡ Some slot = keeps-back t0 t2 n0 x slot first_rest at (decided_before x slot n at reason low) in
+            let inside : x < variable_count t0 = slot-within _ x slot.place (ap (option_map (λ (q : Slot). q.place)) was) in
+            let origin_before : origin_at o2 x ≡ origin_at (notes_of old).origins x = same_origin (notes_of old).origins o2 t0 t0 0 keeps_rest (omega (arith, known)) (keeps_itself t0 0 (omega arith)) x (omega (arith, inside, known)) in
+            let Chosen : List S → Type 0 = λ list. Contains list t in
+            subst Chosen (sym still.chosen) (slot_chosen (notes_of old).origins t0 known x slot t was (sym origin_before ∙ get_or_from_slice_get o2 x (Solvable t) Root stands) on)
+
+        out_rest : IsLeftOut o2 (notes_of rest).table (chosen_of old) s
+        out_rest =
+            let encoding_rest = rest_read.half.encoding in
+            let stands_rest : slice_get o2 v ≡ Some (Solvable s) = keeps_rest.kept v (Solvable s) origin in
+            record {
+              variable = v;
+              stands = stands_rest;
+              never = λ values holds are. ⊎_elim
+                  (λ (on : values v ≡ true).
+                  let seeds_true : (t : S) → Contains taken_now t → (x : ℕ) → slice_get o2 x ≡ Some (Solvable t) → values x ≡ true = λ t h x is. ⊎_elim
+                  (λ was. are x t (b.seeded.seed_chosen t was) is)
+                  (λ e. let Stands : S → Type 0 = λ y. slice_get o2 v ≡ Some (Solvable y) in ap values (encoding_rest.distinct.same x v (Solvable t) is (subst Stands e stands_rest)) ∙ on)
+                  (pushed_cases b.taken s t h)
+                  in
+                  absurd (unanswered.none values holds (trail_agrees u root (notes_of rest) encoding_rest rest.search rounds.consistent rounds.loaded (chosen_of old) taken_now b.refused rounds.variables rest_assumed (left_rest (chosen_of old) (λ t h. h)) values holds are (base_of rest.search) seeds_true decided_chosen)))
+                  (λ (off : values v ≡ false). off)
+                  (cases_Bool (values v));
+            }
+
+        fits_nowhere : FitsNowhere u root (chosen_of old) (notes_in encoding).exempt s
+        fits_nowhere =
+            let Spared : List S → Type 0 = λ e. Spares u e (notes_of rest).kinds in
+            left_out_nowhere u root (notes_of rest) rest_read.half.encoding lawful (chosen_of old) (notes_in encoding).exempt s
+            (subst Spared goes.exempt (spares_present u (notes_of rest).asked (notes_of rest).exempt (notes_of rest).kinds rest_read.half.encoding.due)) out_rest
+
+        left_after : (t : S) → Contains (b.refused ++ s ∷ []) t → IsLeftOut o3 (notes_of after).table (chosen_of old) t
+        left_after t h =
+            let Left : S → Type 0 = λ x. IsLeftOut o2 (notes_of rest).table (chosen_of old) x in
+            left_out_more o2 o3 (notes_of rest).table (notes_of after).table (chosen_of old) (chosen_of old) t refusing.ended.origins refusing.ended.table (λ x k. k)
+            (⊎_elim (λ was. left_rest (chosen_of old) (λ x k. k) t was) (λ e. subst Left e out_rest) (pushed_cases b.refused s t h))
+
         pub between_refused : IsBetween u root (done ++ s ∷ []) after
         between_refused =
             let read_after : IsReadSoFar u root (chosen_of old) (notes_of after) = so_far_less u root (chosen_of old) (chosen_of rest) (notes_of after) old_within (refusing.ended.stays.so_far root (chosen_of rest) rest_read) in
             let Read : List S → Type 0 = λ list. IsReadSoFar u root list (notes_of after) in
-            let Run : List S → List S → Type 0 = λ c e. SoftRun u root RefusesAnyway b.first (done ++ s ∷ []) b.taken c e (notes_of after).asked in
+            let Run : List S → List S → Type 0 = λ c e. SoftRun u root (FitsNowhere u root) b.first (done ++ s ∷ []) b.taken c e (notes_of after).asked in
             let RunFor : List S → Type 0 = λ c. Run c (notes_of after).exempt in
             let Seeded : List S → List S → Type 0 = λ c e. AreSeeds u b.taken c (notes_of after).asked (notes_of after).seen e in
             let SeededFor : List S → Type 0 = λ c. Seeded c (notes_of after).exempt in
             let Once : List S → Type 0 = λ list. HasNoRepeats list in
             let Exempt : List S → Type 0 = λ e. IsWithin e b.taken in
-            let Has : List S → S → Type 0 = λ list t. Contains list t in
+            let Left : List S → Type 0 = λ list. (t : S) → Contains (b.refused ++ s ∷ []) t → IsLeftOut o3 (notes_of after).table list t in
             record {
               first = b.first;
+              promise = b.promise;
               taken = b.taken;
               refused = b.refused ++ s ∷ [];
-              run = subst RunFor (sym same_chosen) (subst (Run (chosen_of old)) (sym exempt_after) (refused b.run not_chosen made_exempt tt asked_after (asked_for u root (chosen_of old) (done ++ s ∷ []) (notes_of after) read_after near_same)));
+              run = subst RunFor (sym same_chosen) (subst (Run (chosen_of old)) (sym exempt_after) (refused b.run not_chosen made_exempt fits_nowhere asked_after (asked_for u root (chosen_of old) (done ++ s ∷ []) (notes_of after) read_after near_same)));
               read = subst Read (sym same_chosen) read_after;
               once = subst Once (sym same_chosen) b.once;
               assumed = after_assumed;
+              left_out = subst Left (sym same_chosen) left_after;
               seeded = subst SeededFor (sym same_chosen) (subst (Seeded (chosen_of old)) (sym exempt_after) (record {
                 seed_chosen = b.seeded.seed_chosen;
                 seed_registered = λ t h. let Seen : List S → Type 0 = λ list. Contains list t in subst Seen (sym refusing.ended.seen) (seen_rest t (b.seeded.seed_registered t h));
@@ -626,12 +719,14 @@ module _ {N S : Type 0} where
         let Assuming : Trail → Type 0 = λ t. AreAssumed (notes_of old).origins b.taken b.refused t in
         record {
           first = b.first;
+          promise = b.promise;
           taken = b.taken;
           refused = b.refused;
           run = b.run;
           read = b.read;
           once = b.once;
           assumed = subst Assuming (sym trail) b.assumed;
+          left_out = b.left_out;
           seeded = b.seeded;
           within = b.within;
           exempt = b.exempt;
@@ -656,16 +751,18 @@ between_begun {N} {S} u root old rest read near exempt turn goes answering =
     let answer = answering.answer root [] [] now none seeded in
     let free : (notes_of rest).exempt ≡ [] = goes.exempt ∙ exempt in
     let Valid : List S → Type 0 = λ e. IsValid u root (chosen_of rest) e in
-    let Run : List S → Type 0 = λ e. SoftRun u root RefusesAnyway (chosen_of rest) [] [] (chosen_of rest) e (notes_of rest).asked in
+    let Run : List S → Type 0 = λ e. SoftRun u root (FitsNowhere u root) (chosen_of rest) [] [] (chosen_of rest) e (notes_of rest).asked in
     let Within : List S → Type 0 = λ e. IsWithin e [] in
     record {
       first = chosen_of rest;
+      promise = answering.promise root now none;
       taken = [];
       refused = [];
       run = subst Run (sym free) (start (subst Valid free answer.valid) answer.reached (asked_for u root (chosen_of rest) [] (notes_of rest) now close));
       read = now;
       once = answering.once;
       assumed = none;
+      left_out = λ s h. absurd (none_in s h);
       seeded = seeded;
       within = λ s h. h;
       exempt = subst Within (sym free) (λ s h. h);

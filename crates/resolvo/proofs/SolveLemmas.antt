@@ -23,7 +23,6 @@ use Rattle.resolver_report.specs.Rules.{IsRefuted}
 use Rattle.resolver_report.specs.TrueRules.{IsTrueRule}
 use Rattle.resolver_report.specs.declared.Rule.{Rule}
 use Rattle.resolver_report.proofs.ReachedRuleLemmas.{All-left}
-use Rattle.resolvo.specs.Answers.{IsPlainAnswer}
 use Rattle.resolvo.specs.Explanations.{Explains}
 use Rattle.resolvo.specs.declared.clause_search.ClauseSearch.{ClauseSearch}
 use Rattle.resolvo.specs.ClauseSearches.{IsConsistent, IsLoaded, clause_count_of, learnt_count_of}

@@ -23,14 +23,20 @@ use Rattle.resolvo.specs.declared.clause_search.ClauseSearch.{ClauseSearch}
 use Rattle.resolvo.specs.declared.contradiction.Source.{Source}
 use Rattle.resolvo.specs.ClauseSearches.{AssumesNone, IsConsistent, IsLoaded, IsRefused, IsRootTurn, IsTurn, KeepsFirst, KeepsTurn}
 use Rattle.resolvo.specs.Derivations.{AreGiven, IsDerived}
+use Rattle.resolvo.specs.Propagators.{IsPropagator}
+use Rattle.resolvo.specs.declared.propagator.Propagator.{Propagator}
 use Rattle.resolvo.specs.Propagation.{AreChosen, Extends, IsJustified}
 use Rattle.resolvo.specs.Resolvents.{IsAsserting, IsFalseAt, IsLearnt, level_in}
+use Rattle.resolvo.proofs.PropagatorLemmas.{propagator-gains}
 use Rattle.resolvo.proofs.ClauseSearchLemmas.{implied}
 use Rattle.resolvo.proofs.JustifiedLemmas.{chosen-kept, justified-decides}
 use Rattle.resolvo.proofs.LevelLemmas.{level-in}
+use Rattle.resolvo.specs.declared.queue.DecideQueue.{DecideQueue}
+use Rattle.resolvo.specs.Queues.{IsQueued}
+use Rattle.resolvo.proofs.QueueLemmas.{queued-left, queued-longer}
 
 -- a slot at a place that is kept was there
-keeps-back : (old new : Trail) (count variable : ℕ) (slot : Slot) → KeepsPlaces old new count → slot_of new variable ≡ Some slot → slot.place < count → slot_of old variable ≡ Some slot
+pub keeps-back : (old new : Trail) (count variable : ℕ) (slot : Slot) → KeepsPlaces old new count → slot_of new variable ≡ Some slot → slot.place < count → slot_of old variable ≡ Some slot
 keeps-back old new count variable slot keeps at below =
     let s = slot_at old slot.place (omega (arith, below, keeps.were)) in
     let named : variable_at old slot.place ≡ variable = sym (keeps.variables slot.place below) ∙ (new.listed variable slot at).1 in
@@ -167,7 +173,9 @@ consistent-assumed it trail literal level base held holds gains free marked top 
   places = holds.places;
   count = holds.count;
   kept = omega (arith, holds.kept, gains.count);
+  propagator = propagator-gains it.table.items it.trail trail it.propagator literal level Assumed gains free holds.propagator;
   turn = turn-whole trail base held it.kept top bound whole (omega (arith, whole, marked, gains.count));
+  queued = queued-longer it.queue it.trail trail it.table.items it.requirements.items (keeps_all it.trail trail (keeps-gains it.trail trail literal level _ gains free)) holds.queued;
 }
 
 pub consistent-marked : (it : ClauseSearch) (kept : ℕ) → kept ≡ length_of it.trail → IsConsistent it → IsConsistent (record it { kept = kept })
@@ -180,7 +188,9 @@ consistent-marked it kept whole holds = record {
   places = holds.places;
   count = holds.count;
   kept = omega (arith, whole);
+  propagator = holds.propagator;
   turn = record { inside = holds.turn.inside; low = holds.turn.low; some = holds.turn.some; marked = omega (arith, holds.turn.inside, whole) };
+  queued = holds.queued;
 }
 
 pub consistent-held : (it : ClauseSearch) (base held : ℕ) → it.kept ≡ length_of it.trail → IsTop it.trail base → base ≤ length_of it.trail → held ≡ length_of it.trail → IsConsistent it → IsConsistent (record it { base = base; held = held })
@@ -193,7 +203,9 @@ consistent-held it base held marked top bound whole holds = record {
   places = holds.places;
   count = holds.count;
   kept = holds.kept;
+  propagator = holds.propagator;
   turn = turn-whole it.trail base held it.kept top bound whole (omega (arith, whole, marked));
+  queued = holds.queued;
 }
 
 -- a trail of which the first places are left
@@ -227,8 +239,10 @@ chosen-cut table requirements old new count chosen cut = record {
       };
 }
 
-pub consistent-cut : (it : ClauseSearch) (trail : Trail) (count kept base : ℕ) → IsConsistent it → IsCut it.trail trail count → count + 1 ≡ it.held → kept ≡ min it.kept count → IsTop trail base → base ≤ length_of trail → IsConsistent (record it { trail = trail; kept = kept; base = base; held = count })
-consistent-cut it trail count kept base holds cut last is top bound = record {
+pub consistent-cut : (it : ClauseSearch) (trail : Trail) (propagator : Propagator) (queue : DecideQueue) (count kept base : ℕ) → IsConsistent it → IsCut it.trail trail count → count + 1 ≡ it.held → kept ≡ min it.kept count → IsTop trail base → base ≤ length_of trail → IsPropagator it.table.items trail propagator →
+    ((before after : Trail) (clauses : List (Vec Literal Global)) (wanted : List RequirementClause) → KeepsPlaces before after (min it.queue.kept count) → IsQueued it.queue before clauses wanted → IsQueued queue after clauses wanted) →
+    IsConsistent (record it { trail = trail; propagator = propagator; queue = queue; kept = kept; base = base; held = count })
+consistent-cut it trail propagator queue count kept base holds cut last is top bound propagates noted = record {
   below = λ n k d b. omega (arith, holds.below n k d b, cut.size);
   derived = holds.derived;
   justified = justified-cut it.table.items it.trail trail count holds.justified cut;
@@ -237,7 +251,9 @@ consistent-cut it trail count kept base holds cut last is top bound = record {
   places = holds.places;
   count = holds.count;
   kept = omega (arith, is, cut.length);
+  propagator = propagates;
   turn = turn-whole trail base count kept top bound (sym cut.length) (omega (arith, is, last, holds.turn.marked));
+  queued = queued-left it.queue queue it.trail trail it.table.items it.requirements.items count count noted (keeps_places it.trail trail count (omega (arith, last, holds.turn.inside)) (λ v s at below. cut.kept v s at below)) refl holds.queued;
 }
 
 pub cut-free : (old new : Trail) (count : ℕ) → IsCut old new count → count < length_of old → slot_of new (variable_at old count) ≡ None
@@ -252,18 +268,18 @@ first-cut old new kept count left cut within is =
     subst Left (sym is) (λ base k. keeps_trans base old new kept count k (keeps_places old new count within (λ v s at below. cut.kept v s at below)))
 
 -- what is loaded does not depend on the turn
-pub loaded-turn : (it : ClauseSearch) (trail : Trail) (kept base held : ℕ) (given : List (Vec Literal Global)) (numbers : List ℕ) → IsLoaded given numbers it → IsLoaded given numbers (record it { trail = trail; kept = kept; base = base; held = held })
-loaded-turn it trail kept base held given numbers loaded = record { clauses = loaded.clauses; requirements = loaded.requirements; inside = loaded.inside }
+pub loaded-turn : (it : ClauseSearch) (trail : Trail) (propagator : Propagator) (queue : DecideQueue) (kept base held : ℕ) (given : List (Vec Literal Global)) (numbers : List ℕ) → IsLoaded given numbers it → IsLoaded given numbers (record it { trail = trail; propagator = propagator; queue = queue; kept = kept; base = base; held = held })
+loaded-turn it trail propagator queue kept base held given numbers loaded = record { clauses = loaded.clauses; requirements = loaded.requirements; inside = loaded.inside }
 
 -- more variables, and a descent
-pub turn-grown : (it : ClauseSearch) (trail : Trail) (variables : ℕ) → IsConsistent it → IsGrown it.trail trail variables → KeepsTurn it (record it { trail = trail })
-turn-grown it trail variables holds grown = keeps-turn it (record it { trail = trail }) refl refl (none-grown it.trail trail variables grown) (keeps-fewer it.trail trail (length_of it.trail) it.held (keeps_grown it.trail trail variables grown) holds.turn.inside)
+pub turn-grown : (it : ClauseSearch) (trail : Trail) (propagator : Propagator) (queue : DecideQueue) (variables : ℕ) → IsConsistent it → IsGrown it.trail trail variables → KeepsTurn it (record it { trail = trail; propagator = propagator; queue = queue })
+turn-grown it trail propagator queue variables holds grown = keeps-turn it (record it { trail = trail; propagator = propagator; queue = queue }) refl refl (none-grown it.trail trail variables grown) (keeps-fewer it.trail trail (length_of it.trail) it.held (keeps_grown it.trail trail variables grown) holds.turn.inside)
 
-pub turn-descended : (it : ClauseSearch) (trail : Trail) → IsConsistent it → AssumesNone it.trail trail → KeepsPlaces it.trail trail (length_of it.trail) → KeepsTurn it (record it { trail = trail })
-turn-descended it trail holds assumed keeps = keeps-turn it (record it { trail = trail }) refl refl assumed (keeps-fewer it.trail trail (length_of it.trail) it.held keeps holds.turn.inside)
+pub turn-descended : (it : ClauseSearch) (trail : Trail) (propagator : Propagator) (queue : DecideQueue) → IsConsistent it → AssumesNone it.trail trail → KeepsPlaces it.trail trail (length_of it.trail) → KeepsTurn it (record it { trail = trail; propagator = propagator; queue = queue })
+turn-descended it trail propagator queue holds assumed keeps = keeps-turn it (record it { trail = trail; propagator = propagator; queue = queue }) refl refl assumed (keeps-fewer it.trail trail (length_of it.trail) it.held keeps holds.turn.inside)
 
-pub consistent-descended : (it : ClauseSearch) (trail : Trail) → IsConsistent it → variable_count trail ≡ variable_count it.trail → IsJustified it.table.items trail → AreChosen it.table.items it.requirements.items trail → KeepsPlaces it.trail trail (length_of it.trail) → IsConsistent (record it { trail = trail })
-consistent-descended it trail holds size justified chosen keeps = record {
+pub consistent-descended : (it : ClauseSearch) (trail : Trail) (propagator : Propagator) (queue : DecideQueue) → IsConsistent it → variable_count trail ≡ variable_count it.trail → IsJustified it.table.items trail → AreChosen it.table.items it.requirements.items trail → KeepsPlaces it.trail trail (length_of it.trail) → IsPropagator it.table.items trail propagator → IsQueued queue trail it.table.items it.requirements.items → IsConsistent (record it { trail = trail; propagator = propagator; queue = queue })
+consistent-descended it trail propagator queue holds size justified chosen keeps propagates queued = record {
   below = λ n k d b. omega (arith, holds.below n k d b, size);
   derived = holds.derived;
   justified = justified;
@@ -272,7 +288,9 @@ consistent-descended it trail holds size justified chosen keeps = record {
   places = holds.places;
   count = holds.count;
   kept = omega (arith, holds.kept, keeps.are);
+  propagator = propagates;
   turn = turn-kept it.trail trail it.base it.held it.kept it.kept holds.turn (keeps-fewer it.trail trail (length_of it.trail) it.held keeps holds.turn.inside) holds.turn.marked;
+  queued = queued;
 }
 
 -- a learnt clause is implied by the given ones

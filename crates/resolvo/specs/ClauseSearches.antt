@@ -14,8 +14,10 @@ use Rattle.resolvo.specs.declared.clause_search.Outcome.{Outcome}
 use Rattle.resolvo.specs.declared.clause_search.Outcome.TheVariants.{Finished, Contradiction, Refused}
 use Rattle.resolvo.specs.declared.contradiction.Source.{Source}
 use Rattle.resolvo.specs.Propagation.{AreChosen, IsJustified}
+use Rattle.resolvo.specs.Propagators.{IsPropagator}
 use Rattle.resolvo.specs.Derivations.{AreGiven, IsDerived, given_at}
 use Rattle.resolvo.specs.Resolvents.{IsFalseAt}
+use Rattle.resolvo.specs.Queues.{IsQueued}
 
 -- the values that it has found
 abbrev pub trail_of : ClauseSearch → Trail
@@ -80,7 +82,9 @@ pub record IsConsistent (it : ClauseSearch) : Type 0 where
   pub places : All (λ place. place < length it.table.items) it.places.items
   pub count : it.learnt + length it.places.items ≡ length it.table.items
   pub kept : it.kept ≤ length_of it.trail
+  pub propagator : IsPropagator it.table.items it.trail it.propagator
   pub turn : IsTurn it.trail it.base it.held it.kept
+  pub queued : IsQueued it.queue it.trail it.table.items it.requirements.items
 
 -- the clauses that were there stay
 pub record Grows (old new : List (Vec Literal Global)) : Type 0 where

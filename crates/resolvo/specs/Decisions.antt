@@ -1,5 +1,5 @@
 -- The requirement that is decided next.
-use Rattle.std.specs.Prelude.{◌≡◌, ℕ, ◌<◌, ◌⊎◌, true, false, Option, Some, None, List, length, Vec, Contains, slice_index_or}
+use Rattle.std.specs.Prelude.{◌≡◌, ◌≢◌, ℕ, ◌<◌, ◌⊎◌, true, false, Option, Some, None, List, length, Vec, Contains, slice_index_or}
 use Rattle.std.specs.declared.alloc.Global.{Global}
 use Rattle.resolver_clause_store.specs.declared.Literal.{Literal}
 use Rattle.resolver_clause_store.specs.declared.RequirementClause.{RequirementClause}
@@ -8,6 +8,8 @@ use Rattle.resolver_clause_store.specs.Formula.{clause_at}
 use Rattle.resolver_clause_store.specs.TrailView.{literal_value}
 use Rattle.resolver_clause_store.specs.Outcomes.{IsMet}
 use Rattle.resolvo.specs.declared.decide.Choice.{Choice}
+use Rattle.resolvo.specs.declared.standing.Standing.{Standing}
+use Rattle.resolvo.specs.declared.standing.Standing.TheVariants.{Waiting, Met, Open}
 
 -- the literal at this place of the clause is positive and has no value, and those before it are false
 pub record IsFirst (trail : Trail) (clause : List Literal) (place : ℕ) : Type 0 where
@@ -33,3 +35,9 @@ pub record IsChoice (trail : Trail) (table : List (Vec Literal Global)) (require
   pub requirement : RequirementClause
   pub listed : Contains requirements requirement
   pub chosen : IsChoiceOf trail table requirement choice
+
+-- how a requirement stands under a trail
+abbrev pub StandingIs : Trail → List Literal → Standing → Type 0
+StandingIs trail clause (Waiting variable) = Contains clause (record { variable = variable; positive = false }) × (literal_value trail (record { variable = variable; positive = false }) ≢ Some false)
+StandingIs trail clause (Met variable) = Contains clause (record { variable = variable; positive = true }) × (literal_value trail (record { variable = variable; positive = true }) ≡ Some true)
+StandingIs trail clause (Open place) = IsFirst trail clause place

@@ -26,6 +26,15 @@ pub record MarksAlso (old new : List Bool) (clause : List Literal) : Type 0 wher
   pub all : All (λ (literal : Literal). is_marked new literal.variable ≡ true) clause
   pub only : (variable : ℕ) → is_marked old variable ≡ false → All (λ (literal : Literal). literal.variable ≢ variable) clause → is_marked new variable ≡ false
 
+-- each marked variable is listed, and each listed number is one of a variable
+pub record ListsMarks (marks : List Bool) (marked : List ℕ) : Type 0 where
+  pub within : All (λ variable. variable < length marks) marked
+  pub all : (variable : ℕ) → is_marked marks variable ≡ true → Contains marked variable
+
+-- nothing is marked
+abbrev pub IsUnmarked : List Bool → Type 0
+IsUnmarked marks = (variable : ℕ) → is_marked marks variable ≡ false
+
 -- the values are those of the trail at the marked variables
 abbrev pub AgreesOn : (ℕ → Bool) → Trail → List Bool → Type 0
 AgreesOn values trail marks =
@@ -48,6 +57,7 @@ pub record AreDrawn (table : List (Vec Literal Global)) (trail : Trail) (marks :
 -- the marks contradict the causes, which are clauses of the table
 pub record IsResolvent (table : List (Vec Literal Global)) (trail : Trail) (resolvent : Resolvent) : Type 0 where
   pub size : length resolvent.marks.items ≡ variable_count trail
+  pub listed : ListsMarks resolvent.marks.items resolvent.marked.items
   pub within : All (λ number. number < length table) resolvent.causes.items
   pub refutes : Refutes table trail resolvent.marks.items resolvent.causes.items
   pub drawn : AreDrawn table trail resolvent.marks.items resolvent.causes.items
@@ -104,6 +114,13 @@ pub record Negates (trail : Trail) (marks : List Bool) (literals : List Literal)
   pub falsified : IsFalsified trail literals
   pub only : All (λ (literal : Literal). is_marked marks literal.variable ≡ true) literals
   pub each : (variable : ℕ) (slot : Slot) → is_marked marks variable ≡ true → slot_of trail variable ≡ Some slot → Contains literals (record { variable = variable; positive = not slot.value })
+
+-- the literal of the variable that is false is put behind the others, where the variable is marked and has a value
+pub record AddsNegation (trail : Trail) (marks : List Bool) (variable : ℕ) (old new : List Literal) : Type 0 where
+  pub kept : (literal : Literal) → Contains old literal → Contains new literal
+  pub falsified : IsFalsified trail old → IsFalsified trail new
+  pub only : All (λ (literal : Literal). is_marked marks literal.variable ≡ true) old → All (λ (literal : Literal). is_marked marks literal.variable ≡ true) new
+  pub added : (slot : Slot) → is_marked marks variable ≡ true → slot_of trail variable ≡ Some slot → Contains new (record { variable = variable; positive = not slot.value })
 
 -- the literal is false, and is so at this level or a lower one
 pub record IsFalseAt (trail : Trail) (level : ℕ) (literal : Literal) : Type 0 where

@@ -1,17 +1,21 @@
 -- Rounds of searching and reading.
-use Rattle.std.specs.Prelude.{◌≡◌, ℕ, ◌+◌, ◌-◌, ◌<◌, ◌≤◌, ◌⊎◌, true, false, List, [], ◌∷◌, ◌++◌, Contains, None, Vec, length, take}
+use Rattle.std.specs.Prelude.{◌≡◌, ℕ, ◌+◌, ◌-◌, ◌<◌, ◌≤◌, ◌⊎◌, Bool, Some, true, false, List, [], ◌∷◌, ◌++◌, Contains, None, Vec, length, take}
 use Rattle.std.specs.declared.alloc.Global.{Global}
+use Rattle.resolver_clause_store.specs.FirstChoice.{TakesFirstChoices}
 use Rattle.resolver_clause_store.specs.Outcomes.{IsCore}
+use Rattle.resolver_clause_store.specs.Formula.{Satisfies}
 use Rattle.resolver_clause_store.specs.Lists.{HasNoRepeats, IsWithin}
-use Rattle.resolver_clause_store.specs.SoftRun.{SoftRun}
+use Rattle.resolver_clause_store.specs.SoftRun.{FitsNowhere, SoftRun}
 use Rattle.resolver_clause_store.specs.Variables.{Keeps}
 use Rattle.resolver_clause_store.specs.TrailView.{Gains, IsCut, KeepsPlaces, length_of, level_of, slot_of, variable_at, variable_count}
 use Rattle.resolver_clause_store.specs.Universe.{Universe, Demands}
 use Rattle.resolver_clause_store.specs.declared.Literal.{Literal}
 use Rattle.resolver_clause_store.specs.declared.Origin.{Origin}
 use Rattle.resolver_clause_store.specs.declared.Reason.TheVariants.{Assumed}
+use Rattle.resolver_clause_store.specs.declared.Slot.{Slot}
 use Rattle.resolver_clause_store.specs.declared.Trail.{Trail}
 use Rattle.resolver_encoding.specs.Encodings.{Extends, IsFull, IsUnread, KeepsLimits, Notes}
+use Rattle.resolver_encoding.specs.LeftOut.{IsLeftOut}
 use Rattle.resolver_encoding.specs.Notes.{IsBounded, notes_in}
 use Rattle.resolver_encoding.specs.SoFar.{IsReading, IsReadSoFar, left_count}
 use Rattle.resolver_encoding.specs.Reach.{AreNear}
@@ -20,7 +24,6 @@ use Rattle.resolver_encoding.specs.TrailAtoms.{IsAnswerBy}
 use Rattle.resolver_encoding.specs.Turns.{IsTurnEnd}
 use Rattle.resolver_encoding.specs.Trails.{AreAssumed, Follows, chosen_in, solvables_before}
 use Rattle.resolver_encoding.specs.declared.chosen.Chosen.{Chosen}
-use Rattle.resolvo.specs.Answers.{RefusesAnyway}
 use Rattle.resolvo.specs.ClauseSearches.{IsConsistent, IsLoaded, IsRefused, IsRootTurn, KeepsTurn, base_of, held_of, clause_count_of, kept_of, learnt_count_of, trail_of}
 use Rattle.resolvo.specs.declared.clause_search.ClauseSearch.{ClauseSearch}
 use Rattle.resolvo.specs.declared.rounds.Found.{Found}
@@ -117,6 +120,7 @@ module _ {N S : Type 0} where
     pub read : KeepsRead u old new
     pub near : KeepsNear u old new
     pub origins : Keeps (notes_of old).origins (notes_of new).origins
+    pub table : Extends (notes_of old).table (notes_of new).table
     pub exempt : (notes_of new).exempt ≡ (notes_of old).exempt
     pub asked : IsWithin (notes_of old).asked (notes_of new).asked
     pub seen : IsWithin (notes_of old).seen (notes_of new).seen
@@ -131,12 +135,14 @@ module _ {N S : Type 0} where
   -- The turns of the soft requirements `done` are over. What was registered, read and asked for is near the seeds.
   pub record IsBetweenFor (u : Universe N S) (root : Demands) (done seeds : List S) (r : Rounds N S) : Type 0 where
     pub first : List S
+    pub promise : TakesFirstChoices u root first
     pub taken : List S
     pub refused : List S
-    pub run : SoftRun u root RefusesAnyway first done taken (chosen_of r) (notes_of r).exempt (notes_of r).asked
+    pub run : SoftRun u root (FitsNowhere u root) first done taken (chosen_of r) (notes_of r).exempt (notes_of r).asked
     pub read : IsReadSoFar u root (chosen_of r) (notes_of r)
     pub once : HasNoRepeats (chosen_of r)
     pub assumed : AreAssumed (notes_of r).origins taken refused (trail_of r.search)
+    pub left_out : (s : S) → Contains refused s → IsLeftOut (notes_of r).origins (notes_of r).table (chosen_of r) s
     pub seeded : AreSeeds u taken (chosen_of r) (notes_of r).asked (notes_of r).seen (notes_of r).exempt
     pub within : IsWithin taken done
     pub exempt : IsWithin (notes_of r).exempt taken
@@ -183,7 +189,8 @@ module _ {N S : Type 0} where
   abbrev pub HasAllClauses : Rounds N S → Type 0
   HasAllClauses r = clause_count_of r.search ≡ length (notes_of r).kinds + learnt_count_of r.search
 
-  -- what is chosen is an answer in which the seeds need nobody, where they alone are assumed and the refused ones
+  -- What is chosen is an answer in which the seeds need nobody, where they alone are assumed and the refused ones. It takes first
+  -- choices where nothing is assumed.
   pub record IsAnswering (u : Universe N S) (r : Rounds N S) : Type 0 where
     pub marked : kept_of r.search ≡ length_of (trail_of r.search)
     pub chosen : chosen_of r ≡ solvables_before (notes_of r).origins (trail_of r.search) (length_of (trail_of r.search))
@@ -191,6 +198,12 @@ module _ {N S : Type 0} where
     pub once : HasNoRepeats (chosen_of r)
     pub answer : (root : Demands) (seeds refused : List S) → IsReadSoFar u root (chosen_of r) (notes_of r) → AreAssumed (notes_of r).origins seeds refused (trail_of r.search) →
         AreSeeds u seeds (chosen_of r) (notes_of r).asked (notes_of r).seen (notes_of r).exempt → IsAnswerBy u root (chosen_of r) seeds (notes_of r).exempt
+    pub promise : (root : Demands) → IsReadSoFar u root (chosen_of r) (notes_of r) → AreAssumed (notes_of r).origins [] [] (trail_of r.search) → TakesFirstChoices u root (chosen_of r)
+
+  -- no values that make the clauses true are those of the trail at the levels up to the base
+  pub record IsUnanswered (r : Rounds N S) : Type 0 where
+    pub none : (values : ℕ → Bool) → Satisfies values (notes_of r).table →
+        ((variable : ℕ) (slot : Slot) → slot_of (trail_of r.search) variable ≡ Some slot → slot.level ≤ base_of r.search → values variable ≡ slot.value) → ⊥
 
   -- what is chosen is an answer; these clauses contradict each other; what is assumed cannot be kept
   abbrev pub IsFound : Universe N S → Rounds N S → Found → Type 0

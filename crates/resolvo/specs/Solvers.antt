@@ -30,6 +30,11 @@ module _ {D C N S : Type 0} where
   abbrev pub exempt_in : Solver D C N S → List S
   exempt_in s = s.exempt.items
 
+  -- the numbers by which scores grow and fade
+  pub record HasActivity (add decay : ℕ) (s : Solver D C N S) : Type 0 where
+    pub add_is : s.activity.add ≡ add
+    pub decay_is : s.activity.decay ≡ decay
+
   -- there may be so many of each
   pub record HasLimits (limit : ℕ) (s : Solver D C N S) : Type 0 where
     pub variables : s.variable_limit ≡ limit

@@ -6,7 +6,7 @@ use Rattle.std.proofs.lemmas.List.Elements.{All-nil, All-cons, All-contains}
 use Rattle.std.proofs.lemmas.List.Kept.{AllPairs-cons}
 use Rattle.std.proofs.lemmas.List.Sorted.{IsPermutation-reverse}
 use Rattle.resolver_clause_store.specs.Filtering.{Splits-filter}
-use Rattle.resolver_clause_store.specs.Universe.{Universe, Package, known, unknown, hint_none}
+use Rattle.resolver_clause_store.specs.Universe.{Universe, Hint, Package, known, unknown, hint_all, hint_none}
 use Rattle.resolver_clause_store.specs.Laws.{IsIdentity, HasLawfulIds, IsLawfulPackage, HasLawfulPackages}
 use Rattle.resolver_clause_store.specs.declared.ConditionId.{ConditionId}
 use Rattle.resolver_clause_store.specs.declared.ConditionalRequirement.{ConditionalRequirement}
@@ -38,6 +38,10 @@ required_by endless requirements s = cond endless (stated_by requirements s ++ n
 abbrev pub package_count : Bool → ℕ
 package_count endless = cond endless 429496729 100
 
+-- what a package hints about the dependencies of its solvables
+abbrev pub hint_by : ℕ → Hint ℕ
+hint_by n = cond (nat_eq (n / 10) 1) hint_all hint_none
+
 -- a package that the provider knows, and one that it does not
 abbrev pub known_package : ℕ → Package ℕ
 known_package n = record {
@@ -45,7 +49,7 @@ known_package n = record {
   favored = None;
   locked = cond (nat_eq n 7) (Some (10 * n + 1)) None;
   excluded = cond (nat_eq n 8) ((10 * n + 4, record { 0 = 5 }) ∷ []) [];
-  hint = hint_none;
+  hint = hint_by n;
 }
 
 abbrev pub unknown_package : Package ℕ

@@ -1,27 +1,63 @@
 //! A clause that follows from a conflict.
 
-ghost use Rattle.std.specs.Prelude.{◌≡◌, ◌≢◌, ◌⊎◌, ◌+◌, ◌<◌, ◌≤◌, length, All, Any, IfOk, MatchBool, OnOk, Some, ℕ, false, not, true};
+ghost use Rattle.std.specs.Prelude.{◌≡◌, ◌≢◌, ◌⊎◌, ◌+◌, ◌<◌, ◌≤◌, length, All, Any, IfOk, MatchBool, OnOk, Some, ℕ, false, not, slice_set, true};
 ghost use Rattle.resolver_clause_store.specs.Formula.{AreBelow, IsBelow, clause_at};
 ghost use Rattle.resolver_clause_store.specs.Outcomes.{IsFalsified};
 ghost use Rattle.resolver_clause_store.specs.TrailView.{length_of, place_of, slot_of, variable_at, variable_count};
 ghost use Rattle.resolvo.specs.Propagation.{IsConflict, IsJustified};
 ghost use Rattle.resolver_clause_store.specs.declared.Slot.{Slot};
 ghost use Rattle.resolver_clause_store.specs.declared.Literal.{Literal};
-ghost use Rattle.resolvo.specs.Resolvents.{AllBefore, IsLevelled, IsReason, IsResolvent, IsSingle, LessonIs, MarksAlso, Negates, StandsAt, level_in, is_marked};
+ghost use Rattle.resolvo.specs.Resolvents.{AddsNegation, AllBefore, IsLevelled, IsReason, IsResolvent, IsSingle, IsUnmarked, LessonIs, ListsMarks, MarksAlso, Negates, StandsAt, level_in, is_marked};
 
-use crate::contradiction::unmarked;
 use resolver_clause_store::{Literal, Reason, Trail, Variable, clause};
 use std::alloc::{AllocError, Global};
+use std::mem::replace;
 
 /// Marked variables whose values on the trail contradict the causes.
 #[derive(Debug, Drop)]
 pub struct Resolvent {
     pub marks: Vec<bool>,
+    /// The variables that were marked, also those whose mark was taken away.
+    pub marked: Vec<Variable>,
     pub causes: Vec<usize>,
     /// The highest level of a marked variable.
     pub level: usize,
     /// The first place of a marked variable of that level.
     pub lowest: usize,
+}
+
+/// A mark for each variable, of which none is set.
+///
+/// An analysis takes the marks and puts them back, so that they are made once.
+#[derive(Debug, Drop)]
+pub struct BlankMarks {
+    marks: Vec<bool>,
+    ghost none: { IsUnmarked marks.items },
+}
+
+impl BlankMarks {
+    /// No marks yet.
+    pub fn new(alloc: Global) -> Self {
+        BlankMarks {
+            marks: Vec::new(alloc),
+        }
+    }
+
+    /// Takes the marks, for so many variables.
+    pub fn take(&mut self, alloc: Global, variables: usize) -> Result<Vec<bool>, AllocError>
+        ensures { IfOk result (λ marks. (length marks.items ≡ variables) × IsUnmarked marks.items) }
+    {
+        let mut marks = replace(&mut self.marks, Vec::new(alloc));
+        marks.resize(variables, false)?;
+        Ok(marks)
+    }
+
+    /// Puts the marks back.
+    pub fn put(&mut self, marks: Vec<bool>)
+        requires { IsUnmarked marks.items }
+    {
+        self.marks = marks;
+    }
 }
 
 /// A clause that follows from others.
@@ -44,13 +80,49 @@ pub enum Lesson {
     Clause(Learnt),
 }
 
-/// Marks the variables of a clause.
-pub fn mark_all(marks: &mut Vec<bool>, clause: &[Literal])
+/// Marks a variable, and lists it where it was not marked.
+pub fn mark(
+    marks: &mut Vec<bool>,
+    marked: &mut Vec<Variable>,
+    variable: Variable,
+) -> Result<(), AllocError>
+    requires { variable < length marks.old.items }
+    ensures marks { OnOk result (marks.new.items ≡ slice_set marks.old.items variable true) }
+    ensures listed { OnOk result (ListsMarks marks.old.items marked.old.items → ListsMarks marks.new.items marked.new.items) }
+{
+    let fresh = !marks[variable.index()];
+    marks[variable.index()] = true;
+    if fresh {
+        marked.push(variable)?;
+        return Ok(());
+    }
+    Ok(())
+}
+
+/// Marks the variables of a clause, and lists those that were not marked.
+pub fn mark_all(
+    marks: &mut Vec<bool>,
+    marked: &mut Vec<Variable>,
+    clause: &[Literal],
+) -> Result<(), AllocError>
     requires { IsBelow (length marks.old.items) clause.now }
-    ensures { MarksAlso marks.old.items marks.new.items clause.now }
+    ensures marks { OnOk result (MarksAlso marks.old.items marks.new.items clause.now) }
+    ensures listed { OnOk result (ListsMarks marks.old.items marked.old.items → ListsMarks marks.new.items marked.new.items) }
 {
     'literals: for literal in clause {
-        marks[literal.variable.index()] = true;
+        mark(marks, marked, literal.variable)?;
+    }
+    Ok(())
+}
+
+/// Takes the marks of the listed variables away.
+pub fn unmark_all(marks: &mut Vec<bool>, marked: &[Variable])
+    requires { ListsMarks marks.old.items marked.now }
+    ensures size { length marks.new.items ≡ length marks.old.items }
+    ensures none { IsUnmarked marks.new.items }
+{
+    'variables: for variable in marked {
+        marks[variable.index()] = false;
     }
 }
 
@@ -110,26 +182,31 @@ pub fn lowest_place(trail: &Trail, clause: &[Literal], level: usize, start: usiz
     lowest
 }
 
-/// The variables of a clause that is false.
+/// The variables of a clause that is false. At first no variable is marked.
 pub fn begin(
     alloc: Global,
+    blank: Vec<bool>,
     table: &[Vec<Literal>],
     trail: &Trail,
     number: usize,
 ) -> Result<Resolvent, AllocError>
     requires below { AreBelow (variable_count trail.now) table.now }
     requires conflict { IsConflict trail.now table.now number }
+    requires size { length blank.items ≡ variable_count trail.now }
+    requires blank { IsUnmarked blank.items }
     ensures resolvent { IfOk result (IsResolvent table.now trail.now) }
     ensures levelled { IfOk result (λ resolvent. IsLevelled trail.now resolvent (length_of trail.now)) }
 {
     let literals = clause(table, number);
-    let mut marks = unmarked(alloc, trail.variable_count())?;
-    mark_all(&mut marks, literals);
+    let mut marks = blank;
+    let mut marked = Vec::new(alloc);
+    mark_all(&mut marks, &mut marked, literals)?;
     let causes = vec![in alloc; number]?;
     let level = highest_level(trail, literals);
     let lowest = lowest_place(trail, literals, level, trail.len());
     Ok(Resolvent {
         marks,
+        marked,
         causes,
         level,
         lowest,
@@ -157,7 +234,7 @@ pub fn resolve(
 {
     resolvent.causes.push(number)?;
     let literals = clause(table, number);
-    mark_all(&mut resolvent.marks, literals);
+    mark_all(&mut resolvent.marks, &mut resolvent.marked, literals)?;
     resolvent.marks[variable.index()] = false;
     resolvent.lowest = lowest_place(trail, literals, resolvent.level, resolvent.lowest);
     Ok(())
@@ -210,23 +287,46 @@ pub fn resolve_level(
     Ok(())
 }
 
-/// The literals that are false by the trail's values of the marked variables.
-pub fn literals_of(alloc: Global, trail: &Trail, marks: &[bool]) -> Result<Vec<Literal>, AllocError>
-    requires { length marks.now ≡ variable_count trail.now }
+/// Puts the literal of a variable that is false behind the others, where the variable is marked and has a value.
+pub fn add_negation(
+    literals: &mut Vec<Literal>,
+    trail: &Trail,
+    marks: &[bool],
+    variable: Variable,
+) -> Result<(), AllocError>
+    requires inside { variable < variable_count trail.now }
+    requires size { length marks.now ≡ variable_count trail.now }
+    ensures { OnOk result (AddsNegation trail.now marks.now variable literals.old.items literals.new.items) }
+{
+    if !marks[variable.index()] {
+        return Ok(());
+    }
+    match trail.slot(variable) {
+        Some(slot) => {
+            literals.push(Literal {
+                variable,
+                positive: !slot.value,
+            })?;
+            Ok(())
+        }
+        None => Ok(()),
+    }
+}
+
+/// The literals that are false by the trail's values of the marked variables, which are all listed.
+pub fn literals_of(
+    alloc: Global,
+    trail: &Trail,
+    marks: &[bool],
+    marked: &[Variable],
+) -> Result<Vec<Literal>, AllocError>
+    requires size { length marks.now ≡ variable_count trail.now }
+    requires listed { ListsMarks marks.now marked.now }
     ensures { IfOk result (λ literals. Negates trail.now marks.now literals.items) }
 {
     let mut literals = Vec::new(alloc);
-    'places: for place in 0..trail.len() {
-        let variable = trail.variable_at(place);
-        if marks[variable.index()] {
-            match trail.slot(variable) {
-                Some(slot) => literals.push(Literal {
-                    variable,
-                    positive: !slot.value,
-                })?,
-                None => (),
-            }
-        }
+    'variables: for variable in marked {
+        add_negation(&mut literals, trail, marks, *variable)?;
     }
     Ok(literals)
 }
@@ -275,6 +375,7 @@ pub fn asserted_level(trail: &Trail, learnt: &Learnt) -> usize
 /// or clauses that contradict each other, where the clause is false at level 0.
 pub fn analyze(
     alloc: Global,
+    marks: &mut BlankMarks,
     table: &[Vec<Literal>],
     trail: &Trail,
     number: usize,
@@ -284,12 +385,20 @@ pub fn analyze(
     requires conflict { IsConflict trail.now table.now number }
     ensures { IfOk result (LessonIs table.now trail.now) }
 {
-    let mut resolvent = begin(alloc, table, trail, number)?;
+    let blank = marks.take(alloc, trail.variable_count())?;
+    let mut resolvent = begin(alloc, blank, table, trail, number)?;
     resolve_level(table, trail, &mut resolvent)?;
+    let literals = literals_of(
+        alloc,
+        trail,
+        resolvent.marks.as_slice(),
+        resolvent.marked.as_slice(),
+    )?;
+    unmark_all(&mut resolvent.marks, resolvent.marked.as_slice());
+    marks.put(resolvent.marks);
     if resolvent.level == 0 {
         return Ok(Lesson::Contradiction(resolvent.causes));
     }
-    let literals = literals_of(alloc, trail, resolvent.marks.as_slice())?;
     let variable = trail.variable_at(resolvent.lowest);
     let jump = jump_level(trail, literals.as_slice(), variable);
     let literal = negation_of(trail, variable);

@@ -13,13 +13,19 @@ ghost use Rattle.resolver_clause_store.specs.declared.RequirementClause.{Require
 ghost use Rattle.resolver_encoding.specs.Refusals.{IsStop};
 ghost use Rattle.resolvo.specs.Decisions.{IsChoice, IsFirst};
 ghost use Rattle.resolvo.specs.Propagation.{AllSettled, AreChosen, IsConflict, IsJustified};
+ghost use Rattle.resolvo.specs.Propagators.{IsPropagator};
+ghost use Rattle.resolvo.specs.declared.propagator.Propagator.{Propagator};
 ghost use Rattle.resolvo.specs.ClauseSearches.{AssumesNone};
+ghost use Rattle.resolvo.specs.Queues.{IsQueued};
 ghost use Rattle.resolvo.specs.Resolvents.{IsLearnt, level_in};
 
-use crate::analyze::{Learnt, Lesson, analyze, asserted_level};
+use crate::analyze::{BlankMarks, Learnt, Lesson, analyze, asserted_level};
 use crate::contradiction::{Source, core};
-use crate::decide::{Choice, decide};
-use crate::propagate::{State, examine, propagate};
+use crate::decide::Choice;
+use crate::propagate::{State, examine};
+use crate::propagator::{Propagator, attach_all, begins_level, propagate};
+use crate::queue::DecideQueue;
+use crate::scores::Activity;
 use resolver_clause_store::{
     DependencyProvider, Exhausted, Interrupted, Literal, RequirementClause, Trail, check_cancel,
     clause,
@@ -45,6 +51,7 @@ pub enum Outcome {
 #[derive(Debug, Drop)]
 pub struct ClauseSearch {
     trail: Trail,
+    propagator: Propagator,
     table: Vec<Vec<Literal>>,
     sources: Vec<Source>,
     requirements: Vec<RequirementClause>,
@@ -57,6 +64,10 @@ pub struct ClauseSearch {
     base: usize,
     /// How many first places of the trail are not undone in the present turn.
     held: usize,
+    /// Marks of the variables, for the analysis of a conflict.
+    marks: BlankMarks,
+    /// The requirements that may be left to decide.
+    queue: DecideQueue,
 }
 
 /// Takes a choice: a level begins with its candidate.
@@ -71,6 +82,7 @@ pub fn take(trail: &mut Trail, table: &[Vec<Literal>], choice: Choice) -> Result
     ensures fewer { OnOk result (open_count trail.new < open_count trail.old) }
     ensures kept { OnOk result (KeepsPlaces trail.old trail.new (length_of trail.old)) }
     ensures assumed { OnOk result (AssumesNone trail.old trail.new) }
+    ensures propagator { OnOk result ((propagator : Propagator) → IsPropagator table.now trail.old propagator → IsPropagator table.now trail.new propagator) }
 {
     let literal = clause(table, choice.number)[choice.place];
     trail.decide(literal, choice.number)?;
@@ -83,32 +95,42 @@ pub fn take(trail: &mut Trail, table: &[Vec<Literal>], choice: Choice) -> Result
 pub fn descend<D: DependencyProvider>(
     provider: &D,
     trail: &mut Trail,
+    queue: &mut DecideQueue,
     table: &[Vec<Literal>],
     requirements: &[RequirementClause],
+    propagator: &mut Propagator,
 ) -> Result<Option<usize>, Interrupted<D::Cancel>>
     requires below { AreBelow (variable_count trail.old) table.now }
+    requires propagator { IsPropagator table.now trail.old propagator.old }
     requires inside { All (λ (requirement : RequirementClause). requirement.number < length table.now) requirements.now }
     requires justified { IsJustified table.now trail.old }
     requires chosen { AreChosen table.now requirements.now trail.old }
+    requires queued { IsQueued queue.old trail.old table.now requirements.now }
     ensures conflict { IfOk result (λ answer. IfSome answer (IsConflict trail.new table.now)) }
     ensures settled { IfOk result (λ answer. IfNone answer (AllSettled trail.new table.now)) }
     ensures met { IfOk result (λ answer. IfNone answer (All (λ (requirement : RequirementClause). IsMet trail.new (clause_at table.now requirement.number)) requirements.now)) }
+    ensures propagator { OnOk result (IsPropagator table.now trail.new propagator.new) }
     ensures justified { OnOk result (IsJustified table.now trail.new) }
     ensures chosen { OnOk result (AreChosen table.now requirements.now trail.new) }
     ensures size { OnOk result (variable_count trail.new ≡ variable_count trail.old) }
     ensures kept { OnOk result (KeepsPlaces trail.old trail.new (length_of trail.old)) }
     ensures assumed { OnOk result (AssumesNone trail.old trail.new) }
+    ensures queued { OnOk result (IsQueued queue.new trail.new table.now requirements.now) }
     ensures refusal { IfErr result (IsInterruption (D.may_cancel provider.now)) }
 {
+    check_cancel(provider)?;
+    if let Some(number) = attach_all(trail, table, propagator)? {
+        return Ok(Some(number));
+    }
     'rounds: loop {
-        check_cancel(provider)?;
-        if let Some(number) = propagate(trail, table)? {
+        if let Some(number) = propagate(trail, table, propagator)? {
             return Ok(Some(number));
         }
-        match decide(trail, table, requirements) {
+        match queue.next(trail, table, requirements)? {
             Some(choice) => take(trail, table, choice)?,
             None => return Ok(None),
         }
+        check_cancel(provider)?;
     }
 }
 
@@ -127,8 +149,8 @@ fn level_for(trail: &Trail, literals: &[Literal], base: usize) -> usize
 impl ClauseSearch {
     ghost use Rattle.resolvo.specs.ClauseSearches.{IsConsistent, IsJump, IsLoaded, IsRootTurn, IsSameProblem, IsSameSearch, SetsNone, StaysMarked, KeepsLoaded, KeepsMark, KeepsTurn, OutcomeIs, base_of, clause_count_of, held_of, kept_of, learnt_count_of, numbers_of, trail_of};
 
-    /// A search without variables and clauses.
-    pub fn new(alloc: Global) -> Self
+    /// A search without variables and clauses. Its scores grow and fade as the activity says.
+    pub fn new(alloc: Global, activity: Activity) -> Self
         ensures consistent { IsConsistent result }
         ensures loaded { IsLoaded [] [] result }
         ensures variables { variable_count (trail_of result) ≡ 0 }
@@ -137,6 +159,7 @@ impl ClauseSearch {
     {
         ClauseSearch {
             trail: Trail::empty(alloc),
+            propagator: Propagator::empty(alloc),
             table: Vec::new(alloc),
             sources: Vec::new(alloc),
             requirements: Vec::new(alloc),
@@ -145,6 +168,8 @@ impl ClauseSearch {
             kept: 0,
             base: 0,
             held: 0,
+            marks: BlankMarks::new(alloc),
+            queue: DecideQueue::new(alloc, activity),
         }
     }
 
@@ -214,25 +239,29 @@ impl ClauseSearch {
     }
 
     /// Takes the turn back: the trail ends before the present assumption again, and is held as it is then.
-    pub fn retract(&mut self)
+    pub fn retract(&mut self) -> Result<(), AllocError>
         requires consistent { IsConsistent self.old }
         requires turn { 0 < base_of self.old }
-        ensures consistent { IsConsistent self.new }
-        ensures loaded { KeepsLoaded self.old self.new }
-        ensures cut { IsCut (trail_of self.old) (trail_of self.new) (held_of self.old - 1) }
-        ensures free { slot_of (trail_of self.new) (variable_at (trail_of self.old) (held_of self.old - 1)) ≡ None }
-        ensures base { base_of self.new ≡ level_of (trail_of self.new) }
-        ensures held { held_of self.new ≡ length_of (trail_of self.new) }
-        ensures clauses { clause_count_of self.new ≡ clause_count_of self.old }
-        ensures learnt { learnt_count_of self.new ≡ learnt_count_of self.old }
-        ensures count { kept_of self.new ≡ length_of (trail_of self.new) }
-        ensures kept { KeepsMark self.old self.new }
+        ensures consistent { OnOk result (IsConsistent self.new) }
+        ensures loaded { OnOk result (KeepsLoaded self.old self.new) }
+        ensures cut { OnOk result (IsCut (trail_of self.old) (trail_of self.new) (held_of self.old - 1)) }
+        ensures free { OnOk result (slot_of (trail_of self.new) (variable_at (trail_of self.old) (held_of self.old - 1)) ≡ None) }
+        ensures base { OnOk result (base_of self.new ≡ level_of (trail_of self.new)) }
+        ensures held { OnOk result (held_of self.new ≡ length_of (trail_of self.new)) }
+        ensures clauses { OnOk result (clause_count_of self.new ≡ clause_count_of self.old) }
+        ensures learnt { OnOk result (learnt_count_of self.new ≡ learnt_count_of self.old) }
+        ensures count { OnOk result (kept_of self.new ≡ length_of (trail_of self.new)) }
+        ensures kept { OnOk result (KeepsMark self.old self.new) }
     {
         let count = self.held - 1;
+        let began = begins_level(&self.trail, count);
         self.trail.cut(count);
+        self.propagator.return_to(&self.trail, began)?;
+        self.queue.cut(count);
         self.kept = self.kept.min(count);
         self.base = self.trail.level();
         self.held = count;
+        Ok(())
     }
 
     /// Holds the whole trail: nothing of it is undone from now on.
@@ -272,7 +301,10 @@ impl ClauseSearch {
         self.sources.push(Source::Given(number))?;
         self.places.push(place)?;
         self.trail.undo_until(level);
-        self.kept = self.kept.min(self.trail.len());
+        self.propagator.cut(&self.trail)?;
+        let left = self.trail.len();
+        self.queue.cut(left);
+        self.kept = self.kept.min(left);
         Ok(())
     }
 
@@ -302,8 +334,11 @@ impl ClauseSearch {
         ensures count { OnOk result (length self.new.requirements.items ≡ length self.old.requirements.items + 1) }
     {
         let ends = requirement.ends.clone()?;
+        let place = self.places[requirement.number];
+        self.queue
+            .add(self.requirements.len(), clause(&self.table, place))?;
         self.requirements.push(RequirementClause {
-            number: self.places[requirement.number],
+            number: place,
             of_root: requirement.of_root,
             ends,
         })?;
@@ -326,12 +361,14 @@ impl ClauseSearch {
 
     /// Loads what is behind what was loaded, of lists that only grow.
     ///
-    /// The requirements' clauses are among the given ones.
+    /// The requirements' clauses are among the given ones. The owner of a variable is the number of its package, where it stands
+    /// for a solvable.
     pub fn load(
         &mut self,
         variables: usize,
         clauses: &[Vec<Literal>],
         requirements: &[RequirementClause],
+        owners: &[Option<usize>],
     ) -> Result<(), Exhausted>
         requires consistent { IsConsistent self.old }
         requires below { AreBelow variables clauses.now }
@@ -348,6 +385,8 @@ impl ClauseSearch {
         ensures memory { IfErr result (λ e. e ≡ Memory) }
     {
         self.trail.grow(variables)?;
+        self.propagator.grow(variables)?;
+        self.queue.learn_owners(owners)?;
         self.load_clauses(clauses)?;
         self.load_requirements(requirements)?;
         Ok(())
@@ -372,12 +411,16 @@ impl ClauseSearch {
             jump,
         } = learnt;
         let number = self.table.len();
+        self.queue.learn(&literals)?;
         self.table.push(literals)?;
         self.sources.push(Source::Learnt(causes))?;
         self.learnt += 1;
         let back = jump.max(self.base);
         self.trail.undo_until(back);
-        self.kept = self.kept.min(self.trail.len());
+        self.propagator.cut(&self.trail)?;
+        let left = self.trail.len();
+        self.queue.cut(left);
+        self.kept = self.kept.min(left);
         self.trail.force(literal, number)?;
         Ok(())
     }
@@ -426,7 +469,13 @@ impl ClauseSearch {
         ensures below { IfOk result (λ answer. IfNone answer (learnt_count_of self.old < learnt_limit)) }
         ensures ids { IfErr result (λ e. e ≡ Ids → (learnt_limit ≤ learnt_count_of self.new) ⊎ (clause_limit ≤ clause_count_of self.new)) }
     {
-        match analyze(alloc, self.table.as_slice(), &self.trail, number)? {
+        match analyze(
+            alloc,
+            &mut self.marks,
+            self.table.as_slice(),
+            &self.trail,
+            number,
+        )? {
             Lesson::Contradiction(causes) => {
                 let numbers = core(
                     alloc,
@@ -467,8 +516,10 @@ impl ClauseSearch {
             match descend(
                 provider,
                 &mut self.trail,
+                &mut self.queue,
                 self.table.as_slice(),
                 self.requirements.as_slice(),
+                &mut self.propagator,
             )? {
                 None => return Ok(Outcome::Finished),
                 Some(number) => {

@@ -18,9 +18,11 @@ pub struct Choice {
     /// The place of the candidate in the clause.
     pub place: usize,
     /// Whether the requirement is one of the root.
-    of_root: bool,
+    pub of_root: bool,
+    /// The score of the package of the candidate, where it is known.
+    score: u64,
     /// How many candidates of the same version set have no value.
-    count: usize,
+    pub count: usize,
 }
 
 /// The place of the first candidate with no value, where no literal of the clause is true and none that it depends on has
@@ -71,11 +73,42 @@ fn open_between(trail: &Trail, clause: &[Literal], from: usize, to: usize) -> us
     count
 }
 
+/// The choice of the candidate at a place of a requirement's clause.
+pub fn choice_at(
+    trail: &Trail,
+    clause: &[Literal],
+    requirement: &RequirementClause,
+    place: usize,
+    score: u64,
+) -> Choice
+    requires { IsBelow (variable_count trail.now) clause.now }
+    ensures number { result.number ≡ requirement.now.number }
+    ensures place { result.place ≡ place }
+{
+    let end = end_of(requirement, place, clause.len());
+    Choice {
+        number: requirement.number,
+        place,
+        of_root: requirement.of_root,
+        score,
+        count: open_between(trail, clause, place, end),
+    }
+}
+
+/// The score of the package of a literal's variable, and 0 where none is known.
+fn score_of(scores: &[u64], literal: Literal) -> u64 {
+    match scores.get(literal.variable.index()) {
+        Some(score) => *score,
+        None => 0,
+    }
+}
+
 /// The candidate that is next for a requirement, if none of its candidates is true and all that it depends on is.
 pub fn choice_of(
     trail: &Trail,
     table: &[Vec<Literal>],
     requirement: &RequirementClause,
+    scores: &[u64],
 ) -> Option<Choice>
     requires below { AreBelow (variable_count trail.now) table.now }
     requires settled { AllSettled trail.now table.now }
@@ -85,23 +118,21 @@ pub fn choice_of(
     let literals = clause(table, requirement.number);
     match first_candidate(trail, literals) {
         Some(place) => {
-            let end = end_of(requirement, place, literals.len());
-            Some(Choice {
-                number: requirement.number,
-                place,
-                of_root: requirement.of_root,
-                count: open_between(trail, literals, place, end),
-            })
+            let score = score_of(scores, literals[place]);
+            Some(choice_at(trail, literals, requirement, place, score))
         }
         None => None,
     }
 }
 
-/// Whether the second choice comes before the first: those of the root come first, then those with fewer candidates, then
-/// those of a lower number.
+/// Whether the second choice comes before the first: those of the root come first, then those of a package with a higher
+/// score, then those with fewer candidates, then those of a lower number.
 fn is_before(next: &Choice, best: &Choice) -> bool {
     if next.of_root != best.of_root {
         return next.of_root;
+    }
+    if next.score != best.score {
+        return next.score > best.score;
     }
     if next.count != best.count {
         return next.count < best.count;
@@ -129,12 +160,15 @@ fn better(best: Option<Choice>, next: Option<Choice>) -> Option<Choice>
 /// The requirement that is decided next, with its candidate, or none where each requirement has a candidate or depends on
 /// what is not true.
 ///
-/// Requirements of the root come first, then those with fewer candidates left in the first version set that has one, and
-/// then those with the lower number. The candidate is the first that is left.
+/// Requirements of the root come first, then those whose first candidate that is left has the higher score (by its variable), then
+/// those with fewer candidates left in its version set, and then those with the lower number. That candidate is taken.
+///
+/// This looks at every requirement. Searches take their decisions from the queue; tests hold it against this.
 pub fn decide(
     trail: &Trail,
     table: &[Vec<Literal>],
     requirements: &[RequirementClause],
+    scores: &[u64],
 ) -> Option<Choice>
     requires below { AreBelow (variable_count trail.now) table.now }
     requires settled { AllSettled trail.now table.now }
@@ -144,7 +178,7 @@ pub fn decide(
 {
     let mut best = None;
     'requirements: for requirement in requirements {
-        let next = choice_of(trail, table, requirement);
+        let next = choice_of(trail, table, requirement, scores);
         best = better(best, next);
     }
     best

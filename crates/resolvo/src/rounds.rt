@@ -1,7 +1,7 @@
 //! Rounds of searching and reading: what a search chooses is read, until what is chosen is an answer.
 
 ghost use Rattle.std.specs.Iterator.{Drains, IsFinite};
-ghost use Rattle.std.specs.Prelude.{◌≡◌, ◌+◌, ◌++◌, ◌∷◌, ◌≤◌, ◌<◌, ◌^◌, [], Contains, IfErr, IfNone, IfOk, IfSome, List, None, OnOk, Some, length, slice_get, true};
+ghost use Rattle.std.specs.Prelude.{◌≡◌, ◌+◌, ◌++◌, ◌∷◌, ◌≤◌, ◌<◌, ◌^◌, [], Contains, IfErr, IfNone, IfOk, IfSome, List, None, OnOk, Some, false, length, slice_get, true};
 ghost use Rattle.resolver_clause_store.specs.TrailView.{slot_of};
 ghost use Rattle.resolver_clause_store.specs.Universe.{Demands};
 ghost use Rattle.resolver_clause_store.specs.declared.Origin.TheVariants.{Solvable as SolvableOrigin};
@@ -16,6 +16,8 @@ ghost use Rattle.resolvo.specs.declared.rounds.Found.TheVariants.{Answer as Foun
 ghost use Rattle.resolvo.specs.ClauseSearches.{IsConsistent, IsRootTurn, KeepsTurn, OutcomeIs, base_of, clause_count_of, learnt_count_of, trail_of};
 
 use crate::clause_search::{ClauseSearch, Outcome};
+use crate::owners::Owners;
+use crate::scores::Activity;
 use resolver_clause_store::{
     Cache, ConditionalRequirement, DependencyProvider, Exhausted, Interner, Interrupted, Literal,
     Variable, VersionSetId,
@@ -52,20 +54,23 @@ pub struct Rounds<N: Copy + Eq + Hash + Drop, S: Copy + Eq + Hash + Drop> {
     alloc: Global,
     pub(crate) encoding: Encoding<N, S>,
     search: ClauseSearch,
+    owners: Owners<N>,
     pub(crate) chosen: Chosen<S>,
     clause_limit: usize,
     learnt_limit: usize,
 }
 
 impl<N: Copy + Eq + Hash + Drop, S: Copy + Eq + Hash + Drop> Rounds<N, S> {
-    ghost use Rattle.resolvo.specs.RoundStates.{AreRounds, GoesOn, HasAllClauses, HasFollowed, HasMark, HasAssumed, IsAnswering, IsBetween, IsBetweenFor, IsDone, IsFollowing, IsRefusing, IsFound, IsFresh, IsStill, IsRound, IsSearchOf, IsStuck, IsUpToDate, KeepsRead, KeepsRoom, chosen_of, clause_limit_of, learnt_limit_of, notes_of, search_of};
+    ghost use Rattle.resolvo.specs.RoundStates.{AreRounds, GoesOn, HasAllClauses, HasFollowed, HasMark, HasAssumed, IsAnswering, IsBetween, IsBetweenFor, IsDone, IsFollowing, IsRefusing, IsFound, IsFresh, IsStill, IsRound, IsSearchOf, IsStuck, IsUnanswered, IsUpToDate, KeepsRead, KeepsRoom, chosen_of, clause_limit_of, learnt_limit_of, notes_of, search_of};
 
-    /// Nothing read yet. There may be as many variables, clauses and learnt clauses as the limits say.
+    /// Nothing read yet. There may be as many variables, clauses and learnt clauses as the limits say, and scores grow and fade
+    /// as the activity says.
     pub fn new(
         alloc: Global,
         variable_limit: usize,
         clause_limit: usize,
         learnt_limit: usize,
+        activity: Activity,
     ) -> Self
         requires { variable_limit ≤ 2 ^ 31 }
         ensures fresh { IsFresh result }
@@ -77,7 +82,8 @@ impl<N: Copy + Eq + Hash + Drop, S: Copy + Eq + Hash + Drop> Rounds<N, S> {
         Rounds {
             alloc,
             encoding: Encoding::new(alloc, variable_limit, clause_limit),
-            search: ClauseSearch::new(alloc),
+            search: ClauseSearch::new(alloc, activity),
+            owners: Owners::new(alloc),
             chosen: Chosen::new::<N>(alloc),
             clause_limit,
             learnt_limit,
@@ -141,10 +147,13 @@ impl<N: Copy + Eq + Hash + Drop, S: Copy + Eq + Hash + Drop> Rounds<N, S> {
         ensures limits { KeepsRoom self.old self.new }
         ensures memory { IfErr result (λ e. e ≡ Exhausted.Memory) }
     {
+        let known = self.encoding.variables();
+        self.owners.follow(provider, known)?;
         self.search.load(
-            self.encoding.variables().len(),
+            known.len(),
             self.encoding.literals(),
             self.encoding.requirements(),
+            self.owners.as_slice(),
         )?;
         Ok(())
     }
@@ -316,7 +325,7 @@ impl<N: Copy + Eq + Hash + Drop, S: Copy + Eq + Hash + Drop> Rounds<N, S> {
     {
         self.encoding.end_turn(provider, cache, exempt)?;
         self.load(provider)?;
-        self.search.retract();
+        self.search.retract()?;
         self.search.assume(Literal {
             variable,
             positive: false,
@@ -338,6 +347,7 @@ impl<N: Copy + Eq + Hash + Drop, S: Copy + Eq + Hash + Drop> Rounds<N, S> {
         ensures keeps { OnOk result (GoesOn (D.universe provider.now) self.old self.new) }
         ensures counted { OnOk result (HasAllClauses self.new) }
         ensures answer { IfOk result (λ answered. answered ≡ true → IsAnswering (D.universe provider.now) self.new) }
+        ensures unanswered { IfOk result (λ answered. answered ≡ false → IsUnanswered self.new) }
         ensures limits { KeepsRoom self.old self.new }
         ensures refusal { IfErr result (IsStop (D.may_cancel provider.now) (IsStuck self.new)) }
     {

@@ -18,11 +18,12 @@ ghost use Rattle.resolvo.specs.declared.solver.UnsolvableOrCancelled.TheVariants
 ghost use Rattle.resolver_clause_store.specs.declared.Exhausted.TheVariants.{Memory};
 ghost use Rattle.resolvo.specs.Refusals.{CountsRead, CountsRefuted, IsRefusal};
 ghost use Rattle.resolvo.specs.RoundStates.{HasAllClauses, IsDone, IsSomeDone, chosen_of, notes_of};
-ghost use Rattle.resolvo.specs.Solvers.{HasCounted, HasLimits, IsAtLimit, IsSound, KeepsAllButCounts, KeepsCounts, KeepsLimits, clause_count_in, deferred_count_in, exempt_in, provider_in};
+ghost use Rattle.resolvo.specs.Solvers.{HasActivity, HasCounted, HasLimits, IsAtLimit, IsSound, KeepsAllButCounts, KeepsCounts, KeepsLimits, clause_count_in, deferred_count_in, exempt_in, provider_in};
 
 use crate::conflict::Conflict;
 use crate::problem::Problem;
 use crate::rounds::{Found, Rounds};
+use crate::scores::Activity;
 use resolver_clause_store::{
     Cache, ClauseKind, DependencyProvider, Exhausted, Interner, Interrupted,
 };
@@ -63,7 +64,7 @@ fn explain<D: DependencyProvider>(
 /// Solves problems over one provider.
 ///
 /// Whatever a call of `solve` ends with, the next one starts afresh: it keeps the provider's answers alone, which are
-/// true, and the limits.
+/// true, the limits, and the numbers for its scores.
 #[derive(Drop)]
 pub struct Solver<D: DependencyProvider> {
     alloc: Global,
@@ -77,6 +78,7 @@ pub struct Solver<D: DependencyProvider> {
     variable_limit: usize,
     clause_limit: usize,
     learnt_limit: usize,
+    activity: Activity,
 }
 
 impl<D: DependencyProvider> Solver<D> {
@@ -102,7 +104,24 @@ impl<D: DependencyProvider> Solver<D> {
             variable_limit: 1 << 31,
             clause_limit: 1 << 31,
             learnt_limit: 1 << 31,
+            activity: Activity::usual(),
         }
+    }
+
+    /// The solver with other numbers for its scores: what each solvable in a learnt clause adds to the score of its package,
+    /// and how many millionths of each score are left after that clause. Without this call they are 1000000 and 950000.
+    ///
+    /// Requirements of packages with high scores are decided early. Scores start at 0 in each call of `solve`.
+    pub fn with_activity_params(mut self, add: u64, decay: u64) -> Self
+        ensures activity { HasActivity add decay result }
+        ensures provider { provider_in result ≡ provider_in self }
+        ensures sound { IsSound (D.universe (provider_in self)) self → IsSound (D.universe (provider_in result)) result }
+        ensures limits { KeepsLimits self result }
+        ensures counts { KeepsCounts self result }
+        ensures exempt { exempt_in result ≡ exempt_in self }
+    {
+        self.activity = Activity { add, decay };
+        self
     }
 
     /// The provider that was handed in.
@@ -234,7 +253,8 @@ impl<D: DependencyProvider> Solver<D> {
     ///
     /// Solvables are read once a search has chosen them, and a requirement under a condition once the condition holds. Soft
     /// requirements are taken in their order, each once what was chosen before stands. One whose package was not asked for
-    /// then is exempt from that package's lock and exclusions.
+    /// then is exempt from that package's lock and exclusions. One is refused only where it fits into no answer that keeps
+    /// what was chosen before.
     pub fn solve<S: Iterator<Item = D::SolvableId> + Drop>(
         &mut self,
         mut problem: Problem<D::SolvableId, S>,
@@ -256,6 +276,7 @@ impl<D: DependencyProvider> Solver<D> {
             self.variable_limit,
             self.clause_limit,
             self.learnt_limit,
+            self.activity,
         );
         let soft = problem.soft_requirements.take();
         let found = rounds.find(

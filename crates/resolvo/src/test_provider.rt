@@ -1,11 +1,14 @@
 //! A small provider.
 //!
 //! Package n has the solvables 10 n + 1 and 10 n + 4, the later one preferred. Version set 10 n + k takes 10 n + k, and
-//! with k = 0 both. Package 7 is locked to 71, package 8 excludes 84, and nobody knows what 94 needs. An endless provider
-//! has packages as far as the ids go, and there 10 n + 1 requires version set 10 (n + 1).
+//! with k = 0 both. Package 7 is locked to 71, package 8 excludes 84, and nobody knows what 94 needs. Packages 10 to 19
+//! hint that the dependencies of all their solvables are cheap to ask for. An endless provider has packages as far as the
+//! ids go, and there 10 n + 1 requires version set 10 (n + 1).
 
 ghost use Rattle.std.specs.Prelude.{◌≡◌, ◌++◌, ℕ, IfErr, IfOk, OnOk, refl};
+ghost use Rattle.resolver_clause_store.specs.Universe.{hint_of as hint_in};
 ghost use Rattle.resolvo.specs.TestProvider.{
+  hint_by,
   next_of,
   numbers_are_values,
   package_count as package_count_in,
@@ -43,6 +46,16 @@ fn package_count(endless: bool) -> u32
     ensures { result ≡ package_count_in endless }
 {
     if endless { 429_496_729 } else { 100 }
+}
+
+/// What a package hints about the dependencies of its solvables.
+fn hint_of(name: u32) -> HintDependenciesAvailable<u32>
+    ensures { hint_in result ≡ hint_by name }
+{
+    if name / 10 == 1 {
+        return HintDependenciesAvailable::All;
+    }
+    HintDependenciesAvailable::None
 }
 
 /// What is stated of a solvable.
@@ -191,7 +204,7 @@ impl DependencyProvider for TestProvider {
             candidates: Vec::from_array(self.alloc, [first, last])?,
             favored: None,
             locked: if name == 7 { Some(first) } else { None },
-            hint_dependencies_available: HintDependenciesAvailable::None,
+            hint_dependencies_available: hint_of(name),
             excluded,
         }))
     }

@@ -6,6 +6,8 @@ ghost use Rattle.resolver_clause_store.specs.declared.RequirementClause.{Require
 ghost use Rattle.resolvo.specs.ClauseSearches.{IsConsistent, base_of};
 
 use super::*;
+use crate::decide::decide;
+use crate::propagate::propagate as scan;
 use crate::test_provider::TestProvider;
 use resolver_clause_store::{Reason, Slot, Variable};
 use std::cell::Cell;
@@ -88,9 +90,9 @@ fn first_decision(
     if !are_below(table, 16) || !are_inside(requirements, table.len()) {
         return Ok(None);
     }
-    match propagate(&mut trail, table)? {
+    match scan(&mut trail, table)? {
         Some(_) => Ok(None),
-        None => match decide(&trail, table, requirements) {
+        None => match decide(&trail, table, requirements, &[]) {
             Some(choice) => Ok(Some((choice.number, choice.place))),
             None => Ok(None),
         },
@@ -131,7 +133,7 @@ fn load_all(
     if variables < search.trail().variable_count() {
         return Ok(false);
     }
-    let loaded = search.load(variables, clauses, requirements.as_slice());
+    let loaded = search.load(variables, clauses, requirements.as_slice(), &[]);
     Ok(loaded.is_ok())
 }
 
@@ -143,7 +145,7 @@ fn search_of(
 ) -> Result<Option<ClauseSearch>, AllocError>
     ensures { IfOk result (λ made. IfSome made IsConsistent) }
 {
-    let mut search = ClauseSearch::new(alloc);
+    let mut search = ClauseSearch::new(alloc, Activity::usual());
     if load_all(alloc, &mut search, clauses.as_slice(), variables)? {
         return Ok(Some(search));
     }
@@ -493,7 +495,7 @@ fn core_through_learnt(alloc: Global) -> Result<Option<(usize, Vec<usize>)>, All
     add(alloc, &mut table, &[-1, 2, 3])?;
     add(alloc, &mut table, &[-2, 4])?;
     add(alloc, &mut table, &[-2, -4])?;
-    let mut search = ClauseSearch::new(alloc);
+    let mut search = ClauseSearch::new(alloc, Activity::usual());
     if !load_all(alloc, &mut search, table.as_slice(), 4)? {
         return Ok(None);
     }
@@ -533,7 +535,7 @@ fn places_through(alloc: Global, more: &[&[i32]]) -> Result<Option<Places>, Allo
     let mut table = Vec::new(alloc);
     add(alloc, &mut table, &[1, 2])?;
     add(alloc, &mut table, &[3, 4])?;
-    let mut search = ClauseSearch::new(alloc);
+    let mut search = ClauseSearch::new(alloc, Activity::usual());
     if !load_all(alloc, &mut search, table.as_slice(), 4)? {
         return Ok(None);
     }
@@ -639,7 +641,7 @@ fn takes(alloc: Global, search: &mut ClauseSearch, number: i32) -> Result<Option
     match is_accepted(alloc, search) {
         Some(true) => Ok(Some(true)),
         Some(false) => {
-            search.retract();
+            search.retract()?;
             let refused = Literal {
                 variable: wanted.variable,
                 positive: !wanted.positive,

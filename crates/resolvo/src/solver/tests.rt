@@ -47,6 +47,31 @@ fn solver_over(
     Ok(Solver::new(alloc, provider))
 }
 
+/// A solver over a provider of which one solvable requires a version set, under a condition.
+fn conditional_solver(
+    alloc: Global,
+    requirer: u32,
+    condition: u32,
+    version_set: u32,
+) -> Result<Solver<TestProvider>, Fail>
+    ensures { IfOk result (λ solver. IsSound (test_universe (provider_in solver).endless (provider_in solver).requirements.items (provider_in solver).constraints.items) solver) }
+{
+    let mut requirements = Vec::new(alloc);
+    let requirement = ConditionalRequirement {
+        condition: Some(ConditionId(condition)),
+        requirement: Requirement::Single(VersionSetId(version_set)),
+    };
+    requirements.push((requirer, requirement))?;
+    let provider = TestProvider {
+        alloc,
+        requirements,
+        constraints: Vec::new(alloc),
+        cancelling: Cell::new(0),
+        endless: false,
+    };
+    Ok(Solver::new(alloc, provider))
+}
+
 /// A solver over an endless provider of which nothing is stated.
 fn endless_solver(alloc: Global) -> Solver<TestProvider>
     ensures { IsSound (test_universe (provider_in result).endless (provider_in result).requirements.items (provider_in result).constraints.items) result }
@@ -233,6 +258,38 @@ fn each_problem_starts_afresh(rt: HostRuntime) -> Result<(), Fail> {
     assert!(rt; is_answer(&outcome, &[]));
     assert_eq!(rt; solver.clause_count(), 1);
     assert_eq!(rt; solver.provider().requirements.len(), 1);
+    Ok(())
+}
+
+#[test]
+fn hints_and_cached_answers_change_no_answer(rt: HostRuntime) -> Result<(), Fail> {
+    let plain = [(4, 14), (4, 20), (14, 1000), (24, 30), (34, 11)];
+    let hinted = [(104, 114), (104, 120), (114, 1000), (124, 130), (134, 111)];
+    for (required, version_set, wanted) in [(plain, 0, 1), (hinted, 100, 101)] {
+        let mut solver = solver_over(rt.alloc(), &required, &[])?;
+        let first = solver.solve(problem(rt.alloc(), &[version_set])?);
+        let second = solver.solve(problem(rt.alloc(), &[version_set])?);
+        let right = is_answer(&first, &[wanted])
+            & is_answer(&second, &[wanted])
+            & (solver.deferred_requirements_count() == 0);
+        assert!(rt; right, "version set {version_set}");
+    }
+    Ok(())
+}
+
+#[test]
+fn hints_leave_put_off_what_does_not_hold(rt: HostRuntime) -> Result<(), Fail> {
+    for (requirer, condition, met, candidate) in [(1, 11_031, 11, 21), (101, 111_131, 111, 121)] {
+        let mut solver = conditional_solver(rt.alloc(), requirer, condition, candidate)?;
+        let alone = solver.solve(problem(rt.alloc(), &[requirer])?);
+        let deferred = solver.deferred_requirements_count();
+        let both = solver.solve(problem(rt.alloc(), &[requirer, met])?);
+        let right = is_answer(&alone, &[requirer])
+            & (deferred == 2)
+            & is_answer(&both, &[requirer, met, candidate])
+            & (solver.deferred_requirements_count() == 1);
+        assert!(rt; right, "solvable {requirer}");
+    }
     Ok(())
 }
 

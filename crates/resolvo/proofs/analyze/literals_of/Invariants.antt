@@ -1,5 +1,6 @@
-use Rattle.resolvo.proofs.NegationLemmas.{NegatesBelow}
+use Rattle.std.proofs.Common.{take}
+use Rattle.resolvo.proofs.ListedLemmas.{NegatesListed}
 use Rattle.resolvo.proofs.analyze.literals_of.Given as goal
 
-abbrev pub invariant-places : goal.invariant-places
-invariant-places l = NegatesBelow l.trail l.marks l.literals.items l.place
+abbrev pub invariant-variables : goal.invariant-variables
+invariant-variables l = NegatesListed l.trail l.marks l.literals.items (take l.variable-index l.marked)

@@ -1,16 +1,21 @@
 use Rattle.std.proofs.Common.{◌≡◌}
 use Rattle.resolver_clause_store.specs.TrailView.{KeepsPlaces, length_of, open_count, variable_count}
 use Rattle.resolvo.specs.ClauseSearches.{AssumesNone}
+use Rattle.resolvo.specs.Propagators.{IsAttached, IsPropagator}
+use Rattle.resolvo.specs.Queues.{IsQueued}
 use Rattle.resolvo.specs.Propagation.{IsJustified, AreChosen}
 use Rattle.resolvo.proofs.clause_search.descend.Given as goal
 
 abbrev pub invariant-rounds : goal.invariant-rounds
 invariant-rounds g l = record {
+  propagator : IsPropagator l.table l.trail l.propagator;
+  attached : IsAttached l.table l.propagator;
   justified : IsJustified l.table l.trail;
   chosen : AreChosen l.table l.requirements l.trail;
-  size : variable_count l.trail ≡ variable_count l.initial.trail;
-  kept : KeepsPlaces l.initial.trail l.trail (length_of l.initial.trail);
-  assumed : AssumesNone l.initial.trail l.trail;
+  size : variable_count l.trail ≡ variable_count l.fn.trail;
+  kept : KeepsPlaces l.fn.trail l.trail (length_of l.fn.trail);
+  queued : IsQueued l.queue l.trail l.table l.requirements;
+  assumed : AssumesNone l.fn.trail l.trail;
 }
 
 abbrev pub decreases-rounds : goal.decreases-rounds

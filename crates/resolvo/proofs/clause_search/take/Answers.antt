@@ -1,6 +1,7 @@
 use Rattle.std.proofs.Common.{ap, ◌∙◌}
 use Rattle.resolver_clause_store.specs.TrailView.{literal_value}
 use Rattle.resolver_clause_store.proofs.TrailLemmas.{value-none}
+use Rattle.resolvo.proofs.PropagatorLemmas.{propagator-gains}
 use Rattle.resolvo.proofs.JustifiedLemmas.{decided-forced, justified-decides}
 use Rattle.resolvo.proofs.ClauseSearchLemmas.{chosen-decides}
 use Rattle.resolvo.proofs.TurnLemmas.{decided-assumed, none-gains}
@@ -18,3 +19,8 @@ returns-clause-chosen c = λ requirements choice chosen.
 
 pub returns-clause-assumed : goal.returns-clause-assumed
 returns-clause-assumed c = none-gains _ _ _ _ _ c.in_ok-decide.ensures.ok (decided-assumed _)
+
+pub returns-clause-propagator : goal.returns-clause-propagator
+returns-clause-propagator c = λ propagator it.
+    let read = rw c.clause.ensures at c.index-clause-choice.is in
+    propagator-gains _ _ _ propagator _ _ _ c.in_ok-decide.ensures.ok (value-none _ _ (ap (λ l. literal_value c.args.trail.now l) read ∙ c.requires.first.free c.index-clause-choice.result)) it

@@ -2,9 +2,12 @@ use Rattle.std.proofs.Common.{rules, arith, refl, ap, subst, sym, ◌∙◌, ◌
 use Rattle.resolver_clause_store.specs.Formula.{clause_at}
 use Rattle.resolver_clause_store.specs.TrailView.{KeepsPlaces, length_of, variable_count}
 use Rattle.resolver_clause_store.proofs.FormulaLemmas.{clause_at-last}
-use Rattle.resolver_clause_store.proofs.KeptLemmas.{keeps_all}
+use Rattle.resolver_clause_store.proofs.KeptLemmas.{keeps_all, keeps_undone}
+use Rattle.resolvo.proofs.QueueLemmas.{queued-grown, queued-left, queued-longer}
 use Rattle.resolver_clause_store.proofs.TrailLemmas.{keeps-gains}
 use Rattle.resolvo.specs.declared.contradiction.Source.TheVariants.{Learnt}
+use Rattle.resolvo.proofs.AttachingLemmas.{lower-undone, propagator-longer}
+use Rattle.resolvo.proofs.PropagatorLemmas.{propagator-gains}
 use Rattle.resolvo.proofs.JustifiedLemmas.{justified-gains, extends-gains, chosen-extends}
 use Rattle.resolvo.proofs.ClauseSearchLemmas.{asserted-free, asserted-unit, below-push, chosen-grows, chosen-undone, derived-push, false-below, grows-push, justified-grows, justified-undone}
 use Rattle.resolvo.proofs.LoadLemmas.{first-after, first-undone, loaded-learnt}
@@ -24,6 +27,9 @@ returns-clause-consistent c =
     let unit = asserted-unit _ c.undo_until.new.self _ _ _ _ learnt.asserting (omega (arith, c.max-back.ensures)) c.undo_until.ensures in
     let size : variable_count c.force.new.self ≡ variable_count c.args.self.now.trail = c.in_ok-force.ensures.ok.size ∙ c.undo_until.ensures.size in
     let grows = grows-push table c.args.learnt.literals in
+    let middle = c.undo_until.new.self in
+    let learnt_queue = c.in_ok-learn.ensures c.args.self.now.trail table c.args.self.now.requirements.items it.queued in
+    let left = queued-left c.learn.new.self c.cut-2.new.self c.args.self.now.trail middle table c.args.self.now.requirements.items c.len-left.result (length_of middle) c.cut-2.ensures (keeps_undone c.args.self.now.trail middle c.max-back.result c.undo_until.ensures) c.len-left.ensures learnt_queue in
     let long : length longer ≡ length table + 1 = length-append table (c.args.learnt.literals ∷ []) in
     let justified = justified-grows table longer c.undo_until.new.self grows (justified-undone _ _ _ _ it.justified c.undo_until.ensures) in
     let chosen = chosen-grows table longer _ c.undo_until.new.self grows it.inside (chosen-undone _ _ _ _ _ it.chosen c.undo_until.ensures) in
@@ -35,8 +41,10 @@ returns-clause-consistent c =
       inside = rw items (λ k d b. omega (arith, it.inside k d b, long));
       places = rw items (λ k d b. omega (arith, it.places k d b, long));
       count = rw items (omega (arith, it.count, long));
-      kept = omega (arith, c.min-self.ensures, c.len.ensures, c.in_ok-force.ensures.ok.count);
-      turn = turn-jumped _ c.undo_until.new.self _ _ _ _ _ _ it.turn c.undo_until.ensures (omega (arith, c.max-back.ensures)) (keeps-gains _ _ _ _ _ c.in_ok-force.ensures.ok free) (c.min-self.ensures ∙ ap (min c.args.self.now.kept) c.len.ensures);
+      kept = omega (arith, c.min-self.ensures, c.len-left.ensures, c.in_ok-force.ensures.ok.count);
+      propagator = rw items (propagator-gains longer _ _ _ _ _ _ c.in_ok-force.ensures.ok free (c.in_ok-cut.ensures longer _ (lower-undone _ _ _ c.undo_until.ensures) (propagator-longer table longer grows.longer grows.same _ _ it.propagator)));
+      queued = rw items (queued-grown c.cut-2.new.self c.force.new.self table longer c.args.self.now.requirements.items it.inside grows.same (queued-longer c.cut-2.new.self middle c.force.new.self table c.args.self.now.requirements.items (keeps_all middle c.force.new.self (keeps-gains _ _ _ _ _ c.in_ok-force.ensures.ok free)) left));
+      turn = turn-jumped _ c.undo_until.new.self _ _ _ _ _ _ it.turn c.undo_until.ensures (omega (arith, c.max-back.ensures)) (keeps-gains _ _ _ _ _ c.in_ok-force.ensures.ok free) (c.min-self.ensures ∙ ap (min c.args.self.now.kept) c.len-left.ensures);
     }
 
 pub returns-clause-same : goal.returns-clause-same
@@ -46,7 +54,7 @@ returns-clause-same c =
     let gains = c.in_ok-force.ensures.ok in
     let middle = c.undo_until.new.self in
     let free = asserted-free _ middle _ _ _ _ c.requires.learnt.asserting (below-asserted _ _ _ c.max-back.result _ _ c.requires.learnt.asserting c.requires.above c.max-back.ensures) c.undo_until.ensures in
-    let count : c.min-self.result ≡ min old.kept (length_of middle) = c.min-self.ensures ∙ ap (min old.kept) c.len.ensures in
+    let count : c.min-self.result ≡ min old.kept (length_of middle) = c.min-self.ensures ∙ ap (min old.kept) c.len-left.ensures in
     record {
       loaded = λ given numbers loaded. record {
         clauses = rw (c.in_ok-push.ensures.items, c.in_ok-push-2.ensures.items) (loaded-learnt given old.table.items old.sources.items old.places.items c.args.learnt.literals (Learnt c.args.learnt.causes) it.derived.count refl loaded.clauses);

@@ -1,7 +1,12 @@
 use Rattle.std.proofs.Common.{rules, refl, ap, sym, subst, ◌∙◌, ◌≡◌, length, List, min, ℕ}
 use Rattle.resolver_clause_store.specs.declared.Literal.{Literal}
 use Rattle.resolver_clause_store.specs.Formula.{IsBelow}
-use Rattle.resolver_clause_store.specs.TrailView.{IsUndone, variable_count}
+use Rattle.resolver_clause_store.specs.TrailView.{IsUndone, length_of, variable_count}
+use Rattle.resolver_clause_store.proofs.KeptLemmas.{keeps_undone}
+use Rattle.resolvo.specs.Propagators.{IsPropagator}
+use Rattle.resolvo.proofs.AttachingLemmas.{lower-undone, propagator-longer}
+use Rattle.resolvo.proofs.ClauseSearchLemmas.{grows-push}
+use Rattle.resolvo.proofs.QueueLemmas.{queued-left}
 use Rattle.resolvo.proofs.LoadLemmas.{consistent-given, loaded-clause, same-undone}
 use Rattle.resolvo.proofs.clause_search.ClauseSearch.load_clause.Goals as goal
 
@@ -9,8 +14,13 @@ pub returns-clause-consistent : goal.returns-clause-consistent
 returns-clause-consistent c =
     let end : c.len-place.result ≡ length c.args.self.now.table.items = search rules in
     let copied : c.in_ok-copy.copy.items ≡ c.args.literals.now = search rules in
+    let table = c.args.self.now.table.items in
+    let grows = grows-push table c.in_ok-copy.copy in
+    let longer = propagator-longer table _ grows.longer grows.same c.args.self.now.trail c.args.self.now.propagator c.requires.consistent.propagator in
+    let propagates : IsPropagator c.push.new.self.items c.undo_until.new.self c.cut.new.self = rw c.in_ok-push.ensures.items (c.in_ok-cut.ensures _ _ (lower-undone _ _ _ c.undo_until.ensures) longer) in
     let Below : List Literal → Type 0 = λ l. IsBelow (variable_count c.args.self.now.trail) l in
-    consistent-given c.args.self.now _ c.in_ok-copy.copy _ _ _ c.requires.consistent (subst Below (sym copied) c.requires.below) end c.in_ok-push.ensures.items c.in_ok-push-2.ensures.items c.in_ok-push-3.ensures.items refl c.undo_until.ensures c.level_for-level.ensures.low refl (c.min-self.ensures ∙ ap (min c.args.self.now.kept) c.len.ensures) refl refl
+    consistent-given c.args.self.now _ c.in_ok-copy.copy _ _ _ c.requires.consistent (subst Below (sym copied) c.requires.below) end c.in_ok-push.ensures.items c.in_ok-push-2.ensures.items c.in_ok-push-3.ensures.items refl c.undo_until.ensures c.level_for-level.ensures.low refl (c.min-self.ensures ∙ ap (min c.args.self.now.kept) c.len-left.ensures) refl refl propagates
+    (queued-left c.args.self.now.queue c.cut-2.new.self c.args.self.now.trail c.undo_until.new.self c.args.self.now.table.items c.args.self.now.requirements.items c.len-left.result (length_of c.undo_until.new.self) c.cut-2.ensures (keeps_undone c.args.self.now.trail c.undo_until.new.self c.level_for-level.result c.undo_until.ensures) c.len-left.ensures c.requires.consistent.queued)
 
 pub returns-clause-loaded : goal.returns-clause-loaded
 returns-clause-loaded c = λ given numbers copy same loaded.
@@ -20,7 +30,7 @@ returns-clause-loaded c = λ given numbers copy same loaded.
     loaded-clause c.args.self.now _ given numbers copy c.in_ok-copy.copy _ _ c.requires.consistent first end (copied ∙ sym same) c.in_ok-push.ensures.items c.in_ok-push-2.ensures.items c.in_ok-push-3.ensures.items refl loaded
 
 pub returns-clause-same : goal.returns-clause-same
-returns-clause-same c = same-undone c.args.self.now _ _ c.requires.consistent c.undo_until.ensures c.level_for-level.ensures.low refl (c.min-self.ensures ∙ ap (min c.args.self.now.kept) c.len.ensures) refl refl
+returns-clause-same c = same-undone c.args.self.now _ _ c.requires.consistent c.undo_until.ensures c.level_for-level.ensures.low refl (c.min-self.ensures ∙ ap (min c.args.self.now.kept) c.len-left.ensures) refl refl
 
 pub returns-clause-undone : goal.returns-clause-undone
 returns-clause-undone c = λ falsified.

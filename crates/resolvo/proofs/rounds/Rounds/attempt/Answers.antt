@@ -3,6 +3,7 @@ use Rattle.resolver_encoding.specs.Notes.{notes_in}
 use Rattle.resolvo.specs.ClauseSearches.{trail_of}
 use Rattle.resolvo.specs.RoundStates.{HasAssumed, notes_of}
 use Rattle.resolvo.proofs.GoingLemmas.{still_all}
+use Rattle.resolvo.proofs.SolveLemmas.{lawful_solvables}
 use Rattle.resolvo.proofs.SoftLemmas.{between_accepted, between_held, between_refused, just_assumed, rounds_assumed, rounds_held, still_assumed}
 use Rattle.resolvo.proofs.rounds.Rounds.attempt.Goals as goal
 
@@ -36,7 +37,9 @@ returns-clause-between g c = λ root done seen b.
     let old = c.args.self.now in
     between_refused u root done c.args.solvable c.args.variable old c.begin_turn.new.self c.assume.new.self c.requires.loaded.variables c.requires.rounds.reading.so_far.half.encoding.distinct c.requires.still
     c.requires.stands c.requires.free seen c.begin_turn.ensures.only c.in_ok-begin_turn.ensures.exempts c.in_ok-begin_turn.ensures.stays.so_far c.in_ok-assume.ensures.gains c.in_ok-assume.ensures.held b
-    c.is_answered.new.self c.in_ok-answered.ensures.keeps (length c.exempt-exempt.result.now) (ap length c.exempt-exempt.ensures) c.in_ok-answered.ensures.rounds c.refuse.new.self c.in_ok-refuse.ensures.refused c.in_ok-refuse.ensures.still
+    c.is_answered.new.self c.in_ok-answered.ensures.keeps
+    (lawful_solvables u g.S.PartialEq.eq (g.met.D.Interner.lawful_ids c.args.provider.now) (g.met.D.Interner.solvables_compare c.args.provider.now) g.met.D.Interner.solvables_are_values) c.in_ok-assume.ensures.base (c.in_ok-answered.ensures.unanswered c.if-answered.false)
+    (length c.exempt-exempt.result.now) (ap length c.exempt-exempt.ensures) c.in_ok-answered.ensures.rounds c.refuse.new.self c.in_ok-refuse.ensures.refused c.in_ok-refuse.ensures.still
 
 pub returns-then-answered-clause-counted : goal.returns-then-answered-clause-counted
 returns-then-answered-clause-counted g c = still_all c.is_answered.new.self (record c.is_answered.new.self { search = c.hold.new.self }) refl c.hold.ensures.clauses c.hold.ensures.learnt c.in_ok-answered.ensures.counted

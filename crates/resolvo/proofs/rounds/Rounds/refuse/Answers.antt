@@ -23,28 +23,28 @@ assume-requires-clause-inside g c =
     let old = c.args.self.now.search in
     let mid = c.load.new.self.search in
     let assumed : HasAssumed mid c.args.variable = still_assumed old mid c.args.variable c.requires.rounds.consistent c.in_ok-load.ensures.turn c.requires.assumed in
-    omega (arith, assumed_inside mid c.args.variable c.in_ok-load.ensures.rounds.consistent assumed, c.retract.ensures.cut.size)
+    omega (arith, assumed_inside mid c.args.variable c.in_ok-load.ensures.rounds.consistent assumed, c.in_ok-retract.ensures.cut.size)
 
 pub assume-requires-clause-free : goal.assume-requires-clause-free
 assume-requires-clause-free g c =
     let old = c.args.self.now.search in
     let mid = c.load.new.self.search in
     let assumed : HasAssumed mid c.args.variable = still_assumed old mid c.args.variable c.requires.rounds.consistent c.in_ok-load.ensures.turn c.requires.assumed in
-    ap (slot_of (trail_of c.retract.new.self)) (sym assumed.place) ∙ c.retract.ensures.free
+    ap (slot_of (trail_of c.retract.new.self)) (sym assumed.place) ∙ c.in_ok-retract.ensures.free
 
 pub follow-requires-clause-loaded : goal.follow-requires-clause-loaded
 follow-requires-clause-loaded g c =
     let notes = notes_of c.load.new.self in
     let up = c.in_ok-load.ensures.loaded in
     record {
-      loaded = c.in_ok-assume.ensures.loaded notes.table notes.requirements (c.retract.ensures.loaded notes.table notes.requirements up.loaded);
-      variables = c.in_ok-assume.ensures.gains.size ∙ c.retract.ensures.cut.size ∙ up.variables;
+      loaded = c.in_ok-assume.ensures.loaded notes.table notes.requirements (c.in_ok-retract.ensures.loaded notes.table notes.requirements up.loaded);
+      variables = c.in_ok-assume.ensures.gains.size ∙ c.in_ok-retract.ensures.cut.size ∙ up.variables;
     }
 
 pub follow-requires-clause-mark : goal.follow-requires-clause-mark
 follow-requires-clause-mark g c =
     let mark = c.in_ok-load.ensures.rounds.mark in
-    record { base = mark.base; follows = mark.follows; kept = c.in_ok-assume.ensures.kept mark.base (c.retract.ensures.kept mark.base mark.kept); known = mark.known }
+    record { base = mark.base; follows = mark.follows; kept = c.in_ok-assume.ensures.kept mark.base (c.in_ok-retract.ensures.kept mark.base mark.kept); known = mark.known }
 
 pub returns-clause-rounds : goal.returns-clause-rounds
 returns-clause-rounds g c =
@@ -53,8 +53,8 @@ returns-clause-rounds g c =
     let mid = c.load.new.self in
     let assumed : HasAssumed mid.search c.args.variable = still_assumed old mid.search c.args.variable c.requires.rounds.consistent c.in_ok-load.ensures.turn c.requires.assumed in
     rounds_followed u mid (record mid { search = c.assume.new.self }) c.follow.new.self c.in_ok-follow.field-0 c.in_ok-load.ensures.rounds refl c.in_ok-follow.ensures.following
-    (refused_within u mid (trail_of c.retract.new.self) (trail_of c.assume.new.self) c.args.variable _ c.in_ok-load.ensures.rounds assumed.base c.retract.ensures.cut c.in_ok-assume.ensures.gains
-    (ap (slot_of (trail_of c.retract.new.self)) (sym assumed.place) ∙ c.retract.ensures.free) c.in_ok-follow.ensures.followed.chosen)
+    (refused_within u mid (trail_of c.retract.new.self) (trail_of c.assume.new.self) c.args.variable _ c.in_ok-load.ensures.rounds assumed.base c.in_ok-retract.ensures.cut c.in_ok-assume.ensures.gains
+    (ap (slot_of (trail_of c.retract.new.self)) (sym assumed.place) ∙ c.in_ok-retract.ensures.free) c.in_ok-follow.ensures.followed.chosen)
 
 pub returns-clause-refused : goal.returns-clause-refused
 returns-clause-refused g c =
@@ -72,8 +72,8 @@ returns-clause-refused g c =
       loaded = mid.search;
       turn = c.in_ok-load.ensures.turn;
       cut = trail_of c.retract.new.self;
-      is_cut = subst CutTo c.in_ok-load.ensures.turn.held c.retract.ensures.cut;
-      free = ap (slot_of (trail_of c.retract.new.self)) (sym assumed.place) ∙ c.retract.ensures.free;
+      is_cut = subst CutTo c.in_ok-load.ensures.turn.held c.in_ok-retract.ensures.cut;
+      free = ap (slot_of (trail_of c.retract.new.self)) (sym assumed.place) ∙ c.in_ok-retract.ensures.free;
       gains = subst GainsTo (sym c.in_ok-follow.ensures.followed.trail) c.in_ok-assume.ensures.gains;
     }
 
@@ -82,4 +82,4 @@ returns-clause-counted g c =
     let mid = c.load.new.self in
     let followed = c.in_ok-follow.ensures.followed in
     still_all mid c.follow.new.self (ap (λ (e : Encoding g.row.N.Denot g.row.S.Denot). length (notes_in e).kinds) c.in_ok-follow.ensures.following.encoding)
-    (followed.clauses ∙ c.in_ok-assume.ensures.clauses ∙ c.retract.ensures.clauses) (followed.learnt ∙ c.in_ok-assume.ensures.learnt ∙ c.retract.ensures.learnt) c.in_ok-load.ensures.counted
+    (followed.clauses ∙ c.in_ok-assume.ensures.clauses ∙ c.in_ok-retract.ensures.clauses) (followed.learnt ∙ c.in_ok-assume.ensures.learnt ∙ c.in_ok-retract.ensures.learnt) c.in_ok-load.ensures.counted

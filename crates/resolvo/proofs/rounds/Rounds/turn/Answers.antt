@@ -9,6 +9,7 @@ use Rattle.resolver_encoding.specs.Notes.{notes_in}
 use Rattle.resolver_encoding.specs.declared.encoding.Encoding.{Encoding}
 use Rattle.resolvo.specs.ClauseSearches.{trail_of}
 use Rattle.resolvo.specs.RoundStates.{IsStill, notes_of}
+use Rattle.resolvo.proofs.SolveLemmas.{lawful_solvables}
 use Rattle.resolvo.proofs.SoftLemmas.{between_loaded, between_registered, registered_adds, rounds_added, skipped, still_added}
 use Rattle.resolvo.proofs.rounds.Rounds.turn.Goals as goal
 
@@ -51,7 +52,7 @@ returns-in-Some-clause-between g c = λ root done b.
     let loaded = between_loaded u root done (done ++ c.args.solvable ∷ []) (record old { encoding = e }) new (rounds_added u old e c.requires.rounds c.register.ensures.bounded adds).variables c.in_ok-load.ensures.same c.in_ok-load.ensures.turn after in
     let Stands : Encoding g.row.N.Denot g.row.S.Denot → Type 0 = λ x. slice_get (notes_in x).origins c.in_ok-variable.variable ≡ Some (SolvableOrigin c.args.solvable) in
     let At : Trail → Type 0 = λ t. slot_of t c.in_ok-variable.variable ≡ Some c.in-Some.field-0 in
-    skipped u g.N.PartialEq.eq g.met.D.Interner.names_are_values root done c.args.solvable c.in_ok-variable.variable c.in-Some.field-0 new c.in_ok-load.ensures.rounds.reading.so_far.half.encoding.distinct c.in_ok-load.ensures.loaded.variables
+    skipped u (lawful_solvables u g.S.PartialEq.eq (g.met.D.Interner.lawful_ids c.args.provider.now) (g.met.D.Interner.solvables_compare c.args.provider.now) g.met.D.Interner.solvables_are_values) g.N.PartialEq.eq g.met.D.Interner.names_are_values root done c.args.solvable c.in_ok-variable.variable c.in-Some.field-0 new c.in_ok-load.ensures.rounds c.in_ok-load.ensures.loaded.variables
     (c.in_ok-load.ensures.still (still_added u old e c.requires.rounds registered.origins c.requires.still))
     (subst Stands (sym c.in_ok-load.ensures.same.encoding) c.in_ok-variable.ensures.variable)
     (subst At c.trail.ensures (sym c.slot.ensures ∙ c.in-Some.is)) loaded

@@ -1,0 +1,559 @@
+-- What attaching clauses, cutting a trail and more variables keep of what propagation keeps.
+use Rattle.std.proofs.Common.{◌≡◌, ◌≢◌, ℕ, zero, suc, ◌+◌, ◌*◌, ◌-◌, ◌<◌, ◌≤◌, ◌⊎◌, List, [], ◌∷◌, ◌++◌, length, get_or, take, min, Some, None, Option, Bool, true, false, append_assoc, arith, inl, inr, refl, sym, ap, ◌∙◌, subst, ⊎_elim, length-append}
+use Rattle.std.specs.Prelude.{Vec, slice_get}
+use Rattle.std.specs.Bool.{beq}
+use Rattle.std.specs.List.{All, Any, Contains}
+use Rattle.std.specs.Option.{MatchOption, option_map}
+use Rattle.std.specs.declared.alloc.Global.{Global}
+use Rattle.std.proofs.Math.ListN.{get_or-append}
+use Rattle.std.proofs.lemmas.Bool.{cases_eq, cases_lt}
+use Rattle.std.proofs.lemmas.List.Elements.{All-contains, All-push, Contains-append_cases, Contains-append_left, Contains-append_right}
+use Rattle.std.proofs.lemmas.List.{append-nil, get_or_default, get_or_past, get_or_push, take_all, take_more}
+use Rattle.std.proofs.lemmas.Option.{none-some, get_or_from_slice_get, same_Some, slice_get-get_or, slice_get_within}
+use Rattle.resolver_clause_store.specs.declared.Literal.{Literal}
+use Rattle.resolver_clause_store.specs.declared.Reason.{Reason}
+use Rattle.resolver_clause_store.specs.declared.Reason.TheVariants.{Forced}
+use Rattle.resolver_clause_store.specs.declared.Slot.{Slot}
+use Rattle.resolver_clause_store.specs.declared.Trail.{Trail}
+use Rattle.resolver_clause_store.specs.Formula.{AreBelow, clause_at}
+use Rattle.resolver_clause_store.specs.Outcomes.{IsFalseBefore, IsSatisfied}
+use Rattle.resolver_clause_store.specs.TrailView.{Gains, IsCut, IsGrown, IsTop, IsUndone, KeepsPlaces, length_of, literal_value, slot_of, variable_at, variable_count}
+use Rattle.resolver_clause_store.proofs.FormulaLemmas.{clause_at-past}
+use Rattle.resolver_clause_store.proofs.KeptLemmas.{keeps_all, keeps_grown, keeps_places, keeps_undone, slot_at}
+use Rattle.resolver_clause_store.proofs.PlaceLemmas.{place_cases, place_in, place_last, place_left}
+use Rattle.resolver_clause_store.proofs.TrailLemmas.{Keeps, keeps-gains, value-true}
+use Rattle.resolvo.specs.declared.propagator.Late.{Late}
+use Rattle.resolvo.specs.declared.propagator.Propagator.{Propagator}
+use Rattle.resolvo.specs.declared.watches.Watch.{Watch}
+use Rattle.resolvo.specs.declared.watches.WatchedPair.{WatchedPair}
+use Rattle.resolvo.specs.declared.watches.Watches.{Watches}
+use Rattle.resolvo.specs.Attaching.{AreAlike, AreApart, EndsWith, Forces, IsHigh, IsHighPair, IsLower, IsNotBefore, IsOther, IsRising, Recalls}
+use Rattle.resolvo.specs.Propagation.{IsJustified, IsOpen, IsUnit}
+use Rattle.resolvo.specs.Propagators.{AreLate, AreWatched, Covers, IsConstant, IsExcused, IsNoted, IsPropagator, IsTrueAt, IsTrueBefore, WatchesTwo, attached_of, head_of, late_of, pending_of}
+use Rattle.resolvo.specs.Watches.{HasBlockers, IsWatching, list_at, pair_at, pair_from, unwatched, watched_pair}
+use Rattle.resolvo.specs.WatchesView.{lists_of, pairs_of}
+use Rattle.resolvo.proofs.PropagatorLemmas.{any-map, covers-kept, late-kept}
+use Rattle.resolvo.proofs.JustifiedLemmas.{extends-gains, extends-none, extends-trans, justified-gains}
+
+all-left : {X : Type 0} (P : X → Type 0) (xs ys : List X) → All P (xs ++ ys) → All P xs
+all-left {X} P xs ys all = λ k d below. subst P (get_or-append xs ys d k below) (all k d (omega (arith, below, length-append xs ys)))
+
+contains-one : {X : Type 0} (x y : X) → Contains (x ∷ []) y → x ≡ y
+contains-one x y (zero, below, is) = is
+contains-one x y (suc k, below, is) = absurd (omega arith)
+
+-- the pairs of clauses, one of which stands behind the others
+pair-before : (pairs : List WatchedPair) (pair : WatchedPair) (number : ℕ) → number < length pairs → pair_at (pairs ++ pair ∷ []) number ≡ pair_at pairs number
+pair-before pairs pair number less = get_or-append pairs (pair ∷ []) unwatched number less
+
+pair-last : (pairs : List WatchedPair) (pair : WatchedPair) (number : ℕ) → length pairs ≡ number → pair_at (pairs ++ pair ∷ []) number ≡ pair
+pair-last pairs pair number end = get_or_push pairs pair unwatched number end
+
+-- a clause that watches a literal is attached
+pub watching-inside : (pairs : List WatchedPair) (number : ℕ) (literal : Literal) → IsWatching pairs number literal → number < length pairs
+watching-inside pairs number literal watching = ⊎_elim
+    (λ (less : number < length pairs). less)
+    (λ (past : length pairs ≤ number).
+    let none : pair_at pairs number ≡ unwatched = get_or_past pairs number unwatched past in
+    ⊎_elim
+    (λ (first : (pair_at pairs number).first ≡ Some literal). absurd (none-some literal (ap (λ (p : WatchedPair). p.first) (sym none) ∙ first)))
+    (λ (second : (pair_at pairs number).second ≡ Some literal). absurd (none-some literal (ap (λ (p : WatchedPair). p.second) (sym none) ∙ second)))
+    watching)
+    (cases_lt number (length pairs))
+
+-- more variables
+pub propagator-grown : (table : List (Vec Literal Global)) (old new : Trail) (variables : ℕ) (p : Propagator) (watches : Watches) → length (lists_of watches) ≡ 2 * variables → ((list : ℕ) → list_at (lists_of watches) list ≡ list_at (lists_of p.watches) list) → pairs_of watches ≡ pairs_of p.watches → IsGrown old new variables → IsPropagator table old p → IsPropagator table new (record p { watches = watches })
+propagator-grown table old new variables p watches size lists pairs grown it =
+    let keeps : Keeps old new = record { kept = λ v s at. grown.slots v ∙ at } in
+    let blockers : HasBlockers table (lists_of watches) = λ list. subst (λ (ws : List Watch). All (λ (w : Watch). Contains (clause_at table w.number) w.blocker) ws) (sym (lists list)) (it.watched.blockers list) in
+    record {
+      lists = size ∙ ap (λ n. 2 * n) (sym grown.size);
+      watched = subst (λ (ps : List WatchedPair). AreWatched table (lists_of watches) ps) (sym pairs) (record { attached = it.watched.attached; own = it.watched.own; two = it.watched.two; constant = it.watched.constant; blockers = blockers });
+      late = late-kept table old new _ keeps it.late;
+      pending = subst (λ (ps : List WatchedPair). All (λ n. n < length ps) (pending_of p)) (sym pairs) it.pending;
+      inside = subst (λ (ps : List WatchedPair). All (λ (l : Late). l.number < length ps) (late_of p)) (sym pairs) it.inside;
+      head = omega (arith, it.head, (keeps_all old new keeps).are);
+      covers = subst (λ (ps : List WatchedPair). Covers table new ps (late_of p) (pending_of p) (head_of p)) (sym pairs) (covers-kept table old new _ _ _ _ keeps it.head it.covers);
+    }
+
+-- a clause that has a literal is one of the table
+within-contains : (table : List (Vec Literal Global)) (number : ℕ) (literal : Literal) → Contains (clause_at table number) literal → number < length table
+within-contains table number literal contains = ⊎_elim
+    (λ (less : number < length table). less)
+    (λ (past : length table ≤ number).
+    let none : clause_at table number ≡ [] = clause_at-past table number past in
+    let here : Contains [] literal = subst (λ (c : List Literal). Contains c literal) none contains in
+    absurd (omega (arith, here.1)))
+    (cases_lt number (length table))
+
+-- more clauses behind the others
+module _ (old new : List (Vec Literal Global)) (longer : length old ≤ length new) (same : (number : ℕ) → number < length old → clause_at new number ≡ clause_at old number) where
+  late-longer : (trail : Trail) (late : List Late) (attached : ℕ) → attached ≤ length old → All (λ (l : Late). l.number < attached) late → AreLate old trail late → AreLate new trail late
+  late-longer trail late attached short inside are = record {
+    each = λ k d below. subst (λ (c : List Literal). Any (IsTrueBefore trail (get_or late k d).length) c) (sym (same _ (omega (arith, inside k d below, short)))) (are.each k d below);
+    within = are.within;
+    rising = are.rising;
+  }
+
+  watched-longer : (lists : List (Vec Watch Global)) (pairs : List WatchedPair) → AreWatched old lists pairs → AreWatched new lists pairs
+  watched-longer lists pairs are = record {
+    attached = omega (arith, are.attached, longer);
+    own = λ number literal watching. subst (λ (c : List Literal). Contains c literal) (sym (same number (omega (arith, watching-inside pairs number literal watching, are.attached)))) (are.own number literal watching);
+    two = are.two;
+    constant = λ number inside is. subst (λ (c : List Literal). IsConstant c) (sym (same number (omega (arith, inside, are.attached)))) (are.constant number inside is);
+    blockers = λ list k d below.
+        let here = are.blockers list k d below in
+        subst (λ (c : List Literal). Contains c (get_or (list_at lists list) k d).blocker) (sym (same _ (within-contains old _ _ here))) here;
+  }
+
+  covers-longer : (trail : Trail) (pairs : List WatchedPair) (late : List Late) (pending : List ℕ) (head : ℕ) → length pairs ≤ length old → Covers old trail pairs late pending head → Covers new trail pairs late pending head
+  covers-longer trail pairs late pending head short covers = record {
+    watched = λ number literal watching fails. subst (λ (c : List Literal). Any (IsTrueAt trail fails.slot.level) c ⊎ IsNoted late pending number) (sym (same number (omega (arith, watching-inside pairs number literal watching, short)))) (covers.watched number literal watching fails);
+    constant = covers.constant;
+  }
+
+  pub propagator-longer : (trail : Trail) (p : Propagator) → IsPropagator old trail p → IsPropagator new trail p
+  propagator-longer trail p it = record {
+    lists = it.lists;
+    watched = watched-longer _ _ it.watched;
+    late = late-longer trail _ _ it.watched.attached it.inside it.late;
+    pending = it.pending;
+    inside = it.inside;
+    head = it.head;
+    covers = covers-longer trail _ _ _ _ it.watched.attached it.covers;
+  }
+
+-- a trail that is cut
+cut-undone : (old new : Trail) (level : ℕ) → IsUndone old new level → IsLower old new
+cut-undone old new level undone = record {
+  size = undone.size;
+  places = keeps_undone old new level undone;
+  stays = λ v s at. (undone.stays v s at).0;
+  whole = λ v w s t at other low. undone.kept w t other (omega (arith, low, (undone.stays v s at).1));
+}
+
+pub lower-undone : (old new : Trail) (level : ℕ) → IsUndone old new level → IsLower old new
+lower-undone old new level undone = cut-undone old new level undone
+
+-- the first places are left
+places-cut : (old new : Trail) (count : ℕ) → IsCut old new count → count ≤ length_of old → KeepsPlaces old new (length_of new)
+places-cut old new count cut within = keeps_places old new (length_of new) (omega (arith, within, cut.length)) (λ v s at below. cut.kept v s at (omega (arith, below, cut.length)))
+
+-- late clauses of which some at the end are gone
+late-fewer : (table : List (Vec Literal Global)) (old new : Trail) (late left gone : List Late) → late ≡ left ++ gone → KeepsPlaces old new (length_of new) → All (λ (l : Late). l.length ≤ length_of new) left → AreLate table old late → AreLate table new left
+late-fewer table old new late left gone is places within are =
+    let was : AreLate table old (left ++ gone) = subst (λ (ls : List Late). AreLate table old ls) is are in
+    let each : All (λ (l : Late). Any (IsTrueBefore old l.length) (clause_at table l.number)) left = all-left (λ (l : Late). Any (IsTrueBefore old l.length) (clause_at table l.number)) left gone was.each in
+    record {
+      each = λ k d below. any-map _ _ _ (λ l (t : IsTrueBefore old (get_or left k d).length l). record { slot = t.slot; is = places.slots _ t.slot t.is (omega (arith, t.earlier, within k d below)); true_there = t.true_there; earlier = t.earlier }) (each k d below);
+      within = within;
+      rising = λ k n early later less at there. was.rising k n early later less (place_left left gone k early at) (place_left left gone n later there);
+    }
+
+covers-cut : (table : List (Vec Literal Global)) (old new : Trail) (pairs : List WatchedPair) (late left : List Late) (pending more : List ℕ) (head : ℕ) → IsLower old new → ((number : ℕ) → IsNoted late pending number → IsNoted left more number) → Covers table old pairs late pending head → Covers table new pairs left more (min head (length_of new))
+covers-cut table old new pairs late left pending more head lower noted covers = record {
+  watched = λ number literal watching fails.
+      let was : IsFalseBefore old head literal = record { slot = fails.slot; is = lower.stays _ _ fails.is; false_there = fails.false_there; earlier = omega (arith, fails.earlier) } in
+      ⊎_elim
+      (λ (holds : Any (IsTrueAt old fails.slot.level) (clause_at table number)). inl (any-map _ _ _ (λ l (t : IsTrueAt old fails.slot.level l). record { slot = t.slot; is = lower.whole _ _ fails.slot t.slot fails.is t.is t.low; true_there = t.true_there; low = t.low }) holds))
+      (λ (was_noted : IsNoted late pending number). inr (noted number was_noted))
+      (covers.watched number literal watching was);
+  constant = λ number inside is. noted number (covers.constant number inside is);
+}
+
+pub propagator-cut : (table : List (Vec Literal Global)) (old new : Trail) (p : Propagator) (late : Vec Late Global) (pending : Vec ℕ Global) (head : ℕ) → Recalls (late_of p) late.items (pending_of p) pending.items (length_of new) → head ≡ min p.head (length_of new) → IsLower old new → IsPropagator table old p → IsPropagator table new (record p { late = late; pending = pending; head = head })
+propagator-cut table old new p late pending head recalls is lower it = record {
+  lists = it.lists ∙ ap (λ n. 2 * n) (sym lower.size);
+  watched = it.watched;
+  late = late-fewer table old new _ _ recalls.gone recalls.late lower.places (recalls.within it.late.rising) it.late;
+  pending = recalls.inside _ it.inside it.pending;
+  inside = all-left (λ (l : Late). l.number < attached_of p) late.items recalls.gone (subst (λ (ls : List Late). All (λ (l : Late). l.number < attached_of p) ls) recalls.late it.inside);
+  head = omega (arith, is);
+  covers = rw is (covers-cut table old new _ _ _ _ _ _ lower recalls.noted it.covers);
+}
+
+pub propagator-forgot : (table : List (Vec Literal Global)) (old new : Trail) (count : ℕ) (p : Propagator) (late : Vec Late Global) (pending : Vec ℕ Global) → Recalls (late_of p) late.items (pending_of p) pending.items (length_of new) → count ≤ length_of old → IsCut old new count → IsPropagator table old p → IsPropagator table new (record p { late = late; pending = pending; head = 0 })
+propagator-forgot table old new count p late pending recalls within cut it = record {
+  lists = it.lists ∙ ap (λ n. 2 * n) (sym cut.size);
+  watched = it.watched;
+  late = late-fewer table old new _ _ recalls.gone recalls.late (places-cut old new count cut within) (recalls.within it.late.rising) it.late;
+  pending = recalls.inside _ it.inside it.pending;
+  inside = all-left (λ (l : Late). l.number < attached_of p) late.items recalls.gone (subst (λ (ls : List Late). All (λ (l : Late). l.number < attached_of p) ls) recalls.late it.inside);
+  head = omega arith;
+  covers = record {
+    watched = λ number literal watching fails. absurd (omega (arith, fails.earlier));
+    constant = λ number inside is. recalls.noted number (it.covers.constant number inside is);
+  };
+}
+
+-- what stands at the last place of a list stands behind the rest
+pub ends : {X : Type 0} (xs : List X) (x : X) → slice_get xs (length xs - 1) ≡ Some x → xs ≡ take (length xs - 1) xs ++ x ∷ []
+ends {X} xs x at =
+    let below : length xs - 1 < length xs = slice_get_within xs (length xs - 1) x at in
+    let Ended : X → Type 0 = λ y. xs ≡ take (length xs - 1) xs ++ y ∷ [] in
+    subst Ended (get_or_from_slice_get xs (length xs - 1) x x at) (sym (take_all (length xs - 1 + 1) xs (omega (arith, below))) ∙ take_more xs (length xs - 1) x below)
+
+pub ends-with : (all : List ℕ) (number count : ℕ) → EndsWith all number → count ≡ length all → all ≡ take (count - 1) all ++ number ∷ []
+ends-with all number count e is =
+    let size : length (e.rest ++ number ∷ []) ≡ length e.rest + 1 = length-append e.rest (number ∷ []) in
+    let Last : ℕ → List ℕ → Type 0 = λ n ns. slice_get ns n ≡ Some number in
+    let here : slice_get (e.rest ++ number ∷ []) (length e.rest) ≡ Some number = place_last e.rest number in
+    let last : length e.rest ≡ length all - 1 = omega (arith, size, ap length e.is) in
+    let at : slice_get all (length all - 1) ≡ Some number = subst (λ n. Last n all) last (subst (λ ns. Last (length e.rest) ns) (sym e.is) here) in
+    let Ended : ℕ → Type 0 = λ n. all ≡ take (n - 1) all ++ number ∷ [] in
+    subst Ended (sym is) (ends all number at)
+
+-- late clauses at the end that have to be looked at again, one after the other
+pub record Moves (old new : List Late) (pending more : List ℕ) : Type 0 where
+  pub gone : List Late
+  pub late : old ≡ new ++ gone
+  pub noted : (number : ℕ) → IsNoted old pending number → IsNoted new more number
+  pub inside : (bound : ℕ) → All (λ (l : Late). l.number < bound) old → All (λ number. number < bound) pending → All (λ number. number < bound) more
+
+pub moves-none : (late : List Late) (pending : List ℕ) → Moves late late pending pending
+moves-none late pending = record { gone = []; late = sym (append-nil late); noted = λ number noted. noted; inside = λ bound all are. are }
+
+noted-last : (late : List Late) (last : Late) (pending : List ℕ) (number : ℕ) → IsNoted (late ++ last ∷ []) pending number → IsNoted late (pending ++ last.number ∷ []) number
+noted-last late last pending number noted = ⊎_elim
+    (λ (one : Any (λ (l : Late). l.number ≡ number) (late ++ last ∷ [])). ⊎_elim
+    (λ (early : Contains late one.1). inl (early.0, one.1, early.1, early.2, one.4))
+    (λ (end : Contains (last ∷ []) one.1).
+    let here : last.number ≡ number = ap (λ (l : Late). l.number) (contains-one last one.1 end) ∙ one.4 in
+    let Has : ℕ → Type 0 = λ n. Contains (pending ++ last.number ∷ []) n in
+    inr (subst Has here (Contains-append_right pending (last.number ∷ []) last.number (0, omega arith, refl))))
+    (Contains-append_cases late (last ∷ []) one.1 (one.0, one.2, one.3)))
+    (λ (again : Contains pending number). inr (Contains-append_left pending (last.number ∷ []) number again))
+    noted
+
+pub moves-more : (old late : List Late) (last : Late) (pending more : List ℕ) → Moves old (late ++ last ∷ []) pending more → Moves old late pending (more ++ last.number ∷ [])
+moves-more old late last pending more moves = record {
+  gone = last ∷ moves.gone;
+  late = moves.late ∙ append_assoc late (last ∷ []) moves.gone;
+  noted = λ number noted. noted-last late last more number (moves.noted number noted);
+  inside = λ bound all are.
+      let here : All (λ (l : Late). l.number < bound) (late ++ last ∷ []) = all-left (λ (l : Late). l.number < bound) (late ++ last ∷ []) moves.gone (subst (λ (ls : List Late). All (λ (l : Late). l.number < bound) ls) moves.late all) in
+      All-push (λ n. n < bound) more last.number (moves.inside bound all are) (All-contains (λ (l : Late). l.number < bound) (late ++ last ∷ []) last here (Contains-append_right late (last ∷ []) last (0, omega arith, refl)));
+}
+
+-- where the last one that is left is noted with few places, all are
+within-last : (late : List Late) (last : Late) (count : ℕ) → IsRising (late ++ last ∷ []) → last.length ≤ count → All (λ (l : Late). l.length ≤ count) (late ++ last ∷ [])
+within-last late last count rising short = All-push (λ (l : Late). l.length ≤ count) late last (λ k d below.
+    let at : slice_get (late ++ last ∷ []) k ≡ Some (get_or late k d) = place_left late (last ∷ []) k (get_or late k d) (slice_get-get_or late k d below) in
+    omega (arith, rising k (length late) (get_or late k d) last below at (place_last late last), short)) short
+
+rising-left : (late gone : List Late) → IsRising (late ++ gone) → IsRising late
+rising-left late gone rising = λ k n early later less at there. rising k n early later less (place_left late gone k early at) (place_left late gone n later there)
+
+pub moves-done : (old late : List Late) (last : Late) (pending more : List ℕ) (count : ℕ) → last.length ≤ count → Moves old (late ++ last ∷ []) pending more → Recalls old (late ++ last ∷ []) pending more count
+moves-done old late last pending more count short moves = record {
+  gone = moves.gone;
+  late = moves.late;
+  noted = moves.noted;
+  inside = moves.inside;
+  within = λ rising. within-last late last count (rising-left (late ++ last ∷ []) moves.gone (subst (λ (ls : List Late). IsRising ls) moves.late rising)) short;
+}
+
+pub moves-all : (old late : List Late) (pending more : List ℕ) (count : ℕ) → length late ≤ 0 → Moves old late pending more → Recalls old late pending more count
+moves-all old late pending more count none moves = record {
+  gone = moves.gone;
+  late = moves.late;
+  noted = moves.noted;
+  inside = moves.inside;
+  within = λ rising k d below. absurd (omega (arith, below, none));
+}
+
+-- One clause fewer has to be looked at again.
+noted-fewer : (late : List Late) (rest : List ℕ) (number other : ℕ) → other ≢ number → IsNoted late (rest ++ number ∷ []) other → IsNoted late rest other
+noted-fewer late rest number other differ noted = ⊎_elim
+    (λ (one : Any (λ (l : Late). l.number ≡ other) late). inl one)
+    (λ (again : Contains (rest ++ number ∷ []) other). ⊎_elim
+    (λ (early : Contains rest other). inr early)
+    (λ (end : Contains (number ∷ []) other). absurd (differ (sym (contains-one number other end))))
+    (Contains-append_cases rest (number ∷ []) other again))
+    noted
+
+module _ (table : List (Vec Literal Global)) (trail : Trail) (pairs : List WatchedPair) (late left : List Late) (rest : List ℕ) (number head lower : ℕ) (less : lower ≤ head) (grown : (other : ℕ) → IsNoted late rest other → IsNoted left rest other) where
+  covers-fewer : ((literal : Literal) → IsWatching pairs number literal → (fails : IsFalseBefore trail lower literal) → IsExcused table trail left rest fails.slot.level number) → (number < length pairs → pair_at pairs number ≡ unwatched → IsNoted left rest number) → Covers table trail pairs late (rest ++ number ∷ []) head → Covers table trail pairs left rest lower
+  covers-fewer here constant covers = record {
+    watched = λ other literal watching fails. ⊎_elim
+        (λ (e : other ≡ number).
+        let Watching : ℕ → Type 0 = λ n. IsWatching pairs n literal in
+        let Excused : ℕ → Type 0 = λ n. IsExcused table trail left rest fails.slot.level n in
+        subst Excused (sym e) (here literal (subst Watching e watching) fails))
+        (λ (differ : other ≢ number).
+        let was : IsFalseBefore trail head literal = record { slot = fails.slot; is = fails.is; false_there = fails.false_there; earlier = omega (arith, fails.earlier, less) } in
+        ⊎_elim
+        (λ (holds : Any (IsTrueAt trail fails.slot.level) (clause_at table other)). inl holds)
+        (λ (noted : IsNoted late (rest ++ number ∷ []) other). inr (grown other (noted-fewer late rest number other differ noted)))
+        (covers.watched other literal watching was))
+        (cases_eq other number);
+    constant = λ other inside is. ⊎_elim
+        (λ (e : other ≡ number).
+        let Noted : ℕ → Type 0 = λ n. IsNoted left rest n in
+        let Unwatched : ℕ → Type 0 = λ n. pair_at pairs n ≡ unwatched in
+        subst Noted (sym e) (constant (omega (arith, inside, e)) (subst Unwatched e is)))
+        (λ (differ : other ≢ number). grown other (noted-fewer late rest number other differ (covers.constant other inside is)))
+        (cases_eq other number);
+  }
+
+all-fewer : (rest : List ℕ) (number bound : ℕ) → All (λ n. n < bound) (rest ++ number ∷ []) → All (λ n. n < bound) rest
+all-fewer rest number bound all = all-left (λ n. n < bound) rest (number ∷ []) all
+
+-- a true literal of a clause, of which no watched literal is false below the highest level
+excused-high : (trail : Trail) (literal : Literal) (clause : List Literal) (place : ℕ) → IsHigh trail literal → (fails : IsFalseBefore trail place literal) → IsSatisfied trail clause → Any (IsTrueAt trail fails.slot.level) clause
+excused-high trail literal clause place high fails satisfied = any-map _ _ _ (λ l holds.
+    let t = value-true (slot_of trail l.variable) l.positive holds in
+    record { slot = t.0; is = t.1; true_there = t.2; low = high fails.slot fails.is fails.false_there l.variable t.0 t.1 }) satisfied
+
+watching-pair : (pairs : List WatchedPair) (number : ℕ) (first second literal : Literal) → pair_at pairs number ≡ watched_pair first second → IsWatching pairs number literal → (first ≡ literal) ⊎ (second ≡ literal)
+watching-pair pairs number first second literal are watching = ⊎_elim
+    (λ (e : (pair_at pairs number).first ≡ Some literal). inl (same_Some first literal (sym (ap (λ (p : WatchedPair). p.first) are) ∙ e)))
+    (λ (e : (pair_at pairs number).second ≡ Some literal). inr (same_Some second literal (sym (ap (λ (p : WatchedPair). p.second) are) ∙ e)))
+    watching
+
+pub passed-high : (table : List (Vec Literal Global)) (trail : Trail) (p : Propagator) (pending : Vec ℕ Global) (number : ℕ) → pending_of p ≡ pending.items ++ number ∷ [] → IsHighPair trail (pair_at (pairs_of p.watches) number) → IsSatisfied trail (clause_at table number) → IsPropagator table trail p → IsPropagator table trail (record p { pending = pending })
+passed-high table trail p pending number ends pair satisfied it =
+    let pairs = pairs_of p.watches in
+    let all : All (λ n. n < attached_of p) (pending.items ++ number ∷ []) = subst (λ (ns : List ℕ). All (λ n. n < attached_of p) ns) ends it.pending in
+    let covers : Covers table trail pairs (late_of p) (pending.items ++ number ∷ []) (head_of p) = subst (λ (ns : List ℕ). Covers table trail pairs (late_of p) ns (head_of p)) ends it.covers in
+    record {
+      lists = it.lists;
+      watched = it.watched;
+      late = it.late;
+      pending = all-fewer pending.items number (attached_of p) all;
+      inside = it.inside;
+      head = it.head;
+      covers = covers-fewer table trail pairs (late_of p) (late_of p) pending.items number (head_of p) (head_of p) (omega arith) (λ other noted. noted)
+          (λ literal watching fails. ⊎_elim
+          (λ (e : pair.first ≡ literal). inl (excused-high trail literal _ _ (subst (λ (l : Literal). IsHigh trail l) e pair.first_high) fails satisfied))
+          (λ (e : pair.second ≡ literal). inl (excused-high trail literal _ _ (subst (λ (l : Literal). IsHigh trail l) e pair.second_high) fails satisfied))
+          (watching-pair pairs number pair.first pair.second literal pair.are watching))
+          (λ inside is. absurd (none-some pair.first (ap (λ (w : WatchedPair). w.first) (sym is ∙ pair.are))))
+          covers;
+    }
+
+-- a clause that is true is noted behind the others
+late-push : (table : List (Vec Literal Global)) (trail : Trail) (late : List Late) (number : ℕ) → IsSatisfied trail (clause_at table number) → AreLate table trail late → AreLate table trail (late ++ record { number = number; length = length_of trail } ∷ [])
+late-push table trail late number satisfied are =
+    let made : Late = record { number = number; length = length_of trail } in
+    record {
+      each = All-push (λ (l : Late). Any (IsTrueBefore trail l.length) (clause_at table l.number)) late made are.each (any-map _ _ _ (λ l holds.
+          let t = value-true (slot_of trail l.variable) l.positive holds in
+          record { slot = t.0; is = t.1; true_there = t.2; earlier = (trail.listed _ _ t.1).0 }) satisfied);
+      within = All-push (λ (l : Late). l.length ≤ length_of trail) late made are.within (omega arith);
+      rising = λ k n early later less at there. ⊎_elim
+          (λ (old_later : slice_get late n ≡ Some later). ⊎_elim
+          (λ (old_early : slice_get late k ≡ Some early). are.rising k n early later less old_early old_later)
+          (λ (end : (k ≡ length late) × (made ≡ early)). absurd (omega (arith, less, end.0, slice_get_within late n later old_later)))
+          (place_cases late made k early at))
+          (λ (last : (n ≡ length late) × (made ≡ later)). ⊎_elim
+          (λ (old_early : slice_get late k ≡ Some early).
+          let short = All-contains (λ (l : Late). l.length ≤ length_of trail) late early are.within (place_in late k early old_early) in
+          omega (arith, short, ap (λ (l : Late). l.length) last.1))
+          (λ (end : (k ≡ length late) × (made ≡ early)). absurd (omega (arith, less, end.0, last.0)))
+          (place_cases late made k early at))
+          (place_cases late made n later there);
+    }
+
+pub passed-late : (table : List (Vec Literal Global)) (trail : Trail) (p : Propagator) (late : Vec Late Global) (pending : Vec ℕ Global) (number : ℕ) → pending_of p ≡ pending.items ++ number ∷ [] → late.items ≡ late_of p ++ record { number = number; length = length_of trail } ∷ [] → IsSatisfied trail (clause_at table number) → IsPropagator table trail p → IsPropagator table trail (record p { late = late; pending = pending })
+passed-late table trail p late pending number ends is satisfied it =
+    let pairs = pairs_of p.watches in
+    let made : Late = record { number = number; length = length_of trail } in
+    let all : All (λ n. n < attached_of p) (pending.items ++ number ∷ []) = subst (λ (ns : List ℕ). All (λ n. n < attached_of p) ns) ends it.pending in
+    let inside : number < attached_of p = All-contains (λ n. n < attached_of p) (pending.items ++ number ∷ []) number all (Contains-append_right pending.items (number ∷ []) number (0, omega arith, refl)) in
+    let covers : Covers table trail pairs (late_of p) (pending.items ++ number ∷ []) (head_of p) = subst (λ (ns : List ℕ). Covers table trail pairs (late_of p) ns (head_of p)) ends it.covers in
+    let longer : List Late = late_of p ++ made ∷ [] in
+    let has : Contains longer made = Contains-append_right (late_of p) (made ∷ []) made (0, omega arith, refl) in
+    let noted : IsNoted longer pending.items number = inl (has.0, made, has.1, has.2, refl) in
+    record {
+      lists = it.lists;
+      watched = it.watched;
+      late = subst (λ (ls : List Late). AreLate table trail ls) (sym is) (late-push table trail (late_of p) number satisfied it.late);
+      pending = all-fewer pending.items number (attached_of p) all;
+      inside = subst (λ (ls : List Late). All (λ (l : Late). l.number < attached_of p) ls) (sym is) (All-push (λ (l : Late). l.number < attached_of p) (late_of p) made it.inside inside);
+      head = it.head;
+      covers = subst (λ (ls : List Late). Covers table trail pairs ls pending.items (head_of p)) (sym is) (covers-fewer table trail pairs (late_of p) longer pending.items number (head_of p) (head_of p) (omega arith)
+          (λ other was. ⊎_elim
+          (λ (one : Any (λ (l : Late). l.number ≡ other) (late_of p)).
+          let there = Contains-append_left (late_of p) (made ∷ []) one.1 (one.0, one.2, one.3) in
+          inl (there.0, one.1, there.1, there.2, one.4))
+          (λ (again : Contains pending.items other). inr again)
+          was)
+          (λ literal watching fails. inr noted)
+          (λ within unwatched_there. noted)
+          covers);
+    }
+
+-- a clause two literals of which have no value
+pub reopened : (table : List (Vec Literal Global)) (trail : Trail) (p : Propagator) (pending : Vec ℕ Global) (number head first second : ℕ) → pending_of p ≡ pending.items ++ number ∷ [] → head ≡ min (min p.head first) second → ((literal : Literal) → (pair_at (pairs_of p.watches) number).first ≡ Some literal → IsNotBefore trail first literal) → ((literal : Literal) → (pair_at (pairs_of p.watches) number).second ≡ Some literal → IsNotBefore trail second literal) → IsOpen trail (clause_at table number) → IsPropagator table trail p → IsPropagator table trail (record p { pending = pending; head = head })
+reopened table trail p pending number head first second ends is first_place second_place free it =
+    let pairs = pairs_of p.watches in
+    let all : All (λ n. n < attached_of p) (pending.items ++ number ∷ []) = subst (λ (ns : List ℕ). All (λ n. n < attached_of p) ns) ends it.pending in
+    let covers : Covers table trail pairs (late_of p) (pending.items ++ number ∷ []) (head_of p) = subst (λ (ns : List ℕ). Covers table trail pairs (late_of p) ns (head_of p)) ends it.covers in
+    record {
+      lists = it.lists;
+      watched = it.watched;
+      late = it.late;
+      pending = all-fewer pending.items number (attached_of p) all;
+      inside = it.inside;
+      head = omega (arith, is, it.head);
+      covers = covers-fewer table trail pairs (late_of p) (late_of p) pending.items number (head_of p) head (omega (arith, is)) (λ other noted. noted)
+          (λ literal watching fails. ⊎_elim
+          (λ (e : (pair_at pairs number).first ≡ Some literal). absurd (omega (arith, first_place literal e fails.slot fails.is fails.false_there, fails.earlier, is)))
+          (λ (e : (pair_at pairs number).second ≡ Some literal). absurd (omega (arith, second_place literal e fails.slot fails.is fails.false_there, fails.earlier, is)))
+          watching)
+          (λ inside none. absurd (free.differ (it.watched.constant number inside none free.first free.second free.has_first free.has_second)))
+          covers;
+    }
+
+-- a clause behind the others
+pair-two : (clause : List Literal) (pair : Option (Literal × Literal)) → MatchOption pair (IsConstant clause) (λ two. AreApart clause two.0 two.1) → (pair_from pair ≡ unwatched) ⊎ WatchesTwo (pair_from pair)
+pair-two clause None constant = inl refl
+pair-two clause (Some (first, second)) apart = inr (record { first = first; second = second; is = refl; differ = apart.differ })
+
+pair-own : (clause : List Literal) (pair : Option (Literal × Literal)) → MatchOption pair (IsConstant clause) (λ two. AreApart clause two.0 two.1) → (literal : Literal) → ((pair_from pair).first ≡ Some literal) ⊎ ((pair_from pair).second ≡ Some literal) → Contains clause literal
+pair-own clause None constant literal watching = ⊎_elim (λ (e : None ≡ Some literal). absurd (none-some literal e)) (λ (e : None ≡ Some literal). absurd (none-some literal e)) watching
+pair-own clause (Some (first, second)) apart literal watching = ⊎_elim
+    (λ (e : Some first ≡ Some literal). subst (λ (l : Literal). Contains clause l) (same_Some first literal e) apart.has_first)
+    (λ (e : Some second ≡ Some literal). subst (λ (l : Literal). Contains clause l) (same_Some second literal e) apart.has_second)
+    watching
+
+pair-constant : (clause : List Literal) (pair : Option (Literal × Literal)) → MatchOption pair (IsConstant clause) (λ two. AreApart clause two.0 two.1) → pair_from pair ≡ unwatched → IsConstant clause
+pair-constant clause None constant is = constant
+pair-constant clause (Some (first, second)) apart is = absurd (none-some first (ap (λ (p : WatchedPair). p.first) (sym is)))
+
+module _ (table : List (Vec Literal Global)) (pairs : List WatchedPair) (pair : Option (Literal × Literal)) (chosen : MatchOption pair (IsConstant (clause_at table (length pairs))) (λ two. AreApart (clause_at table (length pairs)) two.0 two.1)) where
+  abbrev longer : List WatchedPair
+  longer = pairs ++ pair_from pair ∷ []
+
+  watching-cases : (number : ℕ) (literal : Literal) → IsWatching longer number literal → ((number < length pairs) × IsWatching pairs number literal) ⊎ ((number ≡ length pairs) × (((pair_from pair).first ≡ Some literal) ⊎ ((pair_from pair).second ≡ Some literal)))
+  watching-cases number literal watching =
+      let Watching : WatchedPair → Type 0 = λ p. (p.first ≡ Some literal) ⊎ (p.second ≡ Some literal) in
+      ⊎_elim
+      (λ (less : number < length pairs). inl (less, subst Watching (pair-before pairs (pair_from pair) number less) watching))
+      (λ (more : length pairs ≤ number).
+      let end : number ≡ length pairs = omega (arith, more, watching-inside longer number literal watching, length-append pairs (pair_from pair ∷ [])) in
+      inr (end, subst Watching (pair-last pairs (pair_from pair) number (sym end)) watching))
+      (cases_lt number (length pairs))
+
+  watched-push : (old new : List (Vec Watch Global)) → length pairs < length table → HasBlockers table new → AreWatched table old pairs → AreWatched table new longer
+  watched-push old new more blockers are = record {
+    attached = omega (arith, more, length-append pairs (pair_from pair ∷ []));
+    own = λ number literal watching. ⊎_elim
+        (λ (w : (number < length pairs) × IsWatching pairs number literal). are.own number literal w.1)
+        (λ (w : (number ≡ length pairs) × (((pair_from pair).first ≡ Some literal) ⊎ ((pair_from pair).second ≡ Some literal))). subst (λ (n : ℕ). Contains (clause_at table n) literal) (sym w.0) (pair-own _ pair chosen literal w.1))
+        (watching-cases number literal watching);
+    two = λ number inside. ⊎_elim
+        (λ (less : number < length pairs). subst (λ (p : WatchedPair). (p ≡ unwatched) ⊎ WatchesTwo p) (sym (pair-before pairs (pair_from pair) number less)) (are.two number less))
+        (λ (past : length pairs ≤ number).
+        let end : length pairs ≡ number = omega (arith, past, inside, length-append pairs (pair_from pair ∷ [])) in
+        subst (λ (p : WatchedPair). (p ≡ unwatched) ⊎ WatchesTwo p) (sym (pair-last pairs (pair_from pair) number end)) (pair-two _ pair chosen))
+        (cases_lt number (length pairs));
+    constant = λ number inside is. ⊎_elim
+        (λ (less : number < length pairs). are.constant number less (sym (pair-before pairs (pair_from pair) number less) ∙ is))
+        (λ (past : length pairs ≤ number).
+        let end : length pairs ≡ number = omega (arith, past, inside, length-append pairs (pair_from pair ∷ [])) in
+        subst (λ (n : ℕ). IsConstant (clause_at table n)) end (pair-constant _ pair chosen (sym (pair-last pairs (pair_from pair) number end) ∙ is)))
+        (cases_lt number (length pairs));
+    blockers = blockers;
+  }
+
+  covers-push : (trail : Trail) (late : List Late) (pending : List ℕ) (head : ℕ) → Covers table trail pairs late pending head → Covers table trail longer late (pending ++ length pairs ∷ []) head
+  covers-push trail late pending head covers =
+      let grown : (number : ℕ) → IsNoted late pending number → IsNoted late (pending ++ length pairs ∷ []) number = λ number noted. ⊎_elim (λ (one : Any (λ (l : Late). l.number ≡ number) late). inl one) (λ (again : Contains pending number). inr (Contains-append_left pending (length pairs ∷ []) number again)) noted in
+      let last : (number : ℕ) → number ≡ length pairs → IsNoted late (pending ++ length pairs ∷ []) number = λ number e.
+      let Has : ℕ → Type 0 = λ n. Contains (pending ++ length pairs ∷ []) n in
+      inr (subst Has (sym e) (Contains-append_right pending (length pairs ∷ []) (length pairs) (0, omega arith, refl))) in
+      record {
+        watched = λ number literal watching fails. ⊎_elim
+            (λ (w : (number < length pairs) × IsWatching pairs number literal). ⊎_elim
+            (λ (holds : Any (IsTrueAt trail fails.slot.level) (clause_at table number)). inl holds)
+            (λ (noted : IsNoted late pending number). inr (grown number noted))
+            (covers.watched number literal w.1 fails))
+            (λ (w : (number ≡ length pairs) × (((pair_from pair).first ≡ Some literal) ⊎ ((pair_from pair).second ≡ Some literal))). inr (last number w.0))
+            (watching-cases number literal watching);
+        constant = λ number inside is. ⊎_elim
+            (λ (less : number < length pairs). grown number (covers.constant number less (sym (pair-before pairs (pair_from pair) number less) ∙ is)))
+            (λ (past : length pairs ≤ number). last number (omega (arith, past, inside, length-append pairs (pair_from pair ∷ []))))
+            (cases_lt number (length pairs));
+      }
+
+pub attached-push : (table : List (Vec Literal Global)) (trail : Trail) (p : Propagator) (watches : Watches) (pending : Vec ℕ Global) (pair : Option (Literal × Literal)) → attached_of p < length table → pairs_of watches ≡ pairs_of p.watches ++ pair_from pair ∷ [] → length (lists_of watches) ≡ length (lists_of p.watches) → HasBlockers table (lists_of watches) → pending.items ≡ pending_of p ++ attached_of p ∷ [] → MatchOption pair (IsConstant (clause_at table (attached_of p))) (λ two. AreApart (clause_at table (attached_of p)) two.0 two.1) → IsPropagator table trail p → IsPropagator table trail (record p { watches = watches; pending = pending })
+attached-push table trail p watches pending pair more pairs lists blockers is chosen it =
+    let long : length (pairs_of watches) ≡ attached_of p + 1 = ap length pairs ∙ length-append (pairs_of p.watches) (pair_from pair ∷ []) in
+    record {
+      lists = lists ∙ it.lists;
+      watched = subst (λ (ps : List WatchedPair). AreWatched table (lists_of watches) ps) (sym pairs) (watched-push table (pairs_of p.watches) pair chosen (lists_of p.watches) (lists_of watches) more blockers it.watched);
+      late = it.late;
+      pending = subst (λ (ns : List ℕ). All (λ n. n < length (pairs_of watches)) ns) (sym is) (All-push (λ n. n < length (pairs_of watches)) (pending_of p) (attached_of p) (λ k d below. omega (arith, it.pending k d below, long)) (omega (arith, long)));
+      inside = λ k d below. omega (arith, it.inside k d below, long);
+      head = it.head;
+      covers = subst (λ (ns : List ℕ). Covers table trail (pairs_of watches) (late_of p) ns (head_of p)) (sym is) (subst (λ (ps : List WatchedPair). Covers table trail ps (late_of p) (pending_of p ++ attached_of p ∷ []) (head_of p)) (sym pairs) (covers-push table (pairs_of p.watches) pair chosen trail (late_of p) (pending_of p) (head_of p) it.covers));
+    }
+
+-- a clause whose literals are all one
+pub constant-none : (clause : List Literal) → AreAlike clause None (length clause) → IsConstant clause
+constant-none clause none = λ one other has_one has_other. absurd (none has_one.0 has_one.1)
+
+pub constant-alike : (clause : List Literal) (place : ℕ) → AreAlike clause (Some place) (length clause) → IsConstant clause
+constant-alike clause place alike = λ one other has_one has_other.
+    let first : get_or clause has_one.0 one ≡ get_or clause place one = alike has_one.0 has_one.1 one in
+    let second : get_or clause has_other.0 one ≡ get_or clause place one = alike has_other.0 has_other.1 one in
+    let same : get_or clause has_other.0 one ≡ other = get_or_default clause has_other.0 one other has_other.1 ∙ has_other.2 in
+    sym has_one.2 ∙ first ∙ sym second ∙ same
+
+-- two of its literals that are not one
+pub apart-of : (clause : List Literal) (first second : ℕ) (one other : Literal) → first < length clause → IsOther clause (Some first) second → one ≡ get_or clause first one → other ≡ get_or clause second other → AreApart clause one other
+apart-of clause first second one other inside is_other is_one is_second = record {
+  has_first = (first, inside, sym is_one);
+  has_second = (second, is_other.0, sym is_second);
+  differ = λ e. is_other.1 one (get_or_default clause second one other is_other.0 ∙ sym is_second ∙ sym e ∙ is_one);
+}
+
+-- the last one of the clauses that have to be looked at again
+pub last-inside : (table : List (Vec Literal Global)) (trail : Trail) (p : Propagator) (number : ℕ) → EndsWith (pending_of p) number → IsPropagator table trail p → number < attached_of p
+last-inside table trail p number e it =
+    let has : Contains (pending_of p) number = subst (λ (ns : List ℕ). Contains ns number) (sym e.is) (Contains-append_right e.rest (number ∷ []) number (0, omega arith, refl)) in
+    All-contains (λ n. n < attached_of p) (pending_of p) number it.pending has
+
+pub last-within : (table : List (Vec Literal Global)) (trail : Trail) (p : Propagator) (number : ℕ) → EndsWith (pending_of p) number → IsPropagator table trail p → number < length table
+last-within table trail p number e it = omega (arith, last-inside table trail p number e it, it.watched.attached)
+
+pub watched-below : (table : List (Vec Literal Global)) (trail : Trail) (p : Propagator) (variables number : ℕ) → AreBelow variables table → IsPropagator table trail p → (literal : Literal) → IsWatching (pairs_of p.watches) number literal → literal.variable < variables
+watched-below table trail p variables number below it = λ literal watching. All-contains (λ (l : Literal). l.variable < variables) (clause_at table number) literal (below number) (it.watched.own number literal watching)
+
+-- a literal of a clause that was set
+beq-same : (b : Bool) → beq b b ≡ true
+beq-same true = refl
+beq-same false = refl
+
+pub gained-satisfied : (old new : Trail) (literal : Literal) (level : ℕ) (reason : Reason) (clause : List Literal) → Gains old new literal level reason → Contains clause literal → IsSatisfied new clause
+gained-satisfied old new literal level reason clause gains has =
+    let holds : literal_value new literal ≡ Some true = ap (λ o. option_map (λ (slot : Slot). beq slot.value literal.positive) o) gains.here ∙ ap Some (beq-same literal.positive) in
+    (has.0, literal, has.1, has.2, holds)
+
+-- what clauses force, step by step
+pub forces-none : (table : List (Vec Literal Global)) (trail : Trail) → IsJustified table trail → Forces table trail trail
+forces-none table trail justified = record { justified = justified; extends = extends-none trail; size = refl; open_less = omega arith }
+
+pub forces-trans : (table : List (Vec Literal Global)) (old middle new : Trail) → Forces table old middle → Forces table middle new → Forces table old new
+forces-trans table old middle new first second = record {
+  justified = second.justified;
+  extends = extends-trans old middle new first.extends second.extends;
+  size = second.size ∙ first.size;
+  open_less = omega (arith, first.open_less, second.open_less);
+}
+
+pub forces-gains : (table : List (Vec Literal Global)) (old new : Trail) (literal : Literal) (level number : ℕ) → IsJustified table old → Gains old new literal level (Forced number) → slot_of old literal.variable ≡ None → number < length table → Contains (clause_at table number) literal → IsUnit old literal (clause_at table number) → Forces table old new
+forces-gains table old new literal level number justified gains free inside has unit = record {
+  justified = justified-gains table old new literal level number justified gains free inside has unit;
+  extends = extends-gains old new literal level number gains free;
+  size = gains.size;
+  open_less = omega (arith, gains.fewer_open);
+}
+
+pub pair-has : (clause : List Literal) (pair : Option (Literal × Literal)) (first second : Literal) → pair ≡ Some (first, second) → MatchOption pair (IsConstant clause) (λ two. AreApart clause two.0 two.1) → Contains clause first × Contains clause second
+pair-has clause None first second e chosen = absurd (none-some (first, second) e)
+pair-has clause (Some (one, other)) first second e chosen =
+    let same : (one, other) ≡ (first, second) = same_Some (one, other) (first, second) e in
+    (subst (λ (l : Literal). Contains clause l) (ap (λ (two : Literal × Literal). two.0) same) chosen.has_first, subst (λ (l : Literal). Contains clause l) (ap (λ (two : Literal × Literal). two.1) same) chosen.has_second)

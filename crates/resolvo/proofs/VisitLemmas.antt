@@ -1,0 +1,416 @@
+-- What a look at a clause that watches a false literal leaves.
+use Rattle.std.proofs.Common.{◌≡◌, ◌≢◌, ℕ, ◌+◌, ◌-◌, ◌<◌, ◌≤◌, ◌⊎◌, List, [], ◌∷◌, ◌++◌, length, get_or, Option, Some, None, Bool, true, false, inl, inr, refl, sym, ap, ◌∙◌, subst, ⊎_elim, arith}
+use Rattle.std.specs.Prelude.{All, Any, Contains, Vec, slice_get, if◌then◌else◌}
+use Rattle.std.specs.Bool.{beq}
+use Rattle.std.specs.Option.{option_eq, option_map_or}
+use Rattle.std.specs.declared.alloc.Global.{Global}
+use Rattle.std.proofs.lemmas.Bool.{cases_lt, cases_eq}
+use Rattle.std.proofs.lemmas.List.Elements.{All-append, All-cons, All-nil, Contains-append_left}
+use Rattle.std.proofs.lemmas.List.Quantifiers.{Any-push}
+use Rattle.std.proofs.lemmas.Option.{same_Some, none-some, slice_get_within, get_or_from_slice_get, slice_get-get_or}
+use Rattle.resolver_clause_store.specs.declared.Literal.{Literal}
+use Rattle.resolver_clause_store.specs.declared.Slot.{Slot}
+use Rattle.resolver_clause_store.specs.declared.Reason.TheVariants.{Forced}
+use Rattle.resolver_clause_store.specs.declared.Trail.{Trail}
+use Rattle.resolver_clause_store.specs.Formula.{AreBelow, clause_at}
+use Rattle.resolver_clause_store.specs.Outcomes.{IsFalsified, IsSatisfied}
+use Rattle.resolver_clause_store.specs.TrailView.{slot_of, length_of, level_of, literal_value, variable_at, Gains, IsTop}
+use Rattle.resolver_clause_store.proofs.PlaceLemmas.{place_cases}
+use Rattle.resolver_clause_store.proofs.TrailLemmas.{Keeps, gains-cases, keeps-gains, value-true}
+use Rattle.resolvo.specs.Propagation.{IsUnit}
+use Rattle.resolvo.specs.Propagators.{AreLate, AreWatched, Covers, IsExcused, IsNoted, IsPropagator, IsTrueAt, IsTrueBefore, WatchesTwo, attached_of, head_of, late_of, pending_of}
+use Rattle.resolvo.specs.Visits.{GoesOn, IsPaired, IsVisiting, Replaces, StandsAt, watchers_of}
+use Rattle.resolvo.specs.Watches.{HasBlockers, IsPair, IsWatching, MovesWatch, SameClauses, list_at, list_number, pair_at, unwatched, watched_pair}
+use Rattle.resolvo.specs.WatchesView.{lists_of, pairs_of}
+use Rattle.resolvo.specs.declared.propagator.Late.{Late}
+use Rattle.resolvo.specs.declared.propagator.Propagator.{Propagator}
+use Rattle.resolvo.specs.declared.propagator.visiting.FalseLiteral.{FalseLiteral}
+use Rattle.resolvo.specs.declared.watches.Watch.{Watch}
+use Rattle.resolvo.specs.declared.watches.WatchedPair.{WatchedPair}
+use Rattle.resolvo.specs.declared.watches.Watches.{Watches}
+use Rattle.resolvo.proofs.PropagatorLemmas.{any-contains, any-map, excused-kept, propagator-gains, value-of}
+
+all-at : {X : Type 0} (P : X → Type 0) (xs : List X) (k : ℕ) (x : X) → All P xs → slice_get xs k ≡ Some x → P x
+all-at P xs k x all at = subst P (get_or_from_slice_get xs k x x at) (all k x (slice_get_within xs k x at))
+
+any-left : {X : Type 0} (P : X → Type 0) (xs ys : List X) → Any P xs → Any P (xs ++ ys)
+any-left P xs ys h = any-contains P (xs ++ ys) h.1 (Contains-append_left xs ys h.1 (h.0, h.2, h.3)) h.4
+
+pub below-contains : (table : List (Vec Literal Global)) (variables number : ℕ) (literal : Literal) → AreBelow variables table → Contains (clause_at table number) literal → literal.variable < variables
+below-contains table variables number literal below c = subst (λ (l : Literal). l.variable < variables) c.2 (below number c.0 literal c.1)
+
+-- a clause that is true
+
+satisfied-low : (trail : Trail) (clause : List Literal) (level : ℕ) → IsTop trail level → IsSatisfied trail clause → Any (IsTrueAt trail level) clause
+satisfied-low trail clause level top h = any-map (λ (l : Literal). literal_value trail l ≡ Some true) (IsTrueAt trail level) clause (λ l e. let v = value-true _ _ e in record { slot = v.0; is = v.1; true_there = v.2; low = top _ v.0 v.1 }) h
+
+pub satisfied-before : (trail : Trail) (clause : List Literal) → IsSatisfied trail clause → Any (IsTrueBefore trail (length_of trail)) clause
+satisfied-before trail clause h = any-map (λ (l : Literal). literal_value trail l ≡ Some true) (IsTrueBefore trail (length_of trail)) clause (λ l e. let v = value-true _ _ e in record { slot = v.0; is = v.1; true_there = v.2; earlier = (trail.listed _ _ v.1).0 }) h
+
+-- what is noted of a clause that is true
+pub record NotesMore (table : List (Vec Literal Global)) (trail : Trail) (old new : List Late) (pending : List ℕ) (attached level number : ℕ) : Type 0 where
+  pub late : AreLate table trail new
+  pub inside : All (λ (l : Late). l.number < attached) new
+  pub kept : (n : ℕ) → IsNoted old pending n → IsNoted new pending n
+  pub excused : IsExcused table trail new pending level number
+
+pub late-pushed : (table : List (Vec Literal Global)) (trail : Trail) (late : List Late) (number : ℕ) → AreLate table trail late → IsSatisfied trail (clause_at table number) → AreLate table trail (late ++ record { number = number; length = length_of trail } ∷ [])
+late-pushed table trail late number noted satisfied =
+    let last : Late = record { number = number; length = length_of trail } in
+    let Each : Late → Type 0 = λ (l : Late). Any (IsTrueBefore trail l.length) (clause_at table l.number) in
+    let Within : Late → Type 0 = λ (l : Late). l.length ≤ length_of trail in
+    record {
+      each = All-append Each late (last ∷ []) noted.each (All-cons Each last [] (satisfied-before trail (clause_at table number) satisfied) (All-nil Each));
+      within = All-append Within late (last ∷ []) noted.within (All-cons Within last [] (omega arith) (All-nil Within));
+      rising = λ k n early later less at to. ⊎_elim
+          (λ (was : slice_get late n ≡ Some later). ⊎_elim
+          (λ (first : slice_get late k ≡ Some early). noted.rising k n early later less first was)
+          (λ (end : (k ≡ length late) × (last ≡ early)). absurd (omega (arith, end.0, less, slice_get_within late n later was)))
+          (place_cases late last k early at))
+          (λ (end : (n ≡ length late) × (last ≡ later)).
+          let long : length_of trail ≡ later.length = ap (λ (l : Late). l.length) end.1 in
+          ⊎_elim
+          (λ (first : slice_get late k ≡ Some early). omega (arith, long, all-at Within late k early noted.within first))
+          (λ (also : (k ≡ length late) × (last ≡ early)). absurd (omega (arith, also.0, end.0, less)))
+          (place_cases late last k early at))
+          (place_cases late last n later to);
+    }
+
+pub noted-more : (late : List Late) (last : Late) (pending : List ℕ) (n : ℕ) → IsNoted late pending n → IsNoted (late ++ last ∷ []) pending n
+noted-more late last pending n noted = ⊎_elim
+    (λ (h : Any (λ (l : Late). l.number ≡ n) late). inl (any-left (λ (l : Late). l.number ≡ n) late (last ∷ []) h))
+    (λ (c : Contains pending n). inr c)
+    noted
+
+notes : (b : Bool) (table : List (Vec Literal Global)) (trail : Trail) (old new : List Late) (pending : List ℕ) (attached level number : ℕ) → AreLate table trail old → All (λ (l : Late). l.number < attached) old → number < attached → IsSatisfied trail (clause_at table number) → (b ≡ true → IsTop trail level) → new ≡ (if b then old else old ++ record { number = number; length = length_of trail } ∷ []) → NotesMore table trail old new pending attached level number
+notes true table trail old new pending attached level number noted within inside satisfied top is =
+    let N : List Late → Type 0 = λ l. NotesMore table trail old l pending attached level number in
+    subst N (sym is) (record { late = noted; inside = within; kept = λ n h. h; excused = inl (satisfied-low trail (clause_at table number) level (top refl) satisfied) })
+notes false table trail old new pending attached level number noted within inside satisfied top is =
+    let N : List Late → Type 0 = λ l. NotesMore table trail old l pending attached level number in
+    let last : Late = record { number = number; length = length_of trail } in
+    let Inside : Late → Type 0 = λ (l : Late). l.number < attached in
+    subst N (sym is) (record {
+      late = late-pushed table trail old number noted satisfied;
+      inside = All-append Inside old (last ∷ []) within (All-cons Inside last [] inside (All-nil Inside));
+      kept = noted-more old last pending;
+      excused = inr (inl (Any-push (λ (l : Late). l.number ≡ number) old last refl));
+    })
+
+excused-noted : (table : List (Vec Literal Global)) (trail : Trail) (old new : List Late) (pending : List ℕ) (level number : ℕ) → (IsNoted old pending number → IsNoted new pending number) → IsExcused table trail old pending level number → IsExcused table trail new pending level number
+excused-noted table trail old new pending level number more excused = ⊎_elim
+    (λ (h : Any (IsTrueAt trail level) (clause_at table number)). inl h)
+    (λ (n : IsNoted old pending number). inr (more n))
+    excused
+
+pub covers-noted : (table : List (Vec Literal Global)) (trail : Trail) (pairs : List WatchedPair) (old new : List Late) (pending : List ℕ) (head : ℕ) → ((n : ℕ) → IsNoted old pending n → IsNoted new pending n) → Covers table trail pairs old pending head → Covers table trail pairs new pending head
+covers-noted table trail pairs old new pending head more covers = record {
+  watched = λ number literal watching fails. excused-noted table trail old new pending _ number (more number) (covers.watched number literal watching fails);
+  constant = λ number inside none. more number (covers.constant number inside none);
+}
+
+-- a clause that is passed by
+pub passes : (table : List (Vec Literal Global)) (trail : Trail) (old new : Propagator) (falsified : FalseLiteral) (place number : ℕ) → IsVisiting table trail old falsified place → StandsAt (watchers_of old falsified.literal) place number → number < attached_of old → IsSatisfied trail (clause_at table number) → new.watches ≡ old.watches → new.pending ≡ old.pending → new.head ≡ old.head → late_of new ≡ (if falsified.is_top then late_of old else late_of old ++ record { number = number; length = length_of trail } ∷ []) → GoesOn table trail old new falsified place (place + 1)
+passes table trail old new falsified place number v stands inside satisfied watches pending head late =
+    let made : Propagator = record { watches = old.watches; late = new.late; pending = old.pending; head = old.head } in
+    let w = sym watches in
+    let p = sym pending in
+    let h = sym head in
+    let same : made ≡ new = λ i. record { watches = w i; late = new.late; pending = p i; head = h i } in
+    let was = v.propagator in
+    let n = notes falsified.is_top table trail (late_of old) (late_of new) (pending_of old) (attached_of old) falsified.level number was.late was.inside inside satisfied v.fails.top late in
+    let E : ℕ → Type 0 = λ m. IsExcused table trail (late_of new) (pending_of old) falsified.level m in
+    let G : Propagator → Type 0 = λ it. GoesOn table trail old it falsified place (place + 1) in
+    subst G same (record {
+      visiting = record {
+        below = v.below;
+        propagator = record {
+          lists = was.lists;
+          watched = was.watched;
+          late = n.late;
+          pending = was.pending;
+          inside = n.inside;
+          head = was.head;
+          covers = covers-noted table trail (pairs_of old.watches) (late_of old) (late_of new) (pending_of old) (head_of old) n.kept was.covers;
+        };
+        attached = record { all = v.attached.all; none = v.attached.none };
+        fails = v.fails;
+        excused = record {
+          each = λ k watch less at. ⊎_elim
+              (λ (before : k < place). excused-noted table trail (late_of old) (late_of new) (pending_of old) _ _ (n.kept watch.number) (v.excused.each k watch before at))
+              (λ (behind : place ≤ k).
+              let here : k ≡ place = omega (arith, less, behind) in
+              let one : watch ≡ stands.watch = same_Some _ _ (sym at ∙ ap (λ m. slice_get (watchers_of old falsified.literal) m) here ∙ stands.is) in
+              subst E (sym (ap (λ (x : Watch). x.number) one ∙ stands.named)) n.excused)
+              (cases_lt k place);
+        };
+      };
+      head = refl;
+      within = omega (arith, slice_get_within _ place stands.watch stands.is);
+      fewer = omega (arith, slice_get_within _ place stands.watch stands.is);
+    })
+
+abbrev pub with_watches : Propagator → Watches → Propagator
+with_watches it watches = record { watches = watches; late = it.late; pending = it.pending; head = it.head }
+
+-- another blocker
+pub sets : (table : List (Vec Literal Global)) (trail : Trail) (old : Propagator) (watches : Watches) (falsified : FalseLiteral) (place : ℕ) → IsVisiting table trail old falsified place → SameClauses (lists_of old.watches) (lists_of watches) → pairs_of watches ≡ pairs_of old.watches → HasBlockers table (lists_of watches) → IsVisiting table trail (with_watches old watches) falsified place
+sets table trail old watches falsified place v same pairs blockers =
+    let was = v.propagator in
+    let w = was.watched in
+    let back = sym pairs in
+    let A : List WatchedPair → Type 0 = λ ps. AreWatched table (lists_of watches) ps in
+    let C : List WatchedPair → Type 0 = λ ps. Covers table trail ps (late_of old) (pending_of old) (head_of old) in
+    let N : List WatchedPair → Type 0 = λ ps. All (λ (number : ℕ). number < length ps) (pending_of old) in
+    let L : List WatchedPair → Type 0 = λ ps. All (λ (l : Late). l.number < length ps) (late_of old) in
+    let E : ℕ → Type 0 = λ m. IsExcused table trail (late_of old) (pending_of old) falsified.level m in
+    record {
+      below = v.below;
+      propagator = record {
+        lists = same.size ∙ was.lists;
+        watched = subst A back (record { attached = w.attached; own = w.own; two = w.two; constant = w.constant; blockers = blockers });
+        late = was.late;
+        pending = subst N back was.pending;
+        inside = subst L back was.inside;
+        head = was.head;
+        covers = subst C back was.covers;
+      };
+      attached = record { all = ap (λ (ps : List WatchedPair). length ps) pairs ∙ v.attached.all; none = v.attached.none };
+      fails = v.fails;
+      excused = record {
+        each = λ k watch less at.
+            let b = same.back (list_number falsified.literal) k watch at in
+            subst E b.2 (v.excused.each k b.0 less b.1);
+      };
+    }
+
+pub stands-same : (old new : List (Vec Watch Global)) (list place number : ℕ) → SameClauses old new → StandsAt (list_at old list) place number → StandsAt (list_at new list) place number
+stands-same old new list place number same stands =
+    let inside : place < length (list_at new list) = omega (arith, slice_get_within (list_at old list) place stands.watch stands.is, same.count list) in
+    let at = slice_get-get_or (list_at new list) place stands.watch inside in
+    let b = same.back list place (get_or (list_at new list) place stands.watch) at in
+    let one : b.0 ≡ stands.watch = same_Some _ _ (sym b.1 ∙ stands.is) in
+    record { watch = get_or (list_at new list) place stands.watch; is = at; named = sym b.2 ∙ ap (λ (x : Watch). x.number) one ∙ stands.named }
+
+-- the two literals that a clause watches
+
+pub paired-other : (pairs : List WatchedPair) (number : ℕ) (one other : Literal) → IsPair (pair_at pairs number) one other → IsWatching pairs number other
+paired-other pairs number one other pair = ⊎_elim
+    (λ (e : pair_at pairs number ≡ watched_pair one other). inr (ap (λ (p : WatchedPair). p.second) e))
+    (λ (e : pair_at pairs number ≡ watched_pair other one). inl (ap (λ (p : WatchedPair). p.first) e))
+    pair
+
+pair-either : (pair : WatchedPair) (one other literal : Literal) → IsPair pair one other → (pair.first ≡ Some literal) ⊎ (pair.second ≡ Some literal) → (literal ≡ one) ⊎ (literal ≡ other)
+pair-either pair one other literal is watching = ⊎_elim
+    (λ (e : pair ≡ watched_pair one other). ⊎_elim
+    (λ (f : pair.first ≡ Some literal). inl (same_Some _ _ (sym f ∙ ap (λ (p : WatchedPair). p.first) e)))
+    (λ (s : pair.second ≡ Some literal). inr (same_Some _ _ (sym s ∙ ap (λ (p : WatchedPair). p.second) e)))
+    watching)
+    (λ (e : pair ≡ watched_pair other one). ⊎_elim
+    (λ (f : pair.first ≡ Some literal). inr (same_Some _ _ (sym f ∙ ap (λ (p : WatchedPair). p.first) e)))
+    (λ (s : pair.second ≡ Some literal). inl (same_Some _ _ (sym s ∙ ap (λ (p : WatchedPair). p.second) e)))
+    watching)
+    is
+
+pair-two : (pair : WatchedPair) (one other : Literal) → IsPair pair one other → one ≢ other → WatchesTwo pair
+pair-two pair one other is differ = ⊎_elim
+    (λ (e : pair ≡ watched_pair one other). record { first = one; second = other; is = e; differ = differ })
+    (λ (e : pair ≡ watched_pair other one). record { first = other; second = one; is = e; differ = λ same. differ (sym same) })
+    is
+
+unwatched-none : (pair : WatchedPair) (literal : Literal) → pair ≡ unwatched → (pair.first ≡ Some literal) ⊎ (pair.second ≡ Some literal) → ⊥
+unwatched-none pair literal none watching = ⊎_elim
+    (λ (f : pair.first ≡ Some literal). none-some _ (sym (ap (λ (p : WatchedPair). p.first) none) ∙ f))
+    (λ (s : pair.second ≡ Some literal). none-some _ (sym (ap (λ (p : WatchedPair). p.second) none) ∙ s))
+    watching
+
+pub paired : (table : List (Vec Literal Global)) (lists : List (Vec Watch Global)) (pairs : List WatchedPair) (number : ℕ) (literal found : Literal) → AreWatched table lists pairs → number < length pairs → IsWatching pairs number literal → ((other : Literal) → literal ≢ other → IsPair (pair_at pairs number) literal other → found ≡ other) → IsPaired pairs number literal found
+paired table lists pairs number literal found w inside watching only =
+    let pair = pair_at pairs number in
+    let P : Literal → Type 0 = λ l. IsPaired pairs number literal l in
+    let make : (other : Literal) → literal ≢ other → IsPair pair literal other → IsPaired pairs number literal found = λ other differ is. subst P (sym (only other differ is)) (record { is = is; differ = differ }) in
+    ⊎_elim
+    (λ (none : pair ≡ unwatched). absurd (unwatched-none pair literal none watching))
+    (λ (two : WatchesTwo pair). ⊎_elim
+    (λ (f : pair.first ≡ Some literal).
+    let e : two.first ≡ literal = same_Some _ _ (sym (ap (λ (p : WatchedPair). p.first) two.is) ∙ f) in
+    make two.second (λ same. two.differ (e ∙ same)) (inl (two.is ∙ ap (λ (l : Literal). watched_pair l two.second) e)))
+    (λ (s : pair.second ≡ Some literal).
+    let e : two.second ≡ literal = same_Some _ _ (sym (ap (λ (p : WatchedPair). p.second) two.is) ∙ s) in
+    make two.first (λ same. two.differ (sym (e ∙ same))) (inr (two.is ∙ ap (λ (l : Literal). watched_pair two.first l) e)))
+    watching)
+    (w.two number inside)
+
+-- a watch that has moved
+pub moves : (table : List (Vec Literal Global)) (trail : Trail) (old : Propagator) (watches : Watches) (falsified : FalseLiteral) (place number : ℕ) (other to : Literal) → IsVisiting table trail old falsified place → MovesWatch (lists_of old.watches) (lists_of watches) (pairs_of old.watches) (pairs_of watches) falsified.literal to place number → HasBlockers table (lists_of watches) → IsPaired (pairs_of old.watches) number falsified.literal other → Replaces trail (clause_at table number) other to → place < length (watchers_of old falsified.literal) → GoesOn table trail old (with_watches old watches) falsified place place
+moves table trail old watches falsified place number other to v m blockers p r within =
+    let was = v.propagator in
+    let w = was.watched in
+    let before = pairs_of old.watches in
+    let after = pairs_of watches in
+    let here : IsPair (pair_at after number) to other = m.here other p.differ p.is in
+    let of_old : (n : ℕ) (literal : Literal) → n ≢ number → IsWatching after n literal → IsWatching before n literal = λ n literal ne watching.
+    let W : WatchedPair → Type 0 = λ (pair : WatchedPair). (pair.first ≡ Some literal) ⊎ (pair.second ≡ Some literal) in
+    subst W (m.others n ne) watching
+    in
+    let of_new : (n : ℕ) (literal : Literal) → n ≡ number → IsWatching after n literal → (literal ≡ to) ⊎ (literal ≡ other) = λ n literal e watching.
+    pair-either (pair_at after number) to other literal here (subst (λ k. IsWatching after k literal) e watching)
+    in
+    record {
+      visiting = record {
+        below = v.below;
+        propagator = record {
+          lists = m.size ∙ was.lists;
+          watched = record {
+            attached = omega (arith, w.attached, m.attached);
+            own = λ n literal watching. ⊎_elim
+                (λ (e : n ≡ number). subst (λ k. Contains (clause_at table k) literal) (sym e) (⊎_elim
+                (λ (t : literal ≡ to). subst (λ (l : Literal). Contains (clause_at table number) l) (sym t) r.inside)
+                (λ (o : literal ≡ other). subst (λ (l : Literal). Contains (clause_at table number) l) (sym o) (w.own number other (paired-other before number falsified.literal other p.is)))
+                (of_new n literal e watching)))
+                (λ (ne : n ≢ number). w.own n literal (of_old n literal ne watching))
+                (cases_eq n number);
+            two = λ n inside. ⊎_elim
+                (λ (e : n ≡ number). inr (subst (λ k. WatchesTwo (pair_at after k)) (sym e) (pair-two (pair_at after number) to other here (λ same. r.differ (sym same)))))
+                (λ (ne : n ≢ number). subst (λ (pair : WatchedPair). (pair ≡ unwatched) ⊎ WatchesTwo pair) (sym (m.others n ne)) (w.two n (omega (arith, inside, m.attached))))
+                (cases_eq n number);
+            constant = λ n inside none. ⊎_elim
+                (λ (e : n ≡ number). absurd (unwatched-none (pair_at after number) other (subst (λ k. pair_at after k ≡ unwatched) e none) (paired-other after number to other here)))
+                (λ (ne : n ≢ number). w.constant n (omega (arith, inside, m.attached)) (sym (m.others n ne) ∙ none))
+                (cases_eq n number);
+            blockers = blockers;
+          };
+          late = was.late;
+          pending = λ k d below. omega (arith, was.pending k d below, m.attached);
+          inside = λ k d below. omega (arith, was.inside k d below, m.attached);
+          head = was.head;
+          covers = record {
+            watched = λ n literal watching fails. ⊎_elim
+                (λ (e : n ≡ number). ⊎_elim
+                (λ (t : literal ≡ to). absurd (r.not_false (ap (λ (l : Literal). literal_value trail l) (sym t) ∙ value-of trail literal fails.slot false fails.is fails.false_there)))
+                (λ (o : literal ≡ other).
+                let watched_before : IsWatching before number literal = subst (λ (l : Literal). IsWatching before number l) (sym o) (paired-other before number falsified.literal other p.is) in
+                subst (λ k. IsExcused table trail (late_of old) (pending_of old) fails.slot.level k) (sym e) (was.covers.watched number literal watched_before fails))
+                (of_new n literal e watching))
+                (λ (ne : n ≢ number). was.covers.watched n literal (of_old n literal ne watching) fails)
+                (cases_eq n number);
+            constant = λ n inside none. ⊎_elim
+                (λ (e : n ≡ number). absurd (unwatched-none (pair_at after number) other (subst (λ k. pair_at after k ≡ unwatched) e none) (paired-other after number to other here)))
+                (λ (ne : n ≢ number). was.covers.constant n (omega (arith, inside, m.attached)) (sym (m.others n ne) ∙ none))
+                (cases_eq n number);
+          };
+        };
+        attached = record { all = m.attached ∙ v.attached.all; none = v.attached.none };
+        fails = v.fails;
+        excused = record { each = λ k watch less at. v.excused.each k watch less (sym (m.first k less) ∙ at) };
+      };
+      head = refl;
+      within = omega (arith, m.shorter, within);
+      fewer = omega (arith, m.shorter, within);
+    }
+
+-- a literal that is forced
+
+level-top : (o : Option Slot) (level : ℕ) → ((slot : Slot) → o ≡ Some slot → slot.level ≤ level) → option_map_or (λ (slot : Slot). slot.level) o 0 ≤ level
+level-top None level top = omega arith
+level-top (Some slot) level top = top slot refl
+
+top-gains : (old new : Trail) (literal : Literal) (number level : ℕ) → Gains old new literal (level_of old) (Forced number) → IsTop old level → IsTop new level
+top-gains old new literal number level gains top = λ variable slot at. ⊎_elim
+    (λ w. omega (arith, ap (λ (s : Slot). s.level) w.1, level-top (slot_of old (variable_at old (length_of old - 1))) level (λ s is. top _ s is)))
+    (λ w. top variable slot w)
+    (gains-cases old new literal (level_of old) _ gains variable slot at)
+
+pub forces : (table : List (Vec Literal Global)) (old new : Trail) (it : Propagator) (falsified : FalseLiteral) (place number : ℕ) (literal : Literal) → IsVisiting table old it falsified place → Gains old new literal (level_of old) (Forced number) → slot_of old literal.variable ≡ None → IsVisiting table new it falsified place
+forces table old new it falsified place number literal v gains free =
+    let keeps : Keeps old new = keeps-gains old new literal (level_of old) _ gains free in
+    let f = v.fails in
+    record {
+      below = subst (λ n. AreBelow n table) (sym gains.size) v.below;
+      propagator = propagator-gains table old new it literal (level_of old) _ gains free v.propagator;
+      attached = v.attached;
+      fails = record {
+        slot = f.slot;
+        is = keeps.kept _ _ f.is;
+        false_there = f.false_there;
+        placed = f.placed;
+        level = f.level;
+        top = λ e. top-gains old new literal number falsified.level gains (f.top e);
+      };
+      excused = record { each = λ k watch less at. excused-kept table old new _ _ _ watch.number keeps (v.excused.each k watch less at) };
+    }
+
+-- all literals of the clause are false
+pub falsifies : (trail : Trail) (clause : List Literal) (other : Literal) → IsUnit trail other clause → literal_value trail other ≡ Some false → IsFalsified trail clause
+falsifies trail clause other unit fails = λ k d below. ⊎_elim
+    (λ (e : get_or clause k d ≡ other). ap (λ (l : Literal). literal_value trail l) e ∙ fails)
+    (λ (f : literal_value trail (get_or clause k d) ≡ Some false). f)
+    (unit k d below)
+
+pub not_true-false : (o : Option Bool) (b : Bool) → o ≡ Some b → o ≢ Some true → o ≡ Some false
+not_true-false o true is differ = absurd (differ is)
+not_true-false o false is differ = is
+
+-- the end of a visit
+
+other_value : (v a b : Bool) → beq v a ≡ false → beq v b ≡ false → a ≡ b
+other_value true true b is also = absurd cc
+other_value true false true is also = absurd cc
+other_value true false false is also = refl
+other_value false true true is also = refl
+other_value false true false is also = absurd cc
+other_value false false b is also = absurd cc
+
+pub visited : (table : List (Vec Literal Global)) (trail : Trail) (it : Propagator) (falsified : FalseLiteral) (count : ℕ) → IsVisiting table trail it falsified count → length (watchers_of it falsified.literal) ≤ count → ((number : ℕ) → IsWatching (pairs_of it.watches) number falsified.literal → (place : ℕ) × StandsAt (watchers_of it falsified.literal) place number) → IsPropagator table trail (record { watches = it.watches; late = it.late; pending = it.pending; head = it.head + 1 })
+visited table trail it falsified count v all stands =
+    let was = v.propagator in
+    let f = v.fails in
+    let pairs = pairs_of it.watches in
+    record {
+      lists = was.lists;
+      watched = was.watched;
+      late = was.late;
+      pending = was.pending;
+      inside = was.inside;
+      head = omega (arith, f.placed, (trail.listed _ _ f.is).0);
+      covers = record {
+        watched = λ n literal watching fails. ⊎_elim
+            (λ (before : fails.slot.place < head_of it). was.covers.watched n literal watching (record { slot = fails.slot; is = fails.is; false_there = fails.false_there; earlier = before }))
+            (λ (behind : head_of it ≤ fails.slot.place).
+            let here : fails.slot.place ≡ f.slot.place = omega (arith, behind, fails.earlier, f.placed) in
+            let named : literal.variable ≡ falsified.literal.variable = sym (trail.listed _ _ fails.is).1 ∙ ap (λ k. variable_at trail k) here ∙ (trail.listed _ _ f.is).1 in
+            let one : fails.slot ≡ f.slot = same_Some _ _ (sym fails.is ∙ ap (λ k. slot_of trail k) named ∙ f.is) in
+            let sign : literal.positive ≡ falsified.literal.positive = other_value f.slot.value literal.positive falsified.literal.positive (subst (λ (s : Slot). beq s.value literal.positive ≡ false) one fails.false_there) f.false_there in
+            let same : literal ≡ falsified.literal = λ i. record { variable = named i; positive = sign i } in
+            let s = stands n (subst (λ (l : Literal). IsWatching pairs n l) same watching) in
+            let level : falsified.level ≡ fails.slot.level = sym f.level ∙ ap (λ (x : Slot). x.level) (sym one) in
+            let e = v.excused.each s.0 s.1.watch (omega (arith, all, slice_get_within _ s.0 s.1.watch s.1.is)) s.1.is in
+            subst (λ m. IsExcused table trail (late_of it) (pending_of it) m n) level (subst (λ m. IsExcused table trail (late_of it) (pending_of it) falsified.level m) s.1.named e))
+            (cases_lt fails.slot.place (head_of it));
+        constant = was.covers.constant;
+      };
+    }
+
+-- the other literal that is watched stands in the clause
+pub own-other : (table : List (Vec Literal Global)) (trail : Trail) (it : Propagator) (number : ℕ) (literal other : Literal) → IsPropagator table trail it → IsPaired (pairs_of it.watches) number literal other → Contains (clause_at table number) other
+own-other table trail it number literal other is p = is.watched.own number other (paired-other (pairs_of it.watches) number literal other p.is)
+
+pub stands-own : (table : List (Vec Literal Global)) (list : List Watch) (place number : ℕ) (literal : Literal) → (stands : StandsAt list place number) → Contains (clause_at table number) literal → Contains (clause_at table stands.watch.number) literal
+stands-own table list place number literal stands c = subst (λ k. Contains (clause_at table k) literal) (sym stands.named) c
+
+pub makes-true : (table : List (Vec Literal Global)) (trail : Trail) (number : ℕ) (literal : Literal) → Contains (clause_at table number) literal → literal_value trail literal ≡ Some true → IsSatisfied trail (clause_at table number)
+makes-true table trail number literal c is = any-contains (λ (l : Literal). literal_value trail l ≡ Some true) (clause_at table number) literal c is
+
+pub blocker-own : (table : List (Vec Literal Global)) (lists : List (Vec Watch Global)) (list place : ℕ) (watch : Watch) → HasBlockers table lists → slice_get (list_at lists list) place ≡ Some watch → Contains (clause_at table watch.number) watch.blocker
+blocker-own table lists list place watch blockers at = all-at (λ (w : Watch). Contains (clause_at table w.number) w.blocker) (list_at lists list) place watch (blockers list) at
+
+-- a value that passed a test for true
+pub tested-true : (o value : Option Bool) → true ≡ option_eq beq o (Some true) → o ≡ value → value ≡ Some true
+tested-true None value test same = absurd cc
+tested-true (Some true) value test same = sym same
+tested-true (Some false) value test same = absurd cc
+
+pub moves-stands : (table : List (Vec Literal Global)) (trail : Trail) (old : Propagator) (watches : Watches) (falsified : FalseLiteral) (place number : ℕ) (other to : Literal) → IsVisiting table trail old falsified place → (stands : StandsAt (watchers_of old falsified.literal) place number) → MovesWatch (lists_of old.watches) (lists_of watches) (pairs_of old.watches) (pairs_of watches) falsified.literal to place stands.watch.number → HasBlockers table (lists_of watches) → IsPaired (pairs_of old.watches) number falsified.literal other → Replaces trail (clause_at table number) other to → GoesOn table trail old (with_watches old watches) falsified place place
+moves-stands table trail old watches falsified place number other to v stands m blockers p r =
+    let M : ℕ → Type 0 = λ n. MovesWatch (lists_of old.watches) (lists_of watches) (pairs_of old.watches) (pairs_of watches) falsified.literal to place n in
+    moves table trail old watches falsified place number other to v (subst M stands.named m) blockers p r (slice_get_within _ place stands.watch stands.is)

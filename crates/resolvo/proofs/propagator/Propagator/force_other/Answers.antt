@@ -1,0 +1,29 @@
+use Rattle.std.proofs.Common.{arith, sym}
+use Rattle.resolver_clause_store.proofs.TrailLemmas.{value-none}
+use Rattle.resolvo.proofs.JustifiedLemmas.{justified-gains, justified-same}
+use Rattle.resolvo.proofs.VisitLemmas.{below-contains, forces, own-other}
+use Rattle.resolvo.proofs.propagator.Propagator.force_other.Goals as goal
+
+pub value-requires : goal.value-requires
+value-requires c = below-contains _ _ _ _ c.requires.visiting.below (own-other _ _ _ _ _ _ c.requires.visiting.propagator c.requires.pair)
+
+pub force-requires-clause-inside : goal.force-requires-clause-inside
+force-requires-clause-inside c = below-contains _ _ _ _ c.requires.visiting.below (own-other _ _ _ _ _ _ c.requires.visiting.propagator c.requires.pair)
+
+pub returns-in_err-force-in-None-clause-justified :
+    goal.returns-in_err-force-in-None-clause-justified
+returns-in_err-force-in-None-clause-justified c = justified-same _ _ _ c.requires.justified c.in_err-force-in-None.ensures.err
+
+pub pass_by_other-requires-clause-visiting : goal.pass_by_other-requires-clause-visiting
+pass_by_other-requires-clause-visiting c = forces _ _ _ _ _ _ _ _ c.requires.visiting c.in_ok-force-in-None.ensures.ok (value-none _ _ (sym c.in-None.ensures))
+
+pub returns-in_err-look-in-None-clause-justified :
+    goal.returns-in_err-look-in-None-clause-justified
+returns-in_err-look-in-None-clause-justified c =
+    let was = c.requires.visiting.propagator in
+    justified-gains _ _ _ _ _ _ c.requires.justified c.in_ok-force-in-None.ensures.ok (value-none _ _ (sym c.in-None.ensures)) (omega (arith, c.requires.inside, was.watched.attached)) (own-other _ _ _ _ _ _ was c.requires.pair) c.requires.unit
+
+pub returns-in_ok-look-in-None-clause-justified : goal.returns-in_ok-look-in-None-clause-justified
+returns-in_ok-look-in-None-clause-justified c =
+    let was = c.requires.visiting.propagator in
+    justified-gains _ _ _ _ _ _ c.requires.justified c.in_ok-force-in-None.ensures.ok (value-none _ _ (sym c.in-None.ensures)) (omega (arith, c.requires.inside, was.watched.attached)) (own-other _ _ _ _ _ _ was c.requires.pair) c.requires.unit

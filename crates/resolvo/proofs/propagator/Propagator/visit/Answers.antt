@@ -1,0 +1,10 @@
+use Rattle.std.proofs.Common.{arith}
+use Rattle.resolvo.proofs.VisitLemmas.{visited}
+use Rattle.resolvo.proofs.WatchListLemmas.{watching-stands}
+use Rattle.resolvo.proofs.propagator.Propagator.visit.Goals as goal
+
+pub returns-clause-propagator : goal.returns-clause-propagator
+returns-clause-propagator c =
+    visited _ _ _ _ _ c.watchers.invariant.visiting (omega (arith, c.watchers-test.false, c.count.ensures)) (λ number watching.
+    let s = watching-stands _ _ number _ c.watchers.self.watches.watched watching in
+    (s.0, record { watch = s.1; is = s.2; named = s.3 }))

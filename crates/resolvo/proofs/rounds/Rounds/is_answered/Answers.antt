@@ -1,0 +1,17 @@
+use Rattle.std.proofs.Common.{sym}
+use Rattle.std.proofs.lemmas.Bool.{false≢true}
+use Rattle.resolvo.specs.RoundStates.{IsFound}
+use Rattle.resolvo.proofs.RefusingLemmas.{unanswered_core, unanswered_refused}
+use Rattle.resolvo.proofs.rounds.Rounds.is_answered.Goals.{in-Answer, in-Contradiction, in-Refused}
+use Rattle.resolvo.proofs.rounds.Rounds.is_answered.Goals as goal
+
+pub returns-clause-unanswered : goal.returns-clause-unanswered
+returns-clause-unanswered g c =
+    let u = g.D.Interner.universe c.args.provider.now in
+    let new = c.all_rounds.new.self in
+    let found : IsFound u new c.in_ok-all_rounds.field-0 = c.in_ok-all_rounds.ensures.found in
+    elim c.match-branch-2.branch [
+      | in-Answer w ↦ rw w.result-is (λ off. absurd (false≢true (sym off)))
+      | in-Contradiction w ↦ rw w.result-is (λ off. unanswered_core new _ (rw w.in-Contradiction.is at found))
+      | in-Refused w ↦ rw w.result-is (λ off. unanswered_refused new (rw w.in-Refused.is at found))
+    ]

@@ -1,0 +1,100 @@
+-- What propagation by watched literals keeps.
+use Rattle.std.specs.Prelude.{◌≡◌, ◌≢◌, ◌⊎◌, ℕ, ◌*◌, ◌<◌, ◌≤◌, true, Some, List, [], length, Vec, All, Any, Contains, slice_get}
+use Rattle.std.specs.Bool.{beq}
+use Rattle.std.specs.declared.alloc.Global.{Global}
+use Rattle.resolver_clause_store.specs.declared.Literal.{Literal}
+use Rattle.resolver_clause_store.specs.declared.Slot.{Slot}
+use Rattle.resolver_clause_store.specs.declared.Trail.{Trail}
+use Rattle.resolver_clause_store.specs.Formula.{clause_at}
+use Rattle.resolver_clause_store.specs.Outcomes.{IsFalseBefore}
+use Rattle.resolver_clause_store.specs.TrailView.{slot_of, length_of, variable_count}
+use Rattle.resolvo.specs.Watches.{HasBlockers, IsWatching, pair_at, unwatched, watched_pair}
+use Rattle.resolvo.specs.WatchesView.{lists_of, pairs_of}
+use Rattle.resolvo.specs.declared.watches.Watch.{Watch}
+use Rattle.resolvo.specs.declared.watches.WatchedPair.{WatchedPair}
+use Rattle.resolvo.specs.declared.propagator.Late.{Late}
+use Rattle.resolvo.specs.declared.propagator.Propagator.{Propagator}
+
+-- how many first places of the trail were propagated
+abbrev pub head_of : Propagator → ℕ
+head_of it = it.head
+
+-- which clauses are true by what may be undone before a watched literal that is false
+abbrev pub late_of : Propagator → List Late
+late_of it = it.late.items
+
+-- which clauses have to be looked at again
+abbrev pub pending_of : Propagator → List ℕ
+pending_of it = it.pending.items
+
+-- how many first clauses of the table are attached
+abbrev pub attached_of : Propagator → ℕ
+attached_of it = length (pairs_of it.watches)
+
+-- the literal is true, at this level or a lower one
+pub record IsTrueAt (trail : Trail) (level : ℕ) (literal : Literal) : Type 0 where
+  pub slot : Slot
+  pub is : slot_of trail literal.variable ≡ Some slot
+  pub true_there : beq slot.value literal.positive ≡ true
+  pub low : slot.level ≤ level
+
+-- the literal is true, and was so before this place
+pub record IsTrueBefore (trail : Trail) (place : ℕ) (literal : Literal) : Type 0 where
+  pub slot : Slot
+  pub is : slot_of trail literal.variable ≡ Some slot
+  pub true_there : beq slot.value literal.positive ≡ true
+  pub earlier : slot.place < place
+
+-- the clause has no two different literals
+abbrev pub IsConstant : List Literal → Type 0
+IsConstant clause = (one other : Literal) → Contains clause one → Contains clause other → one ≡ other
+
+-- two different literals are watched
+pub record WatchesTwo (pair : WatchedPair) : Type 0 where
+  pub first : Literal
+  pub second : Literal
+  pub is : pair ≡ watched_pair first second
+  pub differ : first ≢ second
+
+-- The literals that a clause watches are two different ones of its own. One that watches none has no two different ones.
+pub record AreWatched (table : List (Vec Literal Global)) (lists : List (Vec Watch Global)) (pairs : List WatchedPair) : Type 0 where
+  pub attached : length pairs ≤ length table
+  pub own : (number : ℕ) (literal : Literal) → IsWatching pairs number literal → Contains (clause_at table number) literal
+  pub two : (number : ℕ) → number < length pairs → (pair_at pairs number ≡ unwatched) ⊎ WatchesTwo (pair_at pairs number)
+  pub constant : (number : ℕ) → number < length pairs → pair_at pairs number ≡ unwatched → IsConstant (clause_at table number)
+  pub blockers : HasBlockers table lists
+
+-- each of these clauses is true by a literal before the place that is noted with it; these places never fall
+pub record AreLate (table : List (Vec Literal Global)) (trail : Trail) (late : List Late) : Type 0 where
+  pub each : All (λ (l : Late). Any (IsTrueBefore trail l.length) (clause_at table l.number)) late
+  pub within : All (λ (l : Late). l.length ≤ length_of trail) late
+  pub rising : (k n : ℕ) (early later : Late) → k < n → slice_get late k ≡ Some early → slice_get late n ≡ Some later → early.length ≤ later.length
+
+-- the clause is noted as late, or has to be looked at again
+abbrev pub IsNoted : List Late → List ℕ → ℕ → Type 0
+IsNoted late pending number = Any (λ (l : Late). l.number ≡ number) late ⊎ Contains pending number
+
+-- the clause is true by a literal of this level or a lower one, or it is noted
+abbrev pub IsExcused : List (Vec Literal Global) → Trail → List Late → List ℕ → ℕ → ℕ → Type 0
+IsExcused table trail late pending level number =
+    Any (IsTrueAt trail level) (clause_at table number) ⊎ IsNoted late pending number
+
+-- Where a watched literal is false that was propagated, its clause is true by a literal of no higher level, or it is noted.
+pub record Covers (table : List (Vec Literal Global)) (trail : Trail) (pairs : List WatchedPair) (late : List Late) (pending : List ℕ) (head : ℕ) : Type 0 where
+  pub watched : (number : ℕ) (literal : Literal) → IsWatching pairs number literal → (fails : IsFalseBefore trail head literal) → IsExcused table trail late pending fails.slot.level number
+  pub constant : (number : ℕ) → number < length pairs → pair_at pairs number ≡ unwatched → IsNoted late pending number
+
+-- what propagation keeps
+pub record IsPropagator (table : List (Vec Literal Global)) (trail : Trail) (it : Propagator) : Type 0 where
+  pub lists : length (lists_of it.watches) ≡ 2 * variable_count trail
+  pub watched : AreWatched table (lists_of it.watches) (pairs_of it.watches)
+  pub late : AreLate table trail (late_of it)
+  pub pending : All (λ number. number < attached_of it) (pending_of it)
+  pub inside : All (λ (l : Late). l.number < attached_of it) (late_of it)
+  pub head : head_of it ≤ length_of trail
+  pub covers : Covers table trail (pairs_of it.watches) (late_of it) (pending_of it) (head_of it)
+
+-- all clauses are attached, and none has to be looked at again
+pub record IsAttached (table : List (Vec Literal Global)) (it : Propagator) : Type 0 where
+  pub all : attached_of it ≡ length table
+  pub none : pending_of it ≡ []

@@ -1,0 +1,80 @@
+-- The clauses that watch a literal which has become false.
+use Rattle.std.specs.Prelude.{◌≡◌, ◌≢◌, ℕ, ◌-◌, ◌<◌, ◌≤◌, false, true, Some, List, length, Vec, Contains, slice_get}
+use Rattle.std.specs.Bool.{beq}
+use Rattle.std.specs.declared.alloc.Global.{Global}
+use Rattle.resolver_clause_store.specs.declared.Literal.{Literal}
+use Rattle.resolver_clause_store.specs.declared.Slot.{Slot}
+use Rattle.resolver_clause_store.specs.declared.Trail.{Trail}
+use Rattle.resolver_clause_store.specs.Formula.{AreBelow}
+use Rattle.resolver_clause_store.specs.TrailView.{IsTop, literal_value, slot_of, variable_count}
+use Rattle.resolvo.specs.Propagation.{IsConflict}
+use Rattle.resolvo.specs.Propagators.{IsAttached, IsExcused, IsPropagator, head_of, late_of, pending_of}
+use Rattle.resolvo.specs.Watches.{IsPair, list_at, list_number, pair_at}
+use Rattle.resolvo.specs.WatchesView.{lists_of}
+use Rattle.resolvo.specs.declared.propagator.Late.{Late}
+use Rattle.resolvo.specs.declared.propagator.Propagator.{Propagator}
+use Rattle.resolvo.specs.declared.propagator.visiting.FalseLiteral.{FalseLiteral}
+use Rattle.resolvo.specs.declared.propagator.visiting.Look.{Look}
+use Rattle.resolvo.specs.declared.propagator.visiting.Look.TheVariants.{Next, Conflict}
+use Rattle.resolvo.specs.declared.watches.Watch.{Watch}
+use Rattle.resolvo.specs.declared.watches.WatchedPair.{WatchedPair}
+
+-- the literal became false at this place, at its level, which is the highest one where it is marked as such
+pub record FailsAt (trail : Trail) (place : ℕ) (it : FalseLiteral) : Type 0 where
+  pub slot : Slot
+  pub is : slot_of trail it.literal.variable ≡ Some slot
+  pub false_there : beq slot.value it.literal.positive ≡ false
+  pub placed : slot.place ≡ place
+  pub level : slot.level ≡ it.level
+  pub top : it.is_top ≡ true → IsTop trail it.level
+
+-- the clauses that watch the literal
+abbrev pub watchers_of : Propagator → Literal → List Watch
+watchers_of propagator literal = list_at (lists_of propagator.watches) (list_number literal)
+
+-- so many first clauses of the list are true by a literal of this level or a lower one, or noted
+pub record AreExcused (table : List (Vec Literal Global)) (trail : Trail) (watchers : List Watch) (late : List Late) (pending : List ℕ) (level count : ℕ) : Type 0 where
+  pub each : (place : ℕ) (watch : Watch) → place < count → slice_get watchers place ≡ Some watch → IsExcused table trail late pending level watch.number
+
+-- what is kept while the clauses that watch the literal are looked at, so many of which were
+pub record IsVisiting (table : List (Vec Literal Global)) (trail : Trail) (it : Propagator) (falsified : FalseLiteral) (count : ℕ) : Type 0 where
+  pub below : AreBelow (variable_count trail) table
+  pub propagator : IsPropagator table trail it
+  pub attached : IsAttached table it
+  pub fails : FailsAt trail (head_of it) falsified
+  pub excused : AreExcused table trail (watchers_of it falsified.literal) (late_of it) (pending_of it) falsified.level count
+
+-- the visit goes on at the next place, with fewer clauses left
+pub record GoesOn (table : List (Vec Literal Global)) (trail : Trail) (old new : Propagator) (falsified : FalseLiteral) (place next : ℕ) : Type 0 where
+  pub visiting : IsVisiting table trail new falsified next
+  pub head : head_of new ≡ head_of old
+  pub within : next ≤ length (watchers_of new falsified.literal)
+  pub fewer : length (watchers_of new falsified.literal) - next < length (watchers_of old falsified.literal) - place
+
+-- the clause with this number is false
+pub record Fails (table : List (Vec Literal Global)) (trail : Trail) (new : Propagator) (number : ℕ) : Type 0 where
+  pub conflict : IsConflict trail table number
+  pub propagator : IsPropagator table trail new
+  pub attached : IsAttached table new
+
+-- what a look at the clause at a place did
+abbrev pub LookIs : List (Vec Literal Global) → Trail → Propagator → Propagator → FalseLiteral → ℕ → Look → Type 0
+LookIs table trail old new falsified place (Next next) = GoesOn table trail old new falsified place next
+LookIs table trail old new falsified place (Conflict number) = Fails table trail new number
+
+-- a literal of the clause that is not false and is not this one
+pub record Replaces (trail : Trail) (clause : List Literal) (other to : Literal) : Type 0 where
+  pub inside : Contains clause to
+  pub differ : other ≢ to
+  pub not_false : literal_value trail to ≢ Some false
+
+-- the clause watches these two literals, which differ
+pub record IsPaired (pairs : List WatchedPair) (number : ℕ) (one other : Literal) : Type 0 where
+  pub is : IsPair (pair_at pairs number) one other
+  pub differ : one ≢ other
+
+-- the clause with this number stands at the place
+pub record StandsAt (watchers : List Watch) (place number : ℕ) : Type 0 where
+  pub watch : Watch
+  pub is : slice_get watchers place ≡ Some watch
+  pub named : watch.number ≡ number

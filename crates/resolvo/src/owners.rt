@@ -1,0 +1,97 @@
+//! The packages of variables.
+
+ghost use Rattle.std.specs.Prelude.{IfErr, ◌≡◌};
+ghost use Rattle.resolver_clause_store.specs.declared.Exhausted.TheVariants.{Memory};
+
+use indexmap::IndexSet;
+use resolver_clause_store::{DependencyProvider, Exhausted, Interner, Origin, Variable, Variables};
+use std::alloc::Global;
+use std::hash::Hash;
+
+/// The number of the package of each variable, where it stands for a solvable. Packages are numbered as they come.
+#[derive(Drop)]
+pub struct Owners<N: Copy + Eq + Hash + Drop> {
+    names: IndexSet<N>,
+    owners: Vec<Option<usize>>,
+}
+
+impl<N: Copy + Eq + Hash + Drop> Owners<N> {
+    /// No variables.
+    pub fn new(alloc: Global) -> Self {
+        Owners {
+            names: IndexSet::new(alloc),
+            owners: Vec::new(alloc),
+        }
+    }
+
+    /// The owner of each variable.
+    pub fn as_slice(&self) -> &[Option<usize>] {
+        self.owners.as_slice()
+    }
+
+    /// The number of a package.
+    fn number_of(&mut self, name: N) -> Result<usize, Exhausted>
+        ensures memory { IfErr result (λ e. e ≡ Memory) }
+    {
+        if let Some(number) = self.names.get_index_of(&name) {
+            return Ok(number);
+        }
+        let number = self.names.len();
+        self.names.insert(name)?;
+        Ok(number)
+    }
+
+    /// The owner of what a variable stands for.
+    fn owner_of<S: Copy + Eq + Hash + Drop, D: DependencyProvider<NameId = N, SolvableId = S>>(
+        &mut self,
+        provider: &D,
+        origin: Option<Origin<N, S>>,
+    ) -> Result<Option<usize>, Exhausted>
+        ensures memory { IfErr result (λ e. e ≡ Memory) }
+    {
+        match origin {
+            Some(Origin::Solvable(solvable)) => {
+                let number = self.number_of(provider.solvable_name(solvable))?;
+                Ok(Some(number))
+            }
+            Some(
+                Origin::Root
+                | Origin::Bit { .. }
+                | Origin::Gate(_)
+                | Origin::ConstraintHelper(_)
+                | Origin::ConditionHelper(_),
+            ) => Ok(None),
+            None => Ok(None),
+        }
+    }
+
+    /// Adds the owner of a variable behind the others.
+    fn follow_variable<
+        S: Copy + Eq + Hash + Drop,
+        D: DependencyProvider<NameId = N, SolvableId = S>,
+    >(&mut self, provider: &D, variables: &Variables<N, S>, index: usize) -> Result<(), Exhausted>
+        ensures memory { IfErr result (λ e. e ≡ Memory) }
+    {
+        let origin = match u32::try_from(index) {
+            Ok(number) => variables.origin(Variable::new(number)),
+            Err(_) => None,
+        };
+        let owner = self.owner_of(provider, origin)?;
+        self.owners.push(owner)?;
+        Ok(())
+    }
+
+    /// Adds the owners of the variables behind those that were followed.
+    pub fn follow<S: Copy + Eq + Hash + Drop, D: DependencyProvider<NameId = N, SolvableId = S>>(
+        &mut self,
+        provider: &D,
+        variables: &Variables<N, S>,
+    ) -> Result<(), Exhausted>
+        ensures memory { IfErr result (λ e. e ≡ Memory) }
+    {
+        'variables: for index in self.owners.len()..variables.len() {
+            self.follow_variable(provider, variables, index)?;
+        }
+        Ok(())
+    }
+}

@@ -1,0 +1,33 @@
+//! Literals that follow from the clauses and the trail, found by the literals that clauses watch.
+
+mod attaching;
+mod returning;
+mod visiting;
+
+use crate::watches::Watches;
+pub use attaching::attach_all;
+pub use returning::begins_level;
+pub use visiting::propagate;
+
+/// A clause that was true when it was looked at last, by a literal that may be undone before a watched literal which is false.
+#[derive(Clone, Copy, Debug, PartialEq, Eq)]
+pub struct Late {
+    /// The clause's number.
+    pub number: usize,
+    /// So many first places of the trail have a literal that makes it true.
+    pub length: usize,
+}
+
+/// What propagation keeps from one call to the next.
+#[derive(Debug, Drop)]
+pub struct Propagator {
+    watches: Watches,
+    late: Vec<Late>,
+    /// The numbers of clauses that have to be looked at again.
+    pending: Vec<usize>,
+    /// How many first places of the trail were propagated.
+    head: usize,
+}
+
+#[cfg(test)]
+mod tests;

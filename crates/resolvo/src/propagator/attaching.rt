@@ -1,0 +1,328 @@
+//! Which clauses are watched, and which have to be looked at again.
+
+ghost use Rattle.std.specs.Prelude.{◌≡◌, ◌≢◌, ◌⊎◌, ℕ, ◌+◌, ◌*◌, ◌<◌, ◌≤◌, ◌++◌, ◌∷◌, [], All, Contains, IfNone, IfOk, IfSome, List, MatchBool, MatchOption, None, OnOk, Some, Vec, length, slice_index_or, true, get_or};
+ghost use Rattle.std.specs.declared.alloc.Global.{Global};
+ghost use Rattle.resolver_clause_store.specs.Formula.{AreBelow, IsBelow, clause_at};
+ghost use Rattle.resolver_clause_store.specs.Outcomes.{IsSatisfied};
+ghost use Rattle.resolver_clause_store.specs.TrailView.{IsCut, IsGrown, length_of, open_count, variable_count};
+ghost use Rattle.resolver_clause_store.specs.declared.Literal.{Literal};
+ghost use Rattle.resolver_clause_store.specs.declared.Trail.{Trail};
+ghost use Rattle.resolvo.specs.Attaching.{AreAlike, AreApart, EndsWith, Forces, IsAlike, IsHigh, IsHighPair, IsLower, IsNotBefore, IsOther, Recalls};
+ghost use Rattle.resolvo.specs.Propagation.{Extends, IsConflict, IsJustified, IsOpen};
+ghost use Rattle.resolvo.specs.Propagators.{IsAttached, IsConstant, IsPropagator, attached_of, late_of, pending_of};
+ghost use Rattle.resolvo.specs.Watches.{IsWatching};
+ghost use Rattle.resolvo.specs.WatchesView.{lists_of, pairs_of};
+
+use super::{Late, Propagator};
+use crate::propagate::{State, examine};
+use crate::watches::{WatchedPair, Watches};
+use resolver_clause_store::{Literal, Trail, clause};
+use std::alloc::{AllocError, Global};
+
+impl Propagator {
+    /// Nothing is attached.
+    pub fn empty(alloc: Global) -> Self
+        ensures { (trail : Trail) → variable_count trail ≡ 0 → IsPropagator [] trail result }
+    {
+        Propagator {
+            watches: Watches::empty(alloc),
+            late: Vec::new(alloc),
+            pending: Vec::new(alloc),
+            head: 0,
+        }
+    }
+
+    /// Makes room for the literals of new variables, up to this many variables.
+    pub fn grow(&mut self, variables: usize) -> Result<(), AllocError>
+        requires { length (lists_of self.old.watches) ≤ 2 * variables }
+        ensures { OnOk result ((table : List (Vec Literal Global)) (old new : Trail) → IsGrown old new variables → IsPropagator table old self.old → IsPropagator table new self.new) }
+    {
+        self.watches.grow(*self.late.allocator(), variables)?;
+        Ok(())
+    }
+
+    /// Clauses that were noted with more first places of the trail than these have to be looked at again.
+    fn recall(&mut self, length: usize) -> Result<(), AllocError>
+        ensures recalled { OnOk result (Recalls (late_of self.old) (late_of self.new) (pending_of self.old) (pending_of self.new) length) }
+        ensures watches { OnOk result (self.new.watches ≡ self.old.watches) }
+        ensures head { OnOk result (self.new.head ≡ self.old.head) }
+    {
+        'late: while let Some(late) = self.late.last() {
+            if late.length <= length {
+                return Ok(());
+            }
+            self.pending.push(late.number)?;
+            self.late.pop();
+        }
+        Ok(())
+    }
+
+    /// Follows a trail of which whole levels were taken away.
+    pub fn cut(&mut self, trail: &Trail) -> Result<(), AllocError>
+        ensures { OnOk result ((table : List (Vec Literal Global)) (before : Trail) → IsLower before trail.now → IsPropagator table before self.old → IsPropagator table trail.now self.new) }
+    {
+        self.recall(trail.len())?;
+        self.head = self.head.min(trail.len());
+        Ok(())
+    }
+
+    /// Follows a trail of which the first places are left: all of it is to be propagated again.
+    pub fn forget(&mut self, trail: &Trail) -> Result<(), AllocError>
+        ensures { OnOk result ((table : List (Vec Literal Global)) (before : Trail) (count : ℕ) → count ≤ length_of before → IsCut before trail.now count → IsPropagator table before self.old → IsPropagator table trail.now self.new) }
+    {
+        self.recall(trail.len())?;
+        self.head = 0;
+        Ok(())
+    }
+}
+
+impl Propagator {
+    /// Takes the last one of the clauses that have to be looked at again away. It is true.
+    fn pass(&mut self, trail: &Trail, number: usize) -> Result<(), AllocError>
+        requires last { EndsWith (pending_of self.old) number }
+        requires inside { number < attached_of self.old }
+        requires below { (literal : Literal) → IsWatching (pairs_of self.old.watches) number literal → literal.variable < variable_count trail.now }
+        ensures propagator { OnOk result ((table : List (Vec Literal Global)) → IsSatisfied trail.now (clause_at table number) → IsPropagator table trail.now self.old → IsPropagator table trail.now self.new) }
+        ensures watches { OnOk result (self.new.watches ≡ self.old.watches) }
+        ensures fewer { OnOk result (length (pending_of self.new) + 1 ≡ length (pending_of self.old)) }
+    {
+        let pair = self.watches.pair(number);
+        self.pending.truncate(self.pending.len() - 1);
+        if are_high(trail, pair.first, pair.second) {
+            return Ok(());
+        }
+        self.late.push(Late {
+            number,
+            length: trail.len(),
+        })?;
+        Ok(())
+    }
+
+    /// Takes the last one of the clauses that have to be looked at again away. Two of its literals have no value: where those
+    /// that it watches are false, they are propagated again.
+    fn reopen(&mut self, trail: &Trail, number: usize)
+        requires last { EndsWith (pending_of self.old) number }
+        requires inside { number < attached_of self.old }
+        requires below { (literal : Literal) → IsWatching (pairs_of self.old.watches) number literal → literal.variable < variable_count trail.now }
+        ensures propagator { (table : List (Vec Literal Global)) → IsOpen trail.now (clause_at table number) → IsPropagator table trail.now self.old → IsPropagator table trail.now self.new }
+        ensures watches { self.new.watches ≡ self.old.watches }
+        ensures fewer { length (pending_of self.new) + 1 ≡ length (pending_of self.old) }
+    {
+        let pair = self.watches.pair(number);
+        self.pending.truncate(self.pending.len() - 1);
+        let first = false_place(trail, pair.first);
+        let second = false_place(trail, pair.second);
+        self.head = self.head.min(first).min(second);
+    }
+
+    /// Attaches the next clause of the table, which has to be looked at then.
+    fn attach(&mut self, trail: &Trail, table: &[Vec<Literal>]) -> Result<(), AllocError>
+        requires more { attached_of self.old < length table.now }
+        requires below { AreBelow (variable_count trail.now) table.now }
+        requires lists { length (lists_of self.old.watches) ≡ 2 * variable_count trail.now }
+        ensures propagator { OnOk result (IsPropagator table.now trail.now self.old → IsPropagator table.now trail.now self.new) }
+        ensures attached { OnOk result (attached_of self.new ≡ attached_of self.old + 1) }
+    {
+        let number = self.watches.len();
+        self.watches.add(pair_of(trail, clause(table, number)))?;
+        self.pending.push(number)?;
+        Ok(())
+    }
+}
+
+/// Whether a literal is not false, or is so at the highest level.
+fn is_high(trail: &Trail, literal: Literal) -> bool
+    requires { literal.variable < variable_count trail.now }
+    ensures { result ≡ true → IsHigh trail.now literal }
+{
+    match trail.slot(literal.variable) {
+        Some(slot) => slot.value == literal.positive || slot.level >= trail.level(),
+        None => true,
+    }
+}
+
+/// Whether two literals are watched, each of which is not false, or is so at the highest level.
+fn are_high(trail: &Trail, first: Option<Literal>, second: Option<Literal>) -> bool
+    requires { (literal : Literal) → (first ≡ Some literal) ⊎ (second ≡ Some literal) → literal.variable < variable_count trail.now }
+    ensures { result ≡ true → IsHighPair trail.now (record { first = first; second = second }) }
+{
+    let Some(one) = first else {
+        return false;
+    };
+    let Some(other) = second else {
+        return false;
+    };
+    is_high(trail, one) && is_high(trail, other)
+}
+
+/// The place at which a literal became false, and the trail's end where it is not false.
+fn false_place(trail: &Trail, watched: Option<Literal>) -> usize
+    requires { (literal : Literal) → watched ≡ Some literal → literal.variable < variable_count trail.now }
+    ensures { (literal : Literal) → watched ≡ Some literal → IsNotBefore trail.now result literal }
+{
+    let Some(literal) = watched else {
+        return trail.len();
+    };
+    let Some(slot) = trail.slot(literal.variable) else {
+        return trail.len();
+    };
+    if slot.value == literal.positive {
+        return trail.len();
+    }
+    slot.place
+}
+
+/// Whether the literal at a place is another one than that at the other place, if there is one.
+fn is_other(literals: &[Literal], other: Option<usize>, place: usize) -> bool
+    requires inside { place < length literals.now }
+    requires other { (given : ℕ) → other ≡ Some given → given < length literals.now }
+    ensures { MatchBool result (IsOther literals.now other place) (IsAlike literals.now other place) }
+{
+    match other {
+        Some(other) => literals[place] != literals[other],
+        None => true,
+    }
+}
+
+/// The better one of the place that was found so far and this one: a literal that is not false, or else the one that became
+/// false last.
+fn better(
+    trail: &Trail,
+    literals: &[Literal],
+    other: Option<usize>,
+    found: Option<usize>,
+    place: usize,
+) -> Option<usize>
+    requires below { IsBelow (variable_count trail.now) literals.now }
+    requires inside { place < length literals.now }
+    requires other { (given : ℕ) → other ≡ Some given → given < length literals.now }
+    requires found { MatchOption found (AreAlike literals.now other place) (IsOther literals.now other) }
+    ensures { MatchOption result (AreAlike literals.now other (place + 1)) (IsOther literals.now other) }
+{
+    if !is_other(literals, other, place) {
+        return found;
+    }
+    match found {
+        None => Some(place),
+        Some(best) => {
+            if false_place(trail, Some(literals[best]))
+                < false_place(trail, Some(literals[place]))
+            {
+                return Some(place);
+            }
+            Some(best)
+        }
+    }
+}
+
+/// The place of the best literal to watch, which is another one than that at the place that is given, if there is one.
+fn best(trail: &Trail, literals: &[Literal], other: Option<usize>) -> Option<usize>
+    requires below { IsBelow (variable_count trail.now) literals.now }
+    requires other { (given : ℕ) → other ≡ Some given → given < length literals.now }
+    ensures { MatchOption result (AreAlike literals.now other (length literals.now)) (IsOther literals.now other) }
+{
+    let mut found = None;
+    'literals: for place in 0..literals.len() {
+        found = better(trail, literals, other, found, place);
+    }
+    found
+}
+
+/// Two different literals of a clause to watch, if it has two: such that are not false, or else became false last.
+fn pair_of(trail: &Trail, literals: &[Literal]) -> Option<(Literal, Literal)>
+    requires { IsBelow (variable_count trail.now) literals.now }
+    ensures { MatchOption result (IsConstant literals.now) (λ pair. AreApart literals.now pair.0 pair.1) }
+{
+    let Some(first) = best(trail, literals, None) else {
+        return None;
+    };
+    let Some(second) = best(trail, literals, Some(first)) else {
+        return None;
+    };
+    Some((literals[first], literals[second]))
+}
+
+/// Looks at the last one of the clauses that have to be looked at again. Answers whether it is not false.
+fn settle(
+    trail: &mut Trail,
+    table: &[Vec<Literal>],
+    propagator: &mut Propagator,
+    number: usize,
+) -> Result<bool, AllocError>
+    requires below { AreBelow (variable_count trail.old) table.now }
+    requires justified { IsJustified table.now trail.old }
+    requires propagator { IsPropagator table.now trail.old propagator.old }
+    requires last { EndsWith (pending_of propagator.old) number }
+    ensures answer { IfOk result (λ holds. MatchBool holds (length (pending_of propagator.new) + 1 ≡ length (pending_of propagator.old)) (IsConflict trail.new table.now number)) }
+    ensures propagator { OnOk result (IsPropagator table.now trail.new propagator.new) }
+    ensures watches { OnOk result (propagator.new.watches ≡ propagator.old.watches) }
+    ensures step { OnOk result (Forces table.now trail.old trail.new) }
+{
+    match examine(trail, clause(table, number)) {
+        State::Falsified => Ok(false),
+        State::Unit(literal) => {
+            trail.force(literal, number)?;
+            propagator.pass(trail, number)?;
+            Ok(true)
+        }
+        State::Satisfied => {
+            propagator.pass(trail, number)?;
+            Ok(true)
+        }
+        State::Open => {
+            propagator.reopen(trail, number);
+            Ok(true)
+        }
+    }
+}
+
+/// Looks at the clauses that have to be looked at again, until one is false, whose number is answered.
+fn settle_all(
+    trail: &mut Trail,
+    table: &[Vec<Literal>],
+    propagator: &mut Propagator,
+) -> Result<Option<usize>, AllocError>
+    requires below { AreBelow (variable_count trail.old) table.now }
+    requires justified { IsJustified table.now trail.old }
+    requires propagator { IsPropagator table.now trail.old propagator.old }
+    ensures conflict { IfOk result (λ answer. IfSome answer (IsConflict trail.new table.now)) }
+    ensures none { IfOk result (λ answer. IfNone answer (pending_of propagator.new ≡ [])) }
+    ensures propagator { OnOk result (IsPropagator table.now trail.new propagator.new) }
+    ensures watches { OnOk result (propagator.new.watches ≡ propagator.old.watches) }
+    ensures step { OnOk result (Forces table.now trail.old trail.new) }
+{
+    'pending: while let Some(number) = propagator.pending.last() {
+        let number = *number;
+        if !settle(trail, table, propagator, number)? {
+            return Ok(Some(number));
+        }
+    }
+    Ok(None)
+}
+
+/// Attaches the clauses that are not attached yet, and looks at those that have to be looked at again, until one is false,
+/// whose number is answered.
+pub fn attach_all(
+    trail: &mut Trail,
+    table: &[Vec<Literal>],
+    propagator: &mut Propagator,
+) -> Result<Option<usize>, AllocError>
+    requires below { AreBelow (variable_count trail.old) table.now }
+    requires justified { IsJustified table.now trail.old }
+    requires propagator { IsPropagator table.now trail.old propagator.old }
+    ensures conflict { IfOk result (λ answer. IfSome answer (IsConflict trail.new table.now)) }
+    ensures attached { IfOk result (λ answer. IfNone answer (IsAttached table.now propagator.new)) }
+    ensures propagator { OnOk result (IsPropagator table.now trail.new propagator.new) }
+    ensures step { OnOk result (Forces table.now trail.old trail.new) }
+{
+    if let Some(number) = settle_all(trail, table, propagator)? {
+        return Ok(Some(number));
+    }
+    'clauses: while propagator.watches.len() < table.len() {
+        propagator.attach(trail, table)?;
+        if let Some(number) = settle_all(trail, table, propagator)? {
+            return Ok(Some(number));
+        }
+    }
+    Ok(None)
+}

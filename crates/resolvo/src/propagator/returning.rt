@@ -1,0 +1,43 @@
+//! A trail that ends before an assumption again.
+
+ghost use Rattle.std.specs.Prelude.{◌≡◌, ◌<◌, ◌≤◌, ℕ, List, OnOk, Vec, true};
+ghost use Rattle.std.specs.declared.alloc.Global.{Global};
+ghost use Rattle.resolver_clause_store.specs.TrailView.{IsCut, length_of};
+ghost use Rattle.resolver_clause_store.specs.declared.Literal.{Literal};
+ghost use Rattle.resolver_clause_store.specs.declared.Trail.{Trail};
+ghost use Rattle.resolvo.specs.Returning.{BeginsLevel};
+ghost use Rattle.resolvo.specs.Propagators.{IsPropagator};
+
+use super::Propagator;
+use resolver_clause_store::{Reason, Trail};
+use std::alloc::AllocError;
+
+/// Whether a decision or an assumption stands at a place, with which a level begins.
+pub fn begins_level(trail: &Trail, place: usize) -> bool
+    requires { place < length_of trail.now }
+    ensures { result ≡ true → BeginsLevel trail.now place }
+{
+    match trail.slot(trail.variable_at(place)) {
+        Some(slot) => match slot.reason {
+            Reason::Decided(_) => true,
+            Reason::Assumed => true,
+            Reason::Forced(_) => false,
+        },
+        None => false,
+    }
+}
+
+impl Propagator {
+    /// Follows a trail of which the first places are left. Where a level began behind them, what was propagated of them
+    /// stays so.
+    pub fn return_to(&mut self, trail: &Trail, began: bool) -> Result<(), AllocError>
+        ensures { OnOk result ((table : List (Vec Literal Global)) (before : Trail) (count : ℕ) → count ≤ length_of before → (began ≡ true → BeginsLevel before count) → IsCut before trail.now count → IsPropagator table before self.old → IsPropagator table trail.now self.new) }
+    {
+        if began {
+            self.cut(trail)?;
+            return Ok(());
+        }
+        self.forget(trail)?;
+        Ok(())
+    }
+}

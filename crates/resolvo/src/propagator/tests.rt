@@ -1,0 +1,240 @@
+//! What follows by watches and by scanning.
+
+ghost use Rattle.std.specs.Prelude.{◌≡◌, IfOk, IsTrue, List, OnOk, Vec};
+ghost use Rattle.std.specs.declared.alloc.Global.{Global};
+ghost use Rattle.resolver_clause_store.specs.Formula.{AreBelow, IsBelow};
+ghost use Rattle.resolver_clause_store.specs.TrailView.{variable_count};
+ghost use Rattle.resolver_clause_store.specs.declared.Literal.{Literal};
+ghost use Rattle.resolvo.specs.Propagation.{IsJustified};
+ghost use Rattle.resolvo.specs.Propagators.{IsPropagator};
+ghost use Rattle.resolvo.specs.declared.propagator.Propagator.{Propagator};
+
+use super::*;
+use crate::propagate::propagate as scan;
+use resolver_clause_store::{Literal, Trail, Variable, clause};
+use std::alloc::{AllocError, Global};
+use std::test::Fail;
+
+/// Whether each variable of the clause is below the number.
+fn is_below(clause: &[Literal], variables: usize) -> bool
+    ensures { IsTrue result → IsBelow variables clause.now }
+{
+    clause
+        .iter()
+        .all(|literal| literal.variable.index() < variables)
+}
+
+/// Whether each variable of each clause is below the number.
+fn are_below(table: &[Vec<Literal>], variables: usize) -> bool
+    ensures { IsTrue result → AreBelow variables table.now }
+{
+    'clauses: for number in 0..table.len() {
+        if !is_below(clause(table, number), variables) {
+            return false;
+        }
+    }
+    true
+}
+
+/// The next number of a sequence that looks random.
+fn next(seed: u64) -> u64 {
+    seed.wrapping_mul(6364136223846793005)
+        .wrapping_add(1442695040888963407)
+}
+
+/// A literal of one of 10 variables.
+fn literal(number: u64, positive: bool) -> Literal {
+    Literal {
+        variable: Variable::new((number % 10) as u32),
+        positive,
+    }
+}
+
+/// A clause of two or three literals with different variables.
+fn random_clause(alloc: Global, seed: u64) -> Result<Vec<Literal>, AllocError> {
+    let first = (seed >> 20) % 10;
+    let second = first + 1 + (seed >> 27) % 4;
+    let third = first + 5 + (seed >> 34) % 5;
+    let mut literals = Vec::new(alloc);
+    literals.push(literal(first, (seed >> 41) % 2 == 0))?;
+    literals.push(literal(second, (seed >> 42) % 2 == 0))?;
+    if (seed >> 43) % 4 != 0 {
+        literals.push(literal(third, (seed >> 45) % 2 == 0))?;
+    }
+    Ok(literals)
+}
+
+/// 10 to 29 clauses.
+fn random(alloc: Global, start: u64) -> Result<Vec<Vec<Literal>>, AllocError> {
+    let mut clauses = Vec::new(alloc);
+    let mut seed = next(next(start));
+    for _ in 0..10 + (seed >> 50) % 20 {
+        seed = next(seed);
+        clauses.push(random_clause(alloc, seed)?)?;
+    }
+    Ok(clauses)
+}
+
+/// A propagator that attaches no clause yet.
+fn begin(
+    alloc: Global,
+    trail: &mut Trail,
+    table: &[Vec<Literal>],
+    variables: usize,
+) -> Result<Propagator, AllocError>
+    requires { variable_count trail.old ≡ 0 }
+    ensures size { OnOk result (variable_count trail.new ≡ variables) }
+    ensures propagator { IfOk result (λ propagator. IsPropagator table.now trail.new propagator) }
+    ensures justified { OnOk result (IsJustified table.now trail.new) }
+{
+    let mut propagator = Propagator::empty(alloc);
+    trail.grow(variables)?;
+    propagator.grow(variables)?;
+    Ok(propagator)
+}
+
+/// Attaches all clauses and sets what follows. Tells whether no clause is false.
+fn follow(
+    trail: &mut Trail,
+    table: &[Vec<Literal>],
+    propagator: &mut Propagator,
+) -> Result<bool, AllocError>
+    requires below { AreBelow (variable_count trail.old) table.now }
+    requires justified { IsJustified table.now trail.old }
+    requires propagator { IsPropagator table.now trail.old propagator.old }
+    ensures size { OnOk result (variable_count trail.new ≡ variable_count trail.old) }
+    ensures justified { OnOk result (IsJustified table.now trail.new) }
+    ensures propagator { OnOk result (IsPropagator table.now trail.new propagator.new) }
+{
+    if attach_all(trail, table, propagator)?.is_some() {
+        return Ok(false);
+    }
+    Ok(propagate(trail, table, propagator)?.is_none())
+}
+
+/// Decides a literal if its variable has no value.
+fn set(trail: &mut Trail, literal: Literal) -> Result<(), AllocError>
+    ensures size { OnOk result (variable_count trail.new ≡ variable_count trail.old) }
+    ensures justified { OnOk result ((table : List (Vec Literal Global)) → IsJustified table trail.old → IsJustified table trail.new) }
+    ensures propagator { OnOk result ((table : List (Vec Literal Global)) (propagator : Propagator) → IsPropagator table trail.old propagator → IsPropagator table trail.new propagator) }
+{
+    if literal.variable.index() >= trail.variable_count() {
+        return Ok(());
+    }
+    match trail.slot(literal.variable) {
+        Some(_) => Ok(()),
+        None => {
+            trail.decide(literal, 0)?;
+            Ok(())
+        }
+    }
+}
+
+/// The value of a variable, if it has one.
+fn value(trail: &Trail, number: u32) -> Option<bool> {
+    let variable = Variable::new(number);
+    if variable.index() >= trail.variable_count() {
+        return None;
+    }
+    match trail.slot(variable) {
+        Some(slot) => Some(slot.value),
+        None => None,
+    }
+}
+
+/// Whether the variables below 10 have the same values.
+fn are_same(one: &Trail, other: &Trail) -> bool {
+    for number in 0..10u32 {
+        if value(one, number) != value(other, number) {
+            return false;
+        }
+    }
+    true
+}
+
+/// What one literal after another does, by watches and by scanning.
+#[derive(Clone, Copy, Debug, PartialEq, Eq)]
+enum Outcome {
+    /// The same values each time, and no clause was false.
+    SameValues,
+    /// The same values each time, and then both found a false clause.
+    BothFalse,
+    Differ,
+}
+
+/// Sets what follows by watches and by scanning. Tells what came of it, if that was the last step.
+fn follow_both(
+    trail: &mut Trail,
+    scanned: &mut Trail,
+    table: &[Vec<Literal>],
+    propagator: &mut Propagator,
+) -> Result<Option<Outcome>, AllocError>
+    requires below { AreBelow (variable_count trail.old) table.now }
+    requires below_scanned { AreBelow (variable_count scanned.old) table.now }
+    requires justified { IsJustified table.now trail.old }
+    requires justified_scanned { IsJustified table.now scanned.old }
+    requires propagator { IsPropagator table.now trail.old propagator.old }
+    ensures size { OnOk result (variable_count trail.new ≡ variable_count trail.old) }
+    ensures size_scanned { OnOk result (variable_count scanned.new ≡ variable_count scanned.old) }
+    ensures justified { OnOk result (IsJustified table.now trail.new) }
+    ensures justified_scanned { OnOk result (IsJustified table.now scanned.new) }
+    ensures propagator { OnOk result (IsPropagator table.now trail.new propagator.new) }
+{
+    let holds = follow(trail, table, propagator)?;
+    let expected = scan(scanned, table)?.is_none();
+    if holds != expected {
+        return Ok(Some(Outcome::Differ));
+    }
+    if !holds {
+        return Ok(Some(Outcome::BothFalse));
+    }
+    if !are_same(trail, scanned) {
+        return Ok(Some(Outcome::Differ));
+    }
+    Ok(None)
+}
+
+/// Sets one literal after another, each with what follows from it by watches and by scanning.
+fn compare(alloc: Global, table: &[Vec<Literal>], seed: u64) -> Result<Outcome, AllocError> {
+    if !are_below(table, 10) {
+        return Ok(Outcome::Differ);
+    }
+    let mut scanned = Trail::new(alloc, 10)?;
+    let mut trail = Trail::empty(alloc);
+    let mut propagator = begin(alloc, &mut trail, table, 10)?;
+    'turns: for turn in 0..11u64 {
+        if let Some(outcome) = follow_both(&mut trail, &mut scanned, table, &mut propagator)? {
+            return Ok(outcome);
+        }
+        let number = (seed >> 3) + 3 * turn;
+        let positive = (seed >> (20 + turn)) % 2 == 0;
+        set(&mut trail, literal(number, positive))?;
+        set(&mut scanned, literal(number, positive))?;
+    }
+    Ok(Outcome::SameValues)
+}
+
+/// How many of 300 lists of clauses had the same values, and how many a false clause.
+fn compare_all(alloc: Global) -> Result<(u32, u32), AllocError> {
+    let mut same = 0u32;
+    let mut both_false = 0u32;
+    let mut seed = 20261123u64;
+    for _ in 0..300 {
+        seed = next(seed);
+        let table = random(alloc, seed)?;
+        match compare(alloc, table.as_slice(), seed)? {
+            Outcome::SameValues => same = same.wrapping_add(1),
+            Outcome::BothFalse => both_false = both_false.wrapping_add(1),
+            Outcome::Differ => (),
+        }
+    }
+    Ok((same, both_false))
+}
+
+#[test]
+fn watches_find_what_scanning_finds(rt: HostRuntime) -> Result<(), Fail> {
+    let (same, both_false) = compare_all(rt.alloc())?;
+    assert_eq!(rt; same.wrapping_add(both_false), 300);
+    assert!(rt; same > 50 && both_false > 50, "{same} {both_false}");
+    Ok(())
+}

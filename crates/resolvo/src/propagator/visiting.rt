@@ -1,0 +1,329 @@
+//! The clauses that watch a literal which has become false.
+
+ghost use Rattle.std.specs.Prelude.{◌≡◌, ◌≢◌, ◌+◌, ◌<◌, ◌≤◌, ◌++◌, ◌∷◌, [], true, IfNone, IfOk, IfSome, MatchOption, OnOk, Some, if◌then◌else◌, length};
+ghost use Rattle.resolver_clause_store.specs.Formula.{AreBelow, IsBelow, clause_at};
+ghost use Rattle.resolver_clause_store.specs.Outcomes.{IsSatisfied};
+ghost use Rattle.resolver_clause_store.specs.TrailView.{length_of, literal_value, open_count, variable_count};
+ghost use Rattle.resolver_clause_store.specs.declared.Literal.{Literal};
+ghost use Rattle.resolvo.specs.Propagation.{AllSettled, Extends, IsConflict, IsJustified, IsUnit};
+ghost use Rattle.resolvo.specs.Propagators.{IsAttached, IsPropagator};
+ghost use Rattle.resolvo.specs.Visits.{FailsAt, IsPaired, IsVisiting, LookIs, Replaces, StandsAt};
+ghost use Rattle.resolvo.specs.Watches.{IsPair};
+
+use super::{Late, Propagator};
+use crate::watches::WatchedPair;
+use resolver_clause_store::{Literal, Trail, clause};
+use std::alloc::AllocError;
+
+/// A literal that has become false.
+#[derive(Clone, Copy, Debug)]
+pub struct FalseLiteral {
+    literal: Literal,
+    level: usize,
+    /// Whether no level of the trail is higher.
+    is_top: bool,
+}
+
+/// A clause that watches it.
+#[derive(Clone, Copy, Debug)]
+pub struct Watcher {
+    number: usize,
+    /// Where it stands in the literal's list.
+    place: usize,
+    /// The other literal that it watches.
+    other: Literal,
+}
+
+/// What a look at a clause did.
+#[derive(Clone, Copy, Debug)]
+pub enum Look {
+    /// The place of the clause to look at next.
+    Next(usize),
+    /// Each literal of the clause with this number is false.
+    Conflict(usize),
+}
+
+/// The literal that is watched beside another one.
+fn other_watched(pair: &WatchedPair, literal: &Literal) -> Literal
+    ensures { (other : Literal) → literal.now ≢ other → IsPair pair.now literal.now other → result ≡ other }
+{
+    if pair.first == Some(*literal) {
+        return match pair.second {
+            Some(second) => second,
+            None => *literal,
+        };
+    }
+    match pair.first {
+        Some(first) => first,
+        None => *literal,
+    }
+}
+
+/// A literal of a clause that is not false, besides another one.
+fn replacement(trail: &Trail, clause: &[Literal], other: &Literal) -> Option<Literal>
+    requires { IsBelow (variable_count trail.now) clause.now }
+    ensures { MatchOption result (IsUnit trail.now other.now clause.now) (Replaces trail.now clause.now other.now) }
+{
+    'literals: for place in 0..clause.len() {
+        if clause[place] != *other && trail.value(clause[place]) != Some(false) {
+            return Some(clause[place]);
+        }
+    }
+    None
+}
+
+impl Propagator {
+    ghost use Rattle.resolvo.specs.Propagators.{attached_of, head_of, late_of};
+    ghost use Rattle.resolvo.specs.Visits.{watchers_of};
+    ghost use Rattle.resolvo.specs.WatchesView.{pairs_of};
+
+    /// The literal that is false at the head.
+    fn false_literal(&self, trail: &Trail) -> FalseLiteral
+        requires { head_of self.now < length_of trail.now }
+        ensures fails { FailsAt trail.now (head_of self.now) result }
+        ensures inside { result.literal.variable < variable_count trail.now }
+    {
+        let variable = trail.variable_at(self.head);
+        match trail.slot(variable) {
+            Some(slot) => FalseLiteral {
+                literal: Literal {
+                    variable,
+                    positive: !slot.value,
+                },
+                level: slot.level,
+                is_top: trail.level() <= slot.level,
+            },
+            None => FalseLiteral {
+                literal: Literal {
+                    variable,
+                    positive: false,
+                },
+                level: 0,
+                is_top: false,
+            },
+        }
+    }
+
+    /// Notes that a clause is true, where that may be undone before the false literal.
+    fn note(
+        &mut self,
+        trail: &Trail,
+        number: usize,
+        falsified: &FalseLiteral,
+    ) -> Result<(), AllocError>
+        ensures watches { self.new.watches ≡ self.old.watches }
+        ensures pending { self.new.pending ≡ self.old.pending }
+        ensures head { self.new.head ≡ self.old.head }
+        ensures late { OnOk result (late_of self.new ≡ (if falsified.now.is_top then late_of self.old else late_of self.old ++ record { number = number; length = length_of trail.now } ∷ [])) }
+    {
+        if falsified.is_top {
+            return Ok(());
+        }
+        let length = trail.len();
+        self.late.push(Late { number, length })?;
+        Ok(())
+    }
+
+    /// Passes a clause by that is true.
+    fn pass_by(
+        &mut self,
+        trail: &Trail,
+        table: &[Vec<Literal>],
+        falsified: &FalseLiteral,
+        place: usize,
+        number: usize,
+    ) -> Result<Look, AllocError>
+        requires visiting { IsVisiting table.now trail.now self.old falsified.now place }
+        requires stands { StandsAt (watchers_of self.old falsified.now.literal) place number }
+        requires inside { number < attached_of self.old }
+        requires satisfied { IsSatisfied trail.now (clause_at table.now number) }
+        ensures { IfOk result (LookIs table.now trail.now self.old self.new falsified.now place) }
+    {
+        self.note(trail, number, falsified)?;
+        Ok(Look::Next(place + 1))
+    }
+
+    /// Passes a clause by whose other watched literal is true, which becomes the blocker.
+    fn pass_by_other(
+        &mut self,
+        trail: &Trail,
+        table: &[Vec<Literal>],
+        falsified: &FalseLiteral,
+        watcher: &Watcher,
+    ) -> Result<Look, AllocError>
+        requires visiting { IsVisiting table.now trail.now self.old falsified.now watcher.now.place }
+        requires stands { StandsAt (watchers_of self.old falsified.now.literal) watcher.now.place watcher.now.number }
+        requires inside { watcher.now.number < attached_of self.old }
+        requires pair { IsPaired (pairs_of self.old.watches) watcher.now.number falsified.now.literal watcher.now.other }
+        requires satisfied { literal_value trail.now watcher.now.other ≡ Some true }
+        ensures { IfOk result (LookIs table.now trail.now self.old self.new falsified.now watcher.now.place) }
+    {
+        self.watches
+            .set_blocker(falsified.literal, watcher.place, watcher.other);
+        let look = self.pass_by(trail, table, falsified, watcher.place, watcher.number)?;
+        Ok(look)
+    }
+
+    /// Sets the last literal of a clause whose others are false.
+    fn force_other(
+        &mut self,
+        trail: &mut Trail,
+        table: &[Vec<Literal>],
+        falsified: &FalseLiteral,
+        watcher: &Watcher,
+    ) -> Result<Look, AllocError>
+        requires visiting { IsVisiting table.now trail.old self.old falsified.now watcher.now.place }
+        requires justified { IsJustified table.now trail.old }
+        requires stands { StandsAt (watchers_of self.old falsified.now.literal) watcher.now.place watcher.now.number }
+        requires inside { watcher.now.number < attached_of self.old }
+        requires pair { IsPaired (pairs_of self.old.watches) watcher.now.number falsified.now.literal watcher.now.other }
+        requires unit { IsUnit trail.old watcher.now.other (clause_at table.now watcher.now.number) }
+        requires not_true { literal_value trail.old watcher.now.other ≢ Some true }
+        ensures look { IfOk result (LookIs table.now trail.new self.old self.new falsified.now watcher.now.place) }
+        ensures justified { IsJustified table.now trail.new }
+        ensures extends { Extends trail.old trail.new }
+        ensures size { variable_count trail.new ≡ variable_count trail.old }
+        ensures open { open_count trail.new ≤ open_count trail.old }
+        ensures total { open_count trail.new + length_of trail.new ≡ open_count trail.old + length_of trail.old }
+    {
+        match trail.value(watcher.other) {
+            Some(_) => Ok(Look::Conflict(watcher.number)),
+            None => {
+                trail.force(watcher.other, watcher.number)?;
+                let look = self.pass_by_other(trail, table, falsified, watcher)?;
+                Ok(look)
+            }
+        }
+    }
+
+    /// Looks at a clause whose other watched literal is not true: it watches another literal, or its last literal is set.
+    fn look_for_another(
+        &mut self,
+        trail: &mut Trail,
+        table: &[Vec<Literal>],
+        falsified: &FalseLiteral,
+        watcher: &Watcher,
+    ) -> Result<Look, AllocError>
+        requires visiting { IsVisiting table.now trail.old self.old falsified.now watcher.now.place }
+        requires justified { IsJustified table.now trail.old }
+        requires stands { StandsAt (watchers_of self.old falsified.now.literal) watcher.now.place watcher.now.number }
+        requires inside { watcher.now.number < attached_of self.old }
+        requires pair { IsPaired (pairs_of self.old.watches) watcher.now.number falsified.now.literal watcher.now.other }
+        requires not_true { literal_value trail.old watcher.now.other ≢ Some true }
+        ensures look { IfOk result (LookIs table.now trail.new self.old self.new falsified.now watcher.now.place) }
+        ensures justified { IsJustified table.now trail.new }
+        ensures extends { Extends trail.old trail.new }
+        ensures size { variable_count trail.new ≡ variable_count trail.old }
+        ensures open { open_count trail.new ≤ open_count trail.old }
+        ensures total { open_count trail.new + length_of trail.new ≡ open_count trail.old + length_of trail.old }
+    {
+        match replacement(trail, clause(table, watcher.number), &watcher.other) {
+            Some(to) => {
+                self.watches
+                    .move_watch(falsified.literal, watcher.place, to, watcher.other)?;
+                Ok(Look::Next(watcher.place))
+            }
+            None => {
+                let look = self.force_other(trail, table, falsified, watcher)?;
+                Ok(look)
+            }
+        }
+    }
+
+    /// Looks at the clause at a place of the list of a literal that has become false.
+    fn look(
+        &mut self,
+        trail: &mut Trail,
+        table: &[Vec<Literal>],
+        falsified: &FalseLiteral,
+        place: usize,
+    ) -> Result<Look, AllocError>
+        requires visiting { IsVisiting table.now trail.old self.old falsified.now place }
+        requires justified { IsJustified table.now trail.old }
+        requires place { place < length (watchers_of self.old falsified.now.literal) }
+        ensures look { IfOk result (LookIs table.now trail.new self.old self.new falsified.now place) }
+        ensures justified { IsJustified table.now trail.new }
+        ensures extends { Extends trail.old trail.new }
+        ensures size { variable_count trail.new ≡ variable_count trail.old }
+        ensures open { open_count trail.new ≤ open_count trail.old }
+        ensures total { open_count trail.new + length_of trail.new ≡ open_count trail.old + length_of trail.old }
+    {
+        let watch = self.watches.watch_at(falsified.literal, place);
+        if trail.value(watch.blocker) == Some(true) {
+            let look = self.pass_by(trail, table, falsified, place, watch.number)?;
+            return Ok(look);
+        }
+        let pair = self.watches.pair(watch.number);
+        let watcher = Watcher {
+            number: watch.number,
+            place,
+            other: other_watched(&pair, &falsified.literal),
+        };
+        if trail.value(watcher.other) == Some(true) {
+            let look = self.pass_by_other(trail, table, falsified, &watcher)?;
+            return Ok(look);
+        }
+        let look = self.look_for_another(trail, table, falsified, &watcher)?;
+        Ok(look)
+    }
+
+    /// Looks at each clause that watches the literal which is false at the head, and takes the head a place further.
+    fn visit(
+        &mut self,
+        trail: &mut Trail,
+        table: &[Vec<Literal>],
+    ) -> Result<Option<usize>, AllocError>
+        requires below { AreBelow (variable_count trail.old) table.now }
+        requires propagator { IsPropagator table.now trail.old self.old }
+        requires attached { IsAttached table.now self.old }
+        requires justified { IsJustified table.now trail.old }
+        requires head { head_of self.old < length_of trail.old }
+        ensures conflict { IfOk result (λ answer. IfSome answer (IsConflict trail.new table.now)) }
+        ensures head { IfOk result (λ answer. IfNone answer (head_of self.new ≡ head_of self.old + 1)) }
+        ensures propagator { OnOk result (IsPropagator table.now trail.new self.new) }
+        ensures attached { OnOk result (IsAttached table.now self.new) }
+        ensures justified { IsJustified table.now trail.new }
+        ensures extends { Extends trail.old trail.new }
+        ensures size { variable_count trail.new ≡ variable_count trail.old }
+        ensures open { open_count trail.new ≤ open_count trail.old }
+        ensures total { open_count trail.new + length_of trail.new ≡ open_count trail.old + length_of trail.old }
+    {
+        let falsified = self.false_literal(trail);
+        let mut place = 0;
+        'watchers: while place < self.watches.count(falsified.literal) {
+            match self.look(trail, table, &falsified, place)? {
+                Look::Next(next) => place = next,
+                Look::Conflict(number) => return Ok(Some(number)),
+            }
+        }
+        self.head += 1;
+        Ok(None)
+    }
+}
+
+/// Sets every literal that is forced, until none is left or a clause is false, whose number is answered.
+pub fn propagate(
+    trail: &mut Trail,
+    table: &[Vec<Literal>],
+    propagator: &mut Propagator,
+) -> Result<Option<usize>, AllocError>
+    requires below { AreBelow (variable_count trail.old) table.now }
+    requires propagator { IsPropagator table.now trail.old propagator.old }
+    requires attached { IsAttached table.now propagator.old }
+    requires justified { IsJustified table.now trail.old }
+    ensures conflict { IfOk result (λ answer. IfSome answer (IsConflict trail.new table.now)) }
+    ensures settled { IfOk result (λ answer. IfNone answer (AllSettled trail.new table.now)) }
+    ensures propagator { OnOk result (IsPropagator table.now trail.new propagator.new) }
+    ensures attached { OnOk result (IsAttached table.now propagator.new) }
+    ensures justified { IsJustified table.now trail.new }
+    ensures extends { Extends trail.old trail.new }
+    ensures size { variable_count trail.new ≡ variable_count trail.old }
+    ensures open { open_count trail.new ≤ open_count trail.old }
+{
+    'places: while propagator.head < trail.len() {
+        if let Some(number) = propagator.visit(trail, table)? {
+            return Ok(Some(number));
+        }
+    }
+    Ok(None)
+}
