@@ -1,6 +1,6 @@
 -- What `insert_full` leaves of a set in insertion order, seen through a view of its elements.
 use Rattle.std.proofs.Common.{◌≡◌, ℕ, zero, suc, ◌+◌, ◌<◌, ◌≤◌, length, ◌⊎◌, inl, inr, ⊎_elim, Bool, true, false, cond, List, [], ◌∷◌, ◌++◌, refl, arith, sym, ◌∙◌, subst, ap, Some, None}
-use Rattle.std.specs.Prelude.{Contains, Option, Result, Ok, Err, IfErr, slice_get, map}
+use Rattle.std.specs.Prelude.{Contains, Option, Result, Ok, Err, IfErr, IfNone, IfSome, slice_get, map, get_or, nat_lt}
 use Rattle.std.specs.Result.{IsErrAnd}
 use Rattle.std.proofs.lemmas.List.{length-map, length_push}
 use Rattle.std.specs.Bool.{Decides}
@@ -12,7 +12,8 @@ use Rattle.std.specs.Prelude.{String, Vec, string_bytes, ◌==◌, ◌&&◌}
 use Rattle.std.specs.Global.{Global}
 use Rattle.std.specs.String.{string_eq}
 use Rattle.std.specs.Cmp.Lexicographic.{pointwise}
-use Rattle.std.proofs.lemmas.Bool.{eqb-true, eq-eqb}
+use Rattle.std.proofs.lemmas.Bool.{cases_lt, eqb-true, eq-eqb, lt-ltb}
+use Rattle.std.proofs.lemmas.List.Sums.{fails_before_first}
 use Rattle.std.proofs.lemmas.Bool.Decides.{Decides-eqb}
 use Rattle.std.proofs.lemmas.Slice.Eq.{slice_eq-Decides}
 use Rattle.resolver_clause_store.specs.declared.ids.VersionSetId.{VersionSetId}
@@ -21,9 +22,9 @@ use Rattle.resolve.specs.declared.ids.Range.{Range}
 use Rattle.resolve.specs.declared.ids.Range.TheVariants.{All, Within}
 use Rattle.resolve.specs.declared.ids.NameId.{NameId}
 use Rattle.resolve.specs.contracts.ids.VersionSetPartialEq.TheImpl.{eq-value}
-use Rattle.std.specs.List.{position}
+use Rattle.std.specs.List.{position, position_or_len}
 use Rattle.std.specs.Str.{bytes_eq}
-use Rattle.std.proofs.lemmas.Option.{slice_get_cases}
+use Rattle.std.proofs.lemmas.Option.{get_or_from_slice_get, slice_get_cases}
 use Rattle.std.proofs.lemmas.List.Quantifiers.{position-Some}
 use Rattle.std.proofs.lemmas.Slice.Eq.{bytes_eq-Decides}
 use Rattle.resolve.specs.declared.ids.Version.{Version}
@@ -180,3 +181,47 @@ version-at keys v i e =
 -- a version that the table has
 pub version_found : (keys : List Version) (v : Version) (b : Bool) → b ≡ list_any (version-eq.it v) keys → b ≡ true → Contains keys v
 version_found keys v b e is = Contains-from_any versions-same v keys (sym e ∙ is)
+
+-- what passes stands no lower than the first place that does
+first_at_most : {T : Type 0} (p : T → Bool) (xs : List T) (k : ℕ) (x : T) → slice_get xs k ≡ Some x → p x ≡ true → position_or_len p xs ≤ k
+first_at_most p xs k x at e =
+    let is : get_or xs k x ≡ x = get_or_from_slice_get xs k x x at in
+    ⊎_elim (λ (lt : k < position_or_len p xs). absurd (clash (p (get_or xs k x)) (ap p is ∙ e) (fails_before_first p xs k x lt))) (λ (le : position_or_len p xs ≤ k). le) (cases_lt k (position_or_len p xs))
+
+-- where `get_index_of` found no place that has an id, nothing that passes has one
+unreached : {T : Type 0} (p : T → Bool) (xs : List T) (k : ℕ) (x : T) → slice_get xs k ≡ Some x → p x ≡ true → k < 4294967295 → IfSome (position p xs) (λ i. 4294967295 ≤ i) → ⊥
+unreached p xs k x at e small none =
+    let least : position_or_len p xs ≤ k = first_at_most p xs k x at e in
+    let within : k < length xs = slice_get_within xs k x at in
+    let inside : nat_lt (position_or_len p xs) (length xs) ≡ true = lt-ltb (position_or_len p xs) (length xs) (omega (arith, least, within)) in
+    let Out : Bool → Type 0 = λ b. IfSome (cond b (Some (position_or_len p xs)) None) (λ i. 4294967295 ≤ i) in
+    let beyond : 4294967295 ≤ position_or_len p xs = subst Out inside none in
+    omega (arith, least, small, beyond)
+
+string-alone : (keys : List (String Global)) (text : List ℕ) → IsDistinct string_eq keys → (i j : ℕ) → slice_get (map string_bytes keys) i ≡ Some text → slice_get (map string_bytes keys) j ≡ Some text → i ≡ j
+string-alone keys text distinct i j at bt =
+    let one = unmapped string_bytes (slice_get keys i) text (sym (slice_get-map string_bytes keys i) ∙ at) in
+    let other = unmapped string_bytes (slice_get keys j) text (sym (slice_get-map string_bytes keys j) ∙ bt) in
+    alone-at string_bytes string_eq string_eq-Decides keys distinct i j one.0 other.0 one.1 other.1 (one.2 ∙ sym other.2)
+
+pub no_text : (keys : List (String Global)) (text : List ℕ) (place : Option ℕ) (k : ℕ) → place ≡ position (λ t. bytes_eq text (string_bytes t)) keys → IfSome place (λ i. 4294967295 ≤ i) → slice_get (map string_bytes keys) k ≡ Some text → k < 4294967295 → ⊥
+no_text keys text place k is none at small =
+    let found = unmapped string_bytes (slice_get keys k) text (sym (slice_get-map string_bytes keys k) ∙ at) in
+    let Out : Option ℕ → Type 0 = λ o. IfSome o (λ i. 4294967295 ≤ i) in
+    unreached (λ t. bytes_eq text (string_bytes t)) keys k found.0 found.1 ((bytes_eq-Decides text (string_bytes found.0)).1 (sym found.2)) small (subst Out is none)
+
+version-itself : (v : Version) → version-eq.it v v ≡ true
+version-itself v = both-and (v.name.0 == v.name.0) (v.number == v.number) (eq-eqb v.name.0 v.name.0 refl) (eq-eqb v.number v.number refl)
+
+-- the version under the name that is at this place, which no other place has
+pub no_version : (names : List (String Global)) (text : List ℕ) → IsDistinct string_eq names → (n : ℕ) → slice_get (map string_bytes names) n ≡ Some text → (keys : List Version) (number : ℕ) (place : Option ℕ) → (let v : Version = record { name = record { 0 = n }; number = number } in place ≡ position (version-eq.it v) keys) → IfSome place (λ i. 4294967295 ≤ i) → (m : NameId) → slice_get (map string_bytes names) m.0 ≡ Some text → (k : ℕ) → slice_get keys k ≡ Some (record { name = m; number = number }) → k < 4294967295 → ⊥
+no_version names text distinct n here keys number place is none m there k at small =
+    let v : Version = record { name = record { 0 = n }; number = number } in
+    let same : m.0 ≡ n = string-alone names text distinct m.0 n there here in
+    let w : slice_get keys k ≡ Some v = at ∙ ap (λ (i : ℕ). let u : Version = record { name = record { 0 = i }; number = number } in Some u) same in
+    let Out : Option ℕ → Type 0 = λ o. IfSome o (λ i. 4294967295 ≤ i) in
+    unreached (version-eq.it v) keys k v w (version-itself v) small (subst Out is none)
+
+pub IfNone-given : {T : Type 0} (o : Option T) (P : Type 0) → P → IfNone o P
+IfNone-given None P h = h
+IfNone-given (Some x) P h = tt

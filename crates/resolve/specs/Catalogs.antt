@@ -1,5 +1,5 @@
 -- What a catalog says.
-use Rattle.std.specs.Prelude.{◌≡◌, ℕ, Bool, not, ◌==◌, List, [], ◌∷◌, ◌++◌, Option, Some, None, slice_get, filter, map, codes, string_bytes, String, Vec}
+use Rattle.std.specs.Prelude.{◌≡◌, ◌<◌, ◌⊎◌, ℕ, Bool, not, ◌==◌, List, [], ◌∷◌, ◌++◌, Option, Some, None, slice_get, filter, map, codes, string_bytes, String, Vec}
 use Rattle.std.specs.Global.{Global}
 use Rattle.std.specs.Ordering.{nat_cmp}
 use Rattle.resolver_clause_store.specs.Universe.{Universe, Package, Needs, known, unknown, hint_none}
@@ -18,7 +18,7 @@ use Rattle.resolve.specs.declared.catalog.Catalog.{Catalog}
 use Rattle.resolve.specs.Ranges.{range_takes, range_text}
 use Rattle.resolve.specs.Versions.{versions_text}
 use Rattle.resolve.specs.Sorting.{sorted_by}
-use Rattle.resolve.specs.Packages.{name_at, version_at, preference}
+use Rattle.resolve.specs.Packages.{IsPackageAdded, name_at, version_at, preference}
 use Rattle.resolve.specs.Conditions.{condition_at}
 
 -- of no version set all versions of the first package
@@ -140,6 +140,9 @@ tables_in it = record {
   strings = strings_in it;
 }
 
+abbrev pub no_tables : Tables
+no_tables = record { names = []; packages = []; solvables = []; versions = []; version_sets = []; unions = []; conditions = []; strings = [] }
+
 -- what the catalog says of a package
 abbrev pub listing_in : Catalog → NameId → Package SolvableId
 listing_in it n = listing_of (slice_get it.packages.packages.items n.0)
@@ -149,3 +152,11 @@ pub record IsFound (it : Catalog) (text : List ℕ) (number : ℕ) (s : Solvable
   pub name : NameId
   pub named : slice_get (names_in it) name.0 ≡ Some text
   pub numbered : slice_get (versions_in it) s.0 ≡ Some (record { name = name; number = number })
+
+-- no ids name such a version
+abbrev pub IsUnfound : Catalog → List ℕ → ℕ → Type 0
+IsUnfound it text number = (s : SolvableId) (found : IsFound it text number s) → s.0 < 4294967295 → found.name.0 < 4294967295 → ⊥
+
+-- the name was there and nothing changed, or it is the last one now, with a package that names no version
+abbrev pub IsNamed : Catalog → Catalog → List ℕ → Type 0
+IsNamed it it' text = ((names_in it' ≡ names_in it) × (packages_in it' ≡ packages_in it)) ⊎ ((names_in it' ≡ names_in it ++ text ∷ []) × IsPackageAdded (packages_in it) (packages_in it'))

@@ -62,6 +62,19 @@ candidates_at packages n = candidates_of (slice_get packages n)
 abbrev pub KeepsPackages : List Package → List Package → Type 0
 KeepsPackages packages packages' = (n : ℕ) (p : Package) → slice_get packages n ≡ Some p → slice_get packages' n ≡ Some p
 
+-- the package names no version
+pub record IsEmptyPackage (p : Package) : Type 0 where
+  pub candidates : p.candidates.items ≡ []
+  pub favored : p.favored ≡ None
+  pub locked : p.locked ≡ None
+  pub excluded : p.excluded.items ≡ []
+
+-- there is one package more, which names no version
+pub record IsPackageAdded (packages packages' : List Package) : Type 0 where
+  pub added : Package
+  pub empty : IsEmptyPackage added
+  pub last : packages' ≡ packages ++ added ∷ []
+
 -- the version stands last, and is the last candidate of its package; each other package lists what it did
 pub record IsDeclared (versions versions' : List Version) (packages packages' : List Package) (version : Version) : Type 0 where
   pub last : versions' ≡ versions ++ version ∷ []

@@ -1,6 +1,6 @@
 //! What was declared, in tables.
 
-ghost use Rattle.std.specs.Prelude.{◌≡◌, ◌<◌, ◌≤◌, ◌++◌, ◌∷◌, [], IfErr, IfOk, IfSome, MatchBool, OnOk, length};
+ghost use Rattle.std.specs.Prelude.{◌≡◌, ◌<◌, ◌≤◌, ◌++◌, ◌∷◌, [], IfErr, IfNone, IfOk, IfSome, MatchBool, OnOk, length};
 ghost use Rattle.resolve.specs.Additions.{IsInterned, IsShortage};
 ghost use Rattle.resolve.specs.Packages.{version_at, IsConstrained, IsDeclarationRefused, IsDeclared, IsExcluded, IsExclusionRefused, IsFavorRefused, IsFavored, IsLockRefused, IsLocked, IsMadeUnknown, IsReasonRefused, IsRequired, KeepsPackages};
 
@@ -34,10 +34,12 @@ pub struct Catalog {
 }
 
 impl Catalog {
-    ghost use Rattle.resolve.specs.Catalogs.{IsFound, catalog_universe, conditions_in, names_in, packages_in, solvables_in, strings_in, tables_in, unions_in, version_sets_in, versions_in};
+    ghost use Rattle.resolve.specs.Catalogs.{IsFound, IsNamed, IsUnfound, catalog_universe, conditions_in, names_in, no_tables, packages_in, solvables_in, strings_in, tables_in, unions_in, version_sets_in, versions_in};
 
     /// A catalog in which nothing is declared.
-    pub fn new(alloc: Global) -> Catalog {
+    pub fn new(alloc: Global) -> Catalog
+        ensures { tables_in result ≡ no_tables }
+    {
         Catalog {
             alloc,
             names: IndexSet::new(alloc),
@@ -53,6 +55,7 @@ impl Catalog {
     pub fn name(&mut self, text: &str) -> Result<NameId, Exhausted>
         ensures interned { IfOk result (λ id. IsInterned (names_in self.old) (names_in self.new) text.now id.0) }
         ensures kept { tables_in self.new ≡ record (tables_in self.old) { names = names_in self.new; packages = packages_in self.new } }
+        ensures added { OnOk result (IsNamed self.old self.new text.now) }
         ensures packages { KeepsPackages (packages_in self.old) (packages_in self.new) }
         ensures refusal { IfErr result (IsShortage (length (names_in self.old))) }
     {
@@ -69,10 +72,13 @@ impl Catalog {
         Ok(name)
     }
 
-    /// The version of the package of that name, if it was declared.
+    /// The version of the package of that name, exactly if it was declared.
     pub fn find_solvable(&self, text: &str, number: u32) -> Option<SolvableId>
-        ensures { IfSome result (IsFound self.now text.now number) }
+        ensures found { IfSome result (IsFound self.now text.now number) }
+        ensures none { IfNone result (IsUnfound self.now text.now number) }
     {
+        // With the count comes that no two names are equal.
+        prove!(self.names.len() < 1 << 63);
         let name = NameId(found_id(self.names.get_index_of(text))?);
         let version = Version { name, number };
         let found = found_id(self.packages.versions.get_index_of(&version))?;

@@ -1,6 +1,6 @@
 //! Ids of packages and their versions, and sets of versions.
 
-ghost use Rattle.std.specs.Prelude.{◌≡◌, IfOk, IfErr, IfSome, ◌≤◌};
+ghost use Rattle.std.specs.Prelude.{◌≡◌, IfOk, IfErr, IfNone, IfSome, ◌≤◌};
 ghost use Rattle.resolve.specs.Ranges.{range_takes};
 
 use resolver_clause_store::Exhausted;
@@ -63,7 +63,8 @@ pub(crate) fn id_of(place: usize) -> Result<u32, Exhausted>
 
 /// The id of the place that was found, if any.
 pub(crate) fn found_id(place: Option<usize>) -> Option<u32>
-    ensures { IfSome result (λ id. place ≡ Some id) }
+    ensures found { IfSome result (λ id. place ≡ Some id) }
+    ensures none { IfNone result (IfSome place (λ p. 4294967295 ≤ p)) }
 {
     match id_of(place?) {
         Ok(id) => Some(id),

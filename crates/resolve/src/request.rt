@@ -3,7 +3,7 @@
 ghost use Rattle.std.specs.Prelude.{◌≡◌, [], ◌∷◌, ◌++◌, IfOk, MatchBool};
 ghost use Rattle.resolver_clause_store.specs.Laws.{HasLawfulIds, HasLawfulPackages};
 ghost use Rattle.resolve.specs.declared.request.InputError.TheVariants.{Exhausted as RanOut};
-ghost use Rattle.resolve.specs.Catalogs.{IsFound, catalog_universe};
+ghost use Rattle.resolve.specs.Catalogs.{IsFound, IsUnfound, catalog_universe};
 ghost use Rattle.resolve.specs.declared.ids.SolvableId.{SolvableId};
 
 use crate::catalog::Catalog;
@@ -188,7 +188,7 @@ impl Request {
     /// Asks for the solvable where it can be taken, if it was declared. Answers whether it was.
     fn add_soft_requirement(&mut self, solvable: SolvableText<'_>) -> Result<bool, Exhausted>
         ensures only { self.new ≡ record self.old { soft_requirements = self.new.soft_requirements } }
-        ensures added { IfOk result (λ declared. MatchBool declared ((s : SolvableId) × IsFound self.old.catalog solvable.entry.name.now solvable.entry.version s × (self.new.soft_requirements.items ≡ self.old.soft_requirements.items ++ s ∷ [])) (self.new.soft_requirements.items ≡ self.old.soft_requirements.items)) }
+        ensures added { IfOk result (λ declared. MatchBool declared ((s : SolvableId) × IsFound self.old.catalog solvable.entry.name.now solvable.entry.version s × (self.new.soft_requirements.items ≡ self.old.soft_requirements.items ++ s ∷ [])) ((self.new.soft_requirements.items ≡ self.old.soft_requirements.items) × IsUnfound self.old.catalog solvable.entry.name.now solvable.entry.version)) }
     {
         let Some(found) = self.catalog.find_solvable(solvable.name, solvable.version) else {
             return Ok(false);

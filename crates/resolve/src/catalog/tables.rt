@@ -3,7 +3,7 @@
 ghost use Rattle.std.specs.Prelude.{◌≡◌, ◌<◌, ◌≤◌, ◌++◌, ◌∷◌, [], length, IfOk, IfErr, IfNone, IfSome, MatchBool, OnOk};
 ghost use Rattle.std.proofs.Props.{props};
 ghost use Rattle.resolve.specs.Additions.{IsShortage};
-ghost use Rattle.resolve.specs.Packages.{ArePackagesOf, IsConstrained, IsDeclarationRefused, IsDeclared, IsExcluded, IsExclusionRefused, IsFavorRefused, IsFavored, IsLockRefused, IsLocked, IsMadeUnknown, IsReasonRefused, IsRequired, IsVersionOf, IsWithoutPackage, KeepsPackages, name_at, version_at, preference};
+ghost use Rattle.resolve.specs.Packages.{ArePackagesOf, IsConstrained, IsDeclarationRefused, IsDeclared, IsExcluded, IsExclusionRefused, IsFavorRefused, IsFavored, IsLockRefused, IsLocked, IsMadeUnknown, IsPackageAdded, IsReasonRefused, IsRequired, IsVersionOf, IsWithoutPackage, KeepsPackages, name_at, version_at, preference};
 ghost use Rattle.resolve.specs.Sorting.{sorted_by};
 ghost use Rattle.resolve.specs.Conditions.{ArePartsLower, condition_at};
 
@@ -44,7 +44,12 @@ pub struct PackageTable {
 }
 
 impl PackageTable {
-    pub fn new(alloc: Global) -> PackageTable {
+    /// A table without packages.
+    pub fn new(alloc: Global) -> PackageTable
+        ensures packages { result.packages.items ≡ [] }
+        ensures versions { result.versions.keys ≡ [] }
+        ensures solvables { result.solvables.items ≡ [] }
+    {
         PackageTable {
             packages: Vec::new(alloc),
             versions: IndexSet::new(alloc),
@@ -89,6 +94,7 @@ impl PackageTable {
 
     /// Adds a package without versions.
     pub fn add_package(&mut self, alloc: Global) -> Result<(), Exhausted>
+        ensures added { OnOk result (IsPackageAdded self.old.packages.items self.new.packages.items) }
         ensures packages { KeepsPackages self.old.packages.items self.new.packages.items }
         ensures kept { (self.new.versions.keys ≡ self.old.versions.keys) × (self.new.solvables.items ≡ self.old.solvables.items) }
         ensures memory { IfErr result (λ e. e ≡ Exhausted.Memory) }
@@ -250,7 +256,10 @@ pub struct ConditionTable {
 }
 
 impl ConditionTable {
-    pub fn new(alloc: Global) -> ConditionTable {
+    /// A table without conditions.
+    pub fn new(alloc: Global) -> ConditionTable
+        ensures { result.conditions.items ≡ [] }
+    {
         ConditionTable {
             conditions: Vec::new(alloc),
         }

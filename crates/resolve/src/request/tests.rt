@@ -1,6 +1,8 @@
 //! Requests as a solver sees them.
 
 mod counts;
+mod random_problems;
+mod refused;
 mod sets;
 mod soft;
 

@@ -551,3 +551,9 @@ fn a_conflict_in_a_turn_keeps_what_was_accepted(rt: HostRuntime) {
         "package a=1\npackage u=1\npackage q=1\npackage s=1\npackage t=1\npackage c=2\nrequires a=1 u\nrequires s=1 t\nrequires t=1 c\nconstrains u=1 c@3\nsoft a=1\nsoft q=1\nsoft s=1\n";
     expect_answer(&rt, rt.alloc(), input, "a=1\nq=1\nu=1\n");
 }
+
+#[test]
+fn the_root_takes_no_lower_version_for_a_soft_requirement(rt: HostRuntime) {
+    let input = "package a=1\npackage a=2\npackage b=1\nrequires b=1 a@1\nrequire a\nsoft b=1\n";
+    expect_answer(&rt, rt.alloc(), input, "a=2\n");
+}

@@ -1,0 +1,358 @@
+//! Each turn of the soft requirements of random problems, judged by trying all sets.
+//!
+//! The turns of a problem are seen by solving it with the first of its soft requirements, then with the first two, and
+//! so on: a solver takes the same turns each time.
+
+use super::random_problems::{RandomProblem, Statement, digit};
+use super::request;
+use crate::catalog::Catalog;
+use crate::ids::SolvableId;
+use resolvo::{Problem, Solver, UnsolvableOrCancelled};
+use std::alloc::Global;
+use std::test::Fail;
+
+type Outcome = Result<Vec<SolvableId>, UnsolvableOrCancelled<Catalog>>;
+
+/// How many problems are drawn.
+const PROBLEMS: u64 = 500;
+
+/// What is chosen, and what of it is exempt.
+#[derive(Clone, Copy)]
+struct Answer {
+    chosen: u32,
+    exempt: u32,
+}
+
+/// What a turn came to.
+#[derive(Clone, Copy)]
+enum Turn {
+    Wrong,
+    Skipped,
+    Accepted,
+    Exempt,
+    Refused,
+}
+
+/// How often each came, and a problem of which something is wrong.
+#[derive(Clone, Copy)]
+struct Counts {
+    wrong: Option<u64>,
+    unsolvable: u32,
+    skipped: u32,
+    accepted: u32,
+    exempt: u32,
+    refused: u32,
+}
+
+/// A run over soft requirements: what it chose, from which ones it has come, and which of them it accepted.
+#[derive(Clone, Copy)]
+struct Run {
+    answer: Answer,
+    tried: u32,
+    accepted: u32,
+}
+
+fn set_of(solvables: &[SolvableId]) -> u32 {
+    let mut set = 0;
+    for solvable in solvables {
+        set |= digit(solvable.0);
+    }
+    set
+}
+
+/// What was chosen, if there is an answer.
+fn answer_of(exempt: &[SolvableId], outcome: &Outcome) -> Result<Option<Answer>, Fail> {
+    match outcome {
+        Ok(chosen) => Ok(Some(Answer {
+            chosen: set_of(chosen),
+            exempt: set_of(exempt),
+        })),
+        Err(UnsolvableOrCancelled::Unsolvable(_)) => Ok(None),
+        Err(_) => Err(Fail::from("refused")),
+    }
+}
+
+/// What the solver chooses for an input with these soft requirements, if there is an answer.
+fn solve(alloc: Global, input: &str, soft: &[SolvableId]) -> Result<Option<Answer>, Fail> {
+    let request = request(alloc, input)?;
+    let soft = Vec::from_slice(alloc, soft)?;
+    let problem = Problem::new()
+        .requirements(request.requirements)
+        .constraints(request.constraints)
+        .soft_requirements(soft.into_iter());
+    let mut solver = Solver::new(alloc, request.catalog);
+    let outcome = solver.solve(problem);
+    answer_of(solver.exempt_solvables(), &outcome)
+}
+
+fn is_within(part: u32, set: u32) -> bool {
+    part & set == part
+}
+
+fn obeys(statement: Statement, set: u32, exempt: u32) -> bool {
+    match statement {
+        Statement::Requires {
+            by,
+            candidates,
+            when,
+            ..
+        } => !is_within(by, set) || !when.holds(set) || set & candidates != 0,
+        Statement::Constrains { by, forbidden, .. } => !is_within(by, set) || set & forbidden == 0,
+        Statement::Unknown(unknown) => set & unknown == 0,
+        Statement::LockedOutOrExcluded(barred) => set & barred & !exempt == 0,
+        Statement::OnePackage(members) => (set & members).count_ones() < 2,
+    }
+}
+
+fn is_valid(statements: &[Statement], set: u32, exempt: u32) -> bool {
+    for statement in statements {
+        if !obeys(*statement, set, exempt) {
+            return false;
+        }
+    }
+    true
+}
+
+/// Whether a valid set of at most eight solvables holds a part.
+fn fits(statements: &[Statement], part: u32, exempt: u32) -> bool {
+    for set in 0..256u32 {
+        if is_within(part, set) && is_valid(statements, set, exempt) {
+            return true;
+        }
+    }
+    false
+}
+
+/// The members, and those candidates in bounds that they and the root require where the conditions hold in a set.
+fn with_required(statements: &[Statement], members: u32, set: u32, bounds: u32) -> u32 {
+    let mut grown = members;
+    for statement in statements {
+        if let Statement::Requires {
+            by,
+            candidates,
+            when,
+            ..
+        } = statement
+        {
+            if is_within(*by, members) && when.holds(set) {
+                grown |= candidates & bounds;
+            }
+        }
+    }
+    grown
+}
+
+/// What is needed of a set, from the root and these members of it on.
+fn needed(statements: &[Statement], set: u32, seeds: u32) -> u32 {
+    let mut members = seeds & set;
+    for _ in 0..9u32 {
+        members = with_required(statements, members, set, set);
+    }
+    members
+}
+
+/// All that reading may come to, from the root and these on.
+fn near(statements: &[Statement], seeds: u32) -> u32 {
+    let mut members = seeds;
+    for _ in 0..9u32 {
+        members = with_required(statements, members, members, u32::MAX);
+    }
+    members
+}
+
+/// The packages that the root and members of a set name.
+fn named(statements: &[Statement], set: u32) -> u32 {
+    let mut packages = 0;
+    for statement in statements {
+        packages |= named_by(*statement, set);
+    }
+    packages
+}
+
+fn named_by(statement: Statement, set: u32) -> u32 {
+    match statement {
+        Statement::Requires {
+            by,
+            packages,
+            when,
+            ..
+        } => {
+            if is_within(by, set) && when.holds(set) {
+                packages
+            } else {
+                0
+            }
+        }
+        Statement::Constrains { by, packages, .. } => {
+            if is_within(by, set) { packages } else { 0 }
+        }
+        _ => 0,
+    }
+}
+
+/// Whether an accepted solvable led from one answer to a next one that may follow. It must not be exempt where its package
+/// was certainly asked, and must be where it cannot have been.
+fn is_accepted(statements: &[Statement], run: Run, soft: u32, package: u32, after: Answer) -> bool {
+    let before = run.answer;
+    let newly = after.exempt & soft;
+    if after.exempt != before.exempt | newly || !is_within(before.chosen, after.chosen) {
+        return false;
+    }
+    if newly != 0 && named(statements, before.chosen) & package != 0 {
+        return false;
+    }
+    if newly == 0 && named(statements, near(statements, run.tried)) & package == 0 {
+        return false;
+    }
+    if !is_valid(statements, after.chosen, after.exempt) {
+        return false;
+    }
+    needed(statements, after.chosen, run.accepted | soft) == after.chosen
+}
+
+/// Whether no valid set holds what was chosen and the solvable, with the exemptions of its turn. Where its package may have
+/// been asked or not, it is taken as asked.
+fn is_refused(statements: &[Statement], run: Run, soft: u32, package: u32) -> bool {
+    let before = run.answer;
+    if named(statements, near(statements, run.tried)) & package != 0 {
+        return !fits(statements, before.chosen | soft, before.exempt);
+    }
+    !fits(statements, before.chosen | soft, before.exempt | soft)
+}
+
+/// What the turn of a solvable came to, after which there is this answer.
+fn judge_turn(statements: &[Statement], run: Run, soft: u32, package: u32, after: Answer) -> Turn {
+    let before = run.answer;
+    let is_same = after.chosen == before.chosen && after.exempt == before.exempt;
+    if is_within(soft, before.chosen) {
+        return if is_same { Turn::Skipped } else { Turn::Wrong };
+    }
+    if !is_within(soft, after.chosen) {
+        let is_right = is_same && is_refused(statements, run, soft, package);
+        return if is_right { Turn::Refused } else { Turn::Wrong };
+    }
+    if !is_accepted(statements, run, soft, package, after) {
+        return Turn::Wrong;
+    }
+    if is_within(soft, after.exempt) {
+        Turn::Exempt
+    } else {
+        Turn::Accepted
+    }
+}
+
+fn count(counts: &mut Counts, seed: u64, turn: Turn) {
+    match turn {
+        Turn::Wrong => counts.wrong = Some(seed),
+        Turn::Skipped => counts.skipped = counts.skipped.wrapping_add(1),
+        Turn::Accepted => counts.accepted = counts.accepted.wrapping_add(1),
+        Turn::Exempt => counts.exempt = counts.exempt.wrapping_add(1),
+        Turn::Refused => counts.refused = counts.refused.wrapping_add(1),
+    }
+}
+
+/// Whether an answer without soft requirements is one, and whether there is none where none is given.
+fn is_first(statements: &[Statement], answer: Option<Answer>) -> bool {
+    match answer {
+        None => !fits(statements, 0, 0),
+        Some(first) => {
+            first.exempt == 0
+                && is_valid(statements, first.chosen, 0)
+                && needed(statements, first.chosen, 0) == first.chosen
+        }
+    }
+}
+
+/// Gives a problem one more soft requirement, and judges its turn.
+fn take_turn(
+    alloc: Global,
+    problem: &mut RandomProblem,
+    soft: &mut Vec<SolvableId>,
+    run: &mut Run,
+) -> Result<Turn, Fail> {
+    let place = problem.soft_requirement();
+    soft.push(SolvableId(place))?;
+    let Some(after) = solve(alloc, &problem.input, soft)? else {
+        return Ok(Turn::Wrong);
+    };
+    let package = digit(problem.package(place));
+    let turn = judge_turn(&problem.statements, *run, digit(place), package, after);
+    run.answer = after;
+    run.tried |= digit(place);
+    run.accepted |= digit(place) & after.chosen;
+    Ok(turn)
+}
+
+/// Judges up to four turns.
+fn take_turns(
+    alloc: Global,
+    problem: &mut RandomProblem,
+    first: Answer,
+    seed: u64,
+    counts: &mut Counts,
+) -> Result<(), Fail> {
+    let mut soft = Vec::new(alloc);
+    let mut run = Run {
+        answer: first,
+        tried: 0,
+        accepted: 0,
+    };
+    for _ in 0..4u32 {
+        let turn = take_turn(alloc, problem, &mut soft, &mut run)?;
+        count(counts, seed, turn);
+    }
+    Ok(())
+}
+
+/// Judges all that comes of a problem.
+fn judge_problem(
+    alloc: Global,
+    problem: &mut RandomProblem,
+    seed: u64,
+    counts: &mut Counts,
+) -> Result<(), Fail> {
+    let first = solve(alloc, &problem.input, &[])?;
+    if !is_first(&problem.statements, first) {
+        counts.wrong = Some(seed);
+    }
+    match first {
+        None => {
+            counts.unsolvable = counts.unsolvable.wrapping_add(1);
+            Ok(())
+        }
+        Some(first) => {
+            take_turns(alloc, problem, first, seed, counts)?;
+            Ok(())
+        }
+    }
+}
+
+/// Judges all that comes of the problem of a seed.
+fn judge(alloc: Global, seed: u64, counts: &mut Counts) -> Result<(), Fail> {
+    let mut problem = RandomProblem::new(alloc, seed)?;
+    judge_problem(alloc, &mut problem, seed, counts)
+}
+
+fn judge_all(alloc: Global) -> Result<Counts, Fail> {
+    let mut counts = Counts {
+        wrong: None,
+        unsolvable: 0,
+        skipped: 0,
+        accepted: 0,
+        exempt: 0,
+        refused: 0,
+    };
+    for seed in 0..PROBLEMS {
+        judge(alloc, seed, &mut counts)?;
+    }
+    Ok(counts)
+}
+
+#[test]
+fn refused_soft_requirements_fit_into_no_valid_set(rt: HostRuntime) -> Result<(), Fail> {
+    let counts = judge_all(rt.alloc())?;
+    assert_eq!(rt; counts.wrong, None);
+    assert!(rt; 50 <= counts.unsolvable && counts.unsolvable <= 150);
+    assert!(rt; 100 <= counts.accepted && 200 <= counts.exempt && 500 <= counts.refused);
+    Ok(())
+}
