@@ -3,6 +3,7 @@
 mod counts;
 mod random_problems;
 mod refused;
+mod scores;
 mod sets;
 mod soft;
 
@@ -26,17 +27,25 @@ fn request(alloc: Global, input: &str) -> Result<Request, Fail> {
     }
 }
 
+/// The rules of the conflict of an input.
+fn conflict_of(alloc: Global, input: &str) -> Result<Conflict<NameId, SolvableId>, Fail> {
+    let request = request(alloc, input)?;
+    let problem = Problem::new()
+        .requirements(request.requirements)
+        .constraints(request.constraints);
+    let mut solver = Solver::new(alloc, request.catalog);
+    match solver.solve(problem) {
+        Err(UnsolvableOrCancelled::Unsolvable(conflict)) => Ok(conflict),
+        _other => Err(Fail::from("no conflict")),
+    }
+}
+
 #[test]
 fn a_conflict_lists_the_exclusion_with_its_reason(rt: HostRuntime) -> Result<(), Fail> {
-    let request = request(
+    let conflict = conflict_of(
         rt.alloc(),
         "package a=1\nexclude a=1 it is bad\nrequire a\n",
     )?;
-    let problem = Problem::new().requirements(request.requirements);
-    let mut solver = Solver::new(rt.alloc(), request.catalog);
-    let Err(UnsolvableOrCancelled::Unsolvable(conflict)) = solver.solve(problem) else {
-        return Err(Fail::from("no conflict"));
-    };
     let rules = conflict.rules();
     assert_eq!(rt; rules.len(), 2);
     assert!(rt;
@@ -54,15 +63,10 @@ fn a_conflict_lists_the_exclusion_with_its_reason(rt: HostRuntime) -> Result<(),
 
 #[test]
 fn a_conflict_leaves_out_what_the_search_did_not_use(rt: HostRuntime) -> Result<(), Fail> {
-    let request = request(
+    let conflict = conflict_of(
         rt.alloc(),
         "package a=1\npackage a=2\nexclude a=1 it is bad\nexclude a=2 it is worse\nrequire a@1\n",
     )?;
-    let problem = Problem::new().requirements(request.requirements);
-    let mut solver = Solver::new(rt.alloc(), request.catalog);
-    let Err(UnsolvableOrCancelled::Unsolvable(conflict)) = solver.solve(problem) else {
-        return Err(Fail::from("no conflict"));
-    };
     let rules = conflict.rules();
     assert_eq!(rt; rules.len(), 2);
     assert!(rt;
@@ -75,22 +79,7 @@ fn a_conflict_leaves_out_what_the_search_did_not_use(rt: HostRuntime) -> Result<
         )
     );
     assert!(rt; matches!(&rules[1], Rule::Requires { by: By::Root, .. }));
-    // Both exclusions were read.
-    assert_eq!(rt; solver.clause_count(), 4);
     Ok(())
-}
-
-/// The rules of the conflict of an input.
-fn conflict_of(alloc: Global, input: &str) -> Result<Conflict<NameId, SolvableId>, Fail> {
-    let request = request(alloc, input)?;
-    let problem = Problem::new()
-        .requirements(request.requirements)
-        .constraints(request.constraints);
-    let mut solver = Solver::new(alloc, request.catalog);
-    match solver.solve(problem) {
-        Err(UnsolvableOrCancelled::Unsolvable(conflict)) => Ok(conflict),
-        _other => Err(Fail::from("no conflict")),
-    }
 }
 
 #[test]

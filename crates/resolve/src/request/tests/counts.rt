@@ -46,6 +46,9 @@ fn clauses_for_conditions_exclusions_and_constraints(rt: HostRuntime) -> Result<
     let input =
         "package p=1\npackage c=1\npackage c=2\npackage d=1\nrequires p=1 c | d\nrequires p=1 x if c@2\nexclude c=1 old\nrequire p\n";
     assert_eq!(rt; count(rt.alloc(), input)?.0, 9);
+    let input =
+        "package a=1\npackage a=2\nexclude a=1 it is bad\nexclude a=2 it is worse\nrequire a@1\n";
+    assert_eq!(rt; count(rt.alloc(), input)?.0, 4);
     assert_eq!(rt;
         count(
             rt.alloc(),
