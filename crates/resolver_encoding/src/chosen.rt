@@ -196,41 +196,5 @@ impl<S: Copy + Eq + Hash + Drop> Chosen<S> {
     }
 }
 
-/// Adds the solvable of the entry at a place, where it is one that is true.
-fn add_chosen<N: Copy + Eq + Hash + Drop, S: Copy + Eq + Hash + Drop>(
-    chosen: &mut Vec<S>,
-    variables: &Variables<N, S>,
-    trail: &Trail,
-    place: usize,
-) -> Result<(), Exhausted>
-    requires { place < length_of trail.now }
-    ensures added { OnOk result (chosen.new.items ≡ chosen.old.items ++ solvable_if (origin_at (origins_in variables.now) (variable_at trail.now place)) (value_of trail.now (variable_at trail.now place))) }
-    ensures memory { IfErr result (λ e. e ≡ Exhausted.Memory) }
-{
-    match solvable_at(variables, trail, place) {
-        Some(solvable) => {
-            chosen.push(solvable)?;
-            Ok(())
-        }
-        None => Ok(()),
-    }
-}
-
-/// The solvables that a trail makes true, in the trail's order.
-pub fn chosen_solvables<N: Copy + Eq + Hash + Drop, S: Copy + Eq + Hash + Drop>(
-    alloc: Global,
-    variables: &Variables<N, S>,
-    trail: &Trail,
-) -> Result<Vec<S>, Exhausted>
-    ensures chosen { IfOk result (λ chosen. chosen.items ≡ solvables_before (origins_in variables.now) trail.now (length_of trail.now)) }
-    ensures memory { IfErr result (λ e. e ≡ Exhausted.Memory) }
-{
-    let mut chosen = Vec::new(alloc);
-    for place in 0..trail.len() {
-        add_chosen(&mut chosen, variables, trail, place)?;
-    }
-    Ok(chosen)
-}
-
 #[cfg(test)]
 mod tests;

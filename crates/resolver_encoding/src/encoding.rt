@@ -50,18 +50,6 @@ pub struct Encoding<N: Copy + Eq + Hash + Drop, S: Copy + Eq + Hash + Drop> {
     clause_limit: usize,
 }
 
-/// What an encoding is given up for.
-#[derive(Drop)]
-pub struct EncodingParts<N: Copy + Eq + Hash + Drop, S: Copy + Eq + Hash + Drop> {
-    pub variables: Variables<N, S>,
-    /// What the clauses say, by their numbers.
-    pub kinds: Vec<ClauseKind<N, S>>,
-    /// The literals of the clauses, by their numbers.
-    pub literals: Vec<Vec<Literal>>,
-    /// The clauses that ask for candidates, in the order of their numbers.
-    pub requirements: Vec<RequirementClause>,
-}
-
 impl<N: Copy + Eq + Hash + Drop, S: Copy + Eq + Hash + Drop> Encoding<N, S> {
     ghost use Rattle.resolver_encoding.specs.Notes.{IsBounded, notes_in};
 
@@ -196,21 +184,6 @@ impl<N: Copy + Eq + Hash + Drop, S: Copy + Eq + Hash + Drop> Encoding<N, S> {
         ensures { result ≡ length (notes_in self.now).kinds }
     {
         self.kinds.len()
-    }
-
-    /// Gives up the clauses and the variables.
-    pub fn into_parts(self) -> EncodingParts<N, S>
-        ensures variables { origins_in result.variables ≡ (notes_in self).origins }
-        ensures kinds { result.kinds.items ≡ (notes_in self).kinds }
-        ensures literals { result.literals.items ≡ (notes_in self).table }
-        ensures requirements { map (λ r. r.number) result.requirements.items ≡ (notes_in self).requirements }
-    {
-        EncodingParts {
-            variables: self.variables,
-            kinds: self.kinds,
-            literals: self.literals,
-            requirements: self.requirements,
-        }
     }
 }
 

@@ -18,8 +18,8 @@ mod sources;
 #[cfg(test)]
 mod test_provider;
 
-pub use chosen::{Chosen, chosen_solvables};
-pub use encoding::{Encoding, EncodingParts};
+pub use chosen::Chosen;
+pub use encoding::Encoding;
 pub use explain::rules_of_clauses;
 pub use laws::{
     answers_satisfy_true_clauses, chosen_lists_stay, core_rules_explain,

@@ -245,163 +245,180 @@ fn is_clause(encoding: &Encoding<u32, u32>, number: usize, wanted: Literals<'_>)
     true
 }
 
+/// Whether each of these clauses stands at its place.
+fn are_clauses(encoding: &Encoding<u32, u32>, wanted: &[(usize, Literals<'_>)]) -> bool {
+    for (number, literals) in wanted {
+        if !is_clause(encoding, *number, literals) {
+            return false;
+        }
+    }
+    true
+}
+
+/// Whether so many clauses come of these requirements, where one solvable may be exempt, and these are among them.
+///
+/// The tests own nothing: what they call makes an encoding and says what it found.
+fn states(
+    alloc: Global,
+    provider: TestProvider,
+    exempt: Option<u32>,
+    requirements: &[ConditionalRequirement],
+    count: usize,
+    wanted: &[(usize, Literals<'_>)],
+) -> Result<bool, Fail> {
+    let mut encoding = limited(alloc, 100, 100, exempt)?;
+    let outcome = read(&mut encoding, alloc, &provider, requirements);
+    Ok(outcome.is_ok() & (encoding.clause_count() == count) & are_clauses(&encoding, wanted))
+}
+
 #[test]
 fn a_requirement_of_a_requirement_has_its_clause(rt: HostRuntime) -> Result<(), Fail> {
     let provider = provider_of(rt.alloc(), &[(11, 24)], &[])?;
-    let mut encoding = limited(rt.alloc(), 100, 100, None)?;
-    let outcome = read(&mut encoding, rt.alloc(), &provider, &[always(11)]);
-    let right = outcome.is_ok()
-        & (encoding.clause_count() == 3)
-        & is_clause(&encoding, 0, &[(Origin::Root, true)])
-        & is_clause(&encoding, 1, &[ROOT, is_there(11)])
-        & is_clause(&encoding, 2, &[is_absent(11), is_there(24)]);
-    assert!(rt; right);
+    let wanted: [(usize, Literals<'_>); 3] = [
+        (0, &[(Origin::Root, true)]),
+        (1, &[ROOT, is_there(11)]),
+        (2, &[is_absent(11), is_there(24)]),
+    ];
+    assert!(rt; states(rt.alloc(), provider, None, &[always(11)], 3, &wanted)?);
     Ok(())
 }
 
 #[test]
 fn candidates_of_a_package_are_kept_apart(rt: HostRuntime) -> Result<(), Fail> {
     let provider = provider_of(rt.alloc(), &[(14, 21), (21, 1000)], &[])?;
-    let mut encoding = limited(rt.alloc(), 100, 100, None)?;
-    let outcome = read(&mut encoding, rt.alloc(), &provider, &[always(10)]);
-    let right = outcome.is_ok()
-        & (encoding.clause_count() == 6)
-        & is_clause(&encoding, 1, &[is_absent(14), bit(1, 0, false)])
-        & is_clause(&encoding, 2, &[is_absent(11), bit(1, 0, true)])
-        & is_clause(&encoding, 3, &[ROOT, is_there(14), is_there(11)])
-        & is_clause(&encoding, 4, &[is_absent(14), is_there(21)])
-        & is_clause(&encoding, 5, &[is_absent(21)]);
-    assert!(rt; right);
+    let wanted: [(usize, Literals<'_>); 5] = [
+        (1, &[is_absent(14), bit(1, 0, false)]),
+        (2, &[is_absent(11), bit(1, 0, true)]),
+        (3, &[ROOT, is_there(14), is_there(11)]),
+        (4, &[is_absent(14), is_there(21)]),
+        (5, &[is_absent(21)]),
+    ];
+    assert!(rt; states(rt.alloc(), provider, None, &[always(10)], 6, &wanted)?);
     Ok(())
 }
 
-/// How many clauses there are once these were met.
-fn count_of_met(alloc: Global, provider: &TestProvider, met: &[u32]) -> Result<usize, Fail> {
+/// Whether there are so many clauses once these were met, and these are among them.
+fn has_met(
+    alloc: Global,
+    met: &[u32],
+    count: usize,
+    wanted: &[(usize, Literals<'_>)],
+) -> Result<bool, Fail> {
+    let provider = provider_of(alloc, &[], &[])?;
     let mut encoding = limited(alloc, 100, 100, None)?;
-    match encoding.see_all(provider, met) {
-        Ok(()) => Ok(encoding.clause_count()),
-        Err(_) => Ok(1000),
-    }
+    let outcome = encoding.see_all(&provider, met);
+    Ok(outcome.is_ok() & (encoding.clause_count() == count) & are_clauses(&encoding, wanted))
 }
 
 #[test]
 fn each_digit_of_a_number_has_a_clause(rt: HostRuntime) -> Result<(), Fail> {
-    let provider = provider_of(rt.alloc(), &[], &[])?;
     let met = [13, 11, 10, 14, 12];
-    assert_eq!(rt; count_of_met(rt.alloc(), &provider, &met[..1])?, 0);
-    assert_eq!(rt; count_of_met(rt.alloc(), &provider, &met[..2])?, 2);
-    assert_eq!(rt; count_of_met(rt.alloc(), &provider, &met[..3])?, 6);
-    assert_eq!(rt; count_of_met(rt.alloc(), &provider, &met[..4])?, 8);
-    assert_eq!(rt; count_of_met(rt.alloc(), &provider, &met)?, 15);
-    assert_eq!(rt; count_of_met(rt.alloc(), &provider, &[13, 21, 13, 11])?, 2);
+    for (solvables, clauses) in [(1, 0), (2, 2), (3, 6), (4, 8), (5, 15)] {
+        assert!(rt; has_met(rt.alloc(), &met[..solvables], clauses, &[])?);
+    }
+    assert!(rt; has_met(rt.alloc(), &[13, 21, 13, 11], 2, &[])?);
     Ok(())
 }
 
 #[test]
 fn a_third_solvable_brings_a_digit(rt: HostRuntime) -> Result<(), Fail> {
-    let provider = provider_of(rt.alloc(), &[], &[])?;
-    let mut encoding = limited(rt.alloc(), 100, 100, None)?;
-    let outcome = encoding.see_all(&provider, &[13, 11, 10]);
-    let right = outcome.is_ok()
-        & is_clause(&encoding, 2, &[is_absent(13), bit(1, 1, false)])
-        & is_clause(&encoding, 3, &[is_absent(11), bit(1, 1, false)])
-        & is_clause(&encoding, 4, &[is_absent(10), bit(1, 0, false)])
-        & is_clause(&encoding, 5, &[is_absent(10), bit(1, 1, true)]);
-    assert!(rt; right);
+    let wanted: [(usize, Literals<'_>); 4] = [
+        (2, &[is_absent(13), bit(1, 1, false)]),
+        (3, &[is_absent(11), bit(1, 1, false)]),
+        (4, &[is_absent(10), bit(1, 0, false)]),
+        (5, &[is_absent(10), bit(1, 1, true)]),
+    ];
+    assert!(rt; has_met(rt.alloc(), &[13, 11, 10], 6, &wanted)?);
     Ok(())
+}
+
+/// Whether the requirements are for these clauses, of the root or not, and their first version sets end there.
+fn are_requirements(found: &[RequirementClause], wanted: &[(usize, bool, usize)]) -> bool {
+    if found.len() != wanted.len() {
+        return false;
+    }
+    for (clause, (number, of_root, end)) in found.iter().zip(wanted) {
+        if clause.number != *number || clause.of_root != *of_root {
+            return false;
+        }
+        if clause.ends.as_slice() != [*end].as_slice() {
+            return false;
+        }
+    }
+    true
+}
+
+/// Whether the requirements that are read are these.
+fn asks(
+    alloc: Global,
+    provider: TestProvider,
+    requirements: &[ConditionalRequirement],
+    wanted: &[(usize, bool, usize)],
+) -> Result<bool, Fail> {
+    let mut encoding = limited(alloc, 100, 100, None)?;
+    let outcome = read(&mut encoding, alloc, &provider, requirements);
+    Ok(outcome.is_ok() & are_requirements(encoding.requirements(), wanted))
 }
 
 #[test]
 fn requirements_know_their_clauses(rt: HostRuntime) -> Result<(), Fail> {
     let provider = provider_of(rt.alloc(), &[(14, 21), (21, 1000)], &[])?;
-    let mut encoding = limited(rt.alloc(), 100, 100, None)?;
-    let outcome = read(&mut encoding, rt.alloc(), &provider, &[always(10)]);
-    assert!(rt; outcome.is_ok());
-    let parts = encoding.into_parts();
-    assert_eq!(rt; parts.requirements.len(), 3);
-    for (clause, (number, of_root, end)) in parts
-        .requirements
-        .iter()
-        .zip(&[(3, true, 3), (4, false, 2), (5, false, 1)])
-    {
-        assert_eq!(rt; clause.number, *number);
-        assert_eq!(rt; clause.of_root, *of_root);
-        assert_eq!(rt; clause.ends.as_slice(), [*end].as_slice());
-    }
+    let wanted = [(3, true, 3), (4, false, 2), (5, false, 1)];
+    assert!(rt; asks(rt.alloc(), provider, &[always(10)], &wanted)?);
     Ok(())
 }
 
 #[test]
 fn a_lock_spares_the_locked_and_the_exempt(rt: HostRuntime) -> Result<(), Fail> {
     let provider = provider_of(rt.alloc(), &[], &[])?;
-    let mut encoding = limited(rt.alloc(), 100, 100, None)?;
-    let outcome = read(&mut encoding, rt.alloc(), &provider, &[always(70)]);
-    let right = outcome.is_ok()
-        & (encoding.clause_count() == 5)
-        & is_clause(&encoding, 1, &[ROOT, is_absent(74)]);
-    assert!(rt; right);
-    let mut spared = limited(rt.alloc(), 100, 100, Some(74))?;
-    let outcome = read(&mut spared, rt.alloc(), &provider, &[always(70)]);
-    let right = outcome.is_ok() & (spared.clause_count() == 4);
-    assert!(rt; right);
+    let wanted: [(usize, Literals<'_>); 1] = [(1, &[ROOT, is_absent(74)])];
+    assert!(rt; states(rt.alloc(), provider, None, &[always(70)], 5, &wanted)?);
+    let provider = provider_of(rt.alloc(), &[], &[])?;
+    assert!(rt; states(rt.alloc(), provider, Some(74), &[always(70)], 4, &[])?);
     Ok(())
 }
 
 #[test]
 fn an_exclusion_spares_the_exempt(rt: HostRuntime) -> Result<(), Fail> {
     let provider = provider_of(rt.alloc(), &[], &[])?;
-    let mut encoding = limited(rt.alloc(), 100, 100, None)?;
-    let outcome = read(&mut encoding, rt.alloc(), &provider, &[always(80)]);
-    let right = outcome.is_ok()
-        & (encoding.clause_count() == 5)
-        & is_clause(&encoding, 1, &[is_absent(84)]);
-    assert!(rt; right);
-    let mut spared = limited(rt.alloc(), 100, 100, Some(84))?;
-    let outcome = read(&mut spared, rt.alloc(), &provider, &[always(80)]);
-    let right = outcome.is_ok() & (spared.clause_count() == 4);
-    assert!(rt; right);
+    let wanted: [(usize, Literals<'_>); 1] = [(1, &[is_absent(84)])];
+    assert!(rt; states(rt.alloc(), provider, None, &[always(80)], 5, &wanted)?);
+    let provider = provider_of(rt.alloc(), &[], &[])?;
+    assert!(rt; states(rt.alloc(), provider, Some(84), &[always(80)], 4, &[])?);
     Ok(())
 }
 
 #[test]
 fn unknown_dependencies_spare_nobody(rt: HostRuntime) -> Result<(), Fail> {
     let provider = provider_of(rt.alloc(), &[], &[])?;
-    let mut encoding = limited(rt.alloc(), 100, 100, Some(94))?;
-    let outcome = read(&mut encoding, rt.alloc(), &provider, &[always(94)]);
-    let right = outcome.is_ok()
-        & (encoding.clause_count() == 3)
-        & is_clause(&encoding, 2, &[is_absent(94)]);
-    assert!(rt; right);
+    let wanted: [(usize, Literals<'_>); 1] = [(2, &[is_absent(94)])];
+    assert!(rt; states(rt.alloc(), provider, Some(94), &[always(94)], 3, &wanted)?);
     Ok(())
 }
 
 #[test]
 fn a_constraint_of_its_own_solvable_has_one_literal(rt: HostRuntime) -> Result<(), Fail> {
     let provider = provider_of(rt.alloc(), &[], &[(11, 14), (14, 21)])?;
-    let mut encoding = limited(rt.alloc(), 100, 100, None)?;
-    let outcome = read(&mut encoding, rt.alloc(), &provider, &[always(10)]);
-    let right = outcome.is_ok()
-        & (encoding.clause_count() == 6)
-        & is_clause(&encoding, 4, &[is_absent(14), is_absent(24)])
-        & is_clause(&encoding, 5, &[is_absent(11)]);
-    assert!(rt; right);
+    let wanted: [(usize, Literals<'_>); 2] = [
+        (4, &[is_absent(14), is_absent(24)]),
+        (5, &[is_absent(11)]),
+    ];
+    assert!(rt; states(rt.alloc(), provider, None, &[always(10)], 6, &wanted)?);
     Ok(())
 }
 
 #[test]
 fn a_condition_has_helpers(rt: HostRuntime) -> Result<(), Fail> {
     let provider = provider_of(rt.alloc(), &[], &[])?;
-    let mut encoding = limited(rt.alloc(), 100, 100, None)?;
     let root = [always(11), always(24), when(11_020, 34)];
-    let outcome = read(&mut encoding, rt.alloc(), &provider, &root);
-    let right = outcome.is_ok()
-        & (encoding.clause_count() == 8)
-        & is_clause(&encoding, 3, &[helper(11, true), is_absent(11)])
-        & is_clause(&encoding, 4, &[ROOT, helper(11, false), is_there(34)])
-        & is_clause(&encoding, 5, &[helper(20, true), is_absent(21)])
-        & is_clause(&encoding, 6, &[helper(20, true), is_absent(24)])
-        & is_clause(&encoding, 7, &[ROOT, helper(20, false), is_there(34)]);
-    assert!(rt; right);
+    let wanted: [(usize, Literals<'_>); 5] = [
+        (3, &[helper(11, true), is_absent(11)]),
+        (4, &[ROOT, helper(11, false), is_there(34)]),
+        (5, &[helper(20, true), is_absent(21)]),
+        (6, &[helper(20, true), is_absent(24)]),
+        (7, &[ROOT, helper(20, false), is_there(34)]),
+    ];
+    assert!(rt; states(rt.alloc(), provider, None, &root, 8, &wanted)?);
     Ok(())
 }
 
@@ -420,137 +437,165 @@ fn are_rounds(outcome: &Result<Vec<Round>, Interrupted<u8>>, wanted: &[Round]) -
     }
 }
 
+/// Whether reading these in turn goes as wanted, and the clauses are there at the end.
+fn goes(
+    alloc: Global,
+    provider: TestProvider,
+    requirements: &[ConditionalRequirement],
+    turns: &[&[u32]],
+    rounds: &[Round],
+    wanted: &[(usize, Literals<'_>)],
+) -> Result<bool, Fail> {
+    let mut encoding = limited(alloc, 100, 100, None)?;
+    let outcome = rounds_of(&mut encoding, alloc, &provider, requirements, turns);
+    Ok(are_rounds(&outcome, rounds) & are_clauses(&encoding, wanted))
+}
+
 #[test]
 fn a_condition_is_encoded_once_it_holds(rt: HostRuntime) -> Result<(), Fail> {
     let provider = provider_when(rt.alloc(), 24)?;
-    let mut encoding = limited(rt.alloc(), 100, 100, None)?;
-    let root = [always(11), always(20)];
     let turns: [&[u32]; 3] = [&[11], &[11, 24], &[11, 24]];
-    let outcome = rounds_of(&mut encoding, rt.alloc(), &provider, &root, &turns);
-    let wanted = [
+    let rounds = [
         (Progress::Read, 5, 1, 2, 12),
         (Progress::Read, 7, 0, 3, 124),
         (Progress::Nothing, 7, 0, 3, 124),
     ];
-    let right = are_rounds(&outcome, &wanted)
-        & is_clause(&encoding, 5, &[helper(24, true), is_absent(24)])
-        & is_clause(
-            &encoding,
-            6,
-            &[is_absent(11), helper(24, false), is_there(44)],
-        );
-    assert!(rt; right);
+    let wanted: [(usize, Literals<'_>); 2] = [
+        (5, &[helper(24, true), is_absent(24)]),
+        (6, &[is_absent(11), helper(24, false), is_there(44)]),
+    ];
+    let root = [always(11), always(20)];
+    assert!(rt; goes(rt.alloc(), provider, &root, &turns, &rounds, &wanted)?);
     Ok(())
 }
 
 #[test]
 fn a_condition_of_what_was_read_fires_once(rt: HostRuntime) -> Result<(), Fail> {
     let provider = provider_when(rt.alloc(), 24)?;
-    let mut encoding = limited(rt.alloc(), 100, 100, None)?;
-    let root = [always(11), always(20)];
     let turns: [&[u32]; 4] = [&[24], &[11], &[11, 24], &[11, 24]];
-    let outcome = rounds_of(&mut encoding, rt.alloc(), &provider, &root, &turns);
-    let wanted = [
+    let rounds = [
         (Progress::Read, 5, 0, 2, 12),
         (Progress::Read, 5, 1, 2, 12),
         (Progress::Fired, 7, 0, 3, 124),
         (Progress::Nothing, 7, 0, 3, 124),
     ];
-    assert!(rt; are_rounds(&outcome, &wanted));
+    let root = [always(11), always(20)];
+    assert!(rt; goes(rt.alloc(), provider, &root, &turns, &rounds, &[])?);
     Ok(())
 }
 
 #[test]
 fn a_disjunct_that_does_not_hold_is_put_off(rt: HostRuntime) -> Result<(), Fail> {
     let provider = provider_when(rt.alloc(), 24_031_024)?;
-    let mut encoding = limited(rt.alloc(), 100, 100, None)?;
-    let root = [always(11), always(20)];
     let turns: [&[u32]; 2] = [&[11, 24], &[11, 24]];
-    let outcome = rounds_of(&mut encoding, rt.alloc(), &provider, &root, &turns);
-    let wanted = [
+    let rounds = [
         (Progress::Read, 7, 1, 3, 1234),
         (Progress::Nothing, 7, 1, 3, 1234),
     ];
-    let right = are_rounds(&outcome, &wanted)
-        & is_clause(&encoding, 5, &[helper(24, true), is_absent(24)])
-        & is_clause(
-            &encoding,
-            6,
-            &[is_absent(11), helper(24, false), is_there(44)],
-        );
-    assert!(rt; right);
+    let wanted: [(usize, Literals<'_>); 2] = [
+        (5, &[helper(24, true), is_absent(24)]),
+        (6, &[is_absent(11), helper(24, false), is_there(44)]),
+    ];
+    let root = [always(11), always(20)];
+    assert!(rt; goes(rt.alloc(), provider, &root, &turns, &rounds, &wanted)?);
     Ok(())
 }
 
 #[test]
 fn what_is_not_chosen_is_not_read(rt: HostRuntime) -> Result<(), Fail> {
     let provider = provider_of(rt.alloc(), &[(14, 24), (11, 34)], &[(11, 44)])?;
-    let mut encoding = limited(rt.alloc(), 100, 100, None)?;
     let turns: [&[u32]; 1] = [&[14]];
-    let outcome = rounds_of(&mut encoding, rt.alloc(), &provider, &[always(10)], &turns);
-    let right = are_rounds(&outcome, &[(Progress::Read, 5, 0, 2, 12)])
-        & is_clause(&encoding, 3, &[ROOT, is_there(14), is_there(11)])
-        & is_clause(&encoding, 4, &[is_absent(14), is_there(24)]);
-    assert!(rt; right);
+    let rounds = [(Progress::Read, 5, 0, 2, 12)];
+    let wanted: [(usize, Literals<'_>); 2] = [
+        (3, &[ROOT, is_there(14), is_there(11)]),
+        (4, &[is_absent(14), is_there(24)]),
+    ];
+    assert!(rt;
+        goes(
+            rt.alloc(),
+            provider,
+            &[always(10)],
+            &turns,
+            &rounds,
+            &wanted
+        )?
+    );
     Ok(())
 }
 
 #[test]
 fn the_packages_of_a_condition_are_not_asked(rt: HostRuntime) -> Result<(), Fail> {
     let provider = provider_of(rt.alloc(), &[], &[])?;
-    let mut encoding = limited(rt.alloc(), 100, 100, None)?;
     let turns: [&[u32]; 1] = [&[]];
-    let root = [when(70_080, 11)];
-    let outcome = rounds_of(&mut encoding, rt.alloc(), &provider, &root, &turns);
-    assert!(rt; are_rounds(&outcome, &[(Progress::Nothing, 1, 2, 0, 78)]));
+    let rounds = [(Progress::Nothing, 1, 2, 0, 78)];
+    assert!(rt;
+        goes(
+            rt.alloc(),
+            provider,
+            &[when(70_080, 11)],
+            &turns,
+            &rounds,
+            &[]
+        )?
+    );
     Ok(())
 }
 
 #[test]
 fn hinted_candidates_are_read_at_once(rt: HostRuntime) -> Result<(), Fail> {
     let provider = provider_of(rt.alloc(), &[(164, 174), (174, 24)], &[])?;
-    let mut encoding = limited(rt.alloc(), 100, 100, None)?;
     let turns: [&[u32]; 3] = [&[], &[164], &[164, 174]];
-    let outcome = rounds_of(&mut encoding, rt.alloc(), &provider, &[always(160)], &turns);
-    let wanted = [
+    let rounds = [
         (Progress::Nothing, 6, 0, 3, 1772),
         (Progress::Nothing, 6, 0, 3, 1772),
         (Progress::Nothing, 6, 0, 3, 1772),
     ];
-    let right = are_rounds(&outcome, &wanted)
-        & is_clause(&encoding, 4, &[is_absent(164), is_there(174)])
-        & is_clause(&encoding, 5, &[is_absent(174), is_there(24)]);
-    assert!(rt; right);
+    let wanted: [(usize, Literals<'_>); 2] = [
+        (4, &[is_absent(164), is_there(174)]),
+        (5, &[is_absent(174), is_there(24)]),
+    ];
+    assert!(rt;
+        goes(
+            rt.alloc(),
+            provider,
+            &[always(160)],
+            &turns,
+            &rounds,
+            &wanted
+        )?
+    );
     Ok(())
 }
 
 #[test]
 fn others_are_read_when_they_are_chosen(rt: HostRuntime) -> Result<(), Fail> {
     let provider = provider_of(rt.alloc(), &[(64, 54), (54, 24)], &[])?;
-    let mut encoding = limited(rt.alloc(), 100, 100, None)?;
     let turns: [&[u32]; 3] = [&[], &[64], &[64, 54]];
-    let outcome = rounds_of(&mut encoding, rt.alloc(), &provider, &[always(60)], &turns);
-    let wanted = [
+    let rounds = [
         (Progress::Nothing, 4, 0, 1, 6),
         (Progress::Read, 5, 0, 2, 65),
         (Progress::Read, 6, 0, 3, 652),
     ];
-    assert!(rt; are_rounds(&outcome, &wanted));
+    assert!(rt; goes(rt.alloc(), provider, &[always(60)], &turns, &rounds, &[])?);
     Ok(())
+}
+
+/// A provider of which solvable 161 requires version set 174 under a condition.
+fn provider_hinted_when(alloc: Global) -> Result<TestProvider, Fail> {
+    let mut provider = provider_of(alloc, &[], &[])?;
+    provider.requirements.push((161, when(164, 174)))?;
+    Ok(provider)
 }
 
 #[test]
 fn a_hint_does_not_make_a_condition_hold(rt: HostRuntime) -> Result<(), Fail> {
-    let mut provider = provider_of(rt.alloc(), &[], &[])?;
-    provider.requirements.push((161, when(164, 174)))?;
-    let mut encoding = limited(rt.alloc(), 100, 100, None)?;
+    let provider = provider_hinted_when(rt.alloc())?;
     let turns: [&[u32]; 2] = [&[161], &[164]];
-    let outcome = rounds_of(&mut encoding, rt.alloc(), &provider, &[always(160)], &turns);
-    let wanted = [
+    let rounds = [
         (Progress::Nothing, 4, 1, 1, 16),
         (Progress::Read, 6, 0, 2, 177),
     ];
-    assert!(rt; are_rounds(&outcome, &wanted));
+    assert!(rt; goes(rt.alloc(), provider, &[always(160)], &turns, &rounds, &[])?);
     Ok(())
 }
 
@@ -575,32 +620,50 @@ fn again(
     Ok(())
 }
 
+/// Whether the second of two encodings has these clauses too, where only the first one was told what is chosen.
+fn is_read_again(
+    alloc: Global,
+    provider: TestProvider,
+    requirements: &[ConditionalRequirement],
+    solvable: u32,
+    count: usize,
+    wanted: &[(usize, Literals<'_>)],
+) -> Result<bool, Fail> {
+    let mut first = limited(alloc, 100, 100, None)?;
+    let mut second = limited(alloc, 100, 100, None)?;
+    let outcome = again(
+        &mut first,
+        &mut second,
+        alloc,
+        &provider,
+        requirements,
+        solvable,
+    );
+    Ok(
+        outcome.is_ok()
+            & (first.clause_count() == count)
+            & (second.clause_count() == count)
+            & are_clauses(&second, wanted),
+    )
+}
+
 #[test]
 fn candidates_whose_dependencies_are_cached_are_read_at_once(rt: HostRuntime) -> Result<(), Fail> {
     let provider = provider_of(rt.alloc(), &[(21, 34), (24, 34)], &[])?;
-    let mut first = limited(rt.alloc(), 100, 100, None)?;
-    let mut second = limited(rt.alloc(), 100, 100, None)?;
-    let root = [always(20)];
-    let outcome = again(&mut first, &mut second, rt.alloc(), &provider, &root, 24);
-    let right = outcome.is_ok()
-        & (first.clause_count() == 5)
-        & (second.clause_count() == 5)
-        & is_clause(&second, 4, &[is_absent(24), is_there(34)]);
-    assert!(rt; right);
+    let wanted: [(usize, Literals<'_>); 1] = [(4, &[is_absent(24), is_there(34)])];
+    assert!(rt; is_read_again(rt.alloc(), provider, &[always(20)], 24, 5, &wanted)?);
     Ok(())
 }
 
 #[test]
 fn what_was_read_is_not_read_again(rt: HostRuntime) -> Result<(), Fail> {
     let provider = provider_of(rt.alloc(), &[(11, 24)], &[])?;
-    let mut encoding = limited(rt.alloc(), 100, 100, None)?;
     let turns: [&[u32]; 2] = [&[11], &[11]];
-    let outcome = rounds_of(&mut encoding, rt.alloc(), &provider, &[always(11)], &turns);
-    let wanted = [
+    let rounds = [
         (Progress::Read, 3, 0, 2, 12),
         (Progress::Nothing, 3, 0, 2, 12),
     ];
-    assert!(rt; are_rounds(&outcome, &wanted));
+    assert!(rt; goes(rt.alloc(), provider, &[always(11)], &turns, &rounds, &[])?);
     Ok(())
 }
 
@@ -614,18 +677,30 @@ fn a_disjunct_names_each_version_set_once(rt: HostRuntime) -> Result<(), Fail> {
     Ok(())
 }
 
+/// Whether ids run out under these limits, at so many variables and clauses.
+fn ends_at(
+    alloc: Global,
+    provider: TestProvider,
+    limits: (usize, usize),
+    requirements: &[ConditionalRequirement],
+    counts: (usize, usize),
+) -> Result<bool, Fail>
+    requires { limits.0 ≤ 2 ^ 31 }
+{
+    let mut encoding = limited(alloc, limits.0, limits.1, None)?;
+    let outcome = read(&mut encoding, alloc, &provider, requirements);
+    Ok(
+        matches!(&outcome, Err(Interrupted::Exhausted(Exhausted::Ids)))
+            & (encoding.variables().len() == counts.0)
+            & (encoding.clause_count() == counts.1),
+    )
+}
+
 #[test]
 fn limits_end_the_reading(rt: HostRuntime) -> Result<(), Fail> {
     let provider = provider_of(rt.alloc(), &[(11, 24)], &[])?;
-    let mut encoding = limited(rt.alloc(), 2, 100, None)?;
-    let outcome = read(&mut encoding, rt.alloc(), &provider, &[always(11)]);
-    let right = matches!(&outcome, Err(Interrupted::Exhausted(Exhausted::Ids)))
-        & (encoding.variables().len() == 2);
-    assert!(rt; right);
-    let mut encoding = limited(rt.alloc(), 100, 2, None)?;
-    let outcome = read(&mut encoding, rt.alloc(), &provider, &[always(11)]);
-    let right = matches!(&outcome, Err(Interrupted::Exhausted(Exhausted::Ids)))
-        & (encoding.clause_count() == 2);
-    assert!(rt; right);
+    assert!(rt; ends_at(rt.alloc(), provider, (2, 100), &[always(11)], (2, 2))?);
+    let provider = provider_of(rt.alloc(), &[(11, 24)], &[])?;
+    assert!(rt; ends_at(rt.alloc(), provider, (100, 2), &[always(11)], (3, 2))?);
     Ok(())
 }

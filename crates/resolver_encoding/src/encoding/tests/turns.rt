@@ -76,13 +76,33 @@ fn is_turn(outcome: &Result<Turn, Interrupted<u8>>, wanted: Turn) -> bool {
     }
 }
 
+/// Whether the turn of a solvable that is refused comes to this, and the clauses are there at its end.
+fn comes_to(
+    alloc: Global,
+    provider: TestProvider,
+    requirements: &[ConditionalRequirement],
+    solvable: u32,
+    given: &[u32],
+    turn: Turn,
+    wanted: &[(usize, Literals<'_>)],
+) -> Result<bool, Fail> {
+    let mut encoding = limited(alloc, 100, 100, None)?;
+    let outcome = refused(
+        &mut encoding,
+        alloc,
+        &provider,
+        requirements,
+        solvable,
+        given,
+    );
+    Ok(is_turn(&outcome, turn) & are_clauses(&encoding, wanted))
+}
+
 #[test]
 fn a_lock_that_was_spared_comes_at_the_end_of_a_refused_turn(rt: HostRuntime) -> Result<(), Fail> {
     let provider = provider_of(rt.alloc(), &[(74, 70)], &[])?;
-    let mut encoding = limited(rt.alloc(), 100, 100, None)?;
-    let outcome = refused(&mut encoding, rt.alloc(), &provider, &[], 74, &[74]);
-    let right = is_turn(&outcome, (4, 1, 5, 0)) & is_clause(&encoding, 4, &[ROOT, is_absent(74)]);
-    assert!(rt; right);
+    let wanted: [(usize, Literals<'_>); 1] = [(4, &[ROOT, is_absent(74)])];
+    assert!(rt; comes_to(rt.alloc(), provider, &[], 74, &[74], (4, 1, 5, 0), &wanted)?);
     Ok(())
 }
 
@@ -91,40 +111,53 @@ fn an_exclusion_that_was_spared_comes_at_the_end_of_a_refused_turn(
     rt: HostRuntime,
 ) -> Result<(), Fail> {
     let provider = provider_of(rt.alloc(), &[(84, 80)], &[])?;
-    let mut encoding = limited(rt.alloc(), 100, 100, None)?;
-    let outcome = refused(&mut encoding, rt.alloc(), &provider, &[], 84, &[84]);
-    let right = is_turn(&outcome, (4, 1, 5, 0)) & is_clause(&encoding, 4, &[is_absent(84)]);
-    assert!(rt; right);
+    let wanted: [(usize, Literals<'_>); 1] = [(4, &[is_absent(84)])];
+    assert!(rt; comes_to(rt.alloc(), provider, &[], 84, &[84], (4, 1, 5, 0), &wanted)?);
     Ok(())
 }
 
 #[test]
 fn a_package_that_was_not_asked_brings_no_clause(rt: HostRuntime) -> Result<(), Fail> {
     let provider = provider_of(rt.alloc(), &[], &[])?;
-    let mut encoding = limited(rt.alloc(), 100, 100, None)?;
-    let outcome = refused(&mut encoding, rt.alloc(), &provider, &[], 74, &[74]);
-    assert!(rt; is_turn(&outcome, (1, 1, 1, 0)));
+    assert!(rt; comes_to(rt.alloc(), provider, &[], 74, &[74], (1, 1, 1, 0), &[])?);
     Ok(())
 }
 
 #[test]
 fn a_package_that_was_asked_spares_nobody(rt: HostRuntime) -> Result<(), Fail> {
     let provider = provider_of(rt.alloc(), &[], &[])?;
-    let mut encoding = limited(rt.alloc(), 100, 100, None)?;
-    let outcome = refused(&mut encoding, rt.alloc(), &provider, &[always(71)], 74, &[]);
-    let right = is_turn(&outcome, (5, 0, 5, 0)) & is_clause(&encoding, 1, &[ROOT, is_absent(74)]);
-    assert!(rt; right);
+    let wanted: [(usize, Literals<'_>); 1] = [(1, &[ROOT, is_absent(74)])];
+    assert!(rt;
+        comes_to(
+            rt.alloc(),
+            provider,
+            &[always(71)],
+            74,
+            &[],
+            (5, 0, 5, 0),
+            &wanted
+        )?
+    );
     Ok(())
 }
 
 #[test]
 fn a_soft_solvable_is_kept_apart_from_its_package(rt: HostRuntime) -> Result<(), Fail> {
     let provider = provider_of(rt.alloc(), &[], &[])?;
-    let mut encoding = limited(rt.alloc(), 100, 100, None)?;
-    let outcome = refused(&mut encoding, rt.alloc(), &provider, &[always(11)], 14, &[]);
-    let right = is_turn(&outcome, (4, 0, 4, 0))
-        & is_clause(&encoding, 2, &[is_absent(11), bit(1, 0, false)])
-        & is_clause(&encoding, 3, &[is_absent(14), bit(1, 0, true)]);
-    assert!(rt; right);
+    let wanted: [(usize, Literals<'_>); 2] = [
+        (2, &[is_absent(11), bit(1, 0, false)]),
+        (3, &[is_absent(14), bit(1, 0, true)]),
+    ];
+    assert!(rt;
+        comes_to(
+            rt.alloc(),
+            provider,
+            &[always(11)],
+            14,
+            &[],
+            (4, 0, 4, 0),
+            &wanted
+        )?
+    );
     Ok(())
 }
