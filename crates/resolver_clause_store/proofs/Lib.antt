@@ -21,3 +21,8 @@ pub mod FormulaLemmas
 pub mod PlaceLemmas
 pub mod GrowLemmas
 pub mod KeptLemmas
+pub mod SettledLemmas
+pub mod WatchListLemmas
+pub mod DecisionLemmas
+pub mod QueueLemmas
+pub mod ScoreLemmas

@@ -19,3 +19,9 @@ pub mod Slots
 pub mod TrailView
 pub mod Variables
 pub mod Outcomes
+pub mod Settled
+pub mod Watches
+pub mod WatchesView
+pub mod Decisions
+pub mod Queues
+pub mod Scores

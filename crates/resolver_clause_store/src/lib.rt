@@ -1,23 +1,30 @@
-//! Ids, data types, the traits of a provider, and the cache of its answers.
+//! Ids, data types, the traits of a provider, the cache of its answers; clauses, the trail, watches, and the queue of decisions.
 #![tactic(auto)]
 
 mod cache;
 mod clauses;
 mod conditions;
 mod data;
+mod decisions;
 mod hints;
 mod ids;
 mod index_sets;
 mod kinds;
+mod lists;
 mod literals;
 mod provider;
 mod questions;
+mod queue;
+mod ranks;
 mod requirements;
+mod scores;
 mod sets;
+mod standing;
 #[cfg(test)]
 mod test_provider;
 mod trail;
 mod variables;
+mod watches;
 
 pub use cache::Cache;
 pub use clauses::{RequirementClause, clause};
@@ -26,13 +33,17 @@ pub use data::{
     By, Candidates, Condition, ConditionalRequirement, Dependencies, Exhausted,
     HintDependenciesAvailable, Interrupted, KnownDependencies, LogicalOperator, Requirement,
 };
+pub use decisions::{Choice, decide};
 pub use ids::{ConditionId, StringId, VersionSetId, VersionSetUnionId};
 pub use index_sets::{append, is_among, place_of};
 pub use kinds::{ClauseKind, Origin};
 pub use literals::{Literal, Variable};
 pub use provider::{DependencyProvider, Interner};
 pub use questions::check_cancel;
+pub use queue::DecideQueue;
 pub use requirements::requirement_candidates;
+pub use scores::Activity;
 pub use sets::{has, meets};
 pub use trail::{Addition, Reason, Slot, Trail};
 pub use variables::Variables;
+pub use watches::{Watch, WatchedPair, Watches};

@@ -24,14 +24,15 @@ use Rattle.resolver_clause_store.proofs.PlaceLemmas.{place_cases, place_in, plac
 use Rattle.resolver_clause_store.proofs.TrailLemmas.{Keeps, keeps-gains, value-true}
 use Rattle.resolvo.specs.declared.propagator.Late.{Late}
 use Rattle.resolvo.specs.declared.propagator.Propagator.{Propagator}
-use Rattle.resolvo.specs.declared.watches.Watch.{Watch}
-use Rattle.resolvo.specs.declared.watches.WatchedPair.{WatchedPair}
-use Rattle.resolvo.specs.declared.watches.Watches.{Watches}
+use Rattle.resolver_clause_store.specs.declared.Watch.{Watch}
+use Rattle.resolver_clause_store.specs.declared.WatchedPair.{WatchedPair}
+use Rattle.resolver_clause_store.specs.declared.Watches.{Watches}
 use Rattle.resolvo.specs.Attaching.{AreAlike, AreApart, EndsWith, Forces, IsHigh, IsHighPair, IsLower, IsNotBefore, IsOther, IsRising, Recalls}
-use Rattle.resolvo.specs.Propagation.{IsJustified, IsOpen, IsUnit}
+use Rattle.resolvo.specs.Propagation.{IsJustified, IsUnit}
+use Rattle.resolver_clause_store.specs.Settled.{IsOpen}
 use Rattle.resolvo.specs.Propagators.{AreLate, AreWatched, Covers, IsConstant, IsExcused, IsNoted, IsPropagator, IsTrueAt, IsTrueBefore, WatchesTwo, attached_of, head_of, late_of, pending_of}
-use Rattle.resolvo.specs.Watches.{HasBlockers, IsWatching, list_at, pair_at, pair_from, unwatched, watched_pair}
-use Rattle.resolvo.specs.WatchesView.{lists_of, pairs_of}
+use Rattle.resolver_clause_store.specs.Watches.{HasBlockers, IsWatching, list_at, pair_at, pair_from, unwatched, watched_pair}
+use Rattle.resolver_clause_store.specs.WatchesView.{lists_of, pairs_of}
 use Rattle.resolvo.proofs.PropagatorLemmas.{any-map, covers-kept, late-kept}
 use Rattle.resolvo.proofs.JustifiedLemmas.{extends-gains, extends-none, extends-trans, justified-gains}
 

@@ -19,9 +19,9 @@ use Rattle.resolver_clause_store.specs.TrailView.{Gains, IsUndone, length_of, sl
 use Rattle.resolver_clause_store.proofs.FormulaLemmas.{clause_at-get_or, clause_at-last, clause_at-past, clause_at-push}
 use Rattle.resolver_clause_store.proofs.SlotLemmas.{none-from, slot-within}
 use Rattle.resolver_clause_store.proofs.TrailLemmas.{false-before, false_before-kept, gains-cases, keeps-gains, value-false}
-use Rattle.resolvo.specs.declared.decide.Choice.{Choice}
+use Rattle.resolver_clause_store.specs.declared.Choice.{Choice}
 use Rattle.resolvo.specs.ClauseSearches.{Grows}
-use Rattle.resolvo.specs.Decisions.{IsChoice}
+use Rattle.resolver_clause_store.specs.Decisions.{IsChoice}
 use Rattle.resolvo.specs.declared.contradiction.Source.{Source}
 use Rattle.resolvo.specs.Derivations.{AreGiven, IsDerived, causes_at, causes_of, given_at, number_of}
 use Rattle.resolvo.specs.Propagation.{AreChosen, IsJustified, IsUnit}

@@ -17,7 +17,8 @@ use Rattle.resolver_clause_store.specs.Slots.{is_decided}
 use Rattle.resolver_clause_store.specs.TrailView.{slot_of, length_of, literal_value, Gains, IsSame}
 use Rattle.resolver_clause_store.specs.Outcomes.{IsSatisfied, IsForcing, IsChosen, IsPropagated}
 use Rattle.resolver_clause_store.proofs.TrailLemmas.{Keeps, keeps-gains, false_before-kept, forcing-kept, false-before, gains-cases}
-use Rattle.resolvo.specs.Propagation.{IsUnit, IsOpen, IsSettled, IsJustified, AreChosen, Extends}
+use Rattle.resolvo.specs.Propagation.{IsUnit, IsJustified, AreChosen, Extends}
+use Rattle.resolver_clause_store.specs.Settled.{IsOpen, IsSettled}
 
 pub forcing-unit : (old new : Trail) (literal : Literal) (clause : List Literal) → Keeps old new → IsUnit old literal clause → IsForcing new (length_of old) literal clause
 forcing-unit old new literal clause keeps unit = λ k d below. ⊎_elim (λ e. inl e) (λ e. inr (false_before-kept old new _ _ keeps (false-before old _ e))) (unit k d below)
@@ -133,30 +134,6 @@ chosen-extends table requirements old new chosen extends = record {
       (λ forced. absurd (both_ways _ forced (ap is_decided decided)))
       (extends.only v s at);
 }
-
--- a settled clause is propagated
-value-apart : (o : Option Bool) → o ≡ Some true → o ≡ Some false → ⊥
-value-apart o t f = absurd (false≢true (same_Some _ _ (sym f ∙ t)))
-
-none-false : (o : Option Bool) → o ≡ None → o ≡ Some false → ⊥
-none-false o n f = none-some _ (sym n ∙ f)
-
-pub propagated : (trail : Trail) (clause : List Literal) → IsSettled trail clause → IsPropagated trail clause
-propagated trail clause settled = ⊎_elim
-    (λ (yes : IsSatisfied trail clause).
-    let there : Contains clause yes.1 = (yes.0, yes.2, yes.3) in
-    record {
-      not_false = λ all. value-apart _ yes.4 (All-contains (λ literal. literal_value trail literal ≡ Some false) clause yes.1 all there);
-      last = λ literal inside others. ⊎_elim (λ e. ap (λ l. literal_value trail l) (sym e) ∙ yes.4) (λ f. absurd (value-apart _ yes.4 f)) (others yes.1 there);
-    })
-    (λ (free : IsOpen trail clause). record {
-      not_false = λ all. none-false _ free.first_open (All-contains (λ literal. literal_value trail literal ≡ Some false) clause free.first all free.has_first);
-      last = λ literal inside others. ⊎_elim
-          (λ first. ⊎_elim (λ second. absurd (free.differ (first ∙ sym second))) (λ f. absurd (none-false _ free.second_open f)) (others free.second free.has_second))
-          (λ f. absurd (none-false _ free.first_open f))
-          (others free.first free.has_first);
-    })
-    settled
 
 -- why a variable has its value
 pub why : (r : Reason) → ((n : ℕ) × (r ≡ Decided n)) ⊎ (((n : ℕ) × (r ≡ Forced n)) ⊎ (r ≡ Assumed))

@@ -1,13 +1,11 @@
 pub mod RefusalLemmas
 pub mod SeenLemmas
 pub mod JustifiedLemmas
-pub mod WatchListLemmas
 pub mod PropagatorLemmas
 pub mod VisitLemmas
 pub mod AttachingLemmas
 pub mod ReturningLemmas
 pub mod SourceLemmas
-pub mod DecisionLemmas
 pub mod MarkLemmas
 pub mod ResolutionLemmas
 pub mod NegationLemmas
@@ -16,8 +14,6 @@ pub mod LevelLemmas
 pub mod DrawnLemmas
 pub mod CoreLemmas
 pub mod ClauseSearchLemmas
-pub mod QueueLemmas
-pub mod ScoreLemmas
 pub mod TurnLemmas
 pub mod LoadLemmas
 pub mod SolveLemmas

@@ -14,13 +14,13 @@ use Rattle.resolver_clause_store.specs.Outcomes.{IsFalseBefore, IsSatisfied}
 use Rattle.resolver_clause_store.specs.TrailView.{slot_of, length_of, literal_value, variable_at, variable_count, Gains}
 use Rattle.resolver_clause_store.proofs.KeptLemmas.{keeps_all, slot_at}
 use Rattle.resolver_clause_store.proofs.TrailLemmas.{Keeps, false-before, keeps-gains}
-use Rattle.resolvo.specs.Propagation.{AllSettled}
+use Rattle.resolver_clause_store.specs.Settled.{AllSettled}
 use Rattle.resolvo.specs.Propagators.{AreLate, Covers, IsAttached, IsExcused, IsNoted, IsPropagator, IsTrueAt, IsTrueBefore, WatchesTwo, attached_of, head_of}
-use Rattle.resolvo.specs.Watches.{IsWatching, pair_at, unwatched}
-use Rattle.resolvo.specs.WatchesView.{lists_of, pairs_of}
+use Rattle.resolver_clause_store.specs.Watches.{IsWatching, pair_at, unwatched}
+use Rattle.resolver_clause_store.specs.WatchesView.{lists_of, pairs_of}
 use Rattle.resolvo.specs.declared.propagator.Late.{Late}
 use Rattle.resolvo.specs.declared.propagator.Propagator.{Propagator}
-use Rattle.resolvo.specs.declared.watches.WatchedPair.{WatchedPair}
+use Rattle.resolver_clause_store.specs.declared.WatchedPair.{WatchedPair}
 
 -- what holds of some element
 pub any-map : {X : Type 0} (P Q : X → Type 0) (xs : List X) → ((x : X) → P x → Q x) → Any P xs → Any Q xs

@@ -31,9 +31,9 @@ use Rattle.resolvo.proofs.PropagatorLemmas.{propagator-gains}
 use Rattle.resolvo.proofs.ClauseSearchLemmas.{implied}
 use Rattle.resolvo.proofs.JustifiedLemmas.{chosen-kept, justified-decides}
 use Rattle.resolvo.proofs.LevelLemmas.{level-in}
-use Rattle.resolvo.specs.declared.queue.DecideQueue.{DecideQueue}
-use Rattle.resolvo.specs.Queues.{IsQueued}
-use Rattle.resolvo.proofs.QueueLemmas.{queued-left, queued-longer}
+use Rattle.resolver_clause_store.specs.declared.DecideQueue.{DecideQueue}
+use Rattle.resolver_clause_store.specs.Queues.{IsQueued}
+use Rattle.resolver_clause_store.proofs.QueueLemmas.{queued-left, queued-longer}
 
 -- a slot at a place that is kept was there
 pub keeps-back : (old new : Trail) (count variable : ℕ) (slot : Slot) → KeepsPlaces old new count → slot_of new variable ≡ Some slot → slot.place < count → slot_of old variable ≡ Some slot

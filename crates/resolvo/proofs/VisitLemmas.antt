@@ -20,14 +20,14 @@ use Rattle.resolver_clause_store.proofs.TrailLemmas.{Keeps, gains-cases, keeps-g
 use Rattle.resolvo.specs.Propagation.{IsUnit}
 use Rattle.resolvo.specs.Propagators.{AreLate, AreWatched, Covers, IsExcused, IsNoted, IsPropagator, IsTrueAt, IsTrueBefore, WatchesTwo, attached_of, head_of, late_of, pending_of}
 use Rattle.resolvo.specs.Visits.{GoesOn, IsPaired, IsVisiting, Replaces, StandsAt, watchers_of}
-use Rattle.resolvo.specs.Watches.{HasBlockers, IsPair, IsWatching, MovesWatch, SameClauses, list_at, list_number, pair_at, unwatched, watched_pair}
-use Rattle.resolvo.specs.WatchesView.{lists_of, pairs_of}
+use Rattle.resolver_clause_store.specs.Watches.{HasBlockers, IsPair, IsWatching, MovesWatch, SameClauses, list_at, list_number, pair_at, unwatched, watched_pair}
+use Rattle.resolver_clause_store.specs.WatchesView.{lists_of, pairs_of}
 use Rattle.resolvo.specs.declared.propagator.Late.{Late}
 use Rattle.resolvo.specs.declared.propagator.Propagator.{Propagator}
 use Rattle.resolvo.specs.declared.propagator.visiting.FalseLiteral.{FalseLiteral}
-use Rattle.resolvo.specs.declared.watches.Watch.{Watch}
-use Rattle.resolvo.specs.declared.watches.WatchedPair.{WatchedPair}
-use Rattle.resolvo.specs.declared.watches.Watches.{Watches}
+use Rattle.resolver_clause_store.specs.declared.Watch.{Watch}
+use Rattle.resolver_clause_store.specs.declared.WatchedPair.{WatchedPair}
+use Rattle.resolver_clause_store.specs.declared.Watches.{Watches}
 use Rattle.resolvo.proofs.PropagatorLemmas.{any-contains, any-map, excused-kept, propagator-gains, value-of}
 
 all-at : {X : Type 0} (P : X → Type 0) (xs : List X) (k : ℕ) (x : X) → All P xs → slice_get xs k ≡ Some x → P x

@@ -8,9 +8,9 @@ use Rattle.resolver_clause_store.specs.declared.Trail.{Trail}
 use Rattle.resolver_clause_store.specs.TrailView.{IsTop, KeepsPlaces, length_of, open_count, slot_of, variable_count}
 use Rattle.resolvo.specs.declared.propagator.Late.{Late}
 use Rattle.resolvo.specs.declared.propagator.Propagator.{Propagator}
-use Rattle.resolvo.specs.declared.watches.WatchedPair.{WatchedPair}
+use Rattle.resolver_clause_store.specs.declared.WatchedPair.{WatchedPair}
 use Rattle.resolvo.specs.Propagation.{Extends, IsJustified}
-use Rattle.resolvo.specs.Watches.{watched_pair}
+use Rattle.resolver_clause_store.specs.Watches.{watched_pair}
 use Rattle.resolvo.specs.Propagators.{IsNoted, attached_of, late_of, pending_of}
 
 -- the first places of the old trail are left, and with each of them all that is of no higher level

@@ -17,7 +17,7 @@ use Rattle.resolvo.specs.Propagation.{AreChosen, IsJustified}
 use Rattle.resolvo.specs.Propagators.{IsPropagator}
 use Rattle.resolvo.specs.Derivations.{AreGiven, IsDerived, given_at}
 use Rattle.resolvo.specs.Resolvents.{IsFalseAt}
-use Rattle.resolvo.specs.Queues.{IsQueued}
+use Rattle.resolver_clause_store.specs.Queues.{IsQueued}
 
 -- the values that it has found
 abbrev pub trail_of : ClauseSearch → Trail

@@ -6,16 +6,11 @@ pub mod Refusals
 pub mod Solvers
 pub mod TestProvider
 pub mod Propagation
-pub mod Watches
-pub mod WatchesView
 pub mod Propagators
 pub mod Visits
 pub mod Attaching
 pub mod Returning
-pub mod Decisions
 pub mod Resolvents
 pub mod Derivations
-pub mod Queues
-pub mod Scores
 pub mod ClauseSearches
 pub mod RoundStates

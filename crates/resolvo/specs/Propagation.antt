@@ -10,22 +10,13 @@ use Rattle.resolver_clause_store.specs.Formula.{clause_at}
 use Rattle.resolver_clause_store.specs.Slots.{is_decided}
 use Rattle.resolver_clause_store.specs.TrailView.{slot_of, open_count, literal_value}
 use Rattle.resolver_clause_store.specs.Outcomes.{IsFalsified, IsSatisfied, IsForcing, IsChosen}
+use Rattle.resolver_clause_store.specs.Settled.{IsOpen, IsSettled, AllSettled}
 use Rattle.resolvo.specs.declared.propagate.State.{State}
 use Rattle.resolvo.specs.declared.propagate.State.TheVariants.{Satisfied, Falsified, Unit, Open}
 use Rattle.resolvo.specs.declared.propagate.Effect.{Effect}
 use Rattle.resolvo.specs.declared.propagate.Effect.TheVariants.{Nothing, Assigned, Conflict}
 use Rattle.resolvo.specs.declared.propagate.Pass.{Pass}
 use Rattle.resolvo.specs.declared.propagate.Pass.TheVariants.{Quiet, Changed, Conflict as Fails}
-
--- two different literals of the clause have no value
-pub record IsOpen (trail : Trail) (clause : List Literal) : Type 0 where
-  pub first : Literal
-  pub second : Literal
-  pub has_first : Contains clause first
-  pub has_second : Contains clause second
-  pub differ : first ≢ second
-  pub first_open : literal_value trail first ≡ None
-  pub second_open : literal_value trail second ≡ None
 
 -- each literal but this one is false
 abbrev pub IsUnit : Trail → Literal → List Literal → Type 0
@@ -60,10 +51,6 @@ pub record Extends (old new : Trail) : Type 0 where
   pub kept : (variable : ℕ) (slot : Slot) → slot_of old variable ≡ Some slot → slot_of new variable ≡ Some slot
   pub only : (variable : ℕ) (slot : Slot) → slot_of new variable ≡ Some slot → (slot_of old variable ≡ Some slot) ⊎ (is_decided slot.reason ≡ false)
 
--- no clause is false, and none has a last literal to set
-abbrev pub IsSettled : Trail → List Literal → Type 0
-IsSettled trail clause = IsSatisfied trail clause ⊎ IsOpen trail clause
-
 -- what a look at one clause did
 abbrev pub EffectIs : Trail → Trail → List Literal → Effect → Type 0
 EffectIs old new clause Nothing = (new ≡ old) × IsSettled new clause
@@ -73,10 +60,6 @@ EffectIs old new clause Conflict = (new ≡ old) × IsFalsified new clause
 -- the clause with this number is false
 abbrev pub IsConflict : Trail → List (Vec Literal Global) → ℕ → Type 0
 IsConflict trail table number = (number < length table) × IsFalsified trail (clause_at table number)
-
--- each clause is true or has two literals with no value
-abbrev pub AllSettled : Trail → List (Vec Literal Global) → Type 0
-AllSettled trail table = (number : ℕ) → number < length table → IsSettled trail (clause_at table number)
 
 -- what a look at every clause did
 abbrev pub PassIs : Trail → Trail → List (Vec Literal Global) → Pass → Type 0

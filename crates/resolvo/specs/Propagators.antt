@@ -8,10 +8,10 @@ use Rattle.resolver_clause_store.specs.declared.Trail.{Trail}
 use Rattle.resolver_clause_store.specs.Formula.{clause_at}
 use Rattle.resolver_clause_store.specs.Outcomes.{IsFalseBefore}
 use Rattle.resolver_clause_store.specs.TrailView.{slot_of, length_of, variable_count}
-use Rattle.resolvo.specs.Watches.{HasBlockers, IsWatching, pair_at, unwatched, watched_pair}
-use Rattle.resolvo.specs.WatchesView.{lists_of, pairs_of}
-use Rattle.resolvo.specs.declared.watches.Watch.{Watch}
-use Rattle.resolvo.specs.declared.watches.WatchedPair.{WatchedPair}
+use Rattle.resolver_clause_store.specs.Watches.{HasBlockers, IsWatching, pair_at, unwatched, watched_pair}
+use Rattle.resolver_clause_store.specs.WatchesView.{lists_of, pairs_of}
+use Rattle.resolver_clause_store.specs.declared.Watch.{Watch}
+use Rattle.resolver_clause_store.specs.declared.WatchedPair.{WatchedPair}
 use Rattle.resolvo.specs.declared.propagator.Late.{Late}
 use Rattle.resolvo.specs.declared.propagator.Propagator.{Propagator}
 

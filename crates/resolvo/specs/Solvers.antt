@@ -47,6 +47,10 @@ module _ {D C N S : Type 0} where
     pub clauses : new.clause_limit ≡ old.clause_limit
     pub learnt : new.learnt_limit ≡ old.learnt_limit
 
+  -- scores grow and fade by the same numbers
+  abbrev pub KeepsActivity : Solver D C N S → Solver D C N S → Type 0
+  KeepsActivity old new = new.activity ≡ old.activity
+
   -- the counts stay
   pub record KeepsCounts (old new : Solver D C N S) : Type 0 where
     pub variables : new.variable_count ≡ old.variable_count
@@ -60,6 +64,7 @@ module _ {D C N S : Type 0} where
     pub cache : new.cache ≡ old.cache
     pub exempt : new.exempt ≡ old.exempt
     pub limits : KeepsLimits old new
+    pub activity : KeepsActivity old new
 
   -- the counts are those of the rounds
   pub record HasCounted (r : Rounds N S) (s : Solver D C N S) : Type 0 where

@@ -9,15 +9,15 @@ use Rattle.resolver_clause_store.specs.Formula.{AreBelow}
 use Rattle.resolver_clause_store.specs.TrailView.{IsTop, literal_value, slot_of, variable_count}
 use Rattle.resolvo.specs.Propagation.{IsConflict}
 use Rattle.resolvo.specs.Propagators.{IsAttached, IsExcused, IsPropagator, head_of, late_of, pending_of}
-use Rattle.resolvo.specs.Watches.{IsPair, list_at, list_number, pair_at}
-use Rattle.resolvo.specs.WatchesView.{lists_of}
+use Rattle.resolver_clause_store.specs.Watches.{IsPair, list_at, list_number, pair_at}
+use Rattle.resolver_clause_store.specs.WatchesView.{lists_of}
 use Rattle.resolvo.specs.declared.propagator.Late.{Late}
 use Rattle.resolvo.specs.declared.propagator.Propagator.{Propagator}
 use Rattle.resolvo.specs.declared.propagator.visiting.FalseLiteral.{FalseLiteral}
 use Rattle.resolvo.specs.declared.propagator.visiting.Look.{Look}
 use Rattle.resolvo.specs.declared.propagator.visiting.Look.TheVariants.{Next, Conflict}
-use Rattle.resolvo.specs.declared.watches.Watch.{Watch}
-use Rattle.resolvo.specs.declared.watches.WatchedPair.{WatchedPair}
+use Rattle.resolver_clause_store.specs.declared.Watch.{Watch}
+use Rattle.resolver_clause_store.specs.declared.WatchedPair.{WatchedPair}
 
 -- the literal became false at this place, at its level, which is the highest one where it is marked as such
 pub record FailsAt (trail : Trail) (place : ℕ) (it : FalseLiteral) : Type 0 where

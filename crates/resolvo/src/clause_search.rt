@@ -11,24 +11,22 @@ ghost use Rattle.resolver_clause_store.specs.declared.Literal.{Literal};
 ghost use Rattle.resolver_clause_store.specs.declared.Reason.TheVariants.{Assumed};
 ghost use Rattle.resolver_clause_store.specs.declared.RequirementClause.{RequirementClause};
 ghost use Rattle.resolver_encoding.specs.Refusals.{IsStop};
-ghost use Rattle.resolvo.specs.Decisions.{IsChoice, IsFirst};
-ghost use Rattle.resolvo.specs.Propagation.{AllSettled, AreChosen, IsConflict, IsJustified};
+ghost use Rattle.resolver_clause_store.specs.Decisions.{IsChoice, IsFirst};
+ghost use Rattle.resolvo.specs.Propagation.{AreChosen, IsConflict, IsJustified};
+ghost use Rattle.resolver_clause_store.specs.Settled.{AllSettled};
 ghost use Rattle.resolvo.specs.Propagators.{IsPropagator};
 ghost use Rattle.resolvo.specs.declared.propagator.Propagator.{Propagator};
 ghost use Rattle.resolvo.specs.ClauseSearches.{AssumesNone};
-ghost use Rattle.resolvo.specs.Queues.{IsQueued};
+ghost use Rattle.resolver_clause_store.specs.Queues.{IsQueued};
 ghost use Rattle.resolvo.specs.Resolvents.{IsLearnt, level_in};
 
 use crate::analyze::{BlankMarks, Learnt, Lesson, analyze, asserted_level};
 use crate::contradiction::{Source, core};
-use crate::decide::Choice;
 use crate::propagate::{State, examine};
 use crate::propagator::{Propagator, attach_all, begins_level, propagate};
-use crate::queue::DecideQueue;
-use crate::scores::Activity;
 use resolver_clause_store::{
-    DependencyProvider, Exhausted, Interrupted, Literal, RequirementClause, Trail, check_cancel,
-    clause,
+    Activity, Choice, DecideQueue, DependencyProvider, Exhausted, Interrupted, Literal,
+    RequirementClause, Trail, check_cancel, clause,
 };
 use std::alloc::{AllocError, Global};
 

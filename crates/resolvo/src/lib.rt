@@ -5,21 +5,14 @@ mod analyze;
 mod clause_search;
 mod conflict;
 mod contradiction;
-mod decide;
-mod lists;
 mod owners;
 mod problem;
 mod propagate;
 mod propagator;
-mod queue;
-mod ranks;
 mod rounds;
-mod scores;
 mod solver;
-mod standing;
 #[cfg(test)]
 mod test_provider;
-mod watches;
 
 pub use conflict::Conflict;
 pub use problem::{EmptySolvables, Problem};

@@ -3,7 +3,8 @@
 ghost use Rattle.std.specs.Prelude.{◌≡◌, ◌+◌, ◌<◌, ◌≤◌, length, IfOk, IfSome, IfNone};
 ghost use Rattle.resolver_clause_store.specs.Formula.{AreBelow, IsBelow, clause_at};
 ghost use Rattle.resolver_clause_store.specs.TrailView.{open_count, variable_count};
-ghost use Rattle.resolvo.specs.Propagation.{AllSettled, EffectIs, Extends, IsConflict, IsJustified, PassIs, StateIs};
+ghost use Rattle.resolvo.specs.Propagation.{EffectIs, Extends, IsConflict, IsJustified, PassIs, StateIs};
+ghost use Rattle.resolver_clause_store.specs.Settled.{AllSettled};
 
 use resolver_clause_store::{Literal, Trail, clause};
 use std::alloc::AllocError;

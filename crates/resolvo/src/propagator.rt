@@ -4,8 +4,8 @@ mod attaching;
 mod returning;
 mod visiting;
 
-use crate::watches::Watches;
 pub use attaching::attach_all;
+use resolver_clause_store::Watches;
 pub use returning::begins_level;
 pub use visiting::propagate;
 

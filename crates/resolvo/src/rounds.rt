@@ -17,10 +17,9 @@ ghost use Rattle.resolvo.specs.ClauseSearches.{IsConsistent, IsRootTurn, KeepsTu
 
 use crate::clause_search::{ClauseSearch, Outcome};
 use crate::owners::Owners;
-use crate::scores::Activity;
 use resolver_clause_store::{
-    Cache, ConditionalRequirement, DependencyProvider, Exhausted, Interner, Interrupted, Literal,
-    Variable, VersionSetId,
+    Activity, Cache, ConditionalRequirement, DependencyProvider, Exhausted, Interner, Interrupted,
+    Literal, Variable, VersionSetId,
 };
 use resolver_encoding::{Chosen, Encoding, Progress};
 use std::alloc::Global;

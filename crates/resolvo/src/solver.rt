@@ -18,14 +18,13 @@ ghost use Rattle.resolvo.specs.declared.solver.UnsolvableOrCancelled.TheVariants
 ghost use Rattle.resolver_clause_store.specs.declared.Exhausted.TheVariants.{Memory};
 ghost use Rattle.resolvo.specs.Refusals.{CountsRead, CountsRefuted, IsRefusal};
 ghost use Rattle.resolvo.specs.RoundStates.{HasAllClauses, IsDone, IsSomeDone, chosen_of, notes_of};
-ghost use Rattle.resolvo.specs.Solvers.{HasActivity, HasCounted, HasLimits, IsAtLimit, IsSound, KeepsAllButCounts, KeepsCounts, KeepsLimits, clause_count_in, deferred_count_in, exempt_in, provider_in};
+ghost use Rattle.resolvo.specs.Solvers.{HasActivity, HasCounted, HasLimits, IsAtLimit, IsSound, KeepsActivity, KeepsAllButCounts, KeepsCounts, KeepsLimits, clause_count_in, deferred_count_in, exempt_in, provider_in};
 
 use crate::conflict::Conflict;
 use crate::problem::Problem;
 use crate::rounds::{Found, Rounds};
-use crate::scores::Activity;
 use resolver_clause_store::{
-    Cache, ClauseKind, DependencyProvider, Exhausted, Interner, Interrupted,
+    Activity, Cache, ClauseKind, DependencyProvider, Exhausted, Interner, Interrupted,
 };
 use resolver_encoding::rules_of_clauses;
 use resolver_report::keep_reached;
@@ -177,6 +176,7 @@ impl<D: DependencyProvider> Solver<D> {
         ensures sound { IsSound (D.universe (provider_in self.new)) self.new }
         ensures provider { provider_in self.new ≡ provider_in self.old }
         ensures limits { KeepsLimits self.old self.new }
+        ensures activity { KeepsActivity self.old self.new }
         ensures counts { KeepsCounts self.old self.new }
         ensures exempt { exempt_in self.new ≡ exempt_in self.old }
         ensures refusal { (root : Demands) (notes : Notes D.NameId D.SolvableId) → notes.kinds ≡ kinds.now → IsEncoding (D.universe (provider_in self.old)) root notes → IsCore notes.table core.now → IsRefusal (D.universe (provider_in self.old)) (D.may_cancel (provider_in self.old)) root (IsAtLimit self.new) result }
@@ -198,6 +198,7 @@ impl<D: DependencyProvider> Solver<D> {
         ensures sound { IsSound (D.universe (provider_in self.new)) self.new }
         ensures provider { provider_in self.new ≡ provider_in self.old }
         ensures limits { KeepsLimits self.old self.new }
+        ensures activity { KeepsActivity self.old self.new }
         ensures counts { KeepsCounts self.old self.new }
         ensures chosen { IfOk result (λ chosen. chosen.items ≡ chosen_of rounds.now) }
         ensures exempt { OnOk result (exempt_in self.new ≡ (notes_of rounds.now).exempt) }
@@ -232,6 +233,7 @@ impl<D: DependencyProvider> Solver<D> {
         ensures sound { IsSound (D.universe (provider_in self.new)) self.new }
         ensures provider { provider_in self.new ≡ provider_in self.old }
         ensures limits { KeepsLimits self.old self.new }
+        ensures activity { KeepsActivity self.old self.new }
         ensures none { OnErr result (exempt_in self.new ≡ []) }
         ensures found { OnOk result (found ≡ Ok FoundAnswer) }
         ensures answer { IfOk result (λ chosen. (root : Demands) (soft : List D.SolvableId) → IfOk found (IsDone (D.universe (provider_in self.old)) root soft rounds.now) → IsSoftAnswer (D.universe (provider_in self.old)) root soft chosen.items (exempt_in self.new)) }
@@ -265,6 +267,7 @@ impl<D: DependencyProvider> Solver<D> {
         ensures sound { IsSound (D.universe (provider_in self.new)) self.new }
         ensures provider { provider_in self.new ≡ provider_in self.old }
         ensures limits { KeepsLimits self.old self.new }
+        ensures activity { KeepsActivity self.old self.new }
         ensures answer { IfOk result (λ chosen. (soft : List D.SolvableId) × AreItems S.next_gives (soft_in problem) soft × IsSoftAnswer (D.universe (provider_in self.old)) (demands_in problem) soft chosen.items (exempt_in self.new)) }
         ensures none { OnErr result (exempt_in self.new ≡ []) }
         ensures refusal { IfErr result (IsRefusal (D.universe (provider_in self.old)) (D.may_cancel (provider_in self.old)) (demands_in problem) (IsAtLimit self.new)) }

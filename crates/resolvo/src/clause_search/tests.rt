@@ -6,10 +6,9 @@ ghost use Rattle.resolver_clause_store.specs.declared.RequirementClause.{Require
 ghost use Rattle.resolvo.specs.ClauseSearches.{IsConsistent, base_of};
 
 use super::*;
-use crate::decide::decide;
 use crate::propagate::propagate as scan;
 use crate::test_provider::TestProvider;
-use resolver_clause_store::{Reason, Slot, Variable};
+use resolver_clause_store::{Reason, Slot, Variable, decide};
 use std::cell::Cell;
 use std::test::Fail;
 
@@ -80,12 +79,15 @@ fn demand(
     Ok(())
 }
 
-/// The number of the clause that is decided first, and the place of the candidate in it.
-fn first_decision(
+/// A clause's number, and the place of the candidate in it that is decided.
+type Decision = Option<(usize, usize)>;
+
+/// What scanning all requirements decides first.
+fn first_by_scanning(
     alloc: Global,
     table: &[Vec<Literal>],
     requirements: &[RequirementClause],
-) -> Result<Option<(usize, usize)>, AllocError> {
+) -> Result<Decision, AllocError> {
     let mut trail = Trail::new(alloc, 16)?;
     if !are_below(table, 16) || !are_inside(requirements, table.len()) {
         return Ok(None);
@@ -110,6 +112,29 @@ fn provider(alloc: Global, cancelling: u32) -> TestProvider {
     }
 }
 
+/// Loads these clauses and requirements, and tells whether they could be loaded.
+fn load_given(
+    search: &mut ClauseSearch,
+    clauses: &[Vec<Literal>],
+    requirements: &[RequirementClause],
+    variables: usize,
+) -> bool
+    requires { IsConsistent search.old }
+    ensures { IsTrue result → IsConsistent search.new }
+{
+    if !are_below(clauses, variables) {
+        return false;
+    }
+    if !are_inside(requirements, clauses.len()) {
+        return false;
+    }
+    if variables < search.trail().variable_count() {
+        return false;
+    }
+    let loaded = search.load(variables, clauses, requirements, &[]);
+    loaded.is_ok()
+}
+
 /// Loads these clauses, all of them as requirements, and tells whether they could be loaded.
 fn load_all(
     alloc: Global,
@@ -124,17 +149,8 @@ fn load_all(
     for number in 0..clauses.len() {
         demand(alloc, &mut requirements, number, true, &[])?;
     }
-    if !are_below(clauses, variables) {
-        return Ok(false);
-    }
-    if !are_inside(requirements.as_slice(), clauses.len()) {
-        return Ok(false);
-    }
-    if variables < search.trail().variable_count() {
-        return Ok(false);
-    }
-    let loaded = search.load(variables, clauses, requirements.as_slice(), &[]);
-    Ok(loaded.is_ok())
+    let loaded = load_given(search, clauses, requirements.as_slice(), variables);
+    Ok(loaded)
 }
 
 /// A search whose clauses are all requirements.
@@ -169,98 +185,12 @@ fn finishes(alloc: Global, search: &mut ClauseSearch) -> bool
 fn core_of(alloc: Global, search: &mut ClauseSearch) -> Option<Vec<usize>>
     requires { IsConsistent search.old }
 {
-    match search.run(alloc, &provider(alloc, 0), 100, 100) {
+    match search.run(alloc, &provider(alloc, 0), 100000, 100000) {
         Ok(Outcome::Finished) => None,
         Ok(Outcome::Contradiction(core)) => Some(core),
         Ok(Outcome::Refused) => None,
         Err(_) => None,
     }
-}
-
-/// The next number of a sequence that looks random.
-fn next(seed: u64) -> u64 {
-    seed.wrapping_mul(6364136223846793005)
-        .wrapping_add(1442695040888963407)
-}
-
-/// 44 clauses of three literals each over 10 variables.
-fn random(alloc: Global, start: u64) -> Result<Vec<Vec<Literal>>, AllocError> {
-    let mut clauses = Vec::new(alloc);
-    let mut seed = start;
-    for _ in 0..44 {
-        let mut literals = Vec::new(alloc);
-        for _ in 0..3 {
-            seed = next(seed);
-            let variable = Variable::new(((seed >> 33) % 10) as u32);
-            seed = next(seed);
-            literals.push(Literal {
-                variable,
-                positive: (seed >> 40) % 2 == 0,
-            })?;
-        }
-        clauses.push(literals)?;
-    }
-    Ok(clauses)
-}
-
-fn is_true(values: u64, literal: &Literal) -> bool {
-    ((values >> (literal.variable.index() % 64)) % 2 == 1) == literal.positive
-}
-
-fn some_true(values: u64, clause: &[Literal]) -> bool {
-    clause.iter().any(|literal| is_true(values, literal))
-}
-
-fn all_true(values: u64, clauses: &[Vec<Literal>]) -> bool {
-    clauses
-        .iter()
-        .all(|literals| some_true(values, literals.as_slice()))
-}
-
-/// Whether some values of 10 variables make all clauses true.
-fn some_values(clauses: &[Vec<Literal>]) -> bool {
-    for values in 0..1024u64 {
-        if all_true(values, clauses) {
-            return true;
-        }
-    }
-    false
-}
-
-/// The values of 10 variables, of which those with none are false.
-fn values_on(trail: &Trail) -> u64 {
-    let mut values = 0;
-    for number in 0..10u32 {
-        let positive = Literal {
-            variable: Variable::new(number),
-            positive: true,
-        };
-        if positive.variable.index() < trail.variable_count()
-            && trail.value(positive) == Some(true)
-        {
-            values |= 1u64 << number;
-        }
-    }
-    values
-}
-
-/// The clauses with these numbers.
-fn part_of(
-    alloc: Global,
-    clauses: &[Vec<Literal>],
-    numbers: &[usize],
-) -> Result<Vec<Vec<Literal>>, AllocError> {
-    let mut part = Vec::new(alloc);
-    for number in numbers {
-        if let Some(literals) = clauses.get(*number) {
-            let mut copy = Vec::new(alloc);
-            for literal in literals {
-                copy.push(*literal)?;
-            }
-            part.push(copy)?;
-        }
-    }
-    Ok(part)
 }
 
 /// One pigeon more than holes: each pigeon has a hole, and no hole has two.
@@ -296,59 +226,36 @@ fn seat(holes: u32, pigeon: u32, hole: u32, positive: bool) -> Literal {
     }
 }
 
-#[test]
-fn random_clauses_agree_with_trying_all_values(rt: HostRuntime) -> Result<(), Fail> {
-    let mut contradictions = 0u32;
-    for seed in 0..40u64 {
-        let clauses = random(rt.alloc(), seed)?;
-        let expected = some_values(clauses.as_slice());
-        let mut found = None;
-        if let Some(mut search) = search_of(rt.alloc(), random(rt.alloc(), seed)?, 10)? {
-            match search.run(rt.alloc(), &provider(rt.alloc(), 0), 100000, 100000) {
-                Ok(Outcome::Finished) => {
-                    assert!(rt; all_true(values_on(search.trail()), clauses.as_slice()));
-                    found = Some(true);
-                }
-                Ok(Outcome::Contradiction(core)) => {
-                    let part = part_of(rt.alloc(), clauses.as_slice(), core.as_slice())?;
-                    assert_eq!(rt; part.len(), core.len());
-                    assert!(rt; !some_values(part.as_slice()));
-                    contradictions = contradictions.wrapping_add(1);
-                    found = Some(false);
-                }
-                Ok(Outcome::Refused) => (),
-                Err(_why) => (),
-            }
-        }
-        assert_eq!(rt; found, Some(expected));
+/// How many clauses there are for six pigeons, how many were learnt, how many there are in all then, and how many of the given
+/// ones contradict each other.
+fn count_for_pigeons(alloc: Global) -> Result<Option<(usize, usize, usize, usize)>, AllocError> {
+    let clauses = pigeons(alloc, 5)?;
+    let given = clauses.len();
+    match search_of(alloc, clauses, 30)? {
+        Some(mut search) => match core_of(alloc, &mut search) {
+            Some(core) => Ok(Some((
+                given,
+                search.learnt_count(),
+                search.clause_count(),
+                core.len(),
+            ))),
+            None => Ok(None),
+        },
+        None => Ok(None),
     }
-    assert!(rt;
-        5 < contradictions && contradictions < 35,
-        "{contradictions}"
-    );
-    Ok(())
 }
 
 #[test]
 fn six_pigeons_do_not_fit_into_five_holes(rt: HostRuntime) -> Result<(), Fail> {
-    let clauses = pigeons(rt.alloc(), 5)?;
-    let count = clauses.len();
-    let mut found = 0;
-    if let Some(mut search) = search_of(rt.alloc(), clauses, 30)? {
-        if let Ok(Outcome::Contradiction(core)) = search.run(
-            rt.alloc(),
-            &provider(rt.alloc(), 0),
-            100000,
-            100000,
-        ) {
-            found = core.len();
+    match count_for_pigeons(rt.alloc())? {
+        Some((given, learnt, all, core)) => {
+            assert_eq!(rt; given, 81);
+            assert!(rt; 0 < learnt);
+            assert_eq!(rt; all, given.wrapping_add(learnt));
+            assert_eq!(rt; core, given);
         }
-        assert!(rt; 0 < search.learnt_count());
-        let learnt = search.learnt_count();
-        assert_eq!(rt; search.clause_count(), count.wrapping_add(learnt));
+        None => assert!(rt; false),
     }
-    assert_eq!(rt; count, 81);
-    assert_eq!(rt; found, count);
     Ok(())
 }
 
@@ -378,6 +285,57 @@ fn the_limits_stand(rt: HostRuntime) -> Result<(), Fail> {
     Ok(())
 }
 
+/// The place of a variable in the clause with this number.
+fn place_in(table: &[Vec<Literal>], number: usize, variable: Variable) -> Option<usize> {
+    match table.get(number) {
+        Some(literals) => literals
+            .iter()
+            .position(|literal| literal.variable == variable),
+        None => None,
+    }
+}
+
+/// The decision that stands first on a trail.
+fn first_on(trail: &Trail, table: &[Vec<Literal>]) -> Decision {
+    'places: for place in 0..trail.len() {
+        let variable = trail.variable_at(place);
+        if let Some(slot) = trail.slot(variable) {
+            if let Reason::Decided(number) = slot.reason {
+                return place_in(table, number, variable).map(|found| (number, found));
+            }
+        }
+    }
+    None
+}
+
+/// What a search decides first, where it has no conflict.
+fn first_by_searching(
+    alloc: Global,
+    table: &[Vec<Literal>],
+    requirements: &[RequirementClause],
+) -> Decision {
+    let mut search = ClauseSearch::new(alloc, Activity::usual());
+    if !load_given(&mut search, table, requirements, 16) {
+        return None;
+    }
+    if !finishes(alloc, &mut search) {
+        return None;
+    }
+    first_on(search.trail(), table)
+}
+
+/// Whether scanning and searching both decide this first.
+fn is_first(
+    alloc: Global,
+    table: &[Vec<Literal>],
+    requirements: &[RequirementClause],
+    wanted: (usize, usize),
+) -> Result<bool, AllocError> {
+    let scanned = first_by_scanning(alloc, table, requirements)?;
+    let searched = first_by_searching(alloc, table, requirements);
+    Ok(scanned == Some(wanted) && searched == Some(wanted))
+}
+
 #[test]
 fn requirements_of_the_root_come_first(rt: HostRuntime) -> Result<(), Fail> {
     let mut table = Vec::new(rt.alloc());
@@ -387,8 +345,14 @@ fn requirements_of_the_root_come_first(rt: HostRuntime) -> Result<(), Fail> {
     add(rt.alloc(), &mut table, &[-1, 4, 5, 6])?;
     demand(rt.alloc(), &mut requirements, 1, false, &[3])?;
     demand(rt.alloc(), &mut requirements, 2, true, &[4])?;
-    let first = first_decision(rt.alloc(), table.as_slice(), requirements.as_slice())?;
-    assert_eq!(rt; first, Some((2, 1)));
+    assert!(rt;
+        is_first(
+            rt.alloc(),
+            table.as_slice(),
+            requirements.as_slice(),
+            (2, 1)
+        )?
+    );
     Ok(())
 }
 
@@ -404,39 +368,36 @@ fn fewer_candidates_of_the_first_version_set_come_first(rt: HostRuntime) -> Resu
     demand(rt.alloc(), &mut requirements, 1, false, &[4])?;
     demand(rt.alloc(), &mut requirements, 2, false, &[2, 3, 6])?;
     demand(rt.alloc(), &mut requirements, 4, false, &[3])?;
-    let first = first_decision(rt.alloc(), table.as_slice(), requirements.as_slice())?;
-    assert_eq!(rt; first, Some((2, 2)));
+    assert!(rt;
+        is_first(
+            rt.alloc(),
+            table.as_slice(),
+            requirements.as_slice(),
+            (2, 2)
+        )?
+    );
     Ok(())
 }
 
 #[test]
-fn the_lowest_number_comes_first_among_equals(rt: HostRuntime) -> Result<(), Fail> {
+fn the_first_one_comes_first_among_equals(rt: HostRuntime) -> Result<(), Fail> {
     let mut table = Vec::new(rt.alloc());
     let mut requirements = Vec::new(rt.alloc());
     add(rt.alloc(), &mut table, &[1])?;
     add(rt.alloc(), &mut table, &[-2, 10, 11])?;
     add(rt.alloc(), &mut table, &[-1, 3, 4])?;
     add(rt.alloc(), &mut table, &[-1, 5, 6])?;
-    demand(rt.alloc(), &mut requirements, 3, false, &[3])?;
+    demand(rt.alloc(), &mut requirements, 1, true, &[3])?;
     demand(rt.alloc(), &mut requirements, 2, false, &[3])?;
-    demand(rt.alloc(), &mut requirements, 1, true, &[3])?;
-    let first = first_decision(rt.alloc(), table.as_slice(), requirements.as_slice())?;
-    assert_eq!(rt; first, Some((2, 1)));
-    Ok(())
-}
-
-#[test]
-fn met_requirements_are_not_decided(rt: HostRuntime) -> Result<(), Fail> {
-    let mut table = Vec::new(rt.alloc());
-    let mut requirements = Vec::new(rt.alloc());
-    add(rt.alloc(), &mut table, &[1])?;
-    add(rt.alloc(), &mut table, &[-1, 2, 3])?;
-    add(rt.alloc(), &mut table, &[3])?;
-    add(rt.alloc(), &mut table, &[-4, 5, 6])?;
-    demand(rt.alloc(), &mut requirements, 1, true, &[3])?;
     demand(rt.alloc(), &mut requirements, 3, false, &[3])?;
-    let first = first_decision(rt.alloc(), table.as_slice(), requirements.as_slice())?;
-    assert_eq!(rt; first, None);
+    assert!(rt;
+        is_first(
+            rt.alloc(),
+            table.as_slice(),
+            requirements.as_slice(),
+            (2, 1)
+        )?
+    );
     Ok(())
 }
 
@@ -446,46 +407,6 @@ fn slot_of(search: &ClauseSearch, number: i32) -> Option<Slot> {
         return search.trail().slot(wanted.variable);
     }
     None
-}
-
-#[test]
-fn reasons_and_levels_stand_on_the_trail(rt: HostRuntime) -> Result<(), Fail> {
-    let mut table = Vec::new(rt.alloc());
-    add(rt.alloc(), &mut table, &[1])?;
-    add(rt.alloc(), &mut table, &[-1, 2, 3])?;
-    add(rt.alloc(), &mut table, &[-2, 4])?;
-    add(rt.alloc(), &mut table, &[-2, -4])?;
-    let mut done = false;
-    if let Some(mut search) = search_of(rt.alloc(), table, 5)? {
-        if let Ok(Outcome::Finished) = search.run(rt.alloc(), &provider(rt.alloc(), 0), 10, 10) {
-            done = true;
-        }
-        assert_eq!(rt; search.learnt_count(), 1);
-        let root = Slot {
-            value: true,
-            level: 0,
-            place: 0,
-            reason: Reason::Forced(0),
-        };
-        let refused = Slot {
-            value: false,
-            level: 0,
-            place: 1,
-            reason: Reason::Forced(4),
-        };
-        let second = Slot {
-            value: true,
-            level: 0,
-            place: 2,
-            reason: Reason::Forced(1),
-        };
-        assert_eq!(rt; slot_of(&search, 1), Some(root));
-        assert_eq!(rt; slot_of(&search, 2), Some(refused));
-        assert_eq!(rt; slot_of(&search, 3), Some(second));
-        assert_eq!(rt; slot_of(&search, 4), None);
-    }
-    assert!(rt; done);
-    Ok(())
 }
 
 /// How many clauses a first run learns, and the core that a second one finds when one more clause has come.

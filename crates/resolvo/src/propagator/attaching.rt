@@ -8,15 +8,15 @@ ghost use Rattle.resolver_clause_store.specs.TrailView.{IsCut, IsGrown, length_o
 ghost use Rattle.resolver_clause_store.specs.declared.Literal.{Literal};
 ghost use Rattle.resolver_clause_store.specs.declared.Trail.{Trail};
 ghost use Rattle.resolvo.specs.Attaching.{AreAlike, AreApart, EndsWith, Forces, IsAlike, IsHigh, IsHighPair, IsLower, IsNotBefore, IsOther, Recalls};
-ghost use Rattle.resolvo.specs.Propagation.{Extends, IsConflict, IsJustified, IsOpen};
+ghost use Rattle.resolvo.specs.Propagation.{Extends, IsConflict, IsJustified};
+ghost use Rattle.resolver_clause_store.specs.Settled.{IsOpen};
 ghost use Rattle.resolvo.specs.Propagators.{IsAttached, IsConstant, IsPropagator, attached_of, late_of, pending_of};
-ghost use Rattle.resolvo.specs.Watches.{IsWatching};
-ghost use Rattle.resolvo.specs.WatchesView.{lists_of, pairs_of};
+ghost use Rattle.resolver_clause_store.specs.Watches.{IsWatching};
+ghost use Rattle.resolver_clause_store.specs.WatchesView.{lists_of, pairs_of};
 
 use super::{Late, Propagator};
 use crate::propagate::{State, examine};
-use crate::watches::{WatchedPair, Watches};
-use resolver_clause_store::{Literal, Trail, clause};
+use resolver_clause_store::{Literal, Trail, WatchedPair, Watches, clause};
 use std::alloc::{AllocError, Global};
 
 impl Propagator {

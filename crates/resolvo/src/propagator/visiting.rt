@@ -5,14 +5,14 @@ ghost use Rattle.resolver_clause_store.specs.Formula.{AreBelow, IsBelow, clause_
 ghost use Rattle.resolver_clause_store.specs.Outcomes.{IsSatisfied};
 ghost use Rattle.resolver_clause_store.specs.TrailView.{length_of, literal_value, open_count, variable_count};
 ghost use Rattle.resolver_clause_store.specs.declared.Literal.{Literal};
-ghost use Rattle.resolvo.specs.Propagation.{AllSettled, Extends, IsConflict, IsJustified, IsUnit};
+ghost use Rattle.resolvo.specs.Propagation.{Extends, IsConflict, IsJustified, IsUnit};
+ghost use Rattle.resolver_clause_store.specs.Settled.{AllSettled};
 ghost use Rattle.resolvo.specs.Propagators.{IsAttached, IsPropagator};
 ghost use Rattle.resolvo.specs.Visits.{FailsAt, IsPaired, IsVisiting, LookIs, Replaces, StandsAt};
-ghost use Rattle.resolvo.specs.Watches.{IsPair};
+ghost use Rattle.resolver_clause_store.specs.Watches.{IsPair};
 
 use super::{Late, Propagator};
-use crate::watches::WatchedPair;
-use resolver_clause_store::{Literal, Trail, clause};
+use resolver_clause_store::{Literal, Trail, WatchedPair, clause};
 use std::alloc::AllocError;
 
 /// A literal that has become false.
@@ -75,7 +75,7 @@ fn replacement(trail: &Trail, clause: &[Literal], other: &Literal) -> Option<Lit
 impl Propagator {
     ghost use Rattle.resolvo.specs.Propagators.{attached_of, head_of, late_of};
     ghost use Rattle.resolvo.specs.Visits.{watchers_of};
-    ghost use Rattle.resolvo.specs.WatchesView.{pairs_of};
+    ghost use Rattle.resolver_clause_store.specs.WatchesView.{pairs_of};
 
     /// The literal that is false at the head.
     fn false_literal(&self, trail: &Trail) -> FalseLiteral

@@ -1,7 +1,7 @@
 use Rattle.std.proofs.Common.{◌∙◌}
 use Rattle.resolver_clause_store.proofs.KeptLemmas.{keeps_all}
 use Rattle.resolvo.proofs.JustifiedLemmas.{chosen-extends}
-use Rattle.resolvo.proofs.QueueLemmas.{queued-longer}
+use Rattle.resolver_clause_store.proofs.QueueLemmas.{queued-longer}
 use Rattle.resolvo.proofs.LoadLemmas.{keeps_extended, keeps_more}
 use Rattle.resolvo.proofs.TurnLemmas.{none-extends, none-trans}
 use Rattle.resolvo.proofs.clause_search.descend.Goals as goal

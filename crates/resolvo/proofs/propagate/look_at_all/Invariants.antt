@@ -1,7 +1,8 @@
 use Rattle.std.proofs.Common.{◌≡◌, ◌<◌, ◌≤◌, ℕ, true, false}
 use Rattle.resolver_clause_store.specs.TrailView.{open_count, variable_count}
 use Rattle.resolver_clause_store.specs.Formula.{clause_at}
-use Rattle.resolvo.specs.Propagation.{IsJustified, Extends, IsSettled}
+use Rattle.resolvo.specs.Propagation.{IsJustified, Extends}
+use Rattle.resolver_clause_store.specs.Settled.{IsSettled}
 use Rattle.resolvo.proofs.propagate.look_at_all.Given as goal
 
 abbrev pub invariant-clauses : goal.invariant-clauses

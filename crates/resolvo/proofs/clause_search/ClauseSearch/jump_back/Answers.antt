@@ -3,7 +3,7 @@ use Rattle.resolver_clause_store.specs.Formula.{clause_at}
 use Rattle.resolver_clause_store.specs.TrailView.{KeepsPlaces, length_of, variable_count}
 use Rattle.resolver_clause_store.proofs.FormulaLemmas.{clause_at-last}
 use Rattle.resolver_clause_store.proofs.KeptLemmas.{keeps_all, keeps_undone}
-use Rattle.resolvo.proofs.QueueLemmas.{queued-grown, queued-left, queued-longer}
+use Rattle.resolver_clause_store.proofs.QueueLemmas.{queued-grown, queued-left, queued-longer}
 use Rattle.resolver_clause_store.proofs.TrailLemmas.{keeps-gains}
 use Rattle.resolvo.specs.declared.contradiction.Source.TheVariants.{Learnt}
 use Rattle.resolvo.proofs.AttachingLemmas.{lower-undone, propagator-longer}

@@ -6,7 +6,7 @@ use Rattle.resolver_clause_store.proofs.KeptLemmas.{keeps_undone}
 use Rattle.resolvo.specs.Propagators.{IsPropagator}
 use Rattle.resolvo.proofs.AttachingLemmas.{lower-undone, propagator-longer}
 use Rattle.resolvo.proofs.ClauseSearchLemmas.{grows-push}
-use Rattle.resolvo.proofs.QueueLemmas.{queued-left}
+use Rattle.resolver_clause_store.proofs.QueueLemmas.{queued-left}
 use Rattle.resolvo.proofs.LoadLemmas.{consistent-given, loaded-clause, same-undone}
 use Rattle.resolvo.proofs.clause_search.ClauseSearch.load_clause.Goals as goal
 

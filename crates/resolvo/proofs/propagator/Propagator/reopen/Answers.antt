@@ -1,5 +1,5 @@
 use Rattle.std.proofs.Common.{rules, arith, inl, inr, sym, ap, ◌∙◌, ◌≡◌, ◌++◌, ◌∷◌, [], subst, ℕ, List, length, take, ◌-◌}
-use Rattle.resolvo.specs.declared.watches.WatchedPair.{WatchedPair}
+use Rattle.resolver_clause_store.specs.declared.WatchedPair.{WatchedPair}
 use Rattle.resolvo.specs.Propagators.{pending_of}
 use Rattle.resolvo.proofs.AttachingLemmas.{ends-with, reopened}
 use Rattle.resolvo.proofs.propagator.Propagator.reopen.Goals as goal

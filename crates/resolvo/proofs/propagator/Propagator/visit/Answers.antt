@@ -1,6 +1,6 @@
 use Rattle.std.proofs.Common.{arith}
 use Rattle.resolvo.proofs.VisitLemmas.{visited}
-use Rattle.resolvo.proofs.WatchListLemmas.{watching-stands}
+use Rattle.resolver_clause_store.proofs.WatchListLemmas.{watching-stands}
 use Rattle.resolvo.proofs.propagator.Propagator.visit.Goals as goal
 
 pub returns-clause-propagator : goal.returns-clause-propagator

@@ -1,0 +1,62 @@
+-- The queue of requirements that are to be decided.
+use Rattle.std.specs.Prelude.{◌≡◌, ℕ, ◌<◌, ◌≤◌, ◌⊎◌, true, false, Some, List, [], length, Vec, Contains, slice_get, slice_index, slice_index_or}
+use Rattle.std.specs.Option.{option_map_or}
+use Rattle.std.specs.declared.alloc.Global.{Global}
+use Rattle.resolver_clause_store.specs.declared.literals.Literal.{Literal}
+use Rattle.resolver_clause_store.specs.declared.clauses.RequirementClause.{RequirementClause}
+use Rattle.resolver_clause_store.specs.declared.trail.Slot.{Slot}
+use Rattle.resolver_clause_store.specs.declared.trail.Trail.{Trail}
+use Rattle.resolver_clause_store.specs.Formula.{clause_at}
+use Rattle.resolver_clause_store.specs.TrailView.{length_of, literal_value, slot_of, variable_at}
+use Rattle.resolver_clause_store.specs.declared.lists.Lists.{Lists}
+use Rattle.resolver_clause_store.specs.declared.queue.DecideQueue.{DecideQueue}
+
+-- the list with this number, and an empty one where there is none
+abbrev pub list_at : List (Vec ℕ Global) → ℕ → List ℕ
+list_at lists number = option_map_or (λ (list : Vec ℕ Global). list.items) (slice_get lists number) []
+
+-- the list with this number
+abbrev pub list_of : Lists → ℕ → List ℕ
+list_of it number = list_at it.lists.items number
+
+-- The requirement with this index waits for a variable that its clause negates, and that is not true at a followed place.
+pub record IsWaiting (waiting : Lists) (trail : Trail) (kept : ℕ) (clause : List Literal) (index : ℕ) : Type 0 where
+  pub variable : ℕ
+  pub parked : Contains (list_of waiting variable) index
+  pub asks : Contains clause (record { variable = variable; positive = false })
+  pub not_true : (slot : Slot) → slot_of trail variable ≡ Some slot → slot.value ≡ true → kept ≤ slot.place
+
+-- The requirement with this index has a candidate that was true when its place was followed, and is so if that place stayed.
+pub record IsMetBy (met : Lists) (trail : Trail) (followed : List ℕ) (kept : ℕ) (clause : List Literal) (index : ℕ) : Type 0 where
+  pub variable : ℕ
+  pub parked : Contains (list_of met variable) index
+  pub has : Contains clause (record { variable = variable; positive = true })
+  pub place : ℕ
+  pub within : place < length followed
+  pub is : slice_index followed place ≡ variable
+  pub true_there : place < kept → literal_value trail (record { variable = variable; positive = true }) ≡ Some true
+
+-- The requirement with this index is to be looked at, or waits, or is met.
+abbrev pub IsHeld : List ℕ → Lists → Lists → List ℕ → ℕ → Trail → List Literal → ℕ → Type 0
+IsHeld active waiting met followed kept trail clause index =
+    Contains active index ⊎ (IsWaiting waiting trail kept clause index ⊎ IsMetBy met trail followed kept clause index)
+
+-- the first places of the trail were followed, and stayed
+pub record IsFollowing (queue : DecideQueue) (trail : Trail) : Type 0 where
+  pub followed : queue.kept ≤ length queue.followed.items
+  pub reached : queue.kept ≤ length_of trail
+  pub same : (place : ℕ) → place < queue.kept → slice_index queue.followed.items place ≡ variable_at trail place
+
+-- the queue follows the trail, and each requirement has its place in it
+pub record IsQueued (queue : DecideQueue) (trail : Trail) (table : List (Vec Literal Global)) (requirements : List RequirementClause) : Type 0 where
+  pub following : IsFollowing queue trail
+  pub each : (index : ℕ) (d : RequirementClause) → index < length requirements → IsHeld queue.active.items queue.waiting queue.met queue.followed.items queue.kept trail (clause_at table (slice_index_or requirements index d).number) index
+
+-- whatever the trail and the requirements, the queue still follows the one and has places for the others
+abbrev pub StaysQueued : DecideQueue → DecideQueue → Type 0
+StaysQueued old new = (trail : Trail) (table : List (Vec Literal Global)) (requirements : List RequirementClause) → IsQueued old trail table requirements → IsQueued new trail table requirements
+
+-- the whole trail was followed
+pub record IsFollowed (queue : DecideQueue) (trail : Trail) : Type 0 where
+  pub all : queue.kept ≡ length_of trail
+  pub none_else : length queue.followed.items ≡ queue.kept

@@ -1,0 +1,21 @@
+-- Scores of packages.
+use Rattle.std.specs.Prelude.{ℕ, zero, suc, ◌+◌, ◌-◌, ◌*◌, ◌/◌, ◌^◌, min, List, slice_index_or}
+use Rattle.resolver_clause_store.specs.declared.scores.Score.{Score}
+use Rattle.resolver_clause_store.specs.declared.scores.Scores.{Scores}
+
+-- what is left of a score after a learnt clause: so many millionths of it, rounded down
+abbrev pub fade : ℕ → ℕ → ℕ
+fade decay score = min (score * decay) (2 ^ 64 - 1) / 1000000
+
+-- and after so many
+abbrev pub fade_often : ℕ → ℕ → ℕ → ℕ
+fade_often decay zero score = score
+fade_often decay (suc times) score = fade_often decay times (fade decay score)
+
+-- the score of a package as it was kept, and 0 where there is none
+abbrev pub kept_score : List Score → ℕ → Score
+kept_score scores number = slice_index_or scores number (record { value = 0; learnt = 0 })
+
+-- the score of a package after so many learnt clauses
+abbrev pub score_in : Scores → ℕ → ℕ → ℕ
+score_in it number learnt = fade_often it.activity.decay (learnt - (kept_score it.scores.items number).learnt) (kept_score it.scores.items number).value

@@ -1,0 +1,70 @@
+//! Lists of numbers, by numbers.
+
+ghost use Rattle.std.specs.Prelude.{◌≡◌, ◌≢◌, ◌≤◌, ◌+◌, ◌∷◌, ◌++◌, [], ℕ, OnOk, length};
+
+use std::alloc::{AllocError, Global};
+
+/// A list for each number, of which all but some are empty.
+#[derive(Debug, Drop)]
+pub struct Lists {
+    lists: Vec<Vec<usize>>,
+}
+
+impl Lists {
+    ghost use Rattle.resolver_clause_store.specs.Queues.{list_at, list_of};
+
+    /// Empty lists.
+    pub fn new(alloc: Global) -> Self
+        ensures { (number : ℕ) → list_of result number ≡ [] }
+    {
+        Lists {
+            lists: Vec::new(alloc),
+        }
+    }
+
+    /// Makes room for the lists up to this one.
+    fn reach(&mut self, number: usize) -> Result<(), AllocError>
+        ensures same { (other : ℕ) → list_of self.new other ≡ list_of self.old other }
+        ensures enough { OnOk result (number + 1 ≤ length self.new.lists.items) }
+    {
+        'lists: while self.lists.len() <= number {
+            let empty = Vec::new(*self.lists.allocator());
+            self.lists.push(empty)?;
+        }
+        Ok(())
+    }
+
+    /// The list with a number.
+    pub fn at(&self, number: usize) -> &[usize]
+        ensures { result.now ≡ list_of self.now number }
+    {
+        match self.lists.get(number) {
+            Some(list) => list.as_slice(),
+            None => &[],
+        }
+    }
+
+    /// Puts an item behind the others of a list.
+    pub fn add(&mut self, number: usize, item: usize) -> Result<(), AllocError>
+        ensures here { OnOk result (list_of self.new number ≡ list_of self.old number ++ item ∷ []) }
+        ensures others { OnOk result ((other : ℕ) → other ≢ number → list_of self.new other ≡ list_of self.old other) }
+    {
+        self.reach(number)?;
+        self.lists[number].push(item)?;
+        Ok(())
+    }
+
+    /// Moves the items of a list behind those of another one.
+    pub fn take(&mut self, number: usize, items: &mut Vec<usize>) -> Result<(), AllocError>
+        ensures items { OnOk result (items.new.items ≡ items.old.items ++ list_of self.old number) }
+        ensures here { OnOk result (list_of self.new number ≡ []) }
+        ensures others { (other : ℕ) → other ≢ number → list_of self.new other ≡ list_of self.old other }
+    {
+        if number >= self.lists.len() {
+            return Ok(());
+        }
+        items.extend_from_slice(&self.lists[number])?;
+        self.lists[number].clear();
+        Ok(())
+    }
+}

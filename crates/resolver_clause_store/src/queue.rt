@@ -1,0 +1,246 @@
+//! The queue of requirements that are to be decided.
+
+ghost use Rattle.std.specs.Prelude.{◌<◌, ◌≡◌, ◌≤◌, ◌+◌, ◌++◌, ◌∷◌, [], All, IfNone, IfOk, IfSome, List, OnOk, Vec, false, length, min};
+ghost use Rattle.std.specs.Option.{option_map_or};
+ghost use Rattle.std.specs.declared.alloc.Global.{Global};
+ghost use Rattle.resolver_clause_store.specs.Formula.{AreBelow, IsBelow, clause_at};
+ghost use Rattle.resolver_clause_store.specs.Outcomes.{IsMet};
+ghost use Rattle.resolver_clause_store.specs.TrailView.{KeepsPlaces, length_of, slot_of, variable_count};
+ghost use Rattle.resolver_clause_store.specs.declared.literals.Literal.{Literal};
+ghost use Rattle.resolver_clause_store.specs.declared.clauses.RequirementClause.{RequirementClause};
+ghost use Rattle.resolver_clause_store.specs.declared.trail.Slot.{Slot};
+ghost use Rattle.resolver_clause_store.specs.declared.trail.Trail.{Trail};
+ghost use Rattle.resolver_clause_store.specs.Decisions.{IsChoice};
+ghost use Rattle.resolver_clause_store.specs.Settled.{AllSettled, IsSettled};
+
+use crate::clauses::{RequirementClause, clause};
+use crate::decisions::{Choice, choice_at};
+use crate::lists::Lists;
+use crate::literals::{Literal, Variable};
+use crate::ranks::Ranks;
+use crate::scores::Activity;
+use crate::standing::{Standing, standing_of};
+use crate::trail::Trail;
+use std::alloc::{AllocError, Global};
+
+/// Whether a variable is true.
+fn is_true(trail: &Trail, variable: Variable) -> bool
+    requires { variable < variable_count trail.now }
+    ensures { result ≡ option_map_or (λ (slot : Slot). slot.value) (slot_of trail.now variable) false }
+{
+    match trail.slot(variable) {
+        Some(slot) => slot.value,
+        None => false,
+    }
+}
+
+/// Requirements that are to be decided, and those that are put aside until that is so.
+///
+/// Each requirement stands in one place. It is put aside while a variable that it depends on is not true, or while a candidate
+/// of it is true. The queue follows a trail: what was put aside comes back where a variable becomes true, or loses its value.
+/// So the requirements that are not put aside are all that may be left to decide.
+#[derive(Debug, Drop)]
+pub struct DecideQueue {
+    /// The requirements that are not put aside.
+    active: Vec<usize>,
+    /// Those put aside for a variable that is not true.
+    waiting: Lists,
+    /// Those put aside for a candidate that is true.
+    met: Lists,
+    /// The variables at the places of the trail that were followed.
+    followed: Vec<Variable>,
+    /// How many first places of the trail are as they were when they were followed.
+    kept: usize,
+    /// Which active requirement comes first.
+    ranks: Ranks,
+}
+
+impl DecideQueue {
+    ghost use Rattle.resolver_clause_store.specs.Queues.{IsFollowed, IsFollowing, IsQueued, StaysQueued};
+
+    /// No requirements, and no place followed.
+    pub fn new(alloc: Global, activity: Activity) -> Self
+        ensures { (trail : Trail) (table : List (Vec Literal Global)) → IsQueued result trail table [] }
+    {
+        DecideQueue {
+            active: Vec::new(alloc),
+            waiting: Lists::new(alloc),
+            met: Lists::new(alloc),
+            followed: Vec::new(alloc),
+            kept: 0,
+            ranks: Ranks::new(alloc, activity),
+        }
+    }
+
+    /// Puts the requirement of a clause behind the others.
+    pub fn add(&mut self, index: usize, literals: &[Literal]) -> Result<(), AllocError>
+        ensures { OnOk result ((trail : Trail) (table : List (Vec Literal Global)) (requirements : List RequirementClause) (requirement : RequirementClause) → index ≡ length requirements → IsQueued self.old trail table requirements → IsQueued self.new trail table (requirements ++ requirement ∷ [])) }
+    {
+        let from = self.active.len();
+        self.active.push(index)?;
+        self.ranks.add(literals)?;
+        self.ranks.enter(self.active.as_slice(), from)?;
+        Ok(())
+    }
+
+    /// Takes in the numbers of the packages of the variables behind those that are known.
+    pub fn learn_owners(&mut self, owners: &[Option<usize>]) -> Result<(), AllocError>
+        ensures { OnOk result (StaysQueued self.old self.new) }
+    {
+        self.ranks.learn_owners(owners)?;
+        Ok(())
+    }
+
+    /// Takes in a learnt clause: the scores of its packages grow, and all scores fade.
+    pub fn learn(&mut self, literals: &[Literal]) -> Result<(), AllocError>
+        ensures { OnOk result (StaysQueued self.old self.new) }
+    {
+        self.ranks.learn(literals)?;
+        Ok(())
+    }
+
+    /// Notes that no more than the first places of the trail stayed.
+    pub fn cut(&mut self, count: usize)
+        ensures { (old new : Trail) (table : List (Vec Literal Global)) (requirements : List RequirementClause) → KeepsPlaces old new (min self.old.kept count) → IsQueued self.old old table requirements → IsQueued self.new new table requirements }
+    {
+        self.kept = self.kept.min(count);
+    }
+
+    /// Takes back the last place that was followed, which did not stay.
+    fn forget_last(&mut self) -> Result<(), AllocError>
+        requires { self.old.kept < length self.old.followed.items }
+        ensures queued { OnOk result (StaysQueued self.old self.new) }
+        ensures kept { OnOk result (self.new.kept ≡ self.old.kept) }
+        ensures fewer { OnOk result (length self.new.followed.items + 1 ≡ length self.old.followed.items) }
+    {
+        match self.followed.pop() {
+            Some(variable) => {
+                self.met.take(variable.index(), &mut self.active)?;
+                self.ranks.touch(variable)?;
+                Ok(())
+            }
+            None => Ok(()),
+        }
+    }
+
+    /// Takes back the places that were followed and did not stay.
+    fn forget(&mut self) -> Result<(), AllocError>
+        requires { self.old.kept ≤ length self.old.followed.items }
+        ensures queued { OnOk result (StaysQueued self.old self.new) }
+        ensures kept { OnOk result (self.new.kept ≡ self.old.kept) }
+        ensures all { OnOk result (length self.new.followed.items ≡ self.new.kept) }
+    {
+        'places: while self.followed.len() > self.kept {
+            self.forget_last()?;
+        }
+        Ok(())
+    }
+
+    /// Follows the next place of the trail.
+    fn follow_place(&mut self, trail: &Trail) -> Result<(), AllocError>
+        requires all { length self.old.followed.items ≡ self.old.kept }
+        requires inside { self.old.kept < length_of trail.now }
+        ensures queued { OnOk result ((table : List (Vec Literal Global)) (requirements : List RequirementClause) → IsQueued self.old trail.now table requirements → IsQueued self.new trail.now table requirements) }
+        ensures kept { OnOk result (self.new.kept ≡ self.old.kept + 1) }
+        ensures all { OnOk result (length self.new.followed.items ≡ self.new.kept) }
+    {
+        let variable = trail.variable_at(self.kept);
+        self.followed.push(variable)?;
+        self.kept += 1;
+        self.ranks.touch(variable)?;
+        if is_true(trail, variable) {
+            self.waiting.take(variable.index(), &mut self.active)?;
+            return Ok(());
+        }
+        Ok(())
+    }
+
+    /// Follows the whole trail.
+    fn follow(&mut self, trail: &Trail) -> Result<(), AllocError>
+        requires { IsFollowing self.old trail.now }
+        ensures queued { OnOk result ((table : List (Vec Literal Global)) (requirements : List RequirementClause) → IsQueued self.old trail.now table requirements → IsQueued self.new trail.now table requirements) }
+        ensures followed { OnOk result (IsFollowed self.new trail.now) }
+    {
+        let from = self.active.len();
+        self.forget()?;
+        'places: while self.kept < trail.len() {
+            self.follow_place(trail)?;
+        }
+        self.ranks.enter(self.active.as_slice(), from)?;
+        Ok(())
+    }
+
+    /// Looks at an active requirement, by its place among them. If it is to be decided, its candidate is answered. Else it is put
+    /// aside.
+    fn settle(
+        &mut self,
+        trail: &Trail,
+        table: &[Vec<Literal>],
+        requirements: &[RequirementClause],
+        place: usize,
+    ) -> Result<Option<Choice>, AllocError>
+        requires below { AreBelow (variable_count trail.now) table.now }
+        requires settled { AllSettled trail.now table.now }
+        requires inside { All (λ (requirement : RequirementClause). requirement.number < length table.now) requirements.now }
+        requires queued { IsQueued self.old trail.now table.now requirements.now }
+        requires followed { IsFollowed self.old trail.now }
+        requires listed { place < length self.old.active.items }
+        ensures queued { OnOk result (IsQueued self.new trail.now table.now requirements.now) }
+        ensures followed { OnOk result (IsFollowed self.new trail.now) }
+        ensures fewer { IfOk result (λ answer. IfNone answer (length self.new.active.items < length self.old.active.items)) }
+        ensures some { IfOk result (λ answer. IfSome answer (IsChoice trail.now table.now requirements.now)) }
+    {
+        let index = self.active[place];
+        if index >= requirements.len() {
+            self.active.swap_remove(place);
+            self.ranks.leave(self.active.as_slice(), place);
+            return Ok(None);
+        }
+        let requirement = &requirements[index];
+        let literals = clause(table, requirement.number);
+        match standing_of(trail, literals) {
+            Standing::Waiting(variable) => {
+                self.waiting.add(variable.index(), index)?;
+                self.active.swap_remove(place);
+                self.ranks.leave(self.active.as_slice(), place);
+                Ok(None)
+            }
+            Standing::Met(variable) => {
+                self.met.add(variable.index(), index)?;
+                self.active.swap_remove(place);
+                self.ranks.leave(self.active.as_slice(), place);
+                Ok(None)
+            }
+            Standing::Open(first) => Ok(Some(choice_at(trail, literals, requirement, first, 0))),
+        }
+    }
+
+    /// The requirement that is decided next, with its candidate, or none where each requirement has a candidate or depends on
+    /// what is not true.
+    pub fn next(
+        &mut self,
+        trail: &Trail,
+        table: &[Vec<Literal>],
+        requirements: &[RequirementClause],
+    ) -> Result<Option<Choice>, AllocError>
+        requires below { AreBelow (variable_count trail.now) table.now }
+        requires settled { AllSettled trail.now table.now }
+        requires inside { All (λ (requirement : RequirementClause). requirement.number < length table.now) requirements.now }
+        requires queued { IsQueued self.old trail.now table.now requirements.now }
+        ensures none { IfOk result (λ answer. IfNone answer (All (λ (requirement : RequirementClause). IsMet trail.now (clause_at table.now requirement.number)) requirements.now)) }
+        ensures some { IfOk result (λ answer. IfSome answer (IsChoice trail.now table.now requirements.now)) }
+        ensures queued { OnOk result (IsQueued self.new trail.now table.now requirements.now) }
+    {
+        self.follow(trail)?;
+        'active: while !self.active.is_empty() {
+            let place = self
+                .ranks
+                .best(self.active.as_slice(), trail, table, requirements)?;
+            match self.settle(trail, table, requirements, place)? {
+                Some(choice) => return Ok(Some(choice)),
+                None => (),
+            }
+        }
+        Ok(None)
+    }
+}

@@ -1,0 +1,494 @@
+//! The order in which active requirements are decided.
+
+ghost use Rattle.std.specs.Prelude.{◌<◌, ◌≡◌, ◌≤◌, ◌+◌, All, IfNone, IfOk, IfSome, OnOk, length};
+ghost use Rattle.resolver_clause_store.specs.Formula.{AreBelow};
+ghost use Rattle.resolver_clause_store.specs.TrailView.{variable_count};
+ghost use Rattle.resolver_clause_store.specs.declared.clauses.RequirementClause.{RequirementClause};
+ghost use Rattle.resolver_clause_store.specs.Settled.{AllSettled};
+
+use crate::clauses::{RequirementClause, clause};
+use crate::decisions::choice_at;
+use crate::lists::Lists;
+use crate::literals::{Literal, Variable};
+use crate::scores::{Activity, Scores};
+use crate::standing::{Standing, standing_of};
+use crate::trail::Trail;
+use std::alloc::{AllocError, Global};
+use std::cmp::Reverse;
+use std::collections::BinaryHeap;
+
+/// What requirements are compared by, where their packages have the same score: those of the root come first, then those with
+/// fewer candidates in the version set that is tried, and then those that came first.
+#[derive(Clone, Copy, Debug, PartialEq, Eq, PartialOrd, Ord)]
+pub struct Rank {
+    is_later: bool,
+    count: usize,
+    requirement: usize,
+    /// The number of the package of that version set, where it is known.
+    owner: Option<usize>,
+    /// How often the requirement had been ranked.
+    edition: u64,
+}
+
+/// A rank, and the score of its package.
+#[derive(Clone, Copy, Debug)]
+pub struct Scored {
+    rank: Rank,
+    score: u64,
+}
+
+impl Scored {
+    /// Whether it comes before another one.
+    fn is_before(&self, other: &Scored) -> bool {
+        if self.rank.is_later != other.rank.is_later {
+            return other.rank.is_later;
+        }
+        if self.score != other.score {
+            return other.score < self.score;
+        }
+        self.rank < other.rank
+    }
+}
+
+/// The one that comes first of those that are there.
+fn first_of(one: Option<Scored>, other: Option<Scored>) -> Option<Scored> {
+    match (one, other) {
+        (Some(left), Some(right)) => {
+            if right.is_before(&left) {
+                return other;
+            }
+            one
+        }
+        (Some(_), None) => one,
+        (None, _) => other,
+    }
+}
+
+/// What is known of a requirement: where it stands among the active ones, if it does, and its latest rank.
+#[derive(Clone, Copy, Debug)]
+pub struct Entry {
+    place: usize,
+    edition: u64,
+    is_changed: bool,
+}
+
+/// The ranks of active requirements.
+///
+/// A requirement is ranked anew where a variable of a package that it asks for gets or loses its value, and where the score of
+/// such a package grows. Nothing is proved of the order, and nothing rests on it: whichever requirement comes out, the queue looks at
+/// it before it is decided.
+#[derive(Debug, Drop)]
+pub struct Ranks {
+    /// The number of the package of each variable, where it stands for a solvable.
+    owners: Vec<Option<usize>>,
+    scores: Scores,
+    learnt: u64,
+    entries: Vec<Entry>,
+    /// The requirements that have a candidate of a package, by its number.
+    asking: Lists,
+    /// The packages whose requirements are to be ranked anew.
+    touched: Vec<usize>,
+    is_touched: Vec<bool>,
+    /// The requirements that are to be ranked anew.
+    changed: Vec<usize>,
+    /// Ranks whose packages have a score, in no order.
+    scored: Vec<Rank>,
+    /// Ranks whose packages have none.
+    unscored: BinaryHeap<Reverse<Rank>>,
+}
+
+impl Ranks {
+    /// No requirements.
+    pub fn new(alloc: Global, activity: Activity) -> Self {
+        Ranks {
+            owners: Vec::new(alloc),
+            scores: Scores::new(alloc, activity),
+            learnt: 0,
+            entries: Vec::new(alloc),
+            asking: Lists::new(alloc),
+            touched: Vec::new(alloc),
+            is_touched: Vec::new(alloc),
+            changed: Vec::new(alloc),
+            scored: Vec::new(alloc),
+            unscored: BinaryHeap::new(alloc),
+        }
+    }
+
+    /// Takes in the packages of the variables behind those that are known.
+    pub fn learn_owners(&mut self, owners: &[Option<usize>]) -> Result<(), AllocError> {
+        'variables: for variable in self.owners.len()..owners.len() {
+            self.owners.push(owners[variable])?;
+        }
+        Ok(())
+    }
+
+    /// The number of the package of a variable, where it is known.
+    fn owner_of(&self, variable: Variable) -> Option<usize> {
+        match self.owners.get(variable.index()) {
+            Some(owner) => *owner,
+            None => None,
+        }
+    }
+
+    /// Adds the requirement of a clause behind the others.
+    pub fn add(&mut self, literals: &[Literal]) -> Result<(), AllocError> {
+        let requirement = self.entries.len();
+        self.entries.push(Entry {
+            place: 0,
+            edition: 0,
+            is_changed: false,
+        })?;
+        let mut last = None;
+        'literals: for literal in literals {
+            last = self.add_candidate(requirement, *literal, last)?;
+        }
+        Ok(())
+    }
+
+    /// Notes the package of a literal of a requirement's clause, unless it is that of the candidate before.
+    fn add_candidate(
+        &mut self,
+        requirement: usize,
+        literal: Literal,
+        last: Option<usize>,
+    ) -> Result<Option<usize>, AllocError> {
+        if !literal.positive {
+            return Ok(last);
+        }
+        let owner = self.owner_of(literal.variable);
+        if owner == last {
+            return Ok(last);
+        }
+        match owner {
+            Some(number) => {
+                self.asking.add(number, requirement)?;
+                Ok(owner)
+            }
+            None => Ok(last),
+        }
+    }
+
+    /// Notes that the score of a package grew, or that a variable of it got or lost its value.
+    fn touch_package(&mut self, number: usize) -> Result<(), AllocError> {
+        'packages: while self.is_touched.len() <= number {
+            self.is_touched.push(false)?;
+        }
+        if self.is_touched[number] {
+            return Ok(());
+        }
+        self.touched.push(number)?;
+        self.is_touched[number] = true;
+        Ok(())
+    }
+
+    /// Notes that a variable got or lost its value.
+    pub fn touch(&mut self, variable: Variable) -> Result<(), AllocError> {
+        match self.owner_of(variable) {
+            Some(number) => {
+                self.touch_package(number)?;
+                Ok(())
+            }
+            None => Ok(()),
+        }
+    }
+
+    /// Adds to the score of the package of a variable.
+    fn score_up(&mut self, variable: Variable) -> Result<(), AllocError> {
+        match self.owner_of(variable) {
+            Some(number) => {
+                self.scores.add(number, self.learnt)?;
+                self.touch_package(number)?;
+                Ok(())
+            }
+            None => Ok(()),
+        }
+    }
+
+    /// Takes in a learnt clause: each solvable in it adds to the score of its package, and then all scores fade.
+    pub fn learn(&mut self, literals: &[Literal]) -> Result<(), AllocError> {
+        'literals: for literal in literals {
+            self.score_up(literal.variable)?;
+        }
+        self.learnt = self.learnt.saturating_add(1);
+        Ok(())
+    }
+
+    /// The score of the package of a variable.
+    pub fn score_of(&self, variable: Variable) -> u64 {
+        match self.owner_of(variable) {
+            Some(number) => self.scores.of(number, self.learnt),
+            None => 0,
+        }
+    }
+
+    /// Puts a requirement among those that are to be ranked anew.
+    fn change(&mut self, requirement: usize) -> Result<(), AllocError> {
+        if requirement >= self.entries.len() || self.entries[requirement].is_changed {
+            return Ok(());
+        }
+        self.changed.push(requirement)?;
+        self.entries[requirement].is_changed = true;
+        Ok(())
+    }
+
+    /// Notes where a requirement stands that became active.
+    fn enter_at(&mut self, requirement: usize, place: usize) -> Result<(), AllocError> {
+        if requirement < self.entries.len() {
+            self.entries[requirement].place = place;
+        }
+        self.change(requirement)?;
+        Ok(())
+    }
+
+    /// Notes where the active requirements from a place on stand.
+    pub fn enter(&mut self, active: &[usize], from: usize) -> Result<(), AllocError> {
+        'places: for place in from..active.len() {
+            self.enter_at(active[place], place)?;
+        }
+        Ok(())
+    }
+
+    /// Notes that another active requirement, if one, stands now at a place.
+    pub fn leave(&mut self, active: &[usize], place: usize) {
+        if place >= active.len() || active[place] >= self.entries.len() {
+            return;
+        }
+        self.entries[active[place]].place = place;
+    }
+
+    /// The place of a requirement, if it is active.
+    fn place_of(&self, active: &[usize], requirement: usize) -> Option<usize>
+        ensures { IfSome result (λ place. place < length active.now) }
+    {
+        match self.entries.get(requirement) {
+            Some(entry) => {
+                if entry.place < active.len() && active[entry.place] == requirement {
+                    return Some(entry.place);
+                }
+                None
+            }
+            None => None,
+        }
+    }
+
+    /// Puts the active ones of the requirements that ask for a package among those that are to be ranked anew.
+    fn spread_package(&mut self, active: &[usize], number: usize) -> Result<(), AllocError> {
+        if number < self.is_touched.len() {
+            self.is_touched[number] = false;
+        }
+        'requirements: for index in 0..self.asking.at(number).len() {
+            self.spread_at(active, number, index)?;
+        }
+        Ok(())
+    }
+
+    /// Puts one of the requirements that ask for a package among those that are to be ranked anew, if it is active.
+    fn spread_at(
+        &mut self,
+        active: &[usize],
+        number: usize,
+        index: usize,
+    ) -> Result<(), AllocError> {
+        match self.asking.at(number).get(index) {
+            Some(requirement) => {
+                let requirement = *requirement;
+                if self.place_of(active, requirement).is_some() {
+                    self.change(requirement)?;
+                }
+                Ok(())
+            }
+            None => Ok(()),
+        }
+    }
+
+    /// Puts the requirements that ask for touched packages among those that are to be ranked anew.
+    fn spread(&mut self, active: &[usize]) -> Result<(), AllocError> {
+        'packages: for _ in 0..self.touched.len() {
+            match self.touched.pop() {
+                Some(number) => self.spread_package(active, number)?,
+                None => (),
+            }
+        }
+        Ok(())
+    }
+
+    /// Forgets the old ranks, if there are far more of them than active requirements.
+    fn tidy(&mut self, active: &[usize]) -> Result<(), AllocError> {
+        if self.unscored.len() / 2 <= active.len().saturating_add(32) {
+            return Ok(());
+        }
+        self.unscored.clear();
+        'requirements: for requirement in active {
+            self.change(*requirement)?;
+        }
+        Ok(())
+    }
+
+    /// Puts a rank where it belongs.
+    fn put(&mut self, rank: Rank) -> Result<(), AllocError>
+        ensures changed { self.new.changed.items ≡ self.old.changed.items }
+    {
+        if self.current_score(&rank) == 0 {
+            self.unscored.push(Reverse(rank))?;
+            return Ok(());
+        }
+        self.scored.push(rank)?;
+        Ok(())
+    }
+
+    /// The score of the package of a rank.
+    fn current_score(&mut self, rank: &Rank) -> u64
+        ensures changed { self.new.changed.items ≡ self.old.changed.items }
+        ensures scored { self.new.scored.items ≡ self.old.scored.items }
+    {
+        match rank.owner {
+            Some(number) => self.scores.read(number, self.learnt),
+            None => 0,
+        }
+    }
+
+    /// Ranks a requirement anew. If it is active and there is nothing to decide for it, its place is answered.
+    fn rank(
+        &mut self,
+        active: &[usize],
+        trail: &Trail,
+        table: &[Vec<Literal>],
+        requirements: &[RequirementClause],
+        index: usize,
+    ) -> Result<Option<usize>, AllocError>
+        requires below { AreBelow (variable_count trail.now) table.now }
+        requires settled { AllSettled trail.now table.now }
+        requires inside { All (λ (requirement : RequirementClause). requirement.number < length table.now) requirements.now }
+        ensures place { IfOk result (λ answer. IfSome answer (λ place. place < length active.now)) }
+        ensures changed { self.new.changed.items ≡ self.old.changed.items }
+    {
+        if index >= self.entries.len() || index >= requirements.len() {
+            return Ok(None);
+        }
+        self.entries[index].is_changed = false;
+        match self.place_of(active, index) {
+            None => Ok(None),
+            Some(place) => {
+                let literals = clause(table, requirements[index].number);
+                match standing_of(trail, literals) {
+                    Standing::Open(first) => {
+                        let edition = self.entries[index].edition.wrapping_add(1);
+                        self.entries[index].edition = edition;
+                        let choice = choice_at(trail, literals, &requirements[index], first, 0);
+                        self.put(Rank {
+                            is_later: !choice.of_root,
+                            count: choice.count,
+                            requirement: index,
+                            owner: self.owner_of(literals[first].variable),
+                            edition,
+                        })?;
+                        Ok(None)
+                    }
+                    Standing::Waiting(_) => Ok(Some(place)),
+                    Standing::Met(_) => Ok(Some(place)),
+                }
+            }
+        }
+    }
+
+    /// Whether a rank is the latest one of an active requirement.
+    fn is_current(&self, active: &[usize], rank: &Rank) -> bool {
+        if self.place_of(active, rank.requirement).is_none() {
+            return false;
+        }
+        match self.entries.get(rank.requirement) {
+            Some(entry) => entry.edition == rank.edition,
+            None => false,
+        }
+    }
+
+    /// The rank at a place of those whose packages had a score. If it is old, or its package has none any more, it is taken away.
+    fn scored_at(&mut self, active: &[usize], index: usize) -> Result<Option<Scored>, AllocError>
+        requires { index < length self.old.scored.items }
+        ensures some { IfOk result (λ answer. IfSome answer (λ scored. length self.new.scored.items ≡ length self.old.scored.items)) }
+        ensures none { IfOk result (λ answer. IfNone answer (length self.new.scored.items < length self.old.scored.items)) }
+    {
+        let rank = self.scored[index];
+        let score = self.current_score(&rank);
+        let is_current = self.is_current(active, &rank);
+        if is_current && 0 < score {
+            return Ok(Some(Scored { rank, score }));
+        }
+        if is_current {
+            self.unscored.push(Reverse(rank))?;
+        }
+        self.scored.swap_remove(index);
+        Ok(None)
+    }
+
+    /// The first of the ranks whose packages have a score.
+    fn first_scored(&mut self, active: &[usize]) -> Result<Option<Scored>, AllocError> {
+        let mut first = None;
+        let mut index = 0;
+        'ranks: while index < self.scored.len() {
+            let next = self.scored_at(active, index)?;
+            if next.is_some() {
+                index += 1;
+            }
+            first = first_of(first, next);
+        }
+        Ok(first)
+    }
+
+    /// The first of the ranks whose packages have no score. Old ones before it are taken away.
+    fn first_unscored(&mut self, active: &[usize]) -> Option<Scored> {
+        'ranks: for _ in 0..self.unscored.len() {
+            match self.unscored.peek() {
+                Some(Reverse(rank)) => {
+                    let rank = *rank;
+                    if self.is_current(active, &rank) {
+                        return Some(Scored { rank, score: 0 });
+                    }
+                    self.unscored.pop();
+                }
+                None => return None,
+            }
+        }
+        None
+    }
+
+    /// The place of the requirement whose rank comes first.
+    fn first_place(&mut self, active: &[usize]) -> Result<Option<usize>, AllocError>
+        ensures { IfOk result (λ answer. IfSome answer (λ place. place < length active.now)) }
+    {
+        let scored = self.first_scored(active)?;
+        let unscored = self.first_unscored(active);
+        match first_of(scored, unscored) {
+            Some(first) => Ok(self.place_of(active, first.rank.requirement)),
+            None => Ok(None),
+        }
+    }
+
+    /// The place of an active requirement to look at: one for which there is nothing to decide, or else the one that is decided first.
+    pub fn best(
+        &mut self,
+        active: &[usize],
+        trail: &Trail,
+        table: &[Vec<Literal>],
+        requirements: &[RequirementClause],
+    ) -> Result<usize, AllocError>
+        requires below { AreBelow (variable_count trail.now) table.now }
+        requires settled { AllSettled trail.now table.now }
+        requires inside { All (λ (requirement : RequirementClause). requirement.number < length table.now) requirements.now }
+        requires some { 0 < length active.now }
+        ensures { IfOk result (λ place. place < length active.now) }
+    {
+        self.tidy(active)?;
+        self.spread(active)?;
+        'changed: while let Some(index) = self.changed.pop() {
+            match self.rank(active, trail, table, requirements, index)? {
+                Some(place) => return Ok(place),
+                None => (),
+            }
+        }
+        match self.first_place(active)? {
+            Some(place) => Ok(place),
+            None => Ok(0),
+        }
+    }
+}

@@ -1,0 +1,159 @@
+//! Scores of packages, which grow with learnt clauses and fade.
+
+ghost use Rattle.std.specs.Prelude.{◌<◌, ◌≡◌, ◌≢◌, ◌≤◌, ◌+◌, ◌-◌, ◌^◌, ℕ, OnOk, length, min, suc};
+ghost use Rattle.resolver_clause_store.specs.Scores.{fade, fade_often, kept_score, score_in};
+ghost use Rattle.resolver_clause_store.specs.declared.scores.Scores.{Scores as AllScores};
+
+use std::alloc::{AllocError, Global};
+
+/// How scores grow and fade.
+#[derive(Clone, Copy, Debug)]
+pub struct Activity {
+    /// What a solvable in a learnt clause adds to the score of its package.
+    pub add: u64,
+    /// How many millionths of each score are left after a learnt clause.
+    pub decay: u64,
+}
+
+impl Activity {
+    /// Scores in millionths, of which a twentieth fades.
+    pub fn usual() -> Self {
+        Activity {
+            add: 1_000_000,
+            decay: 950_000,
+        }
+    }
+}
+
+/// What is left of a score after a learnt clause.
+pub fn faded(score: u64, decay: u64) -> u64
+    ensures { result ≡ fade decay score }
+{
+    score.saturating_mul(decay) / 1_000_000
+}
+
+/// What is left of a score after so many learnt clauses.
+pub fn faded_often(score: u64, decay: u64, times: u64) -> u64
+    ensures { result ≡ fade_often decay times score }
+{
+    let mut left = score;
+    'times: for count in 0..times {
+        let next = faded(left, decay);
+        if next == left {
+            return left;
+        }
+        left = next;
+    }
+    left
+}
+
+/// A score as it was when so many clauses were learnt.
+#[derive(Clone, Copy, Debug)]
+pub struct Score {
+    value: u64,
+    learnt: u64,
+}
+
+/// The scores of packages, by their numbers. One that was never added to is 0.
+///
+/// A score is kept as it was when it was last added to, and fades when it is read.
+#[derive(Debug, Drop)]
+pub struct Scores {
+    activity: Activity,
+    scores: Vec<Score>,
+}
+
+impl Scores {
+    /// Each score is 0.
+    pub fn new(alloc: Global, activity: Activity) -> Self
+        ensures { (number learnt : ℕ) → score_in result number learnt ≡ 0 }
+    {
+        Scores {
+            activity,
+            scores: Vec::new(alloc),
+        }
+    }
+
+    /// The score of a package, as it was kept.
+    fn kept(&self, number: usize) -> Score
+        ensures { result ≡ kept_score self.now.scores.items number }
+    {
+        match self.scores.get(number) {
+            Some(score) => *score,
+            None => Score {
+                value: 0,
+                learnt: 0,
+            },
+        }
+    }
+
+    /// The score of a package after so many learnt clauses.
+    pub fn of(&self, number: usize, learnt: u64) -> u64
+        ensures { result ≡ score_in self.now number learnt }
+    {
+        let kept = self.kept(number);
+        faded_often(
+            kept.value,
+            self.activity.decay,
+            learnt.saturating_sub(kept.learnt),
+        )
+    }
+
+    /// The score of a package after so many learnt clauses, which is kept.
+    pub fn read(&mut self, number: usize, learnt: u64) -> u64
+        ensures value { result ≡ score_in self.old number learnt }
+        ensures same { (kept_score self.old.scores.items number).learnt ≤ learnt → (other later : ℕ) → learnt ≤ later → score_in self.new other later ≡ score_in self.old other later }
+    {
+        let value = self.of(number, learnt);
+        if number < self.scores.len() {
+            self.keep(number, Score { value, learnt });
+        }
+        value
+    }
+
+    /// Keeps this score for a package.
+    fn keep(&mut self, number: usize, score: Score)
+        requires { number < length self.old.scores.items }
+        ensures here { kept_score self.new.scores.items number ≡ score }
+        ensures others { (other : ℕ) → other ≢ number → kept_score self.new.scores.items other ≡ kept_score self.old.scores.items other }
+        ensures activity { self.new.activity ≡ self.old.activity }
+    {
+        self.scores[number] = score;
+    }
+
+    /// Makes scores of 0 for the packages up to this one that have none.
+    fn reach(&mut self, number: usize) -> Result<(), AllocError>
+        ensures same { (other : ℕ) → kept_score self.new.scores.items other ≡ kept_score self.old.scores.items other }
+        ensures activity { self.new.activity ≡ self.old.activity }
+        ensures enough { OnOk result (number + 1 ≤ length self.new.scores.items) }
+    {
+        'packages: while self.scores.len() <= number {
+            self.scores.push(Score {
+                value: 0,
+                learnt: 0,
+            })?;
+        }
+        Ok(())
+    }
+
+    /// Adds to the score of a package after so many learnt clauses.
+    pub fn add(&mut self, number: usize, learnt: u64) -> Result<(), AllocError>
+        ensures here { OnOk result (score_in self.new number learnt ≡ min (score_in self.old number learnt + self.old.activity.add) (2 ^ 64 - 1)) }
+        ensures dated { OnOk result ((kept_score self.new.scores.items number).learnt ≡ learnt) }
+        ensures others { OnOk result ((other : ℕ) → other ≢ number → kept_score self.new.scores.items other ≡ kept_score self.old.scores.items other) }
+        ensures activity { self.new.activity ≡ self.old.activity }
+    {
+        let value = self.of(number, learnt).saturating_add(self.activity.add);
+        self.reach(number)?;
+        self.keep(number, Score { value, learnt });
+        Ok(())
+    }
+}
+
+/// A score that is read one learnt clause later has faded once more.
+pub fn scores_fade()
+    ensures { (scores : AllScores) (number learnt : ℕ) → (kept_score scores.scores.items number).learnt ≤ learnt → score_in scores number (suc learnt) ≡ fade scores.activity.decay (score_in scores number learnt) }
+{}
+
+#[cfg(test)]
+mod tests;

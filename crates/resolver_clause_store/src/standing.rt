@@ -1,0 +1,53 @@
+//! How requirements stand under a trail.
+
+ghost use Rattle.resolver_clause_store.specs.Formula.{IsBelow};
+ghost use Rattle.resolver_clause_store.specs.TrailView.{variable_count};
+ghost use Rattle.resolver_clause_store.specs.Decisions.{StandingIs};
+ghost use Rattle.resolver_clause_store.specs.Settled.{IsSettled};
+
+use crate::literals::{Literal, Variable};
+use crate::trail::Trail;
+
+/// How a requirement stands under a trail.
+#[derive(Clone, Copy, Debug)]
+pub enum Standing {
+    /// It depends on this variable, which is not true.
+    Waiting(Variable),
+    /// This candidate of it is true.
+    Met(Variable),
+    /// All that it depends on is true, no candidate is, and the one at this place of its clause is the first with no value.
+    Open(usize),
+}
+
+/// How the requirement of a clause stands.
+pub fn standing_of(trail: &Trail, clause: &[Literal]) -> Standing
+    requires below { IsBelow (variable_count trail.now) clause.now }
+    requires settled { IsSettled trail.now clause.now }
+    ensures { StandingIs trail.now clause.now result }
+{
+    let mut first: Option<usize> = None;
+    'literals: for place in 0..clause.len() {
+        let Literal { variable, positive } = clause[place];
+        match trail.value(clause[place]) {
+            Some(true) => {
+                if positive {
+                    return Standing::Met(variable);
+                }
+                return Standing::Waiting(variable);
+            }
+            Some(false) => (),
+            None => {
+                if !positive {
+                    return Standing::Waiting(variable);
+                }
+                if first.is_none() {
+                    first = Some(place);
+                }
+            }
+        }
+    }
+    match first {
+        Some(place) => Standing::Open(place),
+        None => Standing::Open(0),
+    }
+}

@@ -1,0 +1,294 @@
+//! Which clauses watch which literals.
+
+ghost use Rattle.std.specs.Prelude.{◌≡◌, ◌≢◌, ℕ, ◌+◌, ◌*◌, ◌<◌, ◌≤◌, ◌++◌, ◌∷◌, [], List, OnErr, OnOk, Some, Vec, length, slice_get, slice_set};
+ghost use Rattle.std.specs.List.{swap_remove};
+ghost use Rattle.std.specs.declared.alloc.Global.{Global};
+ghost use Rattle.resolver_clause_store.specs.declared.literals.Literal.{Literal};
+ghost use Rattle.resolver_clause_store.specs.Watches.{IsWatched, PutsList, is_watched, list_at, list_number, number_at, replaced};
+
+use crate::literals::Literal;
+use std::alloc::{AllocError, Global};
+
+/// A clause in a literal's list.
+#[derive(Clone, Copy, Debug, PartialEq, Eq)]
+pub struct Watch {
+    /// The clause's number.
+    pub number: usize,
+    /// A literal of the clause: where it is true, the clause need not be looked at.
+    pub blocker: Literal,
+}
+
+/// The two literals that a clause watches, or none.
+#[derive(Clone, Copy, Debug, PartialEq, Eq)]
+pub struct WatchedPair {
+    pub first: Option<Literal>,
+    pub second: Option<Literal>,
+}
+
+/// The place of a literal's list.
+pub fn list_number(literal: Literal) -> usize
+    ensures { result ≡ list_number literal }
+{
+    2 * literal.variable.index() + usize::from(literal.positive)
+}
+
+/// A copy of a literal. The borrow checker does not see that a literal is `Copy`, and would move it.
+pub fn copied(literal: &Literal) -> Literal
+    ensures { result ≡ literal.now }
+{
+    *literal
+}
+
+/// Whether there is a literal, and it is this one.
+fn is_watched(watched: Option<Literal>, literal: Literal) -> bool
+    ensures { result ≡ is_watched watched literal }
+{
+    match watched {
+        Some(one) => one == literal,
+        None => false,
+    }
+}
+
+/// A pair with one literal in the place of another.
+fn replaced(pair: WatchedPair, from: Literal, to: Literal) -> WatchedPair
+    ensures { result ≡ replaced pair from to }
+{
+    if is_watched(pair.first, from) {
+        WatchedPair {
+            first: Some(to),
+            second: pair.second,
+        }
+    } else {
+        WatchedPair {
+            first: pair.first,
+            second: Some(to),
+        }
+    }
+}
+
+/// Makes empty lists, up to this many.
+fn add_lists(lists: &mut Vec<Vec<Watch>>, alloc: Global, count: usize) -> Result<(), AllocError>
+    requires { length lists.old.items ≤ count }
+    ensures size { OnOk result (length lists.new.items ≡ count) }
+    ensures same { (list : ℕ) → list_at lists.new.items list ≡ list_at lists.old.items list }
+{
+    'lists: while lists.len() < count {
+        lists.push(Vec::new(alloc))?;
+    }
+    Ok(())
+}
+
+/// Puts a watch behind the others of a list.
+fn push_at(lists: &mut Vec<Vec<Watch>>, list: usize, watch: Watch) -> Result<(), AllocError>
+    requires { list < length lists.old.items }
+    ensures ok { OnOk result (PutsList lists.old.items lists.new.items list (list_at lists.old.items list ++ watch ∷ [])) }
+    ensures err { OnErr result (PutsList lists.old.items lists.new.items list (list_at lists.old.items list)) }
+{
+    lists[list].push(watch)?;
+    Ok(())
+}
+
+/// Takes a watch out of a list, and puts the last one in its place.
+fn take_at(lists: &mut Vec<Vec<Watch>>, list: usize, place: usize)
+    requires list { list < length lists.old.items }
+    requires place { place < length (list_at lists.old.items list) }
+    ensures { (any : Watch) → PutsList lists.old.items lists.new.items list (swap_remove (list_at lists.old.items list) place any) }
+{
+    let _taken = lists[list].swap_remove(place);
+}
+
+/// Gives the watch at a place of a list another blocker.
+fn set_at(lists: &mut Vec<Vec<Watch>>, list: usize, place: usize, blocker: Literal)
+    requires list { list < length lists.old.items }
+    requires place { place < length (list_at lists.old.items list) }
+    ensures { PutsList lists.old.items lists.new.items list (slice_set (list_at lists.old.items list) place (record { number = number_at (list_at lists.old.items list) place; blocker = blocker })) }
+{
+    let number = lists[list][place].number;
+    lists[list][place] = Watch { number, blocker };
+}
+
+/// For each literal the clauses that watch it, and for each clause the two literals that it watches.
+///
+/// A clause stands in the lists of its two literals and in no other list. One without two different literals watches none.
+#[derive(Debug, Drop)]
+pub struct Watches {
+    lists: Vec<Vec<Watch>>,
+    pairs: Vec<WatchedPair>,
+    ghost watched: { IsWatched lists.items pairs.items },
+}
+
+impl Watches {
+    ghost use Rattle.std.specs.Prelude.{Contains};
+    ghost use Rattle.resolver_clause_store.specs.Formula.{clause_at};
+    ghost use Rattle.resolver_clause_store.specs.Watches.{HasBlockers, IsWatching, MovesWatch, SameClauses, pair_at, pair_count, pair_from, same, unwatched, watched_pair};
+    ghost use Rattle.resolver_clause_store.specs.WatchesView.{HasList, lists_of, pairs_of};
+
+    /// No literal and no clause.
+    pub fn empty(alloc: Global) -> Self
+        ensures lists { lists_of result ≡ [] }
+        ensures pairs { pairs_of result ≡ [] }
+    {
+        Watches {
+            lists: Vec::new(alloc),
+            pairs: Vec::new(alloc),
+        }
+    }
+
+    /// Makes empty lists for the literals of new variables, up to this many variables.
+    pub fn grow(&mut self, alloc: Global, variables: usize) -> Result<(), AllocError>
+        requires { length (lists_of self.old) ≤ 2 * variables }
+        ensures size { OnOk result (length (lists_of self.new) ≡ 2 * variables) }
+        ensures lists { (list : ℕ) → list_at (lists_of self.new) list ≡ list_at (lists_of self.old) list }
+        ensures pairs { pairs_of self.new ≡ pairs_of self.old }
+    {
+        let Some(count) = variables.checked_mul(2) else {
+            return Err(AllocError);
+        };
+        add_lists(&mut self.lists, alloc, count)?;
+        Ok(())
+    }
+
+    /// How many clauses there are.
+    pub fn len(&self) -> usize
+        ensures { result ≡ length (pairs_of self.now) }
+    {
+        self.pairs.len()
+    }
+
+    /// The two literals that a clause watches.
+    pub fn pair(&self, number: usize) -> WatchedPair
+        requires { number < length (pairs_of self.now) }
+        ensures { result ≡ pair_at (pairs_of self.now) number }
+    {
+        self.pairs[number]
+    }
+
+    /// How many clauses watch a literal.
+    pub fn count(&self, literal: Literal) -> usize
+        requires { HasList self.now literal }
+        ensures { result ≡ length (list_at (lists_of self.now) (list_number literal)) }
+    {
+        self.lists[list_number(literal)].len()
+    }
+
+    /// The clause at a place of a literal's list.
+    pub fn watch_at(&self, literal: Literal, place: usize) -> Watch
+        requires list { HasList self.now literal }
+        requires place { place < length (list_at (lists_of self.now) (list_number literal)) }
+        ensures value { slice_get (list_at (lists_of self.now) (list_number literal)) place ≡ Some result }
+        ensures inside { result.number < length (pairs_of self.now) }
+        ensures watching { IsWatching (pairs_of self.now) result.number literal }
+    {
+        self.lists[list_number(literal)][place]
+    }
+
+    /// Lets a clause watch one literal more, so that its pair is this one.
+    fn attach(
+        &mut self,
+        number: usize,
+        pair: WatchedPair,
+        literal: Literal,
+        blocker: Literal,
+    ) -> Result<(), AllocError>
+        requires number { number < length (pairs_of self.old) }
+        requires list { HasList self.old literal }
+        requires gains { (list : ℕ) → pair_count pair list ≡ pair_count (pair_at (pairs_of self.old) number) list + same (list_number literal) list }
+        ensures pairs { OnOk result (pairs_of self.new ≡ slice_set (pairs_of self.old) number pair) }
+        ensures lists { OnOk result (PutsList (lists_of self.old) (lists_of self.new) (list_number literal) (list_at (lists_of self.old) (list_number literal) ++ record { number = number; blocker = blocker } ∷ [])) }
+    {
+        let watch = Watch { number, blocker };
+        push_at(&mut self.lists, list_number(literal), watch)?;
+        self.pairs[number] = pair;
+        Ok(())
+    }
+
+    /// Adds a clause behind the others that watches two literals, which are each other's blockers.
+    fn add_two(&mut self, first: Literal, second: Literal) -> Result<(), AllocError>
+        requires first { HasList self.old first }
+        requires second { HasList self.old second }
+        ensures pairs { OnOk result (pairs_of self.new ≡ pairs_of self.old ++ watched_pair first second ∷ []) }
+        ensures size { OnOk result (length (lists_of self.new) ≡ length (lists_of self.old)) }
+        ensures blockers { OnOk result ((table : List (Vec Literal Global)) → Contains (clause_at table (length (pairs_of self.old))) first → Contains (clause_at table (length (pairs_of self.old))) second → HasBlockers table (lists_of self.old) → HasBlockers table (lists_of self.new)) }
+    {
+        let number = self.pairs.len();
+        self.add_none()?;
+        let one = WatchedPair {
+            first: Some(copied(&first)),
+            second: None,
+        };
+        self.attach(number, one, copied(&first), copied(&second))?;
+        let two = WatchedPair {
+            first: Some(copied(&first)),
+            second: Some(copied(&second)),
+        };
+        self.attach(number, two, second, first)?;
+        Ok(())
+    }
+
+    /// Adds a clause behind the others that watches nothing.
+    fn add_none(&mut self) -> Result<(), AllocError>
+        ensures pairs { OnOk result (pairs_of self.new ≡ pairs_of self.old ++ unwatched ∷ []) }
+        ensures lists { lists_of self.new ≡ lists_of self.old }
+    {
+        self.pairs.push(WatchedPair {
+            first: None,
+            second: None,
+        })?;
+        Ok(())
+    }
+
+    /// Adds a clause behind the others that watches two literals, which are each other's blockers, or none.
+    pub fn add(&mut self, pair: Option<(Literal, Literal)>) -> Result<(), AllocError>
+        requires inside { (first second : Literal) → pair ≡ Some (first, second) → (list_number first < length (lists_of self.old)) × (list_number second < length (lists_of self.old)) }
+        ensures pairs { OnOk result (pairs_of self.new ≡ pairs_of self.old ++ pair_from pair ∷ []) }
+        ensures size { OnOk result (length (lists_of self.new) ≡ length (lists_of self.old)) }
+        ensures blockers { OnOk result ((table : List (Vec Literal Global)) → ((first second : Literal) → pair ≡ Some (first, second) → Contains (clause_at table (length (pairs_of self.old))) first × Contains (clause_at table (length (pairs_of self.old))) second) → HasBlockers table (lists_of self.old) → HasBlockers table (lists_of self.new)) }
+    {
+        match pair {
+            Some((first, second)) => {
+                self.add_two(first, second)?;
+                Ok(())
+            }
+            None => {
+                self.add_none()?;
+                Ok(())
+            }
+        }
+    }
+
+    /// Puts another literal in the place of a blocker.
+    pub fn set_blocker(&mut self, literal: Literal, place: usize, blocker: Literal)
+        requires list { HasList self.old literal }
+        requires place { place < length (list_at (lists_of self.old) (list_number literal)) }
+        ensures same { SameClauses (lists_of self.old) (lists_of self.new) }
+        ensures pairs { pairs_of self.new ≡ pairs_of self.old }
+        ensures blockers { (table : List (Vec Literal Global)) (watch : Watch) → slice_get (list_at (lists_of self.old) (list_number literal)) place ≡ Some watch → Contains (clause_at table watch.number) blocker → HasBlockers table (lists_of self.old) → HasBlockers table (lists_of self.new) }
+    {
+        set_at(&mut self.lists, list_number(literal), place, blocker);
+    }
+
+    /// Lets the clause at a place of a literal's list watch another literal instead.
+    ///
+    /// The last clause of the list comes to that place.
+    pub fn move_watch(
+        &mut self,
+        from: Literal,
+        place: usize,
+        to: Literal,
+        blocker: Literal,
+    ) -> Result<(), AllocError>
+        requires from { HasList self.old from }
+        requires to { HasList self.old to }
+        requires differ { from ≢ to }
+        requires place { place < length (list_at (lists_of self.old) (list_number from)) }
+        ensures moved { OnOk result ((watch : Watch) → slice_get (list_at (lists_of self.old) (list_number from)) place ≡ Some watch → MovesWatch (lists_of self.old) (lists_of self.new) (pairs_of self.old) (pairs_of self.new) from to place watch.number) }
+        ensures blockers { OnOk result ((table : List (Vec Literal Global)) (watch : Watch) → slice_get (list_at (lists_of self.old) (list_number from)) place ≡ Some watch → Contains (clause_at table watch.number) blocker → HasBlockers table (lists_of self.old) → HasBlockers table (lists_of self.new)) }
+    {
+        let number = self.watch_at(copied(&from), place).number;
+        let watch = Watch { number, blocker };
+        push_at(&mut self.lists, list_number(copied(&to)), watch)?;
+        take_at(&mut self.lists, list_number(copied(&from)), place);
+        self.pairs[number] = replaced(self.pairs[number], from, to);
+        Ok(())
+    }
+}

@@ -1,6 +1,0 @@
-use Rattle.std.proofs.Common.{refl}
-use Rattle.resolvo.proofs.QueueLemmas.{queued-add}
-use Rattle.resolvo.proofs.queue.DecideQueue.add.Goals as goal
-
-pub returns : goal.returns
-returns c = λ trail table requirements requirement end it. queued-add c.args.self.now _ trail table requirements requirement c.args.index end c.in_ok-push.ensures.items refl refl refl refl it

@@ -1,6 +1,0 @@
-use Rattle.std.proofs.Common.{refl, arith}
-use Rattle.resolvo.proofs.QueueLemmas.{queued-cut}
-use Rattle.resolvo.proofs.queue.DecideQueue.cut.Goals as goal
-
-pub returns : goal.returns
-returns c = λ before after table requirements keeps it. queued-cut c.args.self.now _ before after table requirements refl refl refl refl (omega (arith, c.min-self.ensures)) (rw c.min-self.ensures keeps) it

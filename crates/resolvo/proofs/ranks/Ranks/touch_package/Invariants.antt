@@ -1,5 +1,0 @@
-use Rattle.std.proofs.Common.{◌+◌, ◌-◌, length}
-use Rattle.resolvo.proofs.ranks.Ranks.touch_package.Given as goal
-
-abbrev pub decreases-packages : goal.decreases-packages
-decreases-packages l = l.number + 1 - length l.self.is_touched.items

@@ -1,5 +1,0 @@
-use Rattle.resolvo.proofs.ScoreLemmas.{score-new}
-use Rattle.resolvo.proofs.scores.Scores.new.Goals as goal
-
-pub returns : goal.returns
-returns c = score-new (record { activity = c.args.activity; scores = c.new.result }) c.new.ensures.items

@@ -1,5 +1,0 @@
-use Rattle.resolvo.proofs.WatchListLemmas.{watched-empty}
-use Rattle.resolvo.proofs.watches.Watches.empty.Goals as goal
-
-pub invariant_of-result : goal.invariant_of-result
-invariant_of-result c = record { watched = watched-empty _ _ c.new.ensures.items c.new-2.ensures.items }

@@ -1,5 +1,0 @@
-use Rattle.resolvo.proofs.WatchListLemmas.{watched-lists}
-use Rattle.resolvo.proofs.watches.Watches.grow.Goals as goal
-
-pub invariant_of-self : goal.invariant_of-self
-invariant_of-self c = record { watched = watched-lists _ _ _ c.add_lists.ensures.same c.args.self.now.watched }
