@@ -260,6 +260,7 @@ impl Watches {
     pub fn set_blocker(&mut self, literal: Literal, place: usize, blocker: Literal)
         requires list { HasList self.old literal }
         requires place { place < length (list_at (lists_of self.old) (list_number literal)) }
+        ensures set { PutsList (lists_of self.old) (lists_of self.new) (list_number literal) (slice_set (list_at (lists_of self.old) (list_number literal)) place (record { number = number_at (list_at (lists_of self.old) (list_number literal)) place; blocker = blocker })) }
         ensures same { SameClauses (lists_of self.old) (lists_of self.new) }
         ensures pairs { pairs_of self.new ≡ pairs_of self.old }
         ensures blockers { (table : List (Vec Literal Global)) (watch : Watch) → slice_get (list_at (lists_of self.old) (list_number literal)) place ≡ Some watch → Contains (clause_at table watch.number) blocker → HasBlockers table (lists_of self.old) → HasBlockers table (lists_of self.new) }
