@@ -17,7 +17,10 @@ pub struct Activity {
 
 impl Activity {
     /// Scores in millionths, of which a twentieth fades.
-    pub fn usual() -> Self {
+    pub fn usual() -> Self
+        ensures add { result.add ≡ 1000000 }
+        ensures decay { result.decay ≡ 950000 }
+    {
         Activity {
             add: 1_000_000,
             decay: 950_000,

@@ -89,6 +89,7 @@ impl<D: DependencyProvider> Solver<D> {
         ensures none_deferred { deferred_count_in result ≡ 0 }
         ensures none_exempt { exempt_in result ≡ [] }
         ensures limits { HasLimits (2 ^ 31) result }
+        ensures activity { HasActivity 1000000 950000 result }
         ensures sound { IsSound (D.universe (provider_in result)) result }
     {
         Solver {
