@@ -41,12 +41,6 @@ pub enum ClauseKind<N, S> {
         version_set: VersionSetId,
         candidate: S,
     },
-    /// Not both are there, since they bear one name.
-    ForbidMultipleInstances {
-        name: N,
-        first: S,
-        second: S,
-    },
     /// The gate of a requirement needs one of its candidates.
     GateRequires {
         requirement: Requirement,
@@ -61,7 +55,7 @@ pub enum ClauseKind<N, S> {
         parent: By<S>,
         version_set: VersionSetId,
     },
-    /// An instance has, or lacks, a bit in its code.
+    /// An instance has, or lacks, a bit in its code. Codes of two instances of a name differ in a bit, so not both are there.
     HasBit {
         name: N,
         instance: S,

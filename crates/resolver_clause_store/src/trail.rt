@@ -1,7 +1,7 @@
 //! The variables that have a value, in the order in which they got it.
 
 ghost use Rattle.std.specs.Prelude.{◌<◌, ◌≡◌, ◌≤◌, ℕ, IfOk, MatchBool, None, OnErr, OnOk, Some};
-ghost use Rattle.resolver_clause_store.specs.Slots.{AreCounted, AreRising, IsListed, IsPlaced};
+ghost use Rattle.resolver_clause_store.specs.Slots.{AreCounted, AreRising, AreValues, IsListed, IsPlaced};
 
 use crate::literals::{Literal, Variable};
 use std::alloc::{AllocError, Global};
@@ -39,11 +39,15 @@ pub enum Addition {
 
 /// The variables in the order in which they got their values, and a slot for each variable.
 ///
+/// The values stand in a small table besides, since most looks are for the value, and slots are wide.
+///
 /// Levels count from 0. They never fall from place to place. A decision begins a level, and so does an assumption.
 #[derive(Debug, Drop)]
 pub struct Trail {
     slots: Vec<Option<Slot>>,
+    values: Vec<Option<bool>>,
     order: Vec<Variable>,
+    ghost valued: { AreValues values.items slots.items },
     ghost placed: { IsPlaced slots.items order.items },
     ghost listed: { IsListed slots.items order.items },
     ghost rising: { AreRising slots.items },
@@ -64,6 +68,7 @@ impl Trail {
     {
         Trail {
             slots: Vec::new(alloc),
+            values: Vec::new(alloc),
             order: Vec::new(alloc),
         }
     }
@@ -73,11 +78,9 @@ impl Trail {
         ensures size { IfOk result (λ trail. variable_count trail ≡ variables) }
         ensures none { IfOk result (λ trail. (variable : ℕ) → slot_of trail variable ≡ None) }
     {
-        let slots = vec![in alloc; None; variables]?;
-        Ok(Trail {
-            slots,
-            order: Vec::new(alloc),
-        })
+        let mut trail = Trail::empty(alloc);
+        trail.grow(variables)?;
+        Ok(trail)
     }
 
     /// How many variables there are, with a value or without.
@@ -114,8 +117,8 @@ impl Trail {
         requires { literal.variable < variable_count self.now }
         ensures { result ≡ literal_value self.now literal }
     {
-        match self.slot(literal.variable) {
-            Some(slot) => Some(slot.value == literal.positive),
+        match self.values[literal.variable.index()] {
+            Some(value) => Some(value == literal.positive),
             None => None,
         }
     }
@@ -169,6 +172,7 @@ impl Trail {
             place,
             reason,
         });
+        self.values[literal.variable.index()] = Some(literal.positive);
         Ok(())
     }
 
@@ -242,6 +246,7 @@ impl Trail {
         ensures ok { OnOk result (IsGrown self.old self.new variables) }
         ensures err { OnErr result (IsSame self.old self.new) }
     {
+        self.values.resize(variables, None)?;
         self.slots.resize(variables, None)?;
         Ok(())
     }
@@ -253,6 +258,7 @@ impl Trail {
     {
         if let Some(variable) = self.order.pop() {
             self.slots[variable.index()] = None;
+            self.values[variable.index()] = None;
         }
     }
 

@@ -19,9 +19,9 @@ use Rattle.resolver_report.specs.TrueRules.{demands_by}
 use Rattle.resolver_clause_store.specs.declared.Origin.{Origin}
 use Rattle.resolver_clause_store.specs.declared.Origin.TheVariants.{Root, Solvable, Bit, Gate, ConstraintHelper, ConditionHelper}
 use Rattle.resolver_clause_store.specs.declared.ClauseKind.{ClauseKind}
-use Rattle.resolver_clause_store.specs.declared.ClauseKind.TheVariants.{AnyOf, Constrains, ForbidMultipleInstances, ConstrainsExcluded, ConstrainsParent, HasBit, Lock, Excluded}
+use Rattle.resolver_clause_store.specs.declared.ClauseKind.TheVariants.{AnyOf, Constrains, ConstrainsExcluded, ConstrainsParent, HasBit, Lock, Excluded}
 use Rattle.resolver_encoding.specs.Atoms.{IsHelper, Atom, atom, origin_by, atoms_of}
-use Rattle.resolver_encoding.specs.Read.{IsSettled, Covers, IsClosedPart, IsMade, made_direct, made_gated, IsForbidden, forbidden_direct, forbidden_helped, AreApart, apart_direct, apart_turned, apart_coded}
+use Rattle.resolver_encoding.specs.Read.{IsSettled, Covers, IsClosedPart, IsMade, made_direct, made_gated, IsForbidden, forbidden_direct, forbidden_helped, AreApart, apart_coded}
 use Rattle.resolver_encoding.proofs.Lists.{here, there, cons_cases, none_in, Contains-map}
 
 unknown_or : (needs : Needs) → IsKnown needs ⊎ ((reason : _) × (needs ≡ unknown reason))
@@ -96,10 +96,6 @@ module _ {N S : Type 0} (u : Universe N S) (root : Demands) (kinds : List (Claus
     not_constrained by v s present asked inside other = forbidden_by by v s present inside (covers.constraints by v s present asked other inside)
 
     not_apart : (n : N) (s t : S) → Contains chosen s → Contains chosen t → AreApart kinds n s t → ⊥
-    not_apart n s t first second (apart_direct clause) =
-        both_false (ForbidMultipleInstances n s t) (atom (Solvable s) false) (atom (Solvable t) false) clause refl (part.taken s first) (part.taken t second)
-    not_apart n s t first second (apart_turned clause) =
-        both_false (ForbidMultipleInstances n t s) (atom (Solvable t) false) (atom (Solvable s) false) clause refl (part.taken t second) (part.taken s first)
     not_apart n s t first second (apart_coded i true a b) =
         settled.apart (Bit n i) (last_of_two (HasBit n s i true) (atom (Solvable s) false) (atom (Bit n i) true) tt a refl (part.taken s first)) (last_of_two (HasBit n t i false) (atom (Solvable t) false) (atom (Bit n i) false) tt b refl (part.taken t second))
     not_apart n s t first second (apart_coded i false a b) =

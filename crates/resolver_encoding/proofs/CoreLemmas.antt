@@ -12,7 +12,7 @@ use Rattle.resolver_clause_store.specs.declared.VersionSetId.{VersionSetId}
 use Rattle.resolver_clause_store.specs.declared.Origin.{Origin}
 use Rattle.resolver_clause_store.specs.declared.Origin.TheVariants.{Root, Solvable, Bit, Gate, ConstraintHelper, ConditionHelper}
 use Rattle.resolver_clause_store.specs.declared.ClauseKind.{ClauseKind}
-use Rattle.resolver_clause_store.specs.declared.ClauseKind.TheVariants.{AnyOf, ForbidMultipleInstances, ConstrainsExcluded, HasBit}
+use Rattle.resolver_clause_store.specs.declared.ClauseKind.TheVariants.{AnyOf, ConstrainsExcluded, HasBit}
 use Rattle.resolver_encoding.specs.Atoms.{IsHelper, Defines}
 use Rattle.resolver_encoding.specs.Truth.{follows, IsTrueClause}
 use Rattle.resolver_encoding.specs.Core.{same_helper, says_implies, implied_in}
@@ -132,5 +132,4 @@ module _ {N S : Type 0} (u : Universe N S) (same_name : N → N → Bool) (names
       matched = λ v s e. Contains-from_any {K = S} {eq = u.same_solvable} same.alone s (matching u v) (implied-follows (ConditionHelper v) s e);
       helped = implied-excluded kinds;
       coded = coded;
-      different = λ n s t inside. (truth (ForbidMultipleInstances n s t) inside).2;
     }

@@ -18,9 +18,9 @@ use Rattle.resolver_report.specs.TrueRules.{IsTrueRule}
 use Rattle.resolver_clause_store.specs.declared.Origin.{Origin}
 use Rattle.resolver_clause_store.specs.declared.Origin.TheVariants.{Bit, Gate, ConstraintHelper}
 use Rattle.resolver_clause_store.specs.declared.ClauseKind.{ClauseKind}
-use Rattle.resolver_clause_store.specs.declared.ClauseKind.TheVariants.{InstallRoot, Requires, Constrains, ForbidMultipleInstances, ConstrainsParent, HasBit, Lock, Excluded}
+use Rattle.resolver_clause_store.specs.declared.ClauseKind.TheVariants.{InstallRoot, Requires, Constrains, ConstrainsParent, HasBit, Lock, Excluded}
 use Rattle.resolver_encoding.specs.Statements.{Statement, AllMeet, Implies, IsTrueStatement, statement_of}
-use Rattle.resolver_encoding.specs.Atoms.{is_on, Defines, IsStated, states_requires, states_constrains, states_first, states_second, states_gated, states_helped, states_coded, states_bit, states_lock, states_excluded}
+use Rattle.resolver_encoding.specs.Atoms.{is_on, Defines, IsStated, states_requires, states_constrains, states_gated, states_helped, states_coded, states_bit, states_lock, states_excluded}
 use Rattle.resolver_encoding.specs.Truth.{follows, AreCodes, IsTrueClause, is_plain, AreListed, AreStated}
 use Rattle.resolver_encoding.specs.Core.{implied_in, IsExplained, IsContradictory}
 use Rattle.std.proofs.Common.{◌<◌, length}
@@ -45,8 +45,6 @@ module _ {N S : Type 0} (u : Universe N S) (codes : N → ℕ → S → Bool) (a
   pub stated_true : (st : Statement N S) → IsStated u implies kinds st → IsTrueStatement u root st
   stated_true st (states_requires by disjunct r inside) = let t = truth (Requires by disjunct r) inside in (t.0, t.1, t.2, refl, t.3)
   stated_true st (states_constrains by v s inside) = truth (Constrains by v s) inside
-  stated_true st (states_first n s t inside) = (truth (ForbidMultipleInstances n s t) inside).0
-  stated_true st (states_second n s t inside) = (truth (ForbidMultipleInstances n s t) inside).1
   stated_true st (states_gated s r inside e) =
       let w = list_any-witness (is_plain r) (demands_of (u.needs s)).requirements (so (Gate r) s e) in
       let plain = is_plain-parts r w.0 w.2 in

@@ -12,7 +12,7 @@ use Rattle.resolver_clause_store.specs.Candidates.{requirement_candidates, versi
 use Rattle.resolver_clause_store.specs.Variables.{AreDistinct, Keeps}
 use Rattle.resolver_clause_store.specs.declared.By.{By}
 use Rattle.resolver_clause_store.specs.declared.ClauseKind.{ClauseKind}
-use Rattle.resolver_clause_store.specs.declared.ClauseKind.TheVariants.{InstallRoot, Requires, AnyOf, GateRequires, Constrains, ForbidMultipleInstances, ConstrainsExcluded, ConstrainsParent, HasBit, Lock, Excluded}
+use Rattle.resolver_clause_store.specs.declared.ClauseKind.TheVariants.{InstallRoot, Requires, AnyOf, GateRequires, Constrains, ConstrainsExcluded, ConstrainsParent, HasBit, Lock, Excluded}
 use Rattle.resolver_clause_store.specs.declared.Literal.{Literal}
 use Rattle.resolver_clause_store.specs.declared.Origin.{Origin}
 use Rattle.resolver_clause_store.specs.declared.Origin.TheVariants.{Root, Solvable}
@@ -66,7 +66,6 @@ AreInOrder-keeps u old new ls (GateRequires r) keeps h = AllZip-keeps old new ke
 AreInOrder-keeps u old new ls InstallRoot keeps h = tt
 AreInOrder-keeps u old new ls (AnyOf helper s) keeps h = tt
 AreInOrder-keeps u old new ls (Constrains by v s) keeps h = tt
-AreInOrder-keeps u old new ls (ForbidMultipleInstances n s t) keeps h = tt
 AreInOrder-keeps u old new ls (ConstrainsExcluded s v) keeps h = tt
 AreInOrder-keeps u old new ls (ConstrainsParent by v) keeps h = tt
 AreInOrder-keeps u old new ls (HasBit n s i b) keeps h = tt
@@ -79,7 +78,6 @@ AreInOrder-zip u origins ls (GateRequires r) h = h
 AreInOrder-zip u origins ls InstallRoot h = tt
 AreInOrder-zip u origins ls (AnyOf helper s) h = tt
 AreInOrder-zip u origins ls (Constrains by v s) h = tt
-AreInOrder-zip u origins ls (ForbidMultipleInstances n s t) h = tt
 AreInOrder-zip u origins ls (ConstrainsExcluded s v) h = tt
 AreInOrder-zip u origins ls (ConstrainsParent by v) h = tt
 AreInOrder-zip u origins ls (HasBit n s i b) h = tt
@@ -133,7 +131,6 @@ module _ {N S : Type 0} (u : Universe N S) where
   IsDue asked exempt (Requires by disjunct r) = ⊤
   IsDue asked exempt (AnyOf helper s) = ⊤
   IsDue asked exempt (Constrains by v s) = ⊤
-  IsDue asked exempt (ForbidMultipleInstances n s t) = ⊤
   IsDue asked exempt (GateRequires r) = ⊤
   IsDue asked exempt (ConstrainsExcluded s v) = ⊤
   IsDue asked exempt (ConstrainsParent by v) = ⊤
@@ -166,7 +163,6 @@ module _ {N S : Type 0} (u : Universe N S) where
   IsPrepared doing notes InstallRoot = ⊤
   IsPrepared doing notes (AnyOf helper s) = ⊤
   IsPrepared doing notes (Constrains by v s) = ⊤
-  IsPrepared doing notes (ForbidMultipleInstances n s t) = ⊤
   IsPrepared doing notes (GateRequires r) = IsGateReady notes r
   IsPrepared doing notes (ConstrainsExcluded s v) = ⊤
   IsPrepared doing notes (ConstrainsParent by v) = ⊤

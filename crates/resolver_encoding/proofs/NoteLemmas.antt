@@ -8,7 +8,7 @@ use Rattle.resolver_clause_store.specs.Lists.{IsWithin}
 use Rattle.resolver_clause_store.specs.Universe.{Universe, Demands, Package}
 use Rattle.resolver_clause_store.specs.Candidates.{matching, others}
 use Rattle.resolver_clause_store.specs.declared.ClauseKind.{ClauseKind}
-use Rattle.resolver_clause_store.specs.declared.ClauseKind.TheVariants.{InstallRoot, Requires, AnyOf, GateRequires, Constrains, ForbidMultipleInstances, ConstrainsExcluded, ConstrainsParent, HasBit, Lock, Excluded}
+use Rattle.resolver_clause_store.specs.declared.ClauseKind.TheVariants.{InstallRoot, Requires, AnyOf, GateRequires, Constrains, ConstrainsExcluded, ConstrainsParent, HasBit, Lock, Excluded}
 use Rattle.resolver_clause_store.specs.declared.Origin.{Origin}
 use Rattle.resolver_clause_store.specs.declared.Origin.TheVariants.{Root, Solvable, ConditionHelper}
 use Rattle.resolver_clause_store.specs.declared.Requirement.{Requirement}
@@ -43,7 +43,6 @@ IsPlain (GateRequires r) = ⊥
 IsPlain InstallRoot = ⊤
 IsPlain (AnyOf helper s) = ⊤
 IsPlain (Constrains by v s) = ⊤
-IsPlain (ForbidMultipleInstances n s t) = ⊤
 IsPlain (ConstrainsExcluded s v) = ⊤
 IsPlain (ConstrainsParent by v) = ⊤
 IsPlain (HasBit n s i b) = ⊤

@@ -14,7 +14,7 @@ use Rattle.resolver_clause_store.specs.Valid.{Constrains, Requires}
 use Rattle.resolver_clause_store.specs.declared.By.{By}
 use Rattle.resolver_clause_store.specs.declared.By.TheVariants.{Root as ByRoot, Solvable as BySolvable}
 use Rattle.resolver_clause_store.specs.declared.ClauseKind.{ClauseKind}
-use Rattle.resolver_clause_store.specs.declared.ClauseKind.TheVariants.{InstallRoot, Requires as RequiresKind, AnyOf, GateRequires, Constrains as ConstrainsKind, ForbidMultipleInstances, ConstrainsExcluded, ConstrainsParent, HasBit, Lock, Excluded}
+use Rattle.resolver_clause_store.specs.declared.ClauseKind.TheVariants.{InstallRoot, Requires as RequiresKind, AnyOf, GateRequires, Constrains as ConstrainsKind, ConstrainsExcluded, ConstrainsParent, HasBit, Lock, Excluded}
 use Rattle.resolver_clause_store.specs.declared.ConditionalRequirement.{ConditionalRequirement}
 use Rattle.resolver_clause_store.specs.declared.Literal.{Literal}
 use Rattle.resolver_clause_store.specs.declared.Origin.{Origin}
@@ -231,7 +231,6 @@ module _ {N S : Type 0} (u : Universe N S) (s : S) where
   asks_for_it (AnyOf (Gate r) t) usual a h it = neither (atom (Gate r) true) (atom (Solvable t) false) a (λ i. cc) (λ i. true≢false (sym i.0)) h it
   asks_for_it (AnyOf (ConditionHelper v) t) usual a h it = neither (atom (ConditionHelper v) true) (atom (Solvable t) false) a (λ i. cc) (λ i. true≢false (sym i.0)) h it
   asks_for_it (ConstrainsKind by v t) usual a h it = neither (atom (origin_by by) false) (atom (Solvable t) false) a (by_not by) (λ i. true≢false (sym i.0)) h it
-  asks_for_it (ForbidMultipleInstances n t q) usual a h it = neither (atom (Solvable t) false) (atom (Solvable q) false) a (λ i. true≢false (sym i.0)) (λ i. true≢false (sym i.0)) h it
   asks_for_it (ConstrainsExcluded t v) usual a h it = neither (atom (Solvable t) false) (atom (ConstraintHelper v) true) a (λ i. true≢false (sym i.0)) (λ i. cc) h it
   asks_for_it (ConstrainsParent by v) usual a h it = neither (atom (origin_by by) false) (atom (ConstraintHelper v) false) a (by_not by) (λ i. true≢false (sym i.0)) h it
   asks_for_it (HasBit n t i b) usual a h it = neither (atom (Solvable t) false) (atom (Bit n i) b) a (λ j. true≢false (sym j.0)) (λ j. cc) h it
@@ -244,7 +243,6 @@ module _ {N S : Type 0} (u : Universe N S) (s : S) where
   asked_seen root notes encoding InstallRoot inside asks = absurd asks
   asked_seen root notes encoding (AnyOf helper t) inside asks = absurd asks
   asked_seen root notes encoding (ConstrainsKind by v t) inside asks = absurd asks
-  asked_seen root notes encoding (ForbidMultipleInstances n t q) inside asks = absurd asks
   asked_seen root notes encoding (ConstrainsExcluded t v) inside asks = absurd asks
   asked_seen root notes encoding (ConstrainsParent by v) inside asks = absurd asks
   asked_seen root notes encoding (HasBit n t i b) inside asks = absurd asks

@@ -16,9 +16,9 @@ use Rattle.resolver_report.specs.Rules.{IsPresent}
 use Rattle.resolver_clause_store.specs.declared.Origin.{Origin}
 use Rattle.resolver_clause_store.specs.declared.Origin.TheVariants.{Root, Solvable, Bit, Gate, ConstraintHelper, ConditionHelper}
 use Rattle.resolver_clause_store.specs.declared.ClauseKind.{ClauseKind}
-use Rattle.resolver_clause_store.specs.declared.ClauseKind.TheVariants.{InstallRoot, Requires, AnyOf, Constrains, ForbidMultipleInstances, GateRequires, ConstrainsExcluded, ConstrainsParent, HasBit, Lock, Excluded}
+use Rattle.resolver_clause_store.specs.declared.ClauseKind.TheVariants.{InstallRoot, Requires, AnyOf, Constrains, GateRequires, ConstrainsExcluded, ConstrainsParent, HasBit, Lock, Excluded}
 use Rattle.resolver_encoding.specs.Statements.{AllMeet, ObeysAll}
-use Rattle.resolver_encoding.specs.Atoms.{Atom, atom, origin_by, atoms_of, has, is_on, IsHelper, is_satisfied, IsStated, states_requires, states_constrains, states_first, states_second, states_gated, states_helped, states_coded, states_bit, states_lock, states_excluded, Defines}
+use Rattle.resolver_encoding.specs.Atoms.{Atom, atom, origin_by, atoms_of, has, is_on, IsHelper, is_satisfied, IsStated, states_requires, states_constrains, states_gated, states_helped, states_coded, states_bit, states_lock, states_excluded, Defines}
 use Rattle.resolver_encoding.proofs.Lists.{In, first, later, on_left, on_right, mapped, list_any-contains, list_any-none, list_any-witness, true_if, beq-false}
 
 module _ {N S : Type 0} (u : Universe N S) (implies : Origin N S → S → Bool) (same : IsIdentity u.same_solvable) (set : List S) where
@@ -69,9 +69,6 @@ module _ {N S : Type 0} (u : Universe N S) (implies : Origin N S → S → Bool)
         both_ways _ (sym (on-helper helper (defines.helper helper candidate inside)) ∙ wrong.each helper true first) (list_any-contains (implies helper) set candidate chosen (defines.defined helper candidate inside))
     refuted obeys (Constrains by version_set candidate) inside wrong =
         obeys.each _ (states_constrains by version_set candidate inside) (present by (wrong.each (origin_by by) false first)) (contains-has candidate (wrong.each (Solvable candidate) false (later first)))
-    refuted obeys (ForbidMultipleInstances name s t) inside wrong =
-        defines.different name s t inside (obeys.one_each name s t (states_first name s t inside) (states_second name s t inside)
-        (contains-has s (wrong.each (Solvable s) false first)) (contains-has t (wrong.each (Solvable t) false (later first))))
     refuted obeys (GateRequires requirement) inside wrong =
         let x = list_any-witness (implies (Gate requirement)) set (wrong.each (Gate requirement) false first) in
         let met = obeys.each _ (states_gated x.0 requirement inside x.2) x.1 (λ k d below. absurd (omega arith)) in

@@ -8,7 +8,7 @@ use Rattle.resolver_clause_store.specs.Laws.{IsIdentity}
 use Rattle.resolver_clause_store.specs.Lists.{IsWithin}
 use Rattle.resolver_clause_store.specs.Universe.{Universe, Demands}
 use Rattle.resolver_clause_store.specs.declared.ClauseKind.{ClauseKind}
-use Rattle.resolver_clause_store.specs.declared.ClauseKind.TheVariants.{InstallRoot, Requires, AnyOf, GateRequires, Constrains, ForbidMultipleInstances, ConstrainsExcluded, ConstrainsParent, HasBit, Lock, Excluded}
+use Rattle.resolver_clause_store.specs.declared.ClauseKind.TheVariants.{InstallRoot, Requires, AnyOf, GateRequires, Constrains, ConstrainsExcluded, ConstrainsParent, HasBit, Lock, Excluded}
 use Rattle.resolver_clause_store.specs.declared.Origin.TheVariants.{Root, Solvable, Bit, Gate, ConstraintHelper, ConditionHelper}
 use Rattle.resolver_clause_store.proofs.PlaceLemmas.{place_in}
 use Rattle.resolver_encoding.specs.Called.{Call, IsSeeing, to_ask, to_see}
@@ -97,7 +97,6 @@ module _ {N S : Type 0} (u : Universe N S) where
     still_true codes root (AnyOf (Bit m i) t) usual apart h = absurd usual
     still_true codes root (AnyOf (ConstraintHelper v) t) usual apart h = absurd usual
     still_true codes root (Constrains by v t) usual apart h = h
-    still_true codes root (ForbidMultipleInstances m t r) usual apart h = h
     still_true codes root (GateRequires r) usual apart h = tt
     still_true codes root (ConstrainsExcluded t v) usual apart h = h
     still_true codes root (ConstrainsParent by v) usual apart h = h

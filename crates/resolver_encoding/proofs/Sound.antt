@@ -25,9 +25,9 @@ use Rattle.resolver_report.specs.Rules.{IsPresent, Obeys}
 use Rattle.resolver_report.specs.TrueRules.{demands_by}
 use Rattle.resolver_clause_store.specs.declared.Origin.{Origin}
 use Rattle.resolver_clause_store.specs.declared.ClauseKind.{ClauseKind}
-use Rattle.resolver_clause_store.specs.declared.ClauseKind.TheVariants.{Requires, AnyOf, Constrains, ForbidMultipleInstances, ConstrainsExcluded, ConstrainsParent, HasBit, Lock, Excluded}
+use Rattle.resolver_clause_store.specs.declared.ClauseKind.TheVariants.{Requires, AnyOf, Constrains, ConstrainsExcluded, ConstrainsParent, HasBit, Lock, Excluded}
 use Rattle.resolver_encoding.specs.Statements.{Statement, one_per_package, AllMeet, ObeysAlone, ObeysAll, Implies, statement_of}
-use Rattle.resolver_encoding.specs.Atoms.{IsStated, states_requires, states_constrains, states_first, states_second, states_gated, states_helped, states_coded, states_bit, states_lock, states_excluded, Defines}
+use Rattle.resolver_encoding.specs.Atoms.{IsStated, states_requires, states_constrains, states_gated, states_helped, states_coded, states_bit, states_lock, states_excluded, Defines}
 use Rattle.resolver_encoding.proofs.Lists.{Contains-map, list_any-contains, list_any-witness}
 use Rattle.resolver_encoding.specs.Truth.{same_requirement, is_plain, AreCodes, follows, IsTrueClause, Spares, AreListed}
 
@@ -89,14 +89,11 @@ module _ {N S : Type 0} (u : Universe N S) (root : Demands) (kinds : List (Claus
     matched = λ v s e. Contains-from_any {K = S} {eq = u.same_solvable} same.alone s (matching u v) e;
     helped = λ v s inside. list_any-contains (u.same_solvable s) (others u v) s (truth (ConstrainsExcluded s v) inside) (same.itself s);
     coded = λ n s i b inside. (truth (HasBit n s i b) inside).1;
-    different = λ n s t inside. (truth (ForbidMultipleInstances n s t) inside).2;
   }
 
   name_of : (n : N) (s : S) → IsStated u (follows u codes) kinds (one_per_package n s) → u.name s ≡ n
-  name_of n s (states_first n' s' t inside) = (truth (ForbidMultipleInstances n s t) inside).0
   name_of n s (states_coded n' s' i b inside) = (truth (HasBit n s i b) inside).0
   name_of n s (states_bit n' s' i e) = are_codes.named n i s e
-  name_of n s (states_second n' t s' inside) = (truth (ForbidMultipleInstances n t s) inside).1
 
   module _ (same : IsIdentity u.same_solvable) (set exempt : List S) (ok : IsValid u root set exempt) (spares : Spares u exempt kinds) where
     obeys_alone : (st : Statement N S) → IsStated u (follows u codes) kinds st → ObeysAlone set st
@@ -108,8 +105,6 @@ module _ {N S : Type 0} (u : Universe N S) (root : Demands) (kinds : List (Claus
     obeys_alone st (states_constrains by v s inside) = λ here chosen.
         let t = truth (Constrains by v s) inside in
         ok.constrained v (constrains_by u root set by v here t.0) s chosen t.1
-    obeys_alone st (states_first n s t inside) = tt
-    obeys_alone st (states_second n s t inside) = tt
     obeys_alone st (states_gated s requirement inside e) = λ here meets.
         let w = list_any-witness (is_plain requirement) (demands_of (u.needs s)).requirements e in
         let plain = is_plain-parts requirement w.0 w.2 in

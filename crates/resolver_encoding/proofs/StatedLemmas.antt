@@ -7,11 +7,11 @@ use Rattle.resolver_clause_store.specs.Outcomes.{IsCore}
 use Rattle.resolver_clause_store.specs.Universe.{Universe, Demands}
 use Rattle.resolver_clause_store.specs.declared.Literal.{Literal}
 use Rattle.resolver_clause_store.specs.declared.ClauseKind.{ClauseKind}
-use Rattle.resolver_clause_store.specs.declared.ClauseKind.TheVariants.{InstallRoot, Requires, AnyOf, Constrains, ForbidMultipleInstances, GateRequires, ConstrainsExcluded, ConstrainsParent, HasBit, Lock, Excluded}
+use Rattle.resolver_clause_store.specs.declared.ClauseKind.TheVariants.{InstallRoot, Requires, AnyOf, Constrains, GateRequires, ConstrainsExcluded, ConstrainsParent, HasBit, Lock, Excluded}
 use Rattle.resolver_clause_store.specs.declared.Origin.{Origin}
 use Rattle.resolver_clause_store.specs.declared.Origin.TheVariants.{Root, Solvable, Bit, Gate, ConstraintHelper, ConditionHelper}
 use Rattle.resolver_report.specs.declared.Rule.{Rule}
-use Rattle.resolver_encoding.specs.Atoms.{IsStated, states_requires, states_constrains, states_first, states_second, states_gated, states_helped, states_coded, states_bit, states_lock, states_excluded}
+use Rattle.resolver_encoding.specs.Atoms.{IsStated, states_requires, states_constrains, states_gated, states_helped, states_coded, states_bit, states_lock, states_excluded}
 use Rattle.resolver_encoding.specs.Core.{IsExplained, implied_in}
 use Rattle.resolver_encoding.specs.Encodings.{IsEncoding, Notes}
 use Rattle.resolver_encoding.specs.Listing.{AreRulesOf, MarksBit, SomeOf, States}
@@ -48,8 +48,6 @@ module _ {N S : Type 0} (u : Universe N S) (same_name : N → N → Bool) (names
   kind_states (Requires by disjunct r) inside st h = ⊎_elim (λ a. subst Stated (sym a) (states_requires by disjunct r inside)) (λ b. absurd b) h
   kind_states (AnyOf helper s) inside st h = ⊎_elim (λ a. absurd a) (λ b. bit_stated helper s st inside b) h
   kind_states (Constrains by v s) inside st h = ⊎_elim (λ a. subst Stated (sym a) (states_constrains by v s inside)) (λ b. absurd b) h
-  kind_states (ForbidMultipleInstances n s t) inside st h = ⊎_elim (λ a. absurd a)
-      (λ b. ⊎_elim (λ e. subst Stated (sym e) (states_first n s t inside)) (λ e. subst Stated (sym e) (states_second n s t inside)) b) h
   kind_states (GateRequires r) inside st h = ⊎_elim
       (λ a. subst Stated (sym a.2) (states_gated a.0 r inside (implied-any u same_name names same kinds (Gate r) a.0 tt (are.only_requirers r a.0 a.1))))
       (λ b. absurd b) h
@@ -65,8 +63,6 @@ module _ {N S : Type 0} (u : Universe N S) (same_name : N → N → Bool) (names
   has_statement : (st : Statement N S) → IsStated u implies kinds st → SomeOf kinds (States u sources) st
   has_statement st (states_requires by disjunct r inside) = (Requires by disjunct r, inside, inl refl)
   has_statement st (states_constrains by v s inside) = (Constrains by v s, inside, inl refl)
-  has_statement st (states_first n s t inside) = (ForbidMultipleInstances n s t, inside, inr (inl refl))
-  has_statement st (states_second n s t inside) = (ForbidMultipleInstances n s t, inside, inr (inr refl))
   has_statement st (states_gated s r inside e) = (GateRequires r, inside, inl (s, are.every_requirer r s (implied-gate u same_name names same kinds r s e), refl))
   has_statement st (states_helped by v s inside e) = (ConstrainsParent by v, inside, inl (s, are.every_excluded v s (implied-helper u same_name names same kinds v s e), refl))
   has_statement st (states_coded n s i b inside) = (HasBit n s i b, inside, inr refl)

@@ -11,7 +11,7 @@ use Rattle.resolver_clause_store.specs.declared.By.TheVariants.{Root as ByRoot, 
 use Rattle.resolver_clause_store.specs.declared.Origin.{Origin}
 use Rattle.resolver_clause_store.specs.declared.Origin.TheVariants.{Root, Solvable, Bit, Gate, ConstraintHelper, ConditionHelper}
 use Rattle.resolver_clause_store.specs.declared.ClauseKind.{ClauseKind}
-use Rattle.resolver_clause_store.specs.declared.ClauseKind.TheVariants.{InstallRoot, Requires, AnyOf, Constrains, ForbidMultipleInstances, GateRequires, ConstrainsExcluded, ConstrainsParent, HasBit, Lock, Excluded}
+use Rattle.resolver_clause_store.specs.declared.ClauseKind.TheVariants.{InstallRoot, Requires, AnyOf, Constrains, GateRequires, ConstrainsExcluded, ConstrainsParent, HasBit, Lock, Excluded}
 use Rattle.resolver_encoding.specs.Statements.{Statement, requires, constrains, lock, excluded, one_per_package}
 
 pub record Atom (N S : Type 0) : Type 0 where
@@ -32,7 +32,6 @@ atoms_of u InstallRoot = atom Root true ∷ []
 atoms_of u (Requires parent disjunct requirement) = atom (origin_by parent) false ∷ (map (λ v. atom (ConditionHelper v) false) disjunct.items ++ map (λ s. atom (Solvable s) true) (requirement_candidates u requirement))
 atoms_of u (AnyOf helper candidate) = atom helper true ∷ atom (Solvable candidate) false ∷ []
 atoms_of u (Constrains parent version_set candidate) = atom (origin_by parent) false ∷ atom (Solvable candidate) false ∷ []
-atoms_of u (ForbidMultipleInstances name first second) = atom (Solvable first) false ∷ atom (Solvable second) false ∷ []
 atoms_of u (GateRequires requirement) = atom (Gate requirement) false ∷ map (λ s. atom (Solvable s) true) (requirement_candidates u requirement)
 atoms_of u (ConstrainsExcluded candidate version_set) = atom (Solvable candidate) false ∷ atom (ConstraintHelper version_set) true ∷ []
 atoms_of u (ConstrainsParent parent version_set) = atom (origin_by parent) false ∷ atom (ConstraintHelper version_set) false ∷ []
@@ -71,8 +70,6 @@ pub data IsStated {N S : Type 0} (u : Universe N S) (implies : Origin N S → S 
   states_requires : (by : By S) (disjunct : _) (requirement : Requirement) → Contains kinds (Requires by disjunct requirement) →
       IsStated u implies kinds (requires by requirement (requirement_candidates u requirement) (map (matching u) disjunct.items))
   states_constrains : (by : By S) (v : VersionSetId) (s : S) → Contains kinds (Constrains by v s) → IsStated u implies kinds (constrains by v s)
-  states_first : (n : N) (s t : S) → Contains kinds (ForbidMultipleInstances n s t) → IsStated u implies kinds (one_per_package n s)
-  states_second : (n : N) (s t : S) → Contains kinds (ForbidMultipleInstances n s t) → IsStated u implies kinds (one_per_package n t)
   -- of a gate: the requirement of each solvable from which it follows
   states_gated : (s : S) (requirement : Requirement) → Contains kinds (GateRequires requirement) → implies (Gate requirement) s ≡ true →
       IsStated u implies kinds (requires (BySolvable s) requirement (requirement_candidates u requirement) [])
@@ -89,4 +86,3 @@ pub record Defines {N S : Type 0} (u : Universe N S) (implies : Origin N S → S
   pub matched : (v : VersionSetId) (s : S) → implies (ConditionHelper v) s ≡ true → Contains (matching u v) s
   pub helped : (v : VersionSetId) (s : S) → Contains kinds (ConstrainsExcluded s v) → implies (ConstraintHelper v) s ≡ true
   pub coded : (n : N) (s : S) (i : ℕ) (b : Bool) → Contains kinds (HasBit n s i b) → implies (Bit n i) s ≡ b
-  pub different : (n : N) (s t : S) → Contains kinds (ForbidMultipleInstances n s t) → s ≢ t

@@ -11,7 +11,7 @@ use Rattle.resolver_clause_store.specs.declared.ConditionId.{ConditionId}
 use Rattle.resolver_clause_store.specs.declared.By.{By}
 use Rattle.resolver_clause_store.specs.declared.By.TheVariants.{Solvable as BySolvable}
 use Rattle.resolver_clause_store.specs.declared.ClauseKind.{ClauseKind}
-use Rattle.resolver_clause_store.specs.declared.ClauseKind.TheVariants.{InstallRoot, Requires, AnyOf, GateRequires, Constrains, ForbidMultipleInstances, ConstrainsExcluded, ConstrainsParent, HasBit, Lock, Excluded}
+use Rattle.resolver_clause_store.specs.declared.ClauseKind.TheVariants.{InstallRoot, Requires, AnyOf, GateRequires, Constrains, ConstrainsExcluded, ConstrainsParent, HasBit, Lock, Excluded}
 use Rattle.resolver_clause_store.specs.declared.ConditionalRequirement.{ConditionalRequirement}
 use Rattle.resolver_clause_store.specs.declared.Literal.{Literal}
 use Rattle.resolver_clause_store.specs.declared.Origin.{Origin}
@@ -84,7 +84,6 @@ HasUsualHelper (AnyOf (ConstraintHelper v) s) = ⊥
 HasUsualHelper InstallRoot = ⊤
 HasUsualHelper (Requires by disjunct r) = ⊤
 HasUsualHelper (Constrains by v s) = ⊤
-HasUsualHelper (ForbidMultipleInstances n s t) = ⊤
 HasUsualHelper (GateRequires r) = ⊤
 HasUsualHelper (ConstrainsExcluded s v) = ⊤
 HasUsualHelper (ConstrainsParent by v) = ⊤

@@ -6,7 +6,7 @@ use Rattle.resolver_clause_store.specs.declared.By.TheVariants.{Solvable as BySo
 use Rattle.resolver_clause_store.specs.declared.Origin.{Origin}
 use Rattle.resolver_clause_store.specs.declared.Origin.TheVariants.{Root, Solvable, Bit, Gate, ConstraintHelper, ConditionHelper}
 use Rattle.resolver_clause_store.specs.declared.ClauseKind.{ClauseKind}
-use Rattle.resolver_clause_store.specs.declared.ClauseKind.TheVariants.{InstallRoot, Requires, AnyOf, Constrains, ForbidMultipleInstances, GateRequires, ConstrainsExcluded, ConstrainsParent, HasBit, Lock, Excluded}
+use Rattle.resolver_clause_store.specs.declared.ClauseKind.TheVariants.{InstallRoot, Requires, AnyOf, Constrains, GateRequires, ConstrainsExcluded, ConstrainsParent, HasBit, Lock, Excluded}
 use Rattle.resolver_report.specs.declared.Rule.{Rule}
 use Rattle.resolver_encoding.specs.Groups.{IsNamed}
 use Rattle.resolver_encoding.specs.Statements.{Statement, requires, constrains, lock, excluded, one_per_package, statement_of}
@@ -44,7 +44,6 @@ Asks u sources InstallRoot st = ⊥
 Asks u sources (Requires by disjunct r) st = st ≡ requires by r (requirement_candidates u r) (map (matching u) disjunct.items)
 Asks u sources (AnyOf helper s) st = ⊥
 Asks u sources (Constrains by v s) st = st ≡ constrains by v s
-Asks u sources (ForbidMultipleInstances n s t) st = ⊥
 Asks {N} {S} u sources (GateRequires r) st = (s : S) × IsNamed sources.gates r s × (st ≡ requires (BySolvable s) r (requirement_candidates u r) [])
 Asks u sources (ConstrainsExcluded s v) st = ⊥
 Asks {N} {S} u sources (ConstrainsParent by v) st = (s : S) × IsNamed sources.helpers v s × (st ≡ constrains by v s)
@@ -64,7 +63,6 @@ MarksBit (ConditionHelper v) s st = ⊥
 -- which marks the clause makes
 abbrev pub Marks : {N S : Type 0} → ClauseKind N S → Statement N S → Type 0
 Marks (AnyOf helper s) st = MarksBit helper s st
-Marks (ForbidMultipleInstances n s t) st = (st ≡ one_per_package n s) ⊎ (st ≡ one_per_package n t)
 Marks (HasBit n s i b) st = st ≡ one_per_package n s
 Marks kind st = ⊥
 

@@ -16,7 +16,7 @@ use Rattle.resolver_report.specs.TrueRules.{demands_by}
 use Rattle.resolver_clause_store.specs.declared.Origin.{Origin}
 use Rattle.resolver_clause_store.specs.declared.Origin.TheVariants.{Root, Solvable, Gate, ConditionHelper}
 use Rattle.resolver_clause_store.specs.declared.ClauseKind.{ClauseKind}
-use Rattle.resolver_clause_store.specs.declared.ClauseKind.TheVariants.{InstallRoot, Requires, AnyOf, Constrains, ForbidMultipleInstances, GateRequires, ConstrainsExcluded, ConstrainsParent, HasBit, Lock, Excluded}
+use Rattle.resolver_clause_store.specs.declared.ClauseKind.TheVariants.{InstallRoot, Requires, AnyOf, Constrains, GateRequires, ConstrainsExcluded, ConstrainsParent, HasBit, Lock, Excluded}
 use Rattle.resolver_encoding.specs.Statements.{AllMeet}
 use Rattle.resolver_encoding.specs.Atoms.{IsHelper, Atom, origin_by, atoms_of}
 
@@ -44,8 +44,6 @@ pub data IsForbidden {N S : Type 0} (kinds : List (ClauseKind N S)) (by : By S) 
 
 -- the clauses that keep two apart
 pub data AreApart {N S : Type 0} (kinds : List (ClauseKind N S)) (n : N) (s t : S) : Type 0 where
-  apart_direct : Contains kinds (ForbidMultipleInstances n s t) → AreApart kinds n s t
-  apart_turned : Contains kinds (ForbidMultipleInstances n t s) → AreApart kinds n s t
   apart_coded : (i : ℕ) (b : Bool) → Contains kinds (HasBit n s i b) → Contains kinds (HasBit n t i (not b)) → AreApart kinds n s t
 
 -- the clauses are all that the rules of the root and of the chosen ones ask of the chosen ones

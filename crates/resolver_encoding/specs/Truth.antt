@@ -13,7 +13,7 @@ use Rattle.resolver_report.specs.TrueRules.{demands_by}
 use Rattle.resolver_clause_store.specs.declared.Origin.{Origin}
 use Rattle.resolver_clause_store.specs.declared.Origin.TheVariants.{Root, Solvable, Bit, Gate, ConstraintHelper, ConditionHelper}
 use Rattle.resolver_clause_store.specs.declared.ClauseKind.{ClauseKind}
-use Rattle.resolver_clause_store.specs.declared.ClauseKind.TheVariants.{InstallRoot, Requires, AnyOf, Constrains, ForbidMultipleInstances, GateRequires, ConstrainsExcluded, ConstrainsParent, HasBit, Lock, Excluded}
+use Rattle.resolver_clause_store.specs.declared.ClauseKind.TheVariants.{InstallRoot, Requires, AnyOf, Constrains, GateRequires, ConstrainsExcluded, ConstrainsParent, HasBit, Lock, Excluded}
 use Rattle.resolver_encoding.specs.Statements.{Statement, statement_of, Implies}
 use Rattle.resolver_encoding.specs.Atoms.{has, IsHelper, IsStated}
 
@@ -56,7 +56,6 @@ IsTrueClause u codes root (Requires by disjunct requirement) =
     (r : ConditionalRequirement) × Contains (demands_by u root by).requirements r × (r.requirement ≡ requirement) × Implies u (map (matching u) disjunct.items) r.condition
 IsTrueClause u codes root (AnyOf helper candidate) = IsHelper helper × (follows u codes helper candidate ≡ true)
 IsTrueClause u codes root (Constrains by version_set candidate) = Contains (demands_by u root by).constraints version_set × Contains (others u version_set) candidate
-IsTrueClause u codes root (ForbidMultipleInstances name s t) = (u.name s ≡ name) × (u.name t ≡ name) × (s ≢ t)
 IsTrueClause u codes root (GateRequires requirement) = ⊤
 IsTrueClause u codes root (ConstrainsExcluded candidate version_set) = Contains (others u version_set) candidate
 IsTrueClause u codes root (ConstrainsParent by version_set) = Contains (demands_by u root by).constraints version_set

@@ -222,15 +222,6 @@ fn add_marks<N: Copy + Eq + Hash + Drop, S: Copy + Eq + Hash + Drop>(
             mark_bit(listing, helper, *candidate)?;
             Ok(())
         }
-        ClauseKind::ForbidMultipleInstances {
-            name,
-            first,
-            second,
-        } => {
-            listing.mark(*name, *first)?;
-            listing.mark(*name, *second)?;
-            Ok(())
-        }
         ClauseKind::HasBit { name, instance, .. } => {
             listing.mark(*name, *instance)?;
             Ok(())

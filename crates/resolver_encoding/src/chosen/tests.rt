@@ -23,7 +23,7 @@ fn variables(alloc: Global) -> Result<Variables<u32, u32>, Exhausted>
 }
 
 /// Gives a variable a value, if there is such a variable and it has none.
-fn add(trail: &mut Trail, number: u32, positive: bool) -> Result<(), Fail>
+fn add(trail: &mut Trail, number: u32, positive: bool) -> Result<(), Exhausted>
     ensures { OnOk result (variable_count trail.new ≡ variable_count trail.old) }
 {
     let variable = Variable::new(number);
@@ -45,45 +45,51 @@ fn undo_two(trail: &mut Trail)
     trail.undo_last();
 }
 
-/// Follows the trail and lists what is chosen.
-fn follow(
+/// Whether these are chosen, in order.
+fn lists(alloc: Global, chosen: &Chosen<u32>, wanted: &[u32]) -> Result<bool, Exhausted> {
+    let found = chosen.to_vec(alloc)?;
+    Ok(found.as_slice() == wanted)
+}
+
+/// Whether these are chosen after the trail grew, these after it was cut and grew otherwise, and these after one more cut.
+fn goes(
     alloc: Global,
     chosen: &mut Chosen<u32>,
     variables: &Variables<u32, u32>,
-    trail: &Trail,
-) -> Result<Vec<u32>, Exhausted>
+    trail: &mut Trail,
+    wanted: [&[u32]; 3],
+) -> Result<bool, Exhausted>
     requires distinct { AreDistinct (origins_in variables.now) }
-    requires size { variable_count trail.now ≡ length (origins_in variables.now) }
+    requires size { variable_count trail.old ≡ length (origins_in variables.now) }
 {
+    add(trail, 0, true)?;
+    add(trail, 4, true)?;
+    add(trail, 2, true)?;
+    add(trail, 1, true)?;
     chosen.follow(variables, trail)?;
-    chosen.to_vec(alloc)
+    let first = lists(alloc, chosen, wanted[0])?;
+    undo_two(trail);
+    chosen.cut::<u32>(2);
+    add(trail, 1, false)?;
+    add(trail, 3, true)?;
+    chosen.follow(variables, trail)?;
+    let second = lists(alloc, chosen, wanted[1])?;
+    chosen.cut::<u32>(3);
+    let third = lists(alloc, chosen, wanted[2])?;
+    Ok(first & second & third)
 }
 
-/// What is chosen after the trail grew, after it was cut and grew otherwise, and after one more cut.
-fn rounds(alloc: Global) -> Result<(Vec<u32>, Vec<u32>, Vec<u32>), Fail> {
+/// Whether that goes as wanted over a trail of these variables.
+fn is_followed(alloc: Global, wanted: [&[u32]; 3]) -> Result<bool, Fail> {
     let variables = variables(alloc)?;
     let mut trail = Trail::new(alloc, variables.len())?;
     let mut chosen = Chosen::new::<u32>(alloc);
-    add(&mut trail, 0, true)?;
-    add(&mut trail, 4, true)?;
-    add(&mut trail, 2, true)?;
-    add(&mut trail, 1, true)?;
-    let first = follow(alloc, &mut chosen, &variables, &trail)?;
-    undo_two(&mut trail);
-    chosen.cut::<u32>(2);
-    add(&mut trail, 1, false)?;
-    add(&mut trail, 3, true)?;
-    let second = follow(alloc, &mut chosen, &variables, &trail)?;
-    chosen.cut::<u32>(3);
-    let third = chosen.to_vec(alloc)?;
-    Ok((first, second, third))
+    let outcome = goes(alloc, &mut chosen, &variables, &mut trail, wanted);
+    Ok(matches!(outcome, Ok(true)))
 }
 
 #[test]
 fn what_is_chosen_follows_the_trail(rt: HostRuntime) -> Result<(), Fail> {
-    let (first, second, third) = rounds(rt.alloc())?;
-    assert_eq!(rt; first.as_slice(), [13, 11].as_slice());
-    assert_eq!(rt; second.as_slice(), [13, 12].as_slice());
-    assert_eq!(rt; third.as_slice(), [13].as_slice());
+    assert!(rt; is_followed(rt.alloc(), [&[13, 11], &[13, 12], &[13]])?);
     Ok(())
 }

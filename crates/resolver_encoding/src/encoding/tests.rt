@@ -8,6 +8,7 @@ ghost use Rattle.resolver_clause_store.specs.Laws.{IsIdentity};
 ghost use Rattle.resolver_encoding.specs.Encodings.{IsUnread};
 ghost use Rattle.resolver_encoding.specs.Notes.{IsBounded, notes_in};
 ghost use Rattle.resolver_encoding.specs.SoFar.{IsReading};
+ghost use Rattle.resolver_encoding.specs.TestProvider.{test_universe};
 
 use super::*;
 use crate::disjuncts::without_repeats;
@@ -77,25 +78,21 @@ fn provider_of(
     })
 }
 
-/// An encoding with these limits in which some solvables are exempt.
-fn limited(
-    alloc: Global,
-    variables: usize,
-    clauses: usize,
-    exempt: Option<u32>,
-) -> Result<Encoding<u32, u32>, Fail>
-    requires { variables ≤ 2 ^ 31 }
-    ensures bounded { IfOk result (λ e. IsBounded e) }
-    ensures nothing_read { IfOk result (λ e. IsUnread (notes_in e)) }
+/// Makes a solvable exempt, if one is given.
+fn spare<N: Copy + Eq + Hash + Drop, S: Copy + Eq + Hash + Drop>(
+    encoding: &mut Encoding<N, S>,
+    exempt: Option<S>,
+) -> Result<(), Exhausted>
+    requires bounded { IsBounded encoding.old }
+    requires nothing_read { IsUnread (notes_in encoding.old) }
+    ensures bounded { IsBounded encoding.new }
+    ensures nothing_read { IsUnread (notes_in encoding.new) }
+    ensures memory { IfErr result (λ e. e ≡ Exhausted.Memory) }
 {
-    match exempt {
-        None => Ok(Encoding::new(alloc, variables, clauses)),
-        Some(solvable) => {
-            let mut encoding = Encoding::new(alloc, variables, clauses);
-            encoding.exempt.insert(solvable)?;
-            Ok(encoding)
-        }
+    if let Some(solvable) = exempt {
+        encoding.exempt.insert(solvable)?;
     }
+    Ok(())
 }
 
 /// What there is after a round of reading: what it did, how many clauses and how many disjuncts that are put off there
@@ -184,20 +181,27 @@ fn read_seen<
     Ok(progress)
 }
 
-/// Reads the root, and then four times all that was seen by then.
-fn read(
-    encoding: &mut Encoding<u32, u32>,
-    alloc: Global,
-    provider: &TestProvider,
+/// Reads the root, where a solvable may be exempt, and then four times all that was seen by then.
+fn read<
+    N: Copy + Eq + Hash + Drop,
+    S: Copy + Eq + Hash + Drop,
+    D: DependencyProvider<NameId = N, SolvableId = S>,
+>(
+    encoding: &mut Encoding<N, S>,
+    provider: &D,
+    cache: &mut Cache<N, S>,
+    exempt: Option<S>,
     requirements: &[ConditionalRequirement],
-) -> Result<(), Interrupted<u8>>
+) -> Result<(), Interrupted<D::Cancel>>
     requires bounded { IsBounded encoding.old }
+    requires is_true { IsTrueCache (D.universe provider.now) cache.old }
     requires nothing_read { IsUnread (notes_in encoding.old) }
+    ensures { IsTrueCache (D.universe provider.now) cache.new }
 {
-    let mut cache = Cache::new(alloc);
-    encoding.read_root(provider, &mut cache, requirements, &[])?;
+    spare(encoding, exempt)?;
+    encoding.read_root(provider, cache, requirements, &[])?;
     for _ in 0..4 {
-        read_seen(encoding, provider, &mut cache)?;
+        read_seen(encoding, provider, cache)?;
     }
     Ok(())
 }
@@ -205,19 +209,20 @@ fn read(
 /// Reads the root, and then each of these in turn, as if it were all that is chosen.
 fn rounds_of(
     encoding: &mut Encoding<u32, u32>,
-    alloc: Global,
     provider: &TestProvider,
+    cache: &mut Cache<u32, u32>,
     requirements: &[ConditionalRequirement],
     turns: &[&[u32]],
 ) -> Result<Vec<Round>, Interrupted<u8>>
     requires bounded { IsBounded encoding.old }
+    requires is_true { IsTrueCache (test_universe provider.now.requirements.items provider.now.constraints.items) cache.old }
     requires nothing_read { IsUnread (notes_in encoding.old) }
+    ensures { IsTrueCache (test_universe provider.now.requirements.items provider.now.constraints.items) cache.new }
 {
-    let mut cache = Cache::new(alloc);
-    encoding.read_root(provider, &mut cache, requirements, &[])?;
-    let mut rounds = Vec::new(alloc);
+    encoding.read_root(provider, cache, requirements, &[])?;
+    let mut rounds = Vec::new(encoding.alloc);
     for given in turns {
-        let progress = read_given(encoding, provider, &mut cache, given)?;
+        let progress = read_given(encoding, provider, cache, given)?;
         let clauses = encoding.clause_count();
         let deferred = encoding.deferred_count();
         let asked = encoding.asked.len();
@@ -255,20 +260,156 @@ fn are_clauses(encoding: &Encoding<u32, u32>, wanted: &[(usize, Literals<'_>)]) 
     true
 }
 
-/// Whether so many clauses come of these requirements, where one solvable may be exempt, and these are among them.
+/// What an encoding has when the turn of a solvable has begun, and when it was refused: how many clauses, and how many
+/// exempt ones.
+type Turn = (usize, usize, usize, usize);
+
+/// What is done with an encoding.
+#[derive(Clone, Copy)]
+enum Steps<'a> {
+    /// The root is read.
+    Root,
+    /// The root is read, and then four times all that was seen by then.
+    Seen,
+    /// The same, and ids run out at so many variables.
+    Ids(usize),
+    /// The root is read, and then each of the first ones in turn, as if it were all that is chosen. That comes to these rounds.
+    Rounds(&'a [&'a [u32]], &'a [Round]),
+    /// These are met.
+    Met(&'a [u32]),
+    /// The turn of a solvable begins behind the root's, these are read, and it is refused. That comes to this.
+    Refused(u32, &'a [u32], Turn),
+}
+
+/// What is done with an encoding, and what is there then.
+#[derive(Clone, Copy)]
+struct Case<'a> {
+    /// A solvable that is exempt. Only `Seen` and `Ids` heed it.
+    exempt: Option<u32>,
+    requirements: &'a [ConditionalRequirement],
+    steps: Steps<'a>,
+    /// How many clauses there are, if that is judged.
+    count: Option<usize>,
+    /// Some of the clauses, by number, if any are judged.
+    clauses: Option<&'a [(usize, Literals<'a>)]>,
+    /// The requirements that are read, if these are judged.
+    asked: Option<&'a [(usize, bool, usize)]>,
+}
+
+/// Whether ids ran out.
+fn is_out_of_ids(outcome: &Result<(), Interrupted<u8>>) -> bool {
+    matches!(outcome, Err(Interrupted::Exhausted(Exhausted::Ids)))
+}
+
+/// Whether the rounds are these, in order.
+fn are_rounds(outcome: &Result<Vec<Round>, Interrupted<u8>>, wanted: &[Round]) -> bool {
+    match outcome {
+        Ok(rounds) => rounds.as_slice() == wanted,
+        Err(_) => false,
+    }
+}
+
+/// Does the steps, and says whether they come to what is wanted.
+fn are_done(
+    encoding: &mut Encoding<u32, u32>,
+    provider: &TestProvider,
+    cache: &mut Cache<u32, u32>,
+    case: &Case<'_>,
+) -> bool
+    requires bounded { IsBounded encoding.old }
+    requires is_true { IsTrueCache (test_universe provider.now.requirements.items provider.now.constraints.items) cache.old }
+    requires nothing_read { IsUnread (notes_in encoding.old) }
+    ensures { IsTrueCache (test_universe provider.now.requirements.items provider.now.constraints.items) cache.new }
+{
+    match &case.steps {
+        Steps::Root => encoding
+            .read_root(provider, cache, case.requirements, &[])
+            .is_ok(),
+        Steps::Seen => read(encoding, provider, cache, case.exempt, case.requirements).is_ok(),
+        Steps::Ids(variables) => {
+            let outcome = read(encoding, provider, cache, case.exempt, case.requirements);
+            is_out_of_ids(&outcome) & (encoding.variables().len() == *variables)
+        }
+        Steps::Rounds(turns, rounds) => {
+            let outcome = rounds_of(encoding, provider, cache, case.requirements, turns);
+            are_rounds(&outcome, rounds)
+        }
+        Steps::Met(met) => encoding.see_all(provider, met).is_ok(),
+        Steps::Refused(solvable, given, turn) => {
+            let outcome = turns::refused(
+                encoding,
+                provider,
+                cache,
+                case.requirements,
+                *solvable,
+                given,
+            );
+            turns::is_turn(&outcome, *turn)
+        }
+    }
+}
+
+/// Whether what is wanted is there.
+fn is_there_then(encoding: &Encoding<u32, u32>, case: &Case<'_>) -> bool {
+    let count = match case.count {
+        Some(count) => encoding.clause_count() == count,
+        None => true,
+    };
+    let asked = match case.asked {
+        Some(asked) => are_requirements(encoding.requirements(), asked),
+        None => true,
+    };
+    let clauses = match case.clauses {
+        Some(clauses) => are_clauses(encoding, clauses),
+        None => true,
+    };
+    count & asked & clauses
+}
+
+/// Whether a case comes out as wanted in an encoding with these limits.
 ///
-/// The tests own nothing: what they call makes an encoding and says what it found.
-fn states(
+/// This alone owns an encoding: a function that owns one takes the prover a minute.
+fn holds_within(
+    alloc: Global,
+    limits: (usize, usize),
+    provider: &TestProvider,
+    cache: &mut Cache<u32, u32>,
+    case: &Case<'_>,
+) -> bool
+    requires limits { limits.0 ≤ 2 ^ 31 }
+    requires is_true { IsTrueCache (test_universe provider.now.requirements.items provider.now.constraints.items) cache.old }
+    ensures { IsTrueCache (test_universe provider.now.requirements.items provider.now.constraints.items) cache.new }
+{
+    let mut encoding = Encoding::new(alloc, limits.0, limits.1);
+    are_done(&mut encoding, provider, cache, case) & is_there_then(&encoding, case)
+}
+
+/// Whether a case comes out as wanted, within these limits.
+fn holds(alloc: Global, limits: (usize, usize), provider: &TestProvider, case: &Case<'_>) -> bool
+    requires { limits.0 ≤ 2 ^ 31 }
+{
+    let mut cache = Cache::new(alloc);
+    holds_within(alloc, limits, provider, &mut cache, case)
+}
+
+/// Whether so many clauses come of these requirements, where one solvable may be exempt, and these are among them.
+fn states<'x>(
     alloc: Global,
     provider: TestProvider,
     exempt: Option<u32>,
-    requirements: &[ConditionalRequirement],
+    requirements: &'x [ConditionalRequirement],
     count: usize,
-    wanted: &[(usize, Literals<'_>)],
-) -> Result<bool, Fail> {
-    let mut encoding = limited(alloc, 100, 100, exempt)?;
-    let outcome = read(&mut encoding, alloc, &provider, requirements);
-    Ok(outcome.is_ok() & (encoding.clause_count() == count) & are_clauses(&encoding, wanted))
+    wanted: &'x [(usize, Literals<'x>)],
+) -> bool {
+    let case = Case {
+        exempt,
+        requirements,
+        steps: Steps::Seen,
+        count: Some(count),
+        clauses: Some(wanted),
+        asked: None,
+    };
+    holds(alloc, (100, 100), &provider, &case)
 }
 
 #[test]
@@ -279,7 +420,7 @@ fn a_requirement_of_a_requirement_has_its_clause(rt: HostRuntime) -> Result<(), 
         (1, &[ROOT, is_there(11)]),
         (2, &[is_absent(11), is_there(24)]),
     ];
-    assert!(rt; states(rt.alloc(), provider, None, &[always(11)], 3, &wanted)?);
+    assert!(rt; states(rt.alloc(), provider, None, &[always(11)], 3, &wanted));
     Ok(())
 }
 
@@ -293,21 +434,27 @@ fn candidates_of_a_package_are_kept_apart(rt: HostRuntime) -> Result<(), Fail> {
         (4, &[is_absent(14), is_there(21)]),
         (5, &[is_absent(21)]),
     ];
-    assert!(rt; states(rt.alloc(), provider, None, &[always(10)], 6, &wanted)?);
+    assert!(rt; states(rt.alloc(), provider, None, &[always(10)], 6, &wanted));
     Ok(())
 }
 
 /// Whether there are so many clauses once these were met, and these are among them.
-fn has_met(
+fn has_met<'x>(
     alloc: Global,
-    met: &[u32],
+    met: &'x [u32],
     count: usize,
-    wanted: &[(usize, Literals<'_>)],
+    wanted: &'x [(usize, Literals<'x>)],
 ) -> Result<bool, Fail> {
     let provider = provider_of(alloc, &[], &[])?;
-    let mut encoding = limited(alloc, 100, 100, None)?;
-    let outcome = encoding.see_all(&provider, met);
-    Ok(outcome.is_ok() & (encoding.clause_count() == count) & are_clauses(&encoding, wanted))
+    let case = Case {
+        exempt: None,
+        requirements: &[],
+        steps: Steps::Met(met),
+        count: Some(count),
+        clauses: Some(wanted),
+        asked: None,
+    };
+    Ok(holds(alloc, (100, 100), &provider, &case))
 }
 
 #[test]
@@ -349,22 +496,28 @@ fn are_requirements(found: &[RequirementClause], wanted: &[(usize, bool, usize)]
 }
 
 /// Whether the requirements that are read are these.
-fn asks(
+fn asks<'x>(
     alloc: Global,
     provider: TestProvider,
-    requirements: &[ConditionalRequirement],
-    wanted: &[(usize, bool, usize)],
-) -> Result<bool, Fail> {
-    let mut encoding = limited(alloc, 100, 100, None)?;
-    let outcome = read(&mut encoding, alloc, &provider, requirements);
-    Ok(outcome.is_ok() & are_requirements(encoding.requirements(), wanted))
+    requirements: &'x [ConditionalRequirement],
+    wanted: &'x [(usize, bool, usize)],
+) -> bool {
+    let case = Case {
+        exempt: None,
+        requirements,
+        steps: Steps::Seen,
+        count: None,
+        clauses: None,
+        asked: Some(wanted),
+    };
+    holds(alloc, (100, 100), &provider, &case)
 }
 
 #[test]
 fn requirements_know_their_clauses(rt: HostRuntime) -> Result<(), Fail> {
     let provider = provider_of(rt.alloc(), &[(14, 21), (21, 1000)], &[])?;
     let wanted = [(3, true, 3), (4, false, 2), (5, false, 1)];
-    assert!(rt; asks(rt.alloc(), provider, &[always(10)], &wanted)?);
+    assert!(rt; asks(rt.alloc(), provider, &[always(10)], &wanted));
     Ok(())
 }
 
@@ -372,9 +525,9 @@ fn requirements_know_their_clauses(rt: HostRuntime) -> Result<(), Fail> {
 fn a_lock_spares_the_locked_and_the_exempt(rt: HostRuntime) -> Result<(), Fail> {
     let provider = provider_of(rt.alloc(), &[], &[])?;
     let wanted: [(usize, Literals<'_>); 1] = [(1, &[ROOT, is_absent(74)])];
-    assert!(rt; states(rt.alloc(), provider, None, &[always(70)], 5, &wanted)?);
+    assert!(rt; states(rt.alloc(), provider, None, &[always(70)], 5, &wanted));
     let provider = provider_of(rt.alloc(), &[], &[])?;
-    assert!(rt; states(rt.alloc(), provider, Some(74), &[always(70)], 4, &[])?);
+    assert!(rt; states(rt.alloc(), provider, Some(74), &[always(70)], 4, &[]));
     Ok(())
 }
 
@@ -382,9 +535,9 @@ fn a_lock_spares_the_locked_and_the_exempt(rt: HostRuntime) -> Result<(), Fail> 
 fn an_exclusion_spares_the_exempt(rt: HostRuntime) -> Result<(), Fail> {
     let provider = provider_of(rt.alloc(), &[], &[])?;
     let wanted: [(usize, Literals<'_>); 1] = [(1, &[is_absent(84)])];
-    assert!(rt; states(rt.alloc(), provider, None, &[always(80)], 5, &wanted)?);
+    assert!(rt; states(rt.alloc(), provider, None, &[always(80)], 5, &wanted));
     let provider = provider_of(rt.alloc(), &[], &[])?;
-    assert!(rt; states(rt.alloc(), provider, Some(84), &[always(80)], 4, &[])?);
+    assert!(rt; states(rt.alloc(), provider, Some(84), &[always(80)], 4, &[]));
     Ok(())
 }
 
@@ -392,7 +545,7 @@ fn an_exclusion_spares_the_exempt(rt: HostRuntime) -> Result<(), Fail> {
 fn unknown_dependencies_spare_nobody(rt: HostRuntime) -> Result<(), Fail> {
     let provider = provider_of(rt.alloc(), &[], &[])?;
     let wanted: [(usize, Literals<'_>); 1] = [(2, &[is_absent(94)])];
-    assert!(rt; states(rt.alloc(), provider, Some(94), &[always(94)], 3, &wanted)?);
+    assert!(rt; states(rt.alloc(), provider, Some(94), &[always(94)], 3, &wanted));
     Ok(())
 }
 
@@ -403,7 +556,7 @@ fn a_constraint_of_its_own_solvable_has_one_literal(rt: HostRuntime) -> Result<(
         (4, &[is_absent(14), is_absent(24)]),
         (5, &[is_absent(11)]),
     ];
-    assert!(rt; states(rt.alloc(), provider, None, &[always(10)], 6, &wanted)?);
+    assert!(rt; states(rt.alloc(), provider, None, &[always(10)], 6, &wanted));
     Ok(())
 }
 
@@ -418,7 +571,7 @@ fn a_condition_has_helpers(rt: HostRuntime) -> Result<(), Fail> {
         (6, &[helper(20, true), is_absent(24)]),
         (7, &[ROOT, helper(20, false), is_there(34)]),
     ];
-    assert!(rt; states(rt.alloc(), provider, None, &root, 8, &wanted)?);
+    assert!(rt; states(rt.alloc(), provider, None, &root, 8, &wanted));
     Ok(())
 }
 
@@ -429,26 +582,24 @@ fn provider_when(alloc: Global, condition: u32) -> Result<TestProvider, Fail> {
     Ok(provider)
 }
 
-/// Whether the rounds are these, in order.
-fn are_rounds(outcome: &Result<Vec<Round>, Interrupted<u8>>, wanted: &[Round]) -> bool {
-    match outcome {
-        Ok(rounds) => rounds.as_slice() == wanted,
-        Err(_) => false,
-    }
-}
-
 /// Whether reading these in turn goes as wanted, and the clauses are there at the end.
-fn goes(
+fn goes<'x>(
     alloc: Global,
     provider: TestProvider,
-    requirements: &[ConditionalRequirement],
-    turns: &[&[u32]],
-    rounds: &[Round],
-    wanted: &[(usize, Literals<'_>)],
-) -> Result<bool, Fail> {
-    let mut encoding = limited(alloc, 100, 100, None)?;
-    let outcome = rounds_of(&mut encoding, alloc, &provider, requirements, turns);
-    Ok(are_rounds(&outcome, rounds) & are_clauses(&encoding, wanted))
+    requirements: &'x [ConditionalRequirement],
+    turns: &'x [&'x [u32]],
+    rounds: &'x [Round],
+    wanted: &'x [(usize, Literals<'x>)],
+) -> bool {
+    let case = Case {
+        exempt: None,
+        requirements,
+        steps: Steps::Rounds(turns, rounds),
+        count: None,
+        clauses: Some(wanted),
+        asked: None,
+    };
+    holds(alloc, (100, 100), &provider, &case)
 }
 
 #[test]
@@ -465,7 +616,7 @@ fn a_condition_is_encoded_once_it_holds(rt: HostRuntime) -> Result<(), Fail> {
         (6, &[is_absent(11), helper(24, false), is_there(44)]),
     ];
     let root = [always(11), always(20)];
-    assert!(rt; goes(rt.alloc(), provider, &root, &turns, &rounds, &wanted)?);
+    assert!(rt; goes(rt.alloc(), provider, &root, &turns, &rounds, &wanted));
     Ok(())
 }
 
@@ -480,7 +631,7 @@ fn a_condition_of_what_was_read_fires_once(rt: HostRuntime) -> Result<(), Fail> 
         (Progress::Nothing, 7, 0, 3, 124),
     ];
     let root = [always(11), always(20)];
-    assert!(rt; goes(rt.alloc(), provider, &root, &turns, &rounds, &[])?);
+    assert!(rt; goes(rt.alloc(), provider, &root, &turns, &rounds, &[]));
     Ok(())
 }
 
@@ -497,7 +648,7 @@ fn a_disjunct_that_does_not_hold_is_put_off(rt: HostRuntime) -> Result<(), Fail>
         (6, &[is_absent(11), helper(24, false), is_there(44)]),
     ];
     let root = [always(11), always(20)];
-    assert!(rt; goes(rt.alloc(), provider, &root, &turns, &rounds, &wanted)?);
+    assert!(rt; goes(rt.alloc(), provider, &root, &turns, &rounds, &wanted));
     Ok(())
 }
 
@@ -518,7 +669,7 @@ fn what_is_not_chosen_is_not_read(rt: HostRuntime) -> Result<(), Fail> {
             &turns,
             &rounds,
             &wanted
-        )?
+        )
     );
     Ok(())
 }
@@ -536,7 +687,7 @@ fn the_packages_of_a_condition_are_not_asked(rt: HostRuntime) -> Result<(), Fail
             &turns,
             &rounds,
             &[]
-        )?
+        )
     );
     Ok(())
 }
@@ -562,7 +713,7 @@ fn hinted_candidates_are_read_at_once(rt: HostRuntime) -> Result<(), Fail> {
             &turns,
             &rounds,
             &wanted
-        )?
+        )
     );
     Ok(())
 }
@@ -576,7 +727,7 @@ fn others_are_read_when_they_are_chosen(rt: HostRuntime) -> Result<(), Fail> {
         (Progress::Read, 5, 0, 2, 65),
         (Progress::Read, 6, 0, 3, 652),
     ];
-    assert!(rt; goes(rt.alloc(), provider, &[always(60)], &turns, &rounds, &[])?);
+    assert!(rt; goes(rt.alloc(), provider, &[always(60)], &turns, &rounds, &[]));
     Ok(())
 }
 
@@ -595,63 +746,58 @@ fn a_hint_does_not_make_a_condition_hold(rt: HostRuntime) -> Result<(), Fail> {
         (Progress::Nothing, 4, 1, 1, 16),
         (Progress::Read, 6, 0, 2, 177),
     ];
-    assert!(rt; goes(rt.alloc(), provider, &[always(160)], &turns, &rounds, &[])?);
+    assert!(rt; goes(rt.alloc(), provider, &[always(160)], &turns, &rounds, &[]));
     Ok(())
 }
 
-/// Reads the root and a solvable, and then the root again with the answers that were given.
-fn again(
-    first: &mut Encoding<u32, u32>,
-    second: &mut Encoding<u32, u32>,
-    alloc: Global,
-    provider: &TestProvider,
-    requirements: &[ConditionalRequirement],
-    solvable: u32,
-) -> Result<(), Interrupted<u8>>
-    requires first_bounded { IsBounded first.old }
-    requires first_unread { IsUnread (notes_in first.old) }
-    requires second_bounded { IsBounded second.old }
-    requires second_unread { IsUnread (notes_in second.old) }
-{
-    let mut cache = Cache::new(alloc);
-    first.read_root(provider, &mut cache, requirements, &[])?;
-    read_given(first, provider, &mut cache, &[solvable])?;
-    second.read_root(provider, &mut cache, requirements, &[])?;
-    Ok(())
-}
-
-/// Whether the second of two encodings has these clauses too, where only the first one was told what is chosen.
-fn is_read_again(
+/// Whether reading the root has these clauses, where an encoding before read these in turn too and had as many.
+fn is_read_again<'x>(
     alloc: Global,
     provider: TestProvider,
-    requirements: &[ConditionalRequirement],
-    solvable: u32,
+    requirements: &'x [ConditionalRequirement],
+    turns: &'x [&'x [u32]],
+    rounds: &'x [Round],
     count: usize,
-    wanted: &[(usize, Literals<'_>)],
-) -> Result<bool, Fail> {
-    let mut first = limited(alloc, 100, 100, None)?;
-    let mut second = limited(alloc, 100, 100, None)?;
-    let outcome = again(
-        &mut first,
-        &mut second,
-        alloc,
-        &provider,
+    wanted: &'x [(usize, Literals<'x>)],
+) -> bool {
+    let first = Case {
+        exempt: None,
         requirements,
-        solvable,
-    );
-    Ok(
-        outcome.is_ok()
-            & (first.clause_count() == count)
-            & (second.clause_count() == count)
-            & are_clauses(&second, wanted),
-    )
+        steps: Steps::Rounds(turns, rounds),
+        count: Some(count),
+        clauses: None,
+        asked: None,
+    };
+    let second = Case {
+        exempt: None,
+        requirements,
+        steps: Steps::Root,
+        count: Some(count),
+        clauses: Some(wanted),
+        asked: None,
+    };
+    let mut cache = Cache::new(alloc);
+    holds_within(alloc, (100, 100), &provider, &mut cache, &first)
+        & holds_within(alloc, (100, 100), &provider, &mut cache, &second)
 }
 
 #[test]
 fn candidates_whose_dependencies_are_cached_are_read_at_once(rt: HostRuntime) -> Result<(), Fail> {
     let provider = provider_of(rt.alloc(), &[(21, 34), (24, 34)], &[])?;
+    let turns: [&[u32]; 1] = [&[24]];
+    let rounds = [(Progress::Read, 5, 0, 2, 23)];
     let wanted: [(usize, Literals<'_>); 1] = [(4, &[is_absent(24), is_there(34)])];
-    assert!(rt; is_read_again(rt.alloc(), provider, &[always(20)], 24, 5, &wanted)?);
+    assert!(rt;
+        is_read_again(
+            rt.alloc(),
+            provider,
+            &[always(20)],
+            &turns,
+            &rounds,
+            5,
+            &wanted
+        )
+    );
     Ok(())
 }
 
@@ -663,7 +809,7 @@ fn what_was_read_is_not_read_again(rt: HostRuntime) -> Result<(), Fail> {
         (Progress::Read, 3, 0, 2, 12),
         (Progress::Nothing, 3, 0, 2, 12),
     ];
-    assert!(rt; goes(rt.alloc(), provider, &[always(11)], &turns, &rounds, &[])?);
+    assert!(rt; goes(rt.alloc(), provider, &[always(11)], &turns, &rounds, &[]));
     Ok(())
 }
 
@@ -678,29 +824,31 @@ fn a_disjunct_names_each_version_set_once(rt: HostRuntime) -> Result<(), Fail> {
 }
 
 /// Whether ids run out under these limits, at so many variables and clauses.
-fn ends_at(
+fn ends_at<'x>(
     alloc: Global,
     provider: TestProvider,
     limits: (usize, usize),
-    requirements: &[ConditionalRequirement],
+    requirements: &'x [ConditionalRequirement],
     counts: (usize, usize),
-) -> Result<bool, Fail>
+) -> bool
     requires { limits.0 ≤ 2 ^ 31 }
 {
-    let mut encoding = limited(alloc, limits.0, limits.1, None)?;
-    let outcome = read(&mut encoding, alloc, &provider, requirements);
-    Ok(
-        matches!(&outcome, Err(Interrupted::Exhausted(Exhausted::Ids)))
-            & (encoding.variables().len() == counts.0)
-            & (encoding.clause_count() == counts.1),
-    )
+    let case = Case {
+        exempt: None,
+        requirements,
+        steps: Steps::Ids(counts.0),
+        count: Some(counts.1),
+        clauses: None,
+        asked: None,
+    };
+    holds(alloc, limits, &provider, &case)
 }
 
 #[test]
 fn limits_end_the_reading(rt: HostRuntime) -> Result<(), Fail> {
     let provider = provider_of(rt.alloc(), &[(11, 24)], &[])?;
-    assert!(rt; ends_at(rt.alloc(), provider, (2, 100), &[always(11)], (2, 2))?);
+    assert!(rt; ends_at(rt.alloc(), provider, (2, 100), &[always(11)], (2, 2)));
     let provider = provider_of(rt.alloc(), &[(11, 24)], &[])?;
-    assert!(rt; ends_at(rt.alloc(), provider, (100, 2), &[always(11)], (3, 2))?);
+    assert!(rt; ends_at(rt.alloc(), provider, (100, 2), &[always(11)], (3, 2)));
     Ok(())
 }

@@ -156,13 +156,8 @@ fn an_instance_is_marked_once(rt: HostRuntime) -> Result<(), Fail> {
         has_bit(24, 0, false),
         has_bit(21, 1, true),
         has_bit(24, 1, true),
-        ClauseKind::ForbidMultipleInstances {
-            name: 2,
-            first: 24,
-            second: 21,
-        },
     ];
-    let rules = rules_of(rt.alloc(), &kinds, &[0, 1, 2, 3, 4])?;
+    let rules = rules_of(rt.alloc(), &kinds, &[0, 1, 2, 3])?;
     assert_eq!(rt; rules.len(), 2);
     assert!(rt; is_marked(rules.get(0), 21));
     assert!(rt; is_marked(rules.get(1), 24));

@@ -32,34 +32,28 @@ fn begin<
     Ok(())
 }
 
-/// What an encoding has when the turn of a solvable has begun, and when it was refused: how many clauses, and how many
-/// exempt ones.
-type Turn = (usize, usize, usize, usize);
-
 /// The turn of a solvable that is refused.
-fn refused(
-    encoding: &mut Encoding<u32, u32>,
-    alloc: Global,
-    provider: &TestProvider,
+pub fn refused<
+    N: Copy + Eq + Hash + Drop,
+    S: Copy + Eq + Hash + Drop,
+    D: DependencyProvider<NameId = N, SolvableId = S>,
+>(
+    encoding: &mut Encoding<N, S>,
+    provider: &D,
+    cache: &mut Cache<N, S>,
     requirements: &[ConditionalRequirement],
-    solvable: u32,
-    given: &[u32],
-) -> Result<Turn, Interrupted<u8>>
+    solvable: S,
+    given: &[S],
+) -> Result<Turn, Interrupted<D::Cancel>>
     requires bounded { IsBounded encoding.old }
+    requires is_true { IsTrueCache (D.universe provider.now) cache.old }
     requires nothing_read { IsUnread (notes_in encoding.old) }
+    ensures { IsTrueCache (D.universe provider.now) cache.new }
 {
-    let mut cache = Cache::new(alloc);
-    begin(
-        encoding,
-        provider,
-        &mut cache,
-        requirements,
-        solvable,
-        given,
-    )?;
+    begin(encoding, provider, cache, requirements, solvable, given)?;
     let clauses = encoding.clause_count();
     let exempt = encoding.exempt().len();
-    encoding.end_turn(provider, &mut cache, exempt.saturating_sub(1))?;
+    encoding.end_turn(provider, cache, exempt.saturating_sub(1))?;
     Ok((
         clauses,
         exempt,
@@ -69,7 +63,7 @@ fn refused(
 }
 
 /// Whether the turn came to this.
-fn is_turn(outcome: &Result<Turn, Interrupted<u8>>, wanted: Turn) -> bool {
+pub fn is_turn(outcome: &Result<Turn, Interrupted<u8>>, wanted: Turn) -> bool {
     match outcome {
         Ok(turn) => *turn == wanted,
         Err(_) => false,
@@ -77,32 +71,31 @@ fn is_turn(outcome: &Result<Turn, Interrupted<u8>>, wanted: Turn) -> bool {
 }
 
 /// Whether the turn of a solvable that is refused comes to this, and the clauses are there at its end.
-fn comes_to(
+fn comes_to<'x>(
     alloc: Global,
     provider: TestProvider,
-    requirements: &[ConditionalRequirement],
+    requirements: &'x [ConditionalRequirement],
     solvable: u32,
-    given: &[u32],
+    given: &'x [u32],
     turn: Turn,
-    wanted: &[(usize, Literals<'_>)],
-) -> Result<bool, Fail> {
-    let mut encoding = limited(alloc, 100, 100, None)?;
-    let outcome = refused(
-        &mut encoding,
-        alloc,
-        &provider,
+    wanted: &'x [(usize, Literals<'x>)],
+) -> bool {
+    let case = Case {
+        exempt: None,
         requirements,
-        solvable,
-        given,
-    );
-    Ok(is_turn(&outcome, turn) & are_clauses(&encoding, wanted))
+        steps: Steps::Refused(solvable, given, turn),
+        count: None,
+        clauses: Some(wanted),
+        asked: None,
+    };
+    holds(alloc, (100, 100), &provider, &case)
 }
 
 #[test]
 fn a_lock_that_was_spared_comes_at_the_end_of_a_refused_turn(rt: HostRuntime) -> Result<(), Fail> {
     let provider = provider_of(rt.alloc(), &[(74, 70)], &[])?;
     let wanted: [(usize, Literals<'_>); 1] = [(4, &[ROOT, is_absent(74)])];
-    assert!(rt; comes_to(rt.alloc(), provider, &[], 74, &[74], (4, 1, 5, 0), &wanted)?);
+    assert!(rt; comes_to(rt.alloc(), provider, &[], 74, &[74], (4, 1, 5, 0), &wanted));
     Ok(())
 }
 
@@ -112,14 +105,14 @@ fn an_exclusion_that_was_spared_comes_at_the_end_of_a_refused_turn(
 ) -> Result<(), Fail> {
     let provider = provider_of(rt.alloc(), &[(84, 80)], &[])?;
     let wanted: [(usize, Literals<'_>); 1] = [(4, &[is_absent(84)])];
-    assert!(rt; comes_to(rt.alloc(), provider, &[], 84, &[84], (4, 1, 5, 0), &wanted)?);
+    assert!(rt; comes_to(rt.alloc(), provider, &[], 84, &[84], (4, 1, 5, 0), &wanted));
     Ok(())
 }
 
 #[test]
 fn a_package_that_was_not_asked_brings_no_clause(rt: HostRuntime) -> Result<(), Fail> {
     let provider = provider_of(rt.alloc(), &[], &[])?;
-    assert!(rt; comes_to(rt.alloc(), provider, &[], 74, &[74], (1, 1, 1, 0), &[])?);
+    assert!(rt; comes_to(rt.alloc(), provider, &[], 74, &[74], (1, 1, 1, 0), &[]));
     Ok(())
 }
 
@@ -136,7 +129,7 @@ fn a_package_that_was_asked_spares_nobody(rt: HostRuntime) -> Result<(), Fail> {
             &[],
             (5, 0, 5, 0),
             &wanted
-        )?
+        )
     );
     Ok(())
 }
@@ -157,7 +150,7 @@ fn a_soft_solvable_is_kept_apart_from_its_package(rt: HostRuntime) -> Result<(),
             &[],
             (4, 0, 4, 0),
             &wanted
-        )?
+        )
     );
     Ok(())
 }

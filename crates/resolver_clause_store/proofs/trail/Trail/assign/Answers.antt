@@ -4,6 +4,7 @@ use Rattle.resolver_clause_store.proofs.trail.Trail.assign.Goals as goal
 
 pub invariant_of-self : goal.invariant_of-self
 invariant_of-self c = record {
+  valued = c.args.self.now.valued;
   placed = rw c.in_err-push.ensures.items c.args.self.now.placed;
   listed = rw c.in_err-push.ensures.items c.args.self.now.listed;
   rising = c.args.self.now.rising;

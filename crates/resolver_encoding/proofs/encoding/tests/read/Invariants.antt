@@ -2,12 +2,11 @@ use Rattle.std.proofs.Common.{[]}
 use Rattle.resolver_clause_store.specs.Caches.{IsTrueCache}
 use Rattle.resolver_encoding.specs.Notes.{IsBounded, notes_in}
 use Rattle.resolver_encoding.specs.SoFar.{IsReading}
-use Rattle.resolver_encoding.specs.TestProvider.{test_universe}
 use Rattle.resolver_encoding.proofs.encoding.tests.read.Given as goal
 
 abbrev pub invariant-loop : goal.invariant-loop
-invariant-loop l = record {
+invariant-loop g l = record {
   bounded : IsBounded l.encoding;
-  is_true : IsTrueCache (test_universe l.provider.requirements.items l.provider.constraints.items) l.cache;
-  reading : IsReading (test_universe l.provider.requirements.items l.provider.constraints.items) [] (notes_in l.encoding);
+  is_true : IsTrueCache (g.D.Interner.universe l.provider) l.cache;
+  reading : IsReading (g.D.Interner.universe l.provider) [] (notes_in l.encoding);
 }

@@ -1,4 +1,0 @@
-use Rattle.resolver_encoding.proofs.encoding.tests.rounds_of.Goals as goal
-
-pub read_root-requires-clause-is_true : goal.read_root-requires-clause-is_true
-read_root-requires-clause-is_true c = c.new-cache.ensures _
