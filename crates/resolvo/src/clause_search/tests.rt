@@ -50,33 +50,57 @@ fn literal(number: i32) -> Literal {
     }
 }
 
-fn add(alloc: Global, table: &mut Vec<Vec<Literal>>, numbers: &[i32]) -> Result<(), AllocError> {
+fn clause_of(alloc: Global, numbers: &[i32]) -> Result<Vec<Literal>, AllocError> {
     let mut literals = Vec::new(alloc);
     for number in numbers {
         literals.push(literal(*number))?;
     }
-    table.push(literals)?;
-    Ok(())
+    Ok(literals)
 }
 
-/// A requirement whose version sets end at these places.
-fn demand(
+fn table_of(alloc: Global, clauses: &[&[i32]]) -> Result<Vec<Vec<Literal>>, AllocError> {
+    let mut table = Vec::new(alloc);
+    for numbers in clauses {
+        table.push(clause_of(alloc, numbers)?)?;
+    }
+    Ok(table)
+}
+
+/// The number of a requirement's clause, whether it is one of the root, and the places where its version sets end.
+type Required<'x> = (usize, bool, &'x [usize]);
+
+fn requirement_of(
     alloc: Global,
-    requirements: &mut Vec<RequirementClause>,
     number: usize,
     of_root: bool,
     places: &[usize],
-) -> Result<(), AllocError> {
-    let mut ends = Vec::new(alloc);
-    for place in places {
-        ends.push(*place)?;
-    }
-    requirements.push(RequirementClause {
+) -> Result<RequirementClause, AllocError> {
+    let ends = Vec::from_slice(alloc, places)?;
+    Ok(RequirementClause {
         number,
         of_root,
         ends,
-    })?;
-    Ok(())
+    })
+}
+
+fn requirements_of(
+    alloc: Global,
+    given: &[Required<'_>],
+) -> Result<Vec<RequirementClause>, AllocError> {
+    let mut requirements = Vec::new(alloc);
+    for (number, of_root, places) in given {
+        requirements.push(requirement_of(alloc, *number, *of_root, places)?)?;
+    }
+    Ok(requirements)
+}
+
+/// So many clauses as requirements of the root.
+fn all_required(alloc: Global, count: usize) -> Result<Vec<RequirementClause>, AllocError> {
+    let mut requirements = Vec::new(alloc);
+    for number in 0..count {
+        requirements.push(requirement_of(alloc, number, true, &[])?)?;
+    }
+    Ok(requirements)
 }
 
 /// A clause's number, and the place of the candidate in it that is decided.
@@ -101,13 +125,13 @@ fn first_by_scanning(
     }
 }
 
-/// A provider of nothing, which stops at the cancel check with this number, counted from 1; with 0 at none.
-fn provider(alloc: Global, cancelling: u32) -> TestProvider {
+/// A provider of nothing.
+fn provider_of_nothing(alloc: Global) -> TestProvider {
     TestProvider {
         alloc,
         requirements: Vec::new(alloc),
         constraints: Vec::new(alloc),
-        cancelling: Cell::new(cancelling),
+        cancelling: Cell::new(0),
         endless: false,
     }
 }
@@ -145,35 +169,17 @@ fn load_all(
     requires { IsConsistent search.old }
     ensures { IfOk result (λ loaded. IsTrue loaded → IsConsistent search.new) }
 {
-    let mut requirements = Vec::new(alloc);
-    for number in 0..clauses.len() {
-        demand(alloc, &mut requirements, number, true, &[])?;
-    }
+    let requirements = all_required(alloc, clauses.len())?;
     let loaded = load_given(search, clauses, requirements.as_slice(), variables);
     Ok(loaded)
 }
 
-/// A search whose clauses are all requirements.
-fn search_of(
-    alloc: Global,
-    clauses: Vec<Vec<Literal>>,
-    variables: usize,
-) -> Result<Option<ClauseSearch>, AllocError>
-    ensures { IfOk result (λ made. IfSome made IsConsistent) }
-{
-    let mut search = ClauseSearch::new(alloc, Activity::usual());
-    if load_all(alloc, &mut search, clauses.as_slice(), variables)? {
-        return Ok(Some(search));
-    }
-    Ok(None)
-}
-
 /// Whether a run finds values.
-fn finishes(alloc: Global, search: &mut ClauseSearch) -> bool
+fn finishes(alloc: Global, search: &mut ClauseSearch, provider: &TestProvider) -> bool
     requires { IsConsistent search.old }
     ensures { IsTrue result → IsConsistent search.new }
 {
-    match search.run(alloc, &provider(alloc, 0), 100, 100) {
+    match search.run(alloc, provider, 100, 100) {
         Ok(Outcome::Finished) => true,
         Ok(Outcome::Contradiction(_)) => false,
         Ok(Outcome::Refused) => false,
@@ -181,16 +187,396 @@ fn finishes(alloc: Global, search: &mut ClauseSearch) -> bool
     }
 }
 
-/// The clauses that contradict each other, where a run finds some.
-fn core_of(alloc: Global, search: &mut ClauseSearch) -> Option<Vec<usize>>
+/// What a run ends with.
+type Ended = Result<Outcome, Interrupted<u8>>;
+
+/// Whether what a run found is that these clauses contradict each other.
+fn is_core(found: &Ended, wanted: &[usize]) -> bool {
+    match found {
+        Ok(Outcome::Contradiction(core)) => core.as_slice() == wanted,
+        _ => false,
+    }
+}
+
+/// Whether what a run found is that so many clauses contradict each other.
+fn is_core_of(found: &Ended, count: usize) -> bool {
+    match found {
+        Ok(Outcome::Contradiction(core)) => core.len() == count,
+        _ => false,
+    }
+}
+
+/// Whether a run over clauses of 30 variables finds that so many, which are all of them, contradict each other, and
+/// learns some for it.
+fn refutes_all(
+    alloc: Global,
+    search: &mut ClauseSearch,
+    provider: &TestProvider,
+    table: &[Vec<Literal>],
+    given: usize,
+) -> Result<bool, AllocError>
     requires { IsConsistent search.old }
 {
-    match search.run(alloc, &provider(alloc, 0), 100000, 100000) {
-        Ok(Outcome::Finished) => None,
-        Ok(Outcome::Contradiction(core)) => Some(core),
-        Ok(Outcome::Refused) => None,
+    if !load_all(alloc, search, table, 30)? {
+        return Ok(false);
+    }
+    let found = search.run(alloc, provider, 100000, 100000);
+    Ok(
+        is_core_of(&found, given)
+            & (table.len() == given)
+            & (0 < search.learnt_count())
+            & (search.clause_count() == given.wrapping_add(search.learnt_count())),
+    )
+}
+
+/// Whether a run finds that these clauses contradict each other.
+fn refutes(
+    alloc: Global,
+    search: &mut ClauseSearch,
+    provider: &TestProvider,
+    wanted: &[usize],
+) -> bool
+    requires { IsConsistent search.old }
+{
+    let found = search.run(alloc, provider, 100000, 100000);
+    is_core(&found, wanted)
+}
+
+/// Whether ids ran out.
+fn is_out_of_ids(ended: &Ended) -> bool {
+    matches!(ended, Err(Interrupted::Exhausted(Exhausted::Ids)))
+}
+
+/// Whether ids run out over clauses of 30 variables under these limits for learnt clauses and for all, with so many
+/// learnt then.
+fn ends_at(
+    alloc: Global,
+    search: &mut ClauseSearch,
+    provider: &TestProvider,
+    table: &[Vec<Literal>],
+    limits: (usize, usize),
+    learnt: usize,
+) -> Result<bool, AllocError>
+    requires { IsConsistent search.old }
+{
+    if !load_all(alloc, search, table, 30)? {
+        return Ok(false);
+    }
+    let ended = search.run(alloc, provider, limits.0, limits.1);
+    Ok(is_out_of_ids(&ended) & (search.learnt_count() == learnt))
+}
+
+/// Whether the provider stopped the search, unless memory or ids ran out.
+fn was_cancelled(ended: &Ended) -> Option<bool> {
+    match ended {
+        Ok(_) => Some(false),
+        Err(Interrupted::Cancelled(_)) => Some(true),
+        Err(Interrupted::Exhausted(_)) => None,
+    }
+}
+
+/// Whether a run over clauses of two variables is cancelled by the check with this number, unless memory or ids run
+/// out.
+fn is_cancelled(
+    alloc: Global,
+    search: &mut ClauseSearch,
+    provider: &TestProvider,
+    table: &[Vec<Literal>],
+    check: u32,
+) -> Result<Option<bool>, AllocError>
+    requires { IsConsistent search.old }
+{
+    if !load_all(alloc, search, table, 2)? {
+        return Ok(None);
+    }
+    provider.cancelling.set(check);
+    let ended = search.run(alloc, provider, 10, 10);
+    Ok(was_cancelled(&ended))
+}
+
+/// The first clauses, so many.
+fn beginning(table: &[Vec<Literal>], count: usize) -> &[Vec<Literal>] {
+    if table.len() < count {
+        return table;
+    }
+    &table[..count]
+}
+
+/// Whether a first run over four clauses learns so many, and a second one over all finds that these contradict each
+/// other.
+fn refutes_through_learnt(
+    alloc: Global,
+    search: &mut ClauseSearch,
+    provider: &TestProvider,
+    table: &[Vec<Literal>],
+    learnt: usize,
+    wanted: &[usize],
+) -> Result<bool, AllocError>
+    requires { IsConsistent search.old }
+{
+    if !load_all(alloc, search, beginning(table, 4), 4)? {
+        return Ok(false);
+    }
+    if !finishes(alloc, search, provider) {
+        return Ok(false);
+    }
+    if search.learnt_count() != learnt {
+        return Ok(false);
+    }
+    if !load_all(alloc, search, table, 5)? {
+        return Ok(false);
+    }
+    Ok(refutes(alloc, search, provider, wanted))
+}
+
+/// The places of a search's trail: how many were marked, how many of them and how many in all are left when more
+/// clauses have come, and how many of the marked ones after the next run.
+type Places = (usize, usize, usize, usize);
+
+/// The places of a search that decides 1 and then 3 by the first two clauses, before the others come.
+fn places_through(
+    alloc: Global,
+    search: &mut ClauseSearch,
+    provider: &TestProvider,
+    table: &[Vec<Literal>],
+) -> Result<Option<Places>, AllocError>
+    requires { IsConsistent search.old }
+{
+    if !load_all(alloc, search, beginning(table, 2), 4)? {
+        return Ok(None);
+    }
+    if !finishes(alloc, search, provider) {
+        return Ok(None);
+    }
+    search.mark();
+    let marked = search.kept();
+    if !load_all(alloc, search, table, 5)? {
+        return Ok(None);
+    }
+    let kept = search.kept();
+    let length = search.trail().len();
+    if !finishes(alloc, search, provider) {
+        return Ok(None);
+    }
+    Ok(Some((marked, kept, length, search.kept())))
+}
+
+/// The place of a variable in the clause with this number.
+fn place_in(table: &[Vec<Literal>], number: usize, variable: Variable) -> Option<usize> {
+    match table.get(number) {
+        Some(literals) => literals
+            .iter()
+            .position(|literal| literal.variable == variable),
+        None => None,
+    }
+}
+
+/// The decision that stands first on a trail.
+fn first_on(trail: &Trail, table: &[Vec<Literal>]) -> Decision {
+    'places: for place in 0..trail.len() {
+        let variable = trail.variable_at(place);
+        if let Some(slot) = trail.slot(variable) {
+            if let Reason::Decided(number) = slot.reason {
+                return place_in(table, number, variable).map(|found| (number, found));
+            }
+        }
+    }
+    None
+}
+
+/// What a search decides first, where it has no conflict.
+fn first_by_searching(
+    alloc: Global,
+    search: &mut ClauseSearch,
+    provider: &TestProvider,
+    table: &[Vec<Literal>],
+    requirements: &[RequirementClause],
+) -> Decision
+    requires { IsConsistent search.old }
+{
+    if !load_given(search, table, requirements, 16) {
+        return None;
+    }
+    if !finishes(alloc, search, provider) {
+        return None;
+    }
+    first_on(search.trail(), table)
+}
+
+/// Marks the trail and assumes a literal, unless its variable has a value or is none of the trail's.
+fn assumes(search: &mut ClauseSearch, wanted: Literal) -> Result<bool, AllocError>
+    requires { IsConsistent search.old }
+    ensures consistent { IfOk result (λ assumed. IsConsistent search.new) }
+    ensures base { IfOk result (λ assumed. IsTrue assumed → 0 < base_of search.new) }
+{
+    if search.trail().variable_count() <= wanted.variable.index() {
+        return Ok(false);
+    }
+    if search.trail().slot(wanted.variable).is_some() {
+        return Ok(false);
+    }
+    search.mark();
+    search.assume(wanted)?;
+    Ok(true)
+}
+
+/// What a run in a turn ends with: whether what was assumed is accepted.
+fn is_accepted(alloc: Global, search: &mut ClauseSearch, provider: &TestProvider) -> Option<bool>
+    requires { IsConsistent search.old }
+    ensures consistent { IfSome result (λ accepted. IsConsistent search.new) }
+    ensures base { IfSome result (λ accepted. base_of search.new ≡ base_of search.old) }
+{
+    match search.run(alloc, provider, 100, 100) {
+        Ok(Outcome::Finished) => Some(true),
+        Ok(Outcome::Refused) => Some(false),
+        Ok(Outcome::Contradiction(_)) => None,
         Err(_) => None,
     }
+}
+
+/// One turn: whether the literal is accepted. Where it is refused, it is assumed to be false.
+fn takes(
+    alloc: Global,
+    search: &mut ClauseSearch,
+    provider: &TestProvider,
+    number: i32,
+) -> Result<Option<bool>, AllocError>
+    requires { IsConsistent search.old }
+    ensures { IfOk result (λ accepted. IfSome accepted (λ _. IsConsistent search.new)) }
+{
+    let wanted = literal(number);
+    if !assumes(search, wanted)? {
+        return Ok(None);
+    }
+    match is_accepted(alloc, search, provider) {
+        Some(true) => Ok(Some(true)),
+        Some(false) => {
+            search.retract()?;
+            let refused = Literal {
+                variable: wanted.variable,
+                positive: !wanted.positive,
+            };
+            if assumes(search, refused)? {
+                return Ok(Some(false));
+            }
+            Ok(None)
+        }
+        None => Ok(None),
+    }
+}
+
+fn slot_of(search: &ClauseSearch, number: i32) -> Option<Slot> {
+    let wanted = literal(number);
+    if wanted.variable.index() < search.trail().variable_count() {
+        return search.trail().slot(wanted.variable);
+    }
+    None
+}
+
+/// Whether what two turns assumed was accepted, and the slots of three variables after them.
+type Turns = (bool, Option<bool>, Option<Slot>, Option<Slot>, Option<Slot>);
+
+/// What two turns, with these literals, accept over clauses of 8 variables, and the slots of three variables then.
+fn two_turns(
+    alloc: Global,
+    search: &mut ClauseSearch,
+    provider: &TestProvider,
+    table: &[Vec<Literal>],
+    first: i32,
+    second: i32,
+    watched: (i32, i32, i32),
+) -> Result<Option<Turns>, AllocError>
+    requires { IsConsistent search.old }
+{
+    if !load_all(alloc, search, table, 8)? {
+        return Ok(None);
+    }
+    if !finishes(alloc, search, provider) {
+        return Ok(None);
+    }
+    match takes(alloc, search, provider, first)? {
+        Some(one) => {
+            let two = takes(alloc, search, provider, second)?;
+            Ok(Some((
+                one,
+                two,
+                slot_of(search, watched.0),
+                slot_of(search, watched.1),
+                slot_of(search, watched.2),
+            )))
+        }
+        None => Ok(None),
+    }
+}
+
+/// What is done with a search over a table of clauses, and what comes of it.
+#[derive(Clone, Copy)]
+enum Task<'x> {
+    /// All clauses, so many, contradict each other, and something is learnt for that.
+    Refute(usize),
+    /// Ids run out under limits for learnt clauses and for all, with so many learnt then.
+    Limit((usize, usize), usize),
+    /// With these requirements, this is decided first.
+    First(&'x [RequirementClause], (usize, usize)),
+    /// The first four clauses have values, and so many are learnt for that. These of all contradict each other.
+    Core(usize, &'x [usize]),
+    /// The first two clauses are decided before the others come. Then these places are left.
+    Keep(Places),
+    /// Whether the cancel check with this number, counted from 1, stops the search.
+    Cancel(u32, bool),
+    /// Two literals are assumed in turn. This comes of it, with the slots of these variables.
+    Assume(i32, i32, (i32, i32, i32), Turns),
+}
+
+/// Does a task in a new search, and says whether it comes to what is wanted.
+fn does(
+    alloc: Global,
+    search: &mut ClauseSearch,
+    provider: &TestProvider,
+    table: &[Vec<Literal>],
+    task: &Task<'_>,
+) -> Result<bool, AllocError>
+    requires { IsConsistent search.old }
+{
+    match task {
+        Task::Refute(given) => refutes_all(alloc, search, provider, table, *given),
+        Task::Limit(limits, learnt) => ends_at(alloc, search, provider, table, *limits, *learnt),
+        Task::First(requirements, wanted) => {
+            let first = first_by_searching(alloc, search, provider, table, requirements);
+            Ok(first == Some(*wanted))
+        }
+        Task::Core(learnt, wanted) => {
+            refutes_through_learnt(alloc, search, provider, table, *learnt, wanted)
+        }
+        Task::Keep(wanted) => {
+            let places = places_through(alloc, search, provider, table)?;
+            Ok(places == Some(*wanted))
+        }
+        Task::Cancel(check, wanted) => {
+            let cancelled = is_cancelled(alloc, search, provider, table, *check)?;
+            Ok(cancelled == Some(*wanted))
+        }
+        Task::Assume(first, second, watched, wanted) => {
+            let turns = two_turns(alloc, search, provider, table, *first, *second, *watched)?;
+            Ok(turns == Some(*wanted))
+        }
+    }
+}
+
+/// Whether a new search over a table does a task.
+///
+/// This alone owns a search and a provider: the tests own nothing, since the prover takes long for each exit of what
+/// owns one.
+fn is_done(alloc: Global, table: &[Vec<Literal>], task: &Task<'_>) -> Result<bool, AllocError> {
+    let provider = provider_of_nothing(alloc);
+    let mut search = ClauseSearch::new(alloc, Activity::usual());
+    does(alloc, &mut search, &provider, table, task)
+}
+
+/// Whether a new search over these clauses does a task.
+fn finds(alloc: Global, clauses: &[&[i32]], task: &Task<'_>) -> Result<bool, AllocError> {
+    let table = table_of(alloc, clauses)?;
+    is_done(alloc, table.as_slice(), task)
 }
 
 /// One pigeon more than holes: each pigeon has a hole, and no hole has two.
@@ -226,265 +612,93 @@ fn seat(holes: u32, pigeon: u32, hole: u32, positive: bool) -> Literal {
     }
 }
 
-/// How many clauses there are for six pigeons, how many were learnt, how many there are in all then, and how many of the given
-/// ones contradict each other.
-fn count_for_pigeons(alloc: Global) -> Result<Option<(usize, usize, usize, usize)>, AllocError> {
-    let clauses = pigeons(alloc, 5)?;
-    let given = clauses.len();
-    match search_of(alloc, clauses, 30)? {
-        Some(mut search) => match core_of(alloc, &mut search) {
-            Some(core) => Ok(Some((
-                given,
-                search.learnt_count(),
-                search.clause_count(),
-                core.len(),
-            ))),
-            None => Ok(None),
-        },
-        None => Ok(None),
-    }
+/// Whether a new search does a task with six pigeons and five holes.
+fn finds_with_pigeons(alloc: Global, task: &Task<'_>) -> Result<bool, AllocError> {
+    let table = pigeons(alloc, 5)?;
+    is_done(alloc, table.as_slice(), task)
 }
 
 #[test]
 fn six_pigeons_do_not_fit_into_five_holes(rt: HostRuntime) -> Result<(), Fail> {
-    match count_for_pigeons(rt.alloc())? {
-        Some((given, learnt, all, core)) => {
-            assert_eq!(rt; given, 81);
-            assert!(rt; 0 < learnt);
-            assert_eq!(rt; all, given.wrapping_add(learnt));
-            assert_eq!(rt; core, given);
-        }
-        None => assert!(rt; false),
-    }
+    assert!(rt; finds_with_pigeons(rt.alloc(), &Task::Refute(81))?);
     Ok(())
-}
-
-/// What ends a search for the pigeons, and how much was learnt then.
-fn limited(
-    alloc: Global,
-    learnt_limit: usize,
-    clause_limit: usize,
-) -> Result<Option<(Exhausted, usize)>, AllocError> {
-    if let Some(mut search) = search_of(alloc, pigeons(alloc, 5)?, 30)? {
-        if let Err(Interrupted::Exhausted(why)) = search.run(
-            alloc,
-            &provider(alloc, 0),
-            learnt_limit,
-            clause_limit,
-        ) {
-            return Ok(Some((why, search.learnt_count())));
-        }
-    }
-    Ok(None)
 }
 
 #[test]
 fn the_limits_stand(rt: HostRuntime) -> Result<(), Fail> {
-    assert_eq!(rt; limited(rt.alloc(), 3, 100000)?, Some((Exhausted::Ids, 3)));
-    assert_eq!(rt; limited(rt.alloc(), 100000, 85)?, Some((Exhausted::Ids, 4)));
+    assert!(rt; finds_with_pigeons(rt.alloc(), &Task::Limit((3, 100000), 3))?);
+    assert!(rt; finds_with_pigeons(rt.alloc(), &Task::Limit((100000, 85), 4))?);
     Ok(())
 }
 
-/// The place of a variable in the clause with this number.
-fn place_in(table: &[Vec<Literal>], number: usize, variable: Variable) -> Option<usize> {
-    match table.get(number) {
-        Some(literals) => literals
-            .iter()
-            .position(|literal| literal.variable == variable),
-        None => None,
-    }
-}
-
-/// The decision that stands first on a trail.
-fn first_on(trail: &Trail, table: &[Vec<Literal>]) -> Decision {
-    'places: for place in 0..trail.len() {
-        let variable = trail.variable_at(place);
-        if let Some(slot) = trail.slot(variable) {
-            if let Reason::Decided(number) = slot.reason {
-                return place_in(table, number, variable).map(|found| (number, found));
-            }
-        }
-    }
-    None
-}
-
-/// What a search decides first, where it has no conflict.
-fn first_by_searching(
-    alloc: Global,
-    table: &[Vec<Literal>],
-    requirements: &[RequirementClause],
-) -> Decision {
-    let mut search = ClauseSearch::new(alloc, Activity::usual());
-    if !load_given(&mut search, table, requirements, 16) {
-        return None;
-    }
-    if !finishes(alloc, &mut search) {
-        return None;
-    }
-    first_on(search.trail(), table)
-}
-
 /// Whether scanning and searching both decide this first.
-fn is_first(
+fn is_first<'x>(
     alloc: Global,
-    table: &[Vec<Literal>],
-    requirements: &[RequirementClause],
+    table: &'x [Vec<Literal>],
+    requirements: &'x [RequirementClause],
     wanted: (usize, usize),
 ) -> Result<bool, AllocError> {
     let scanned = first_by_scanning(alloc, table, requirements)?;
-    let searched = first_by_searching(alloc, table, requirements);
-    Ok(scanned == Some(wanted) && searched == Some(wanted))
+    let searched = is_done(alloc, table, &Task::First(requirements, wanted))?;
+    Ok(scanned == Some(wanted) && searched)
+}
+
+/// Whether this is decided first over these clauses, with these requirements.
+fn decides(
+    alloc: Global,
+    clauses: &[&[i32]],
+    required: &[Required<'_>],
+    wanted: (usize, usize),
+) -> Result<bool, AllocError> {
+    let table = table_of(alloc, clauses)?;
+    let requirements = requirements_of(alloc, required)?;
+    is_first(alloc, table.as_slice(), requirements.as_slice(), wanted)
 }
 
 #[test]
 fn requirements_of_the_root_come_first(rt: HostRuntime) -> Result<(), Fail> {
-    let mut table = Vec::new(rt.alloc());
-    let mut requirements = Vec::new(rt.alloc());
-    add(rt.alloc(), &mut table, &[1])?;
-    add(rt.alloc(), &mut table, &[-1, 2, 3])?;
-    add(rt.alloc(), &mut table, &[-1, 4, 5, 6])?;
-    demand(rt.alloc(), &mut requirements, 1, false, &[3])?;
-    demand(rt.alloc(), &mut requirements, 2, true, &[4])?;
-    assert!(rt;
-        is_first(
-            rt.alloc(),
-            table.as_slice(),
-            requirements.as_slice(),
-            (2, 1)
-        )?
-    );
+    let clauses: [&[i32]; 3] = [&[1], &[-1, 2, 3], &[-1, 4, 5, 6]];
+    let required: [Required<'_>; 2] = [(1, false, &[3]), (2, true, &[4])];
+    assert!(rt; decides(rt.alloc(), &clauses, &required, (2, 1))?);
     Ok(())
 }
 
 #[test]
 fn fewer_candidates_of_the_first_version_set_come_first(rt: HostRuntime) -> Result<(), Fail> {
-    let mut table = Vec::new(rt.alloc());
-    let mut requirements = Vec::new(rt.alloc());
-    add(rt.alloc(), &mut table, &[1])?;
-    add(rt.alloc(), &mut table, &[-1, 2, 3, 4])?;
-    add(rt.alloc(), &mut table, &[-1, 5, 6, 7, 8, 9])?;
-    add(rt.alloc(), &mut table, &[-5])?;
-    add(rt.alloc(), &mut table, &[-1, 10, 11])?;
-    demand(rt.alloc(), &mut requirements, 1, false, &[4])?;
-    demand(rt.alloc(), &mut requirements, 2, false, &[2, 3, 6])?;
-    demand(rt.alloc(), &mut requirements, 4, false, &[3])?;
-    assert!(rt;
-        is_first(
-            rt.alloc(),
-            table.as_slice(),
-            requirements.as_slice(),
-            (2, 2)
-        )?
-    );
+    let clauses: [&[i32]; 5] = [
+        &[1],
+        &[-1, 2, 3, 4],
+        &[-1, 5, 6, 7, 8, 9],
+        &[-5],
+        &[-1, 10, 11],
+    ];
+    let required: [Required<'_>; 3] = [(1, false, &[4]), (2, false, &[2, 3, 6]), (4, false, &[3])];
+    assert!(rt; decides(rt.alloc(), &clauses, &required, (2, 2))?);
     Ok(())
 }
 
 #[test]
 fn the_first_one_comes_first_among_equals(rt: HostRuntime) -> Result<(), Fail> {
-    let mut table = Vec::new(rt.alloc());
-    let mut requirements = Vec::new(rt.alloc());
-    add(rt.alloc(), &mut table, &[1])?;
-    add(rt.alloc(), &mut table, &[-2, 10, 11])?;
-    add(rt.alloc(), &mut table, &[-1, 3, 4])?;
-    add(rt.alloc(), &mut table, &[-1, 5, 6])?;
-    demand(rt.alloc(), &mut requirements, 1, true, &[3])?;
-    demand(rt.alloc(), &mut requirements, 2, false, &[3])?;
-    demand(rt.alloc(), &mut requirements, 3, false, &[3])?;
-    assert!(rt;
-        is_first(
-            rt.alloc(),
-            table.as_slice(),
-            requirements.as_slice(),
-            (2, 1)
-        )?
-    );
+    let clauses: [&[i32]; 4] = [&[1], &[-2, 10, 11], &[-1, 3, 4], &[-1, 5, 6]];
+    let required: [Required<'_>; 3] = [(1, true, &[3]), (2, false, &[3]), (3, false, &[3])];
+    assert!(rt; decides(rt.alloc(), &clauses, &required, (2, 1))?);
     Ok(())
-}
-
-fn slot_of(search: &ClauseSearch, number: i32) -> Option<Slot> {
-    let wanted = literal(number);
-    if wanted.variable.index() < search.trail().variable_count() {
-        return search.trail().slot(wanted.variable);
-    }
-    None
-}
-
-/// How many clauses a first run learns, and the core that a second one finds when one more clause has come.
-fn core_through_learnt(alloc: Global) -> Result<Option<(usize, Vec<usize>)>, AllocError> {
-    let mut table = Vec::new(alloc);
-    add(alloc, &mut table, &[1])?;
-    add(alloc, &mut table, &[-1, 2, 3])?;
-    add(alloc, &mut table, &[-2, 4])?;
-    add(alloc, &mut table, &[-2, -4])?;
-    let mut search = ClauseSearch::new(alloc, Activity::usual());
-    if !load_all(alloc, &mut search, table.as_slice(), 4)? {
-        return Ok(None);
-    }
-    if !finishes(alloc, &mut search) {
-        return Ok(None);
-    }
-    let learnt = search.learnt_count();
-    add(alloc, &mut table, &[-3, 5])?;
-    add(alloc, &mut table, &[-5])?;
-    if !load_all(alloc, &mut search, table.as_slice(), 5)? {
-        return Ok(None);
-    }
-    match core_of(alloc, &mut search) {
-        Some(core) => Ok(Some((learnt, core))),
-        None => Ok(None),
-    }
 }
 
 #[test]
 fn a_core_names_given_clauses_whenever_they_came(rt: HostRuntime) -> Result<(), Fail> {
-    match core_through_learnt(rt.alloc())? {
-        Some((learnt, core)) => {
-            assert_eq!(rt; learnt, 1);
-            assert_eq!(rt; core.as_slice(), [0, 1, 2, 3, 4, 5].as_slice());
-        }
-        None => assert!(rt; false),
-    }
+    let clauses: [&[i32]; 6] = [&[1], &[-1, 2, 3], &[-2, 4], &[-2, -4], &[-3, 5], &[-5]];
+    let task = Task::Core(1, &[0, 1, 2, 3, 4, 5]);
+    assert!(rt; finds(rt.alloc(), &clauses, &task)?);
     Ok(())
-}
-
-/// The places of a search's trail: how many were marked, how many of them and how many in all are left when more clauses
-/// have come, and how many of the marked ones after the next run.
-type Places = (usize, usize, usize, usize);
-
-/// The places of a search that decides 1 and then 3, before these clauses come.
-fn places_through(alloc: Global, more: &[&[i32]]) -> Result<Option<Places>, AllocError> {
-    let mut table = Vec::new(alloc);
-    add(alloc, &mut table, &[1, 2])?;
-    add(alloc, &mut table, &[3, 4])?;
-    let mut search = ClauseSearch::new(alloc, Activity::usual());
-    if !load_all(alloc, &mut search, table.as_slice(), 4)? {
-        return Ok(None);
-    }
-    if !finishes(alloc, &mut search) {
-        return Ok(None);
-    }
-    search.mark();
-    let marked = search.kept();
-    for numbers in more {
-        add(alloc, &mut table, numbers)?;
-    }
-    if !load_all(alloc, &mut search, table.as_slice(), 5)? {
-        return Ok(None);
-    }
-    let kept = search.kept();
-    let length = search.trail().len();
-    if !finishes(alloc, &mut search) {
-        return Ok(None);
-    }
-    Ok(Some((marked, kept, length, search.kept())))
 }
 
 #[test]
 fn places_are_kept_as_far_as_the_trail_stays(rt: HostRuntime) -> Result<(), Fail> {
-    let gained = places_through(rt.alloc(), &[&[5]])?;
-    assert_eq!(rt; gained, Some((2, 2, 2, 2)));
-    let jumped = places_through(rt.alloc(), &[&[-1, -3, 5], &[-1, -3, -5]])?;
-    assert_eq!(rt; jumped, Some((2, 2, 2, 1)));
+    let gained: [&[i32]; 3] = [&[1, 2], &[3, 4], &[5]];
+    assert!(rt; finds(rt.alloc(), &gained, &Task::Keep((2, 2, 2, 2)))?);
+    let jumped: [&[i32]; 4] = [&[1, 2], &[3, 4], &[-1, -3, 5], &[-1, -3, -5]];
+    assert!(rt; finds(rt.alloc(), &jumped, &Task::Keep((2, 2, 2, 1)))?);
     Ok(())
 }
 
@@ -492,126 +706,20 @@ fn places_are_kept_as_far_as_the_trail_stays(rt: HostRuntime) -> Result<(), Fail
 fn a_clause_that_is_false_when_it_comes_sends_the_trail_to_its_start(
     rt: HostRuntime,
 ) -> Result<(), Fail> {
-    let places = places_through(rt.alloc(), &[&[-1, -3]])?;
-    assert_eq!(rt; places, Some((2, 0, 0, 0)));
+    let clauses: [&[i32]; 3] = [&[1, 2], &[3, 4], &[-1, -3]];
+    assert!(rt; finds(rt.alloc(), &clauses, &Task::Keep((2, 0, 0, 0)))?);
     Ok(())
-}
-
-/// Whether a search that decides once is cancelled by the check with this number.
-fn is_cancelled(alloc: Global, check: u32) -> Result<Option<bool>, AllocError> {
-    let mut table = Vec::new(alloc);
-    add(alloc, &mut table, &[1, 2])?;
-    if let Some(mut search) = search_of(alloc, table, 2)? {
-        match search.run(alloc, &provider(alloc, check), 10, 10) {
-            Ok(_) => return Ok(Some(false)),
-            Err(Interrupted::Cancelled(_)) => return Ok(Some(true)),
-            Err(Interrupted::Exhausted(_)) => return Ok(None),
-        }
-    }
-    Ok(None)
 }
 
 #[test]
 fn each_propagation_may_be_cancelled(rt: HostRuntime) -> Result<(), Fail> {
-    assert_eq!(rt; is_cancelled(rt.alloc(), 1)?, Some(true));
-    assert_eq!(rt; is_cancelled(rt.alloc(), 2)?, Some(true));
-    assert_eq!(rt; is_cancelled(rt.alloc(), 3)?, Some(false));
+    for (check, is_cancelled) in [(1, true), (2, true), (3, false)] {
+        assert!(rt;
+            finds(rt.alloc(), &[&[1, 2]], &Task::Cancel(check, is_cancelled))?,
+            "check {check}"
+        );
+    }
     Ok(())
-}
-
-/// Marks the trail and assumes a literal, unless its variable has a value or is none of the trail's.
-fn assumes(search: &mut ClauseSearch, wanted: Literal) -> Result<bool, AllocError>
-    requires { IsConsistent search.old }
-    ensures consistent { IfOk result (λ assumed. IsConsistent search.new) }
-    ensures base { IfOk result (λ assumed. IsTrue assumed → 0 < base_of search.new) }
-{
-    if search.trail().variable_count() <= wanted.variable.index() {
-        return Ok(false);
-    }
-    if search.trail().slot(wanted.variable).is_some() {
-        return Ok(false);
-    }
-    search.mark();
-    search.assume(wanted)?;
-    Ok(true)
-}
-
-/// What a run in a turn ends with: whether what was assumed is accepted.
-fn is_accepted(alloc: Global, search: &mut ClauseSearch) -> Option<bool>
-    requires { IsConsistent search.old }
-    ensures consistent { IfSome result (λ accepted. IsConsistent search.new) }
-    ensures base { IfSome result (λ accepted. base_of search.new ≡ base_of search.old) }
-{
-    match search.run(alloc, &provider(alloc, 0), 100, 100) {
-        Ok(Outcome::Finished) => Some(true),
-        Ok(Outcome::Refused) => Some(false),
-        Ok(Outcome::Contradiction(_)) => None,
-        Err(_) => None,
-    }
-}
-
-/// One turn: whether the literal is accepted. Where it is refused, it is assumed to be false.
-fn takes(alloc: Global, search: &mut ClauseSearch, number: i32) -> Result<Option<bool>, AllocError>
-    requires { IsConsistent search.old }
-    ensures { IfOk result (λ accepted. IfSome accepted (λ _. IsConsistent search.new)) }
-{
-    let wanted = literal(number);
-    if !assumes(search, wanted)? {
-        return Ok(None);
-    }
-    match is_accepted(alloc, search) {
-        Some(true) => Ok(Some(true)),
-        Some(false) => {
-            search.retract()?;
-            let refused = Literal {
-                variable: wanted.variable,
-                positive: !wanted.positive,
-            };
-            if assumes(search, refused)? {
-                return Ok(Some(false));
-            }
-            Ok(None)
-        }
-        None => Ok(None),
-    }
-}
-
-/// Whether what two turns assumed was accepted, and the slots of three variables after them.
-type Turns = (bool, Option<bool>, Option<Slot>, Option<Slot>, Option<Slot>);
-
-/// What two turns, with these literals, accept over clauses of 8 variables, and the slots of three variables then.
-fn two_turns(
-    alloc: Global,
-    clauses: &[&[i32]],
-    first: i32,
-    second: i32,
-    watched: (i32, i32, i32),
-) -> Result<Option<Turns>, AllocError> {
-    let mut table = Vec::new(alloc);
-    for numbers in clauses {
-        add(alloc, &mut table, numbers)?;
-    }
-    match search_of(alloc, table, 8)? {
-        Some(mut search) => {
-            if !finishes(alloc, &mut search) {
-                return Ok(None);
-            }
-            match takes(alloc, &mut search, first)? {
-                Some(one) => {
-                    let two = takes(alloc, &mut search, second)?;
-                    Ok(Some((
-                        one,
-                        two,
-                        slot_of(&search, watched.0),
-                        slot_of(&search, watched.1),
-                        slot_of(&search, watched.2),
-                    )))
-                }
-                None => Ok(None),
-            }
-        }
-        None => Ok(None),
-    }
 }
 
 fn assumed(value: bool, level: usize, place: usize) -> Option<Slot> {
@@ -634,55 +742,43 @@ fn forced(value: bool, level: usize, place: usize, number: usize) -> Option<Slot
 
 #[test]
 fn a_refused_assumption_is_taken_back_and_assumed_false(rt: HostRuntime) -> Result<(), Fail> {
-    let turns = two_turns(rt.alloc(), &[&[-1, 2], &[-1, -2]], 1, 3, (1, 2, 3))?;
-    assert_eq!(rt;
-        turns,
-        Some((
-            false,
-            Some(true),
-            assumed(false, 1, 0),
-            None,
-            assumed(true, 2, 1)
-        ))
+    let wanted = (
+        false,
+        Some(true),
+        assumed(false, 1, 0),
+        None,
+        assumed(true, 2, 1),
     );
+    let task = Task::Assume(1, 3, (1, 2, 3), wanted);
+    assert!(rt; finds(rt.alloc(), &[&[-1, 2], &[-1, -2]], &task)?);
     Ok(())
 }
 
 #[test]
 fn an_accepted_assumption_stays_where_the_next_one_is_refused(rt: HostRuntime) -> Result<(), Fail> {
-    let turns = two_turns(rt.alloc(), &[&[-1, -2, 3], &[-1, -2, -3]], 1, 2, (1, 2, 3))?;
-    assert_eq!(rt;
-        turns,
-        Some((
-            true,
-            Some(false),
-            assumed(true, 1, 0),
-            assumed(false, 2, 1),
-            None
-        ))
+    let wanted = (
+        true,
+        Some(false),
+        assumed(true, 1, 0),
+        assumed(false, 2, 1),
+        None,
     );
+    let task = Task::Assume(1, 2, (1, 2, 3), wanted);
+    assert!(rt; finds(rt.alloc(), &[&[-1, -2, 3], &[-1, -2, -3]], &task)?);
     Ok(())
 }
 
 #[test]
 fn a_jump_stops_where_the_turn_began(rt: HostRuntime) -> Result<(), Fail> {
-    let turns = two_turns(
-        rt.alloc(),
-        &[&[-2, 3, 4], &[-3, 5], &[-3, -5]],
-        1,
-        2,
-        (1, 2, 3),
-    )?;
-    assert_eq!(rt;
-        turns,
-        Some((
-            true,
-            Some(true),
-            assumed(true, 1, 0),
-            assumed(true, 2, 1),
-            forced(false, 2, 2, 3)
-        ))
+    let clauses: [&[i32]; 3] = [&[-2, 3, 4], &[-3, 5], &[-3, -5]];
+    let wanted = (
+        true,
+        Some(true),
+        assumed(true, 1, 0),
+        assumed(true, 2, 1),
+        forced(false, 2, 2, 3),
     );
+    assert!(rt; finds(rt.alloc(), &clauses, &Task::Assume(1, 2, (1, 2, 3), wanted))?);
     Ok(())
 }
 
@@ -690,28 +786,20 @@ fn a_jump_stops_where_the_turn_began(rt: HostRuntime) -> Result<(), Fail> {
 fn what_an_accepted_assumption_needs_stays_where_the_next_turn_has_a_conflict(
     rt: HostRuntime,
 ) -> Result<(), Fail> {
-    let turns = two_turns(
-        rt.alloc(),
-        &[&[-1, 6, 7], &[-2, 3, 4], &[-3, 5], &[-3, -5]],
-        1,
-        2,
-        (1, 6, 3),
-    )?;
+    let clauses: [&[i32]; 4] = [&[-1, 6, 7], &[-2, 3, 4], &[-3, 5], &[-3, -5]];
     let needed = Slot {
         value: true,
         level: 2,
         place: 1,
         reason: Reason::Decided(0),
     };
-    assert_eq!(rt;
-        turns,
-        Some((
-            true,
-            Some(true),
-            assumed(true, 1, 0),
-            Some(needed),
-            forced(false, 3, 3, 4)
-        ))
+    let wanted = (
+        true,
+        Some(true),
+        assumed(true, 1, 0),
+        Some(needed),
+        forced(false, 3, 3, 4),
     );
+    assert!(rt; finds(rt.alloc(), &clauses, &Task::Assume(1, 2, (1, 6, 3), wanted))?);
     Ok(())
 }

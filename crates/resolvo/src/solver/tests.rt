@@ -1,6 +1,6 @@
 //! Problems of a few packages, with the answers worked out by hand.
 
-ghost use Rattle.std.specs.Prelude.{◌^◌, ◌≤◌, IfOk};
+ghost use Rattle.std.specs.Prelude.{◌^◌, ◌≤◌};
 ghost use Rattle.resolvo.specs.Solvers.{IsSound, provider_in};
 ghost use Rattle.resolvo.specs.TestProvider.{test_universe};
 
@@ -9,6 +9,7 @@ use crate::problem::EmptySolvables;
 use crate::test_provider::TestProvider;
 use resolver_clause_store::{By, ConditionId, ConditionalRequirement, Requirement, VersionSetId};
 use resolver_report::{ConflictGraph, ConflictNode, Rule, find};
+use std::alloc::AllocError;
 use std::cell::Cell;
 use std::test::Fail;
 
@@ -23,94 +24,126 @@ fn always(version_set: u32) -> ConditionalRequirement {
     }
 }
 
-/// A solver over a provider of which solvables require version sets, and constrain version sets.
-fn solver_over(
-    alloc: Global,
-    required: &[(u32, u32)],
-    constrained: &[(u32, u32)],
-) -> Result<Solver<TestProvider>, Fail>
-    ensures { IfOk result (λ solver. IsSound (test_universe (provider_in solver).endless (provider_in solver).requirements.items (provider_in solver).constraints.items) solver) }
-{
-    let mut requirements = Vec::new(alloc);
-    for (solvable, version_set) in required {
-        requirements.push((*solvable, always(*version_set)))?;
-    }
-    let mut constraints = Vec::new(alloc);
-    for (solvable, version_set) in constrained {
-        constraints.push((*solvable, VersionSetId(*version_set)))?;
-    }
-    let provider = TestProvider {
-        alloc,
-        requirements,
-        constraints,
-        cancelling: Cell::new(0),
-        endless: false,
-    };
-    Ok(Solver::new(alloc, provider))
-}
-
-/// A solver over a provider of which one solvable requires a version set, under a condition.
-fn conditional_solver(
-    alloc: Global,
-    requirer: u32,
-    condition: u32,
-    version_set: u32,
-) -> Result<Solver<TestProvider>, Fail>
-    ensures { IfOk result (λ solver. IsSound (test_universe (provider_in solver).endless (provider_in solver).requirements.items (provider_in solver).constraints.items) solver) }
-{
-    let mut requirements = Vec::new(alloc);
-    let requirement = ConditionalRequirement {
+fn when(condition: u32, version_set: u32) -> ConditionalRequirement {
+    ConditionalRequirement {
         condition: Some(ConditionId(condition)),
         requirement: Requirement::Single(VersionSetId(version_set)),
-    };
-    requirements.push((requirer, requirement))?;
-    let provider = TestProvider {
-        alloc,
-        requirements,
-        constraints: Vec::new(alloc),
-        cancelling: Cell::new(0),
-        endless: false,
-    };
-    Ok(Solver::new(alloc, provider))
+    }
 }
 
-/// A solver over an endless provider of which nothing is stated.
-fn endless_solver(alloc: Global) -> Solver<TestProvider>
-    ensures { IsSound (test_universe (provider_in result).endless (provider_in result).requirements.items (provider_in result).constraints.items) result }
-{
-    let provider = TestProvider {
+/// What a provider states.
+#[derive(Clone, Copy)]
+struct Stated<'x> {
+    /// What each solvable requires.
+    required: &'x [(u32, ConditionalRequirement)],
+    /// What each solvable constrains.
+    constrained: &'x [(u32, VersionSetId)],
+    /// Whether there are packages as far as the ids go.
+    endless: bool,
+}
+
+/// What a problem asks for.
+#[derive(Clone, Copy)]
+enum Asked<'x> {
+    /// Nothing, as `new` makes it.
+    Nothing,
+    /// Nothing, as `default` makes it.
+    Unset,
+    /// This is required.
+    Required(&'x [ConditionalRequirement]),
+    /// This is required, and constrained.
+    Constrained(&'x [ConditionalRequirement], &'x [VersionSetId]),
+    /// The same, where 14 was required and 24 constrained before that was replaced.
+    Replaced(&'x [ConditionalRequirement], &'x [VersionSetId]),
+}
+
+/// What a problem ends with.
+#[derive(Clone, Copy)]
+enum Wanted<'x> {
+    /// This is chosen.
+    Chosen(&'x [u32]),
+    /// The same, and so many disjuncts are put off.
+    Deferred(&'x [u32], usize),
+    /// The same, and there are so many clauses, and so many disjuncts are put off.
+    Counted(&'x [u32], usize, usize),
+    /// The provider stops the search.
+    Stopped,
+    /// Ids run out.
+    Ids,
+    /// There is a conflict whose rules no set obeys, by trying all sets and by the plain search.
+    Refuted,
+}
+
+/// What is done with a solver.
+#[derive(Clone, Copy)]
+enum Step<'x> {
+    /// Its provider is told which of the cancel checks to come stops the search.
+    StopAt(u32),
+    /// It is told how many variables there may be.
+    Room(u16),
+    /// It solves a problem, which ends with this.
+    Solve(Asked<'x>, Wanted<'x>),
+    /// It solves a problem, and then another one, for which this is chosen. The graph of the first one's conflict is
+    /// right then.
+    Graph(Asked<'x>, Asked<'x>, &'x [u32]),
+}
+
+/// A provider that states nothing yet.
+fn provider_of_nothing(alloc: Global, endless: bool) -> TestProvider {
+    TestProvider {
         alloc,
         requirements: Vec::new(alloc),
         constraints: Vec::new(alloc),
         cancelling: Cell::new(0),
-        endless: true,
-    };
-    Solver::new(alloc, provider)
-}
-
-/// Sets how many variables there may be.
-fn limit_variables(solver: &mut Solver<TestProvider>, limit: usize)
-    requires sound { IsSound (test_universe (provider_in solver.old).endless (provider_in solver.old).requirements.items (provider_in solver.old).constraints.items) solver.old }
-    requires fits { limit ≤ 2 ^ 31 }
-    ensures { IsSound (test_universe (provider_in solver.new).endless (provider_in solver.new).requirements.items (provider_in solver.new).constraints.items) solver.new }
-{
-    solver.variable_limit = limit;
-}
-
-fn requirements(alloc: Global, required: &[u32]) -> Result<Vec<ConditionalRequirement>, Fail> {
-    let mut requirements = Vec::new(alloc);
-    for version_set in required {
-        requirements.push(always(*version_set))?;
+        endless,
     }
-    Ok(requirements)
 }
 
-fn problem(alloc: Global, required: &[u32]) -> Result<TestProblem, Fail> {
-    Ok(Problem::new().requirements(requirements(alloc, required)?))
+/// Has a provider state what solvables require and constrain.
+fn state(provider: &mut TestProvider, stated: &Stated<'_>) -> Result<(), AllocError> {
+    provider.requirements = Vec::from_slice(provider.alloc, stated.required)?;
+    provider.constraints = Vec::from_slice(provider.alloc, stated.constrained)?;
+    Ok(())
 }
 
-fn constraints(alloc: Global, version_set: u32) -> Result<Vec<VersionSetId>, Fail> {
-    Ok(Vec::from_array(alloc, [VersionSetId(version_set)])?)
+fn requiring(
+    alloc: Global,
+    required: &[ConditionalRequirement],
+) -> Result<TestProblem, AllocError> {
+    let requirements = Vec::from_slice(alloc, required)?;
+    Ok(Problem::new().requirements(requirements))
+}
+
+fn constraining(
+    alloc: Global,
+    required: &[ConditionalRequirement],
+    constrained: &[VersionSetId],
+) -> Result<TestProblem, AllocError> {
+    let constraints = Vec::from_slice(alloc, constrained)?;
+    let problem = requiring(alloc, required)?;
+    Ok(problem.constraints(constraints))
+}
+
+/// A problem whose parts were set twice.
+fn replacing(
+    alloc: Global,
+    required: &[ConditionalRequirement],
+    constrained: &[VersionSetId],
+) -> Result<TestProblem, AllocError> {
+    let requirements = Vec::from_slice(alloc, required)?;
+    let constraints = Vec::from_slice(alloc, constrained)?;
+    let problem = constraining(alloc, &[always(14)], &[VersionSetId(24)])?;
+    Ok(problem.requirements(requirements).constraints(constraints))
+}
+
+fn problem_of(alloc: Global, asked: &Asked<'_>) -> Result<TestProblem, AllocError> {
+    match asked {
+        Asked::Nothing => Ok(Problem::new()),
+        Asked::Unset => Ok(Problem::default()),
+        Asked::Required(required) => requiring(alloc, required),
+        Asked::Constrained(required, constrained) => constraining(alloc, required, constrained),
+        Asked::Replaced(required, constrained) => replacing(alloc, required, constrained),
+    }
 }
 
 fn is_answer(outcome: &Outcome, wanted: &[u32]) -> bool {
@@ -120,68 +153,200 @@ fn is_answer(outcome: &Outcome, wanted: &[u32]) -> bool {
     }
 }
 
-/// Whether a problem has this answer, and so many clauses and so many disjuncts that are put off are there then.
-///
-/// The tests own no solver: what they call owns it, and says what it found.
-fn answers(
-    solver: &mut Solver<TestProvider>,
-    problem: TestProblem,
-    wanted: &[u32],
-    clauses: usize,
-    deferred: usize,
-) -> bool
+/// Whether the last problem ended with this.
+fn is_wanted(solver: &Solver<TestProvider>, outcome: &Outcome, wanted: &Wanted<'_>) -> bool {
+    match wanted {
+        Wanted::Chosen(chosen) => is_answer(outcome, chosen),
+        Wanted::Deferred(chosen, deferred) => {
+            is_answer(outcome, chosen) & (solver.deferred_requirements_count() == *deferred)
+        }
+        Wanted::Counted(chosen, clauses, deferred) => {
+            is_answer(outcome, chosen)
+                & (solver.clause_count() == *clauses)
+                & (solver.deferred_requirements_count() == *deferred)
+        }
+        Wanted::Stopped => matches!(outcome, Err(UnsolvableOrCancelled::Cancelled(7))),
+        Wanted::Ids => matches!(
+            outcome,
+            Err(UnsolvableOrCancelled::Exhausted(Exhausted::Ids))
+        ),
+        Wanted::Refuted => is_explained(solver, outcome),
+    }
+}
+
+/// Whether a problem ends with this.
+fn ends_with(solver: &mut Solver<TestProvider>, problem: TestProblem, wanted: &Wanted<'_>) -> bool
     requires { IsSound (test_universe (provider_in solver.old).endless (provider_in solver.old).requirements.items (provider_in solver.old).constraints.items) solver.old }
     ensures { IsSound (test_universe (provider_in solver.new).endless (provider_in solver.new).requirements.items (provider_in solver.new).constraints.items) solver.new }
 {
     let outcome = solver.solve(problem);
-    is_answer(&outcome, wanted)
-        & (solver.clause_count() == clauses)
-        & (solver.deferred_requirements_count() == deferred)
+    is_wanted(solver, &outcome, wanted)
 }
 
-/// Whether a solver gives a problem this answer, with so many clauses and nothing put off.
-fn chooses(
-    mut solver: Solver<TestProvider>,
+/// Whether the problem that asks for this ends with that.
+fn solves(solver: &mut Solver<TestProvider>, asked: &Asked<'_>, wanted: &Wanted<'_>) -> bool
+    requires { IsSound (test_universe (provider_in solver.old).endless (provider_in solver.old).requirements.items (provider_in solver.old).constraints.items) solver.old }
+    ensures { IsSound (test_universe (provider_in solver.new).endless (provider_in solver.new).requirements.items (provider_in solver.new).constraints.items) solver.new }
+{
+    match problem_of(solver.alloc, asked) {
+        Ok(problem) => ends_with(solver, problem, wanted),
+        Err(_) => false,
+    }
+}
+
+/// Sets how many variables there may be.
+fn limit_variables(solver: &mut Solver<TestProvider>, limit: u16)
+    requires { IsSound (test_universe (provider_in solver.old).endless (provider_in solver.old).requirements.items (provider_in solver.old).constraints.items) solver.old }
+    ensures { IsSound (test_universe (provider_in solver.new).endless (provider_in solver.new).requirements.items (provider_in solver.new).constraints.items) solver.new }
+{
+    solver.variable_limit = limit as usize;
+}
+
+/// The conflict of a problem, where it has one.
+fn conflict_in(
+    solver: &mut Solver<TestProvider>,
     problem: TestProblem,
-    wanted: &[u32],
-    clauses: usize,
+) -> Option<Conflict<u32, u32>>
+    requires { IsSound (test_universe (provider_in solver.old).endless (provider_in solver.old).requirements.items (provider_in solver.old).constraints.items) solver.old }
+    ensures { IsSound (test_universe (provider_in solver.new).endless (provider_in solver.new).requirements.items (provider_in solver.new).constraints.items) solver.new }
+{
+    match solver.solve(problem) {
+        Err(UnsolvableOrCancelled::Unsolvable(conflict)) => Some(conflict),
+        _ => None,
+    }
+}
+
+/// The conflict of the problem that asks for this, where it has one.
+fn conflict_of(solver: &mut Solver<TestProvider>, asked: &Asked<'_>) -> Option<Conflict<u32, u32>>
+    requires { IsSound (test_universe (provider_in solver.old).endless (provider_in solver.old).requirements.items (provider_in solver.old).constraints.items) solver.old }
+    ensures { IsSound (test_universe (provider_in solver.new).endless (provider_in solver.new).requirements.items (provider_in solver.new).constraints.items) solver.new }
+{
+    match problem_of(solver.alloc, asked) {
+        Ok(problem) => conflict_in(solver, problem),
+        Err(_) => None,
+    }
+}
+
+/// Whether the graph of the first problem's conflict is right after this was chosen for the second one.
+fn has_graph_afterwards(
+    solver: &mut Solver<TestProvider>,
+    first: &Asked<'_>,
+    second: &Asked<'_>,
+    chosen: &[u32],
 ) -> bool
-    requires { IsSound (test_universe (provider_in solver).endless (provider_in solver).requirements.items (provider_in solver).constraints.items) solver }
+    requires { IsSound (test_universe (provider_in solver.old).endless (provider_in solver.old).requirements.items (provider_in solver.old).constraints.items) solver.old }
+    ensures { IsSound (test_universe (provider_in solver.new).endless (provider_in solver.new).requirements.items (provider_in solver.new).constraints.items) solver.new }
+{
+    let conflict = conflict_of(solver, first);
+    solves(solver, second, &Wanted::Chosen(chosen)) & is_graph_right(solver, &conflict)
+}
+
+/// Takes a step, and says whether it comes to what is wanted.
+fn goes(solver: &mut Solver<TestProvider>, step: &Step<'_>) -> bool
+    requires { IsSound (test_universe (provider_in solver.old).endless (provider_in solver.old).requirements.items (provider_in solver.old).constraints.items) solver.old }
+    ensures { IsSound (test_universe (provider_in solver.new).endless (provider_in solver.new).requirements.items (provider_in solver.new).constraints.items) solver.new }
+{
+    match step {
+        Step::StopAt(check) => {
+            solver.provider().cancelling.set(*check);
+            true
+        }
+        Step::Room(variables) => {
+            limit_variables(solver, *variables);
+            true
+        }
+        Step::Solve(asked, wanted) => solves(solver, asked, wanted),
+        Step::Graph(first, second, chosen) => has_graph_afterwards(solver, first, second, chosen),
+    }
+}
+
+/// Takes one step after another, and says whether each comes to what is wanted.
+fn all_go(solver: &mut Solver<TestProvider>, steps: &[Step<'_>]) -> bool
+    requires { IsSound (test_universe (provider_in solver.old).endless (provider_in solver.old).requirements.items (provider_in solver.old).constraints.items) solver.old }
+    ensures { IsSound (test_universe (provider_in solver.new).endless (provider_in solver.new).requirements.items (provider_in solver.new).constraints.items) solver.new }
+{
+    for step in steps {
+        if !goes(solver, step) {
+            return false;
+        }
+    }
+    true
+}
+
+/// Whether a new solver has no clauses, and after these steps, each of which goes well, still what is stated.
+fn goes_through(solver: &mut Solver<TestProvider>, stated: &Stated<'_>, steps: &[Step<'_>]) -> bool
+    requires { IsSound (test_universe (provider_in solver.old).endless (provider_in solver.old).requirements.items (provider_in solver.old).constraints.items) solver.old }
 {
     let before = solver.clause_count();
-    answers(&mut solver, problem, wanted, clauses, 0) & (before == 0)
+    all_go(solver, steps)
+        & (before == 0)
+        & (solver.provider().requirements.len() == stated.required.len())
+}
+
+/// Whether these steps go well with a solver over a provider that states this.
+///
+/// This alone owns a solver: the tests own nothing, since the prover takes long for each exit of what owns one.
+fn holds(alloc: Global, stated: &Stated<'_>, steps: &[Step<'_>]) -> bool {
+    let mut provider = provider_of_nothing(alloc, stated.endless);
+    let has_room = state(&mut provider, stated).is_ok();
+    let mut solver = Solver::new(alloc, provider);
+    has_room & goes_through(&mut solver, stated, steps)
+}
+
+/// Whether steps go well with a solver over a provider of which solvables require and constrain this.
+fn goes_over<'x>(
+    alloc: Global,
+    required: &'x [(u32, ConditionalRequirement)],
+    constrained: &'x [(u32, VersionSetId)],
+    steps: &'x [Step<'x>],
+) -> bool {
+    let stated = Stated {
+        required,
+        constrained,
+        endless: false,
+    };
+    holds(alloc, &stated, steps)
+}
+
+/// Whether this is chosen for a problem, with so many clauses and nothing put off.
+fn chooses<'x>(
+    alloc: Global,
+    required: &'x [(u32, ConditionalRequirement)],
+    constrained: &'x [(u32, VersionSetId)],
+    asked: Asked<'x>,
+    chosen: &'x [u32],
+    clauses: usize,
+) -> bool {
+    let step = Step::Solve(asked, Wanted::Counted(chosen, clauses, 0));
+    goes_over(alloc, required, constrained, &[step])
 }
 
 #[test]
 fn an_empty_problem_has_an_empty_answer(rt: HostRuntime) -> Result<(), Fail> {
-    let solver = solver_over(rt.alloc(), &[], &[])?;
-    assert!(rt; chooses(solver, Problem::new(), &[], 1));
+    assert!(rt; chooses(rt.alloc(), &[], &[], Asked::Nothing, &[], 1));
     Ok(())
 }
 
 #[test]
 fn a_requirement_of_a_requirement_is_met(rt: HostRuntime) -> Result<(), Fail> {
-    let problem = problem(rt.alloc(), &[11])?;
-    let solver = solver_over(rt.alloc(), &[(11, 24)], &[])?;
-    assert!(rt; chooses(solver, problem, &[11, 24], 3));
+    let asked = Asked::Required(&[always(11)]);
+    assert!(rt; chooses(rt.alloc(), &[(11, always(24))], &[], asked, &[11, 24], 3));
     Ok(())
 }
 
 #[test]
 fn an_older_version_is_taken_where_the_newer_one_fails(rt: HostRuntime) -> Result<(), Fail> {
-    let problem = problem(rt.alloc(), &[10])?;
-    let solver = solver_over(rt.alloc(), &[(14, 23)], &[])?;
-    assert!(rt; chooses(solver, problem, &[11], 5));
+    let asked = Asked::Required(&[always(10)]);
+    assert!(rt; chooses(rt.alloc(), &[(14, always(23))], &[], asked, &[11], 5));
     Ok(())
 }
 
 #[test]
 fn locks_exclusions_and_unknown_needs_are_kept(rt: HostRuntime) -> Result<(), Fail> {
     for (version_set, wanted, count) in [(10, 14, 4), (70, 71, 5), (80, 81, 5), (90, 91, 5)] {
-        let problem = problem(rt.alloc(), &[version_set])?;
-        let solver = solver_over(rt.alloc(), &[], &[])?;
+        let asked = Asked::Required(&[always(version_set)]);
         assert!(rt;
-            chooses(solver, problem, &[wanted], count),
+            chooses(rt.alloc(), &[], &[], asked, &[wanted], count),
             "version set {version_set}"
         );
     }
@@ -190,233 +355,166 @@ fn locks_exclusions_and_unknown_needs_are_kept(rt: HostRuntime) -> Result<(), Fa
 
 #[test]
 fn constraints_are_kept(rt: HostRuntime) -> Result<(), Fail> {
-    let problem = problem(rt.alloc(), &[11, 20])?;
-    let solver = solver_over(rt.alloc(), &[], &[(11, 21)])?;
-    assert!(rt; chooses(solver, problem, &[11, 21], 6));
+    let asked = Asked::Required(&[always(11), always(20)]);
+    let constrained = [(11, VersionSetId(21))];
+    assert!(rt; chooses(rt.alloc(), &[], &constrained, asked, &[11, 21], 6));
     Ok(())
 }
 
-/// Asks for a version set, and for another one under a condition.
-fn conditional_problem(alloc: Global, version_set: u32) -> Result<TestProblem, Fail> {
-    let mut required = requirements(alloc, &[version_set])?;
-    required.push(ConditionalRequirement {
-        condition: Some(ConditionId(11_021)),
-        requirement: Requirement::Single(VersionSetId(34)),
-    })?;
-    Ok(Problem::new().requirements(required))
-}
-
-/// Whether a solver over nothing gives a problem this answer.
+/// Whether a version set, and 34 under a condition, have this answer, with so many clauses and disjuncts put off.
 fn chooses_under_condition(
-    mut solver: Solver<TestProvider>,
-    problem: TestProblem,
+    alloc: Global,
+    version_set: u32,
     wanted: &[u32],
     clauses: usize,
     deferred: usize,
-) -> bool
-    requires { IsSound (test_universe (provider_in solver).endless (provider_in solver).requirements.items (provider_in solver).constraints.items) solver }
-{
-    answers(&mut solver, problem, wanted, clauses, deferred)
+) -> bool {
+    let required = [always(version_set), when(11_021, 34)];
+    let step = Step::Solve(
+        Asked::Required(&required),
+        Wanted::Counted(wanted, clauses, deferred),
+    );
+    goes_over(alloc, &[], &[], &[step])
 }
 
 #[test]
 fn a_condition_activates_a_requirement(rt: HostRuntime) -> Result<(), Fail> {
-    let problem = conditional_problem(rt.alloc(), 11)?;
-    let solver = solver_over(rt.alloc(), &[], &[])?;
-    assert!(rt; chooses_under_condition(solver, problem, &[11, 34], 4, 1));
-    let problem = conditional_problem(rt.alloc(), 14)?;
-    let solver = solver_over(rt.alloc(), &[], &[])?;
-    assert!(rt; chooses_under_condition(solver, problem, &[14], 2, 2));
+    assert!(rt; chooses_under_condition(rt.alloc(), 11, &[11, 34], 4, 1));
+    assert!(rt; chooses_under_condition(rt.alloc(), 14, &[14], 2, 2));
     Ok(())
-}
-
-/// Whether a solver is stopped by its provider.
-fn is_cancelled(solver: &mut Solver<TestProvider>, problem: TestProblem) -> bool
-    requires { IsSound (test_universe (provider_in solver.old).endless (provider_in solver.old).requirements.items (provider_in solver.old).constraints.items) solver.old }
-    ensures { IsSound (test_universe (provider_in solver.new).endless (provider_in solver.new).requirements.items (provider_in solver.new).constraints.items) solver.new }
-{
-    let outcome = solver.solve(problem);
-    matches!(&outcome, Err(UnsolvableOrCancelled::Cancelled(7)))
-}
-
-/// Whether the first problem is stopped at the third check, and the second one is answered.
-fn answers_after_cancel(
-    mut solver: Solver<TestProvider>,
-    first: TestProblem,
-    second: TestProblem,
-) -> bool
-    requires { IsSound (test_universe (provider_in solver).endless (provider_in solver).requirements.items (provider_in solver).constraints.items) solver }
-{
-    solver.provider().cancelling.set(3);
-    let cancelled = is_cancelled(&mut solver, first);
-    answers(&mut solver, second, &[11, 24], 3, 0) & cancelled
 }
 
 #[test]
 fn a_cancelled_search_can_be_repeated(rt: HostRuntime) -> Result<(), Fail> {
-    let first = problem(rt.alloc(), &[11])?;
-    let second = problem(rt.alloc(), &[11])?;
-    let solver = solver_over(rt.alloc(), &[(11, 24)], &[])?;
-    assert!(rt; answers_after_cancel(solver, first, second));
+    let asked = Asked::Required(&[always(11)]);
+    let steps = [
+        Step::StopAt(3),
+        Step::Solve(asked, Wanted::Stopped),
+        Step::Solve(asked, Wanted::Counted(&[11, 24], 3, 0)),
+    ];
+    assert!(rt; goes_over(rt.alloc(), &[(11, always(24))], &[], &steps));
     Ok(())
-}
-
-/// Whether ids run out where there may be only so many variables.
-fn runs_out(solver: &mut Solver<TestProvider>, problem: TestProblem, limit: usize) -> bool
-    requires sound { IsSound (test_universe (provider_in solver.old).endless (provider_in solver.old).requirements.items (provider_in solver.old).constraints.items) solver.old }
-    requires fits { limit ≤ 2 ^ 31 }
-    ensures { IsSound (test_universe (provider_in solver.new).endless (provider_in solver.new).requirements.items (provider_in solver.new).constraints.items) solver.new }
-{
-    limit_variables(solver, limit);
-    let outcome = solver.solve(problem);
-    matches!(
-        &outcome,
-        Err(UnsolvableOrCancelled::Exhausted(Exhausted::Ids))
-    )
-}
-
-/// Whether the first problem runs out of two variables, and the second one has an answer with three.
-fn answers_with_room(
-    mut solver: Solver<TestProvider>,
-    first: TestProblem,
-    second: TestProblem,
-) -> bool
-    requires { IsSound (test_universe (provider_in solver).endless (provider_in solver).requirements.items (provider_in solver).constraints.items) solver }
-{
-    let out = runs_out(&mut solver, first, 2);
-    limit_variables(&mut solver, 3);
-    answers(&mut solver, second, &[11, 24], 3, 0) & out
 }
 
 #[test]
 fn variables_run_out_at_the_limit(rt: HostRuntime) -> Result<(), Fail> {
-    let first = problem(rt.alloc(), &[11])?;
-    let second = problem(rt.alloc(), &[11])?;
-    let solver = solver_over(rt.alloc(), &[(11, 24)], &[])?;
-    assert!(rt; answers_with_room(solver, first, second));
+    let asked = Asked::Required(&[always(11)]);
+    let steps = [
+        Step::Room(2),
+        Step::Solve(asked, Wanted::Ids),
+        Step::Room(3),
+        Step::Solve(asked, Wanted::Counted(&[11, 24], 3, 0)),
+    ];
+    assert!(rt; goes_over(rt.alloc(), &[(11, always(24))], &[], &steps));
     Ok(())
 }
 
-/// Whether fifty variables are enough for both problems of an endless universe.
-fn answers_in_endless(
-    mut solver: Solver<TestProvider>,
-    plain: TestProblem,
-    held: TestProblem,
-) -> bool
-    requires { IsSound (test_universe (provider_in solver).endless (provider_in solver).requirements.items (provider_in solver).constraints.items) solver }
-{
-    limit_variables(&mut solver, 50);
-    let outcome = solver.solve(plain);
-    let second = solver.solve(held);
-    is_answer(&outcome, &[4]) & is_answer(&second, &[1, 14])
+/// Whether fifty variables are enough for both steps in an endless universe.
+fn goes_in_endless<'x>(alloc: Global, first: Step<'x>, second: Step<'x>) -> bool {
+    let stated = Stated {
+        required: &[],
+        constrained: &[],
+        endless: true,
+    };
+    holds(alloc, &stated, &[Step::Room(50), first, second])
 }
 
 #[test]
 fn an_endless_universe_is_read_as_far_as_it_is_needed(rt: HostRuntime) -> Result<(), Fail> {
-    let plain = problem(rt.alloc(), &[0])?;
-    let held = problem(rt.alloc(), &[0])?.constraints(constraints(rt.alloc(), 1)?);
-    assert!(rt; answers_in_endless(endless_solver(rt.alloc()), plain, held));
+    let plain = Asked::Required(&[always(0)]);
+    let held = Asked::Constrained(&[always(0)], &[VersionSetId(1)]);
+    let first = Step::Solve(plain, Wanted::Chosen(&[4]));
+    let second = Step::Solve(held, Wanted::Chosen(&[1, 14]));
+    assert!(rt; goes_in_endless(rt.alloc(), first, second));
     Ok(())
-}
-
-/// A problem whose parts were set twice.
-fn replaced(alloc: Global) -> Result<TestProblem, Fail> {
-    let replaced = problem(alloc, &[14])?
-        .requirements(requirements(alloc, &[20])?)
-        .constraints(constraints(alloc, 24)?)
-        .constraints(constraints(alloc, 21)?);
-    Ok(replaced)
 }
 
 #[test]
 fn what_is_set_again_is_replaced(rt: HostRuntime) -> Result<(), Fail> {
-    let problem = replaced(rt.alloc())?;
-    let solver = solver_over(rt.alloc(), &[], &[])?;
-    assert!(rt; chooses(solver, problem, &[21], 5));
+    let asked = Asked::Replaced(&[always(20)], &[VersionSetId(21)]);
+    assert!(rt; chooses(rt.alloc(), &[], &[], asked, &[21], 5));
     Ok(())
 }
 
-/// Whether three problems in turn have answers of their own.
-fn answers_afresh(mut solver: Solver<TestProvider>, first: TestProblem, second: TestProblem) -> bool
-    requires { IsSound (test_universe (provider_in solver).endless (provider_in solver).requirements.items (provider_in solver).constraints.items) solver }
-{
-    let one = answers(&mut solver, first, &[11, 24], 3, 0);
-    let two = answers(&mut solver, second, &[24], 4, 0);
-    let three = answers(&mut solver, Problem::default(), &[], 1, 0);
-    one & two & three & (solver.provider().requirements.len() == 1)
+/// Whether two steps go well, and a problem that asks for nothing has an empty answer then.
+fn goes_afresh<'x>(
+    alloc: Global,
+    required: &'x [(u32, ConditionalRequirement)],
+    first: Step<'x>,
+    second: Step<'x>,
+) -> bool {
+    let third = Step::Solve(Asked::Unset, Wanted::Counted(&[], 1, 0));
+    goes_over(alloc, required, &[], &[first, second, third])
 }
 
 #[test]
 fn each_problem_starts_afresh(rt: HostRuntime) -> Result<(), Fail> {
-    let first = problem(rt.alloc(), &[11])?;
-    let second = problem(rt.alloc(), &[20])?;
-    let solver = solver_over(rt.alloc(), &[(11, 24)], &[])?;
-    assert!(rt; answers_afresh(solver, first, second));
+    let first = Asked::Required(&[always(11)]);
+    let second = Asked::Required(&[always(20)]);
+    let first = Step::Solve(first, Wanted::Counted(&[11, 24], 3, 0));
+    let second = Step::Solve(second, Wanted::Counted(&[24], 4, 0));
+    assert!(rt; goes_afresh(rt.alloc(), &[(11, always(24))], first, second));
     Ok(())
 }
 
 /// Whether two equal problems have this answer, with nothing put off.
-fn answers_twice(
-    mut solver: Solver<TestProvider>,
-    first: TestProblem,
-    second: TestProblem,
-    wanted: u32,
-) -> bool
-    requires { IsSound (test_universe (provider_in solver).endless (provider_in solver).requirements.items (provider_in solver).constraints.items) solver }
-{
-    let one = solver.solve(first);
-    let two = solver.solve(second);
-    is_answer(&one, &[wanted])
-        & is_answer(&two, &[wanted])
-        & (solver.deferred_requirements_count() == 0)
+fn answers_twice<'x>(
+    alloc: Global,
+    required: &'x [(u32, ConditionalRequirement)],
+    asked: Asked<'x>,
+    chosen: &'x [u32],
+) -> bool {
+    let first = Step::Solve(asked, Wanted::Chosen(chosen));
+    let second = Step::Solve(asked, Wanted::Deferred(chosen, 0));
+    goes_over(alloc, required, &[], &[first, second])
 }
 
 #[test]
 fn hints_and_cached_answers_change_no_answer(rt: HostRuntime) -> Result<(), Fail> {
-    let plain = [(4, 14), (4, 20), (14, 1000), (24, 30), (34, 11)];
-    let hinted = [(104, 114), (104, 120), (114, 1000), (124, 130), (134, 111)];
-    for (required, version_set, wanted) in [(plain, 0, 1), (hinted, 100, 101)] {
-        let first = problem(rt.alloc(), &[version_set])?;
-        let second = problem(rt.alloc(), &[version_set])?;
-        let solver = solver_over(rt.alloc(), &required, &[])?;
-        assert!(rt;
-            answers_twice(solver, first, second, wanted),
-            "version set {version_set}"
-        );
-    }
+    let plain = [
+        (4, always(14)),
+        (4, always(20)),
+        (14, always(1000)),
+        (24, always(30)),
+        (34, always(11)),
+    ];
+    let asked = Asked::Required(&[always(0)]);
+    assert!(rt; answers_twice(rt.alloc(), &plain, asked, &[1]));
+    let hinted = [
+        (104, always(114)),
+        (104, always(120)),
+        (114, always(1000)),
+        (124, always(130)),
+        (134, always(111)),
+    ];
+    let asked = Asked::Required(&[always(100)]);
+    assert!(rt; answers_twice(rt.alloc(), &hinted, asked, &[101]));
     Ok(())
 }
 
-/// Whether a requirer alone leaves two disjuncts put off, and with what meets one of them a candidate comes.
-fn answers_once_met(
-    mut solver: Solver<TestProvider>,
-    alone: TestProblem,
-    both: TestProblem,
-    wanted: &[u32; 3],
-) -> bool
-    requires { IsSound (test_universe (provider_in solver).endless (provider_in solver).requirements.items (provider_in solver).constraints.items) solver }
-{
-    let one = solver.solve(alone);
-    let deferred = solver.deferred_requirements_count();
-    let two = solver.solve(both);
-    is_answer(&one, &wanted[..1])
-        & (deferred == 2)
-        & is_answer(&two, wanted)
-        & (solver.deferred_requirements_count() == 1)
+/// Whether the first requirement alone leaves two disjuncts put off, and with what meets one of them a candidate comes.
+fn answers_once_met<'x>(
+    alloc: Global,
+    required: &'x [(u32, ConditionalRequirement)],
+    asked: &'x [ConditionalRequirement; 2],
+    chosen: &'x [u32; 3],
+) -> bool {
+    let alone = Step::Solve(
+        Asked::Required(&asked[..1]),
+        Wanted::Deferred(&chosen[..1], 2),
+    );
+    let both = Step::Solve(Asked::Required(asked), Wanted::Deferred(chosen, 1));
+    goes_over(alloc, required, &[], &[alone, both])
 }
 
 #[test]
 fn hints_leave_put_off_what_does_not_hold(rt: HostRuntime) -> Result<(), Fail> {
-    for (requirer, condition, met, candidate) in [(1, 11_031, 11, 21), (101, 111_131, 111, 121)] {
-        let alone = problem(rt.alloc(), &[requirer])?;
-        let both = problem(rt.alloc(), &[requirer, met])?;
-        let solver = conditional_solver(rt.alloc(), requirer, condition, candidate)?;
-        let wanted = [requirer, met, candidate];
-        assert!(rt;
-            answers_once_met(solver, alone, both, &wanted),
-            "solvable {requirer}"
-        );
-    }
+    let required = [(1, when(11_031, 21))];
+    let asked = [always(1), always(11)];
+    assert!(rt; answers_once_met(rt.alloc(), &required, &asked, &[1, 11, 21]));
+    let required = [(101, when(111_131, 121))];
+    let asked = [always(101), always(111)];
+    assert!(rt; answers_once_met(rt.alloc(), &required, &asked, &[101, 111, 121]));
     Ok(())
 }
 
@@ -509,15 +607,12 @@ fn is_refuted(rules: &[Rule<u32, u32>]) -> bool {
     rules.iter().any(|rule| obeys_alone(rule, &[31]))
 }
 
-/// Whether the problem has a conflict whose rules no set obeys, by trying all sets and by the plain search.
-fn is_explained(mut solver: Solver<TestProvider>, problem: TestProblem, alloc: Global) -> bool
-    requires { IsSound (test_universe (provider_in solver).endless (provider_in solver).requirements.items (provider_in solver).constraints.items) solver }
-{
-    let outcome = solver.solve(problem);
-    match &outcome {
+/// Whether there is a conflict whose rules no set obeys, by trying all sets and by the plain search.
+fn is_explained(solver: &Solver<TestProvider>, outcome: &Outcome) -> bool {
+    match outcome {
         Err(UnsolvableOrCancelled::Unsolvable(conflict)) => {
             is_refuted(conflict.rules())
-                & matches!(&find(alloc, conflict.rules()), Ok(None))
+                & matches!(&find(solver.alloc, conflict.rules()), Ok(None))
                 & (10 <= solver.clause_count())
         }
         _ => false,
@@ -526,10 +621,15 @@ fn is_explained(mut solver: Solver<TestProvider>, problem: TestProblem, alloc: G
 
 #[test]
 fn no_set_obeys_the_rules_of_a_conflict(rt: HostRuntime) -> Result<(), Fail> {
-    let required = [(31, 51), (34, 51), (41, 54), (44, 54)];
-    let problem = problem(rt.alloc(), &[30, 40])?;
-    let solver = solver_over(rt.alloc(), &required, &[])?;
-    assert!(rt; is_explained(solver, problem, rt.alloc()));
+    let required = [
+        (31, always(51)),
+        (34, always(51)),
+        (41, always(54)),
+        (44, always(54)),
+    ];
+    let asked = Asked::Required(&[always(30), always(40)]);
+    let step = Step::Solve(asked, Wanted::Refuted);
+    assert!(rt; goes_over(rt.alloc(), &required, &[], &[step]));
     Ok(())
 }
 
@@ -546,33 +646,6 @@ fn is_missing_alone(conflict: &ConflictGraph<u32>) -> bool {
     }
 }
 
-/// The conflict of a problem, where it has one.
-fn conflict_of(
-    solver: &mut Solver<TestProvider>,
-    problem: TestProblem,
-) -> Option<Conflict<u32, u32>>
-    requires { IsSound (test_universe (provider_in solver.old).endless (provider_in solver.old).requirements.items (provider_in solver.old).constraints.items) solver.old }
-    ensures { IsSound (test_universe (provider_in solver.new).endless (provider_in solver.new).requirements.items (provider_in solver.new).constraints.items) solver.new }
-{
-    match solver.solve(problem) {
-        Err(UnsolvableOrCancelled::Unsolvable(conflict)) => Some(conflict),
-        _ => None,
-    }
-}
-
-/// Whether the graph of the first problem's conflict is right after the second one was answered.
-fn has_graph_afterwards(
-    mut solver: Solver<TestProvider>,
-    first: TestProblem,
-    second: TestProblem,
-) -> bool
-    requires { IsSound (test_universe (provider_in solver).endless (provider_in solver).requirements.items (provider_in solver).constraints.items) solver }
-{
-    let conflict = conflict_of(&mut solver, first);
-    let outcome = solver.solve(second);
-    is_answer(&outcome, &[14, 24]) & is_graph_right(&solver, &conflict)
-}
-
 /// Whether there is a conflict, and its graph is right.
 fn is_graph_right(solver: &Solver<TestProvider>, conflict: &Option<Conflict<u32, u32>>) -> bool {
     match conflict {
@@ -584,11 +657,15 @@ fn is_graph_right(solver: &Solver<TestProvider>, conflict: &Option<Conflict<u32,
     }
 }
 
+/// Whether the graph of the first problem's conflict is right after this was chosen for the second one.
+fn has_graph<'x>(alloc: Global, first: Asked<'x>, second: Asked<'x>, chosen: &'x [u32]) -> bool {
+    goes_over(alloc, &[], &[], &[Step::Graph(first, second, chosen)])
+}
+
 #[test]
 fn a_graph_is_that_of_its_conflict_whatever_was_solved_since(rt: HostRuntime) -> Result<(), Fail> {
-    let first = problem(rt.alloc(), &[1000])?;
-    let second = problem(rt.alloc(), &[10, 20])?;
-    let solver = solver_over(rt.alloc(), &[], &[])?;
-    assert!(rt; has_graph_afterwards(solver, first, second));
+    let first = Asked::Required(&[always(1000)]);
+    let second = Asked::Required(&[always(10), always(20)]);
+    assert!(rt; has_graph(rt.alloc(), first, second, &[14, 24]));
     Ok(())
 }
