@@ -1,25 +1,71 @@
 //! The graphs of small lists of rules.
+//!
+//! The tests own nothing: what they call makes the rules and the graph, and says whether it is the wanted one.
 
 use super::*;
+use crate::edges::{Incoming, Outgoing};
+use crate::graph::Graph;
 use crate::parts::{ConflictCause, ConflictEdge};
 use resolver_clause_store::{By, Requirement, StringId, VersionSetId};
 use std::alloc::AllocError;
-use std::process::Abort;
-use std::test::Fail;
 
 const WANTED: Requirement = Requirement::Single(VersionSetId(0));
 
-fn required(alloc: Global, by: By<u32>, candidates: &[u32]) -> Result<Rule<u32, u32>, AllocError> {
-    Ok(Rule::Requires {
-        by,
-        requirement: WANTED,
-        candidates: candidates.to_vec(alloc)?,
-        when: Vec::new(alloc),
-    })
+/// A rule that owns nothing.
+#[derive(Clone, Copy)]
+enum Row<'x> {
+    Requires(By<u32>, &'x [u32]),
+    Constrains {
+        by: By<u32>,
+        version_set: u32,
+        candidate: u32,
+    },
+    Lock {
+        locked: u32,
+        forbidden: u32,
+    },
+    Excluded {
+        solvable: u32,
+        reason: u32,
+    },
+    Marked {
+        name: u32,
+        instance: u32,
+    },
 }
 
-fn marked(name: u32, instance: u32) -> Rule<u32, u32> {
-    Rule::OnePerPackage { name, instance }
+fn rule_of(alloc: Global, row: &Row<'_>) -> Result<Rule<u32, u32>, AllocError> {
+    match *row {
+        Row::Requires(by, candidates) => Ok(Rule::Requires {
+            by,
+            requirement: WANTED,
+            candidates: candidates.to_vec(alloc)?,
+            when: Vec::new(alloc),
+        }),
+        Row::Constrains {
+            by,
+            version_set,
+            candidate,
+        } => Ok(Rule::Constrains {
+            by,
+            version_set: VersionSetId(version_set),
+            candidate,
+        }),
+        Row::Lock { locked, forbidden } => Ok(Rule::Lock { locked, forbidden }),
+        Row::Excluded { solvable, reason } => Ok(Rule::Excluded {
+            solvable,
+            reason: StringId(reason),
+        }),
+        Row::Marked { name, instance } => Ok(Rule::OnePerPackage { name, instance }),
+    }
+}
+
+fn graph_of_rows(alloc: Global, rows: &[Row<'_>]) -> Result<ConflictGraph<u32>, Exhausted> {
+    let mut rules = Vec::new(alloc);
+    for row in rows {
+        rules.push(rule_of(alloc, row)?)?;
+    }
+    graph_of(alloc, &rules)
 }
 
 fn edge(source: usize, target: usize, weight: ConflictEdge<u32>) -> Edge<u32> {
@@ -30,91 +76,131 @@ fn edge(source: usize, target: usize, weight: ConflictEdge<u32>) -> Edge<u32> {
     }
 }
 
-fn assert_graph(
-    rt: &impl Abort,
-    graph: &ConflictGraph<u32>,
-    nodes: &[ConflictNode<u32>],
-    edges: &[Edge<u32>],
+/// What a graph has.
+#[derive(Clone, Copy)]
+struct Parts<'x> {
+    nodes: &'x [ConflictNode<u32>],
+    edges: &'x [Edge<u32>],
     unresolved_node: Option<NodeId>,
-) {
-    assert_eq!(rt; graph.graph.nodes(), nodes);
-    assert_eq!(rt; graph.graph.edges(), edges);
-    assert_eq!(rt; graph.root_node, NodeId(0));
-    assert_eq!(rt; graph.unresolved_node, unresolved_node);
+}
+
+/// Whether a graph has these parts, and its first node is the root.
+fn has_parts(graph: &ConflictGraph<u32>, wanted: &Parts<'_>) -> bool {
+    (graph.graph.nodes() == wanted.nodes)
+        & (graph.graph.edges() == wanted.edges)
+        & (graph.root_node == NodeId(0))
+        & (graph.unresolved_node == wanted.unresolved_node)
+}
+
+/// Whether a copy of a graph has these parts.
+fn copy_has_parts(graph: &ConflictGraph<u32>, wanted: &Parts<'_>) -> Result<bool, Exhausted> {
+    let copied = graph.clone()?;
+    Ok(has_parts(&copied, wanted))
+}
+
+fn makes_parts(alloc: Global, rows: &[Row<'_>], wanted: &Parts<'_>) -> Result<bool, Exhausted> {
+    let graph = graph_of_rows(alloc, rows)?;
+    Ok(has_parts(&graph, wanted) & copy_has_parts(&graph, wanted)?)
+}
+
+/// Whether the graph of these rules has these nodes and edges, and a copy of it, too.
+fn is_graph<'x>(
+    alloc: Global,
+    rows: &[Row<'_>],
+    nodes: &'x [ConflictNode<u32>],
+    edges: &'x [Edge<u32>],
+    unresolved_node: Option<NodeId>,
+) -> bool {
+    let wanted = Parts {
+        nodes,
+        edges,
+        unresolved_node,
+    };
+    matches!(makes_parts(alloc, rows, &wanted), Ok(true))
 }
 
 #[test]
-fn constraint_on_itself(rt: HostRuntime) -> Result<(), Fail> {
-    let alloc = rt.alloc();
-    let rules = [
-        required(alloc, By::Root, &[1])?,
-        Rule::Constrains {
+fn constraint_on_itself(rt: HostRuntime) {
+    let rows = [
+        Row::Requires(By::Root, &[1]),
+        Row::Constrains {
             by: By::Solvable(1),
-            version_set: VersionSetId(7),
+            version_set: 7,
             candidate: 1,
         },
     ];
     let constrains = ConflictEdge::Conflict(ConflictCause::Constrains(VersionSetId(7)));
-    let graph = graph_of(alloc, &rules)?;
     let nodes = [ConflictNode::Root, ConflictNode::Solvable(1)];
     let edges = [
         edge(0, 1, ConflictEdge::Requires(WANTED)),
         edge(1, 1, constrains),
     ];
-    assert_graph(&rt, &graph, &nodes, &edges, None);
-    assert_graph(&rt, &graph.clone()?, &nodes, &edges, None);
-    Ok(())
+    assert!(rt; is_graph(rt.alloc(), &rows, &nodes, &edges, None));
 }
 
 #[test]
-fn no_candidates(rt: HostRuntime) -> Result<(), Fail> {
-    let alloc = rt.alloc();
-    let graph = graph_of(alloc, &[required(alloc, By::Root, &[])?])?;
+fn no_candidates(rt: HostRuntime) {
+    let rows = [Row::Requires(By::Root, &[])];
     let nodes = [ConflictNode::Root, ConflictNode::UnresolvedDependency];
     let edges = [edge(0, 1, ConflictEdge::Requires(WANTED))];
-    assert_graph(&rt, &graph, &nodes, &edges, Some(NodeId(1)));
-    assert_graph(&rt, &graph.clone()?, &nodes, &edges, Some(NodeId(1)));
-    Ok(())
+    assert!(rt; is_graph(rt.alloc(), &rows, &nodes, &edges, Some(NodeId(1))));
 }
 
 #[test]
-fn mark_listed_twice(rt: HostRuntime) -> Result<(), Fail> {
-    let alloc = rt.alloc();
+fn mark_listed_twice(rt: HostRuntime) {
     let second = ConflictEdge::Conflict(ConflictCause::ForbidMultipleInstances);
-    let graph = graph_of(alloc, &[marked(5, 1), marked(5, 1)])?;
+    let (name, instance) = (5, 1);
+    let rows = [
+        Row::Marked { name, instance },
+        Row::Marked { name, instance },
+    ];
     let nodes = [ConflictNode::Root, ConflictNode::Solvable(1)];
-    assert_graph(&rt, &graph, &nodes, &[edge(1, 1, second)], None);
-    // A mark of another name stands between.
-    let graph = graph_of(alloc, &[marked(5, 1), marked(6, 2), marked(5, 3)])?;
+    assert!(rt; is_graph(rt.alloc(), &rows, &nodes, &[edge(1, 1, second)], None));
+}
+
+#[test]
+fn mark_of_another_name_between(rt: HostRuntime) {
+    let second = ConflictEdge::Conflict(ConflictCause::ForbidMultipleInstances);
+    let rows = [
+        Row::Marked {
+            name: 5,
+            instance: 1,
+        },
+        Row::Marked {
+            name: 6,
+            instance: 2,
+        },
+        Row::Marked {
+            name: 5,
+            instance: 3,
+        },
+    ];
     let nodes = [
         ConflictNode::Root,
         ConflictNode::Solvable(3),
         ConflictNode::Solvable(1),
         ConflictNode::Solvable(2),
     ];
-    assert_graph(&rt, &graph, &nodes, &[edge(2, 1, second)], None);
-    Ok(())
+    assert!(rt; is_graph(rt.alloc(), &rows, &nodes, &[edge(2, 1, second)], None));
 }
 
 #[test]
-fn locks_and_exclusions(rt: HostRuntime) -> Result<(), Fail> {
-    let alloc = rt.alloc();
-    let rules = [
-        Rule::Lock {
+fn locks_and_exclusions(rt: HostRuntime) {
+    let rows = [
+        Row::Lock {
             locked: 2,
             forbidden: 1,
         },
-        Rule::<u32, u32>::Excluded {
+        Row::Excluded {
             solvable: 1,
-            reason: StringId(4),
+            reason: 4,
         },
-        Rule::Excluded {
+        Row::Excluded {
             solvable: 3,
-            reason: StringId(4),
+            reason: 4,
         },
     ];
     let excluded = ConflictEdge::Conflict(ConflictCause::Excluded);
-    let graph = graph_of(alloc, &rules)?;
     let nodes = [
         ConflictNode::Root,
         ConflictNode::Solvable(3),
@@ -126,27 +212,54 @@ fn locks_and_exclusions(rt: HostRuntime) -> Result<(), Fail> {
         edge(2, 3, excluded),
         edge(1, 3, excluded),
     ];
-    assert_graph(&rt, &graph, &nodes, &edges, None);
-    Ok(())
+    assert!(rt; is_graph(rt.alloc(), &rows, &nodes, &edges, None));
+}
+
+/// Whether these two edges come out of a node, in order, and no more.
+fn are_outgoing(mut edges: Outgoing<'_, u32>, wanted: (Edge<u32>, Edge<u32>)) -> bool {
+    let (first, second) = (edges.next(), edges.next());
+    (first == Some(&wanted.0)) & (second == Some(&wanted.1)) & edges.next().is_none()
+}
+
+/// Whether these two edges go into a node, in order, and no more.
+fn are_incoming(mut edges: Incoming<'_, u32>, wanted: (Edge<u32>, Edge<u32>)) -> bool {
+    let (first, second) = (edges.next(), edges.next());
+    (first == Some(&wanted.0)) & (second == Some(&wanted.1)) & edges.next().is_none()
+}
+
+/// Whether there are three nodes, and these edges from the first and to the last, newest first.
+fn has_edges(
+    graph: &Graph<u32>,
+    from_root: (Edge<u32>, Edge<u32>),
+    to_second: (Edge<u32>, Edge<u32>),
+) -> bool {
+    if graph.nodes().len() != 3 {
+        return false;
+    }
+    are_outgoing(graph.outgoing(NodeId(0)), from_root)
+        & are_incoming(graph.incoming(NodeId(2)), to_second)
+}
+
+/// Whether the graph of these rules has three nodes, and these edges from the first and to the last, newest first.
+fn gives_edges(
+    alloc: Global,
+    rows: &[Row<'_>],
+    from_root: (Edge<u32>, Edge<u32>),
+    to_second: (Edge<u32>, Edge<u32>),
+) -> Result<bool, Exhausted> {
+    let graph = graph_of_rows(alloc, rows)?;
+    Ok(has_edges(&graph.graph, from_root, to_second))
 }
 
 #[test]
-fn edges_newest_first(rt: HostRuntime) -> Result<(), Fail> {
-    let alloc = rt.alloc();
-    let rules = [
-        required(alloc, By::Root, &[2, 1])?,
-        required(alloc, By::Solvable(1), &[2])?,
+fn edges_newest_first(rt: HostRuntime) {
+    let rows = [
+        Row::Requires(By::Root, &[2, 1]),
+        Row::Requires(By::Solvable(1), &[2]),
     ];
-    let graph = graph_of(alloc, &rules)?.graph;
     let wanted = ConflictEdge::Requires(WANTED);
-    assert!(rt; graph.nodes().len() == 3);
-    let mut from_root = graph.outgoing(NodeId(0));
-    assert_eq!(rt; from_root.next(), Some(&edge(0, 1, wanted)));
-    assert_eq!(rt; from_root.next(), Some(&edge(0, 2, wanted)));
-    assert_eq!(rt; from_root.next(), None);
-    let mut to_second = graph.incoming(NodeId(2));
-    assert_eq!(rt; to_second.next(), Some(&edge(1, 2, wanted)));
-    assert_eq!(rt; to_second.next(), Some(&edge(0, 2, wanted)));
-    assert_eq!(rt; to_second.next(), None);
-    Ok(())
+    let from_root = (edge(0, 1, wanted), edge(0, 2, wanted));
+    let to_second = (edge(1, 2, wanted), edge(0, 2, wanted));
+    let outcome = gives_edges(rt.alloc(), &rows, from_root, to_second);
+    assert!(rt; matches!(outcome, Ok(true)));
 }

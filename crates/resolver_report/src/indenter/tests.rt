@@ -1,37 +1,51 @@
 //! The marks of two sequences of levels.
+//!
+//! The tests own nothing: what they call makes the levels, and says whether their marks are the wanted ones.
 
 use super::{ChildOrder, Indenter};
 use resolver_clause_store::Exhausted;
-use std::test::Fail;
+use std::alloc::Global;
 
-fn indent_of(indenter: &Indenter) -> Result<String, Exhausted> {
+/// Whether an indenter writes this.
+fn is_indent(indenter: &Indenter, wanted: &str) -> Result<bool, Exhausted> {
     let mut text = String::new(*indenter.levels.allocator());
     indenter.write(&mut text)?;
-    Ok(text)
+    Ok(text.as_str() == wanted)
+}
+
+fn writes_each(
+    alloc: Global,
+    top_level_indent: bool,
+    levels: &[(ChildOrder, &str)],
+) -> Result<bool, Exhausted> {
+    let mut indenter = Indenter::new(alloc, top_level_indent);
+    let mut all = true;
+    for (order, text) in levels {
+        indenter = indenter.deeper(*order)?;
+        all &= is_indent(&indenter, text)?;
+    }
+    Ok(all)
+}
+
+/// Whether levels of these kinds, each below the one before, are indented by these texts.
+fn are_indented(alloc: Global, top_level_indent: bool, levels: &[(ChildOrder, &str)]) -> bool {
+    matches!(writes_each(alloc, top_level_indent, levels), Ok(true))
 }
 
 #[test]
-fn levels_one_after_the_other(rt: HostRuntime) -> Result<(), Fail> {
-    let steps = [
+fn levels_one_after_the_other(rt: HostRuntime) {
+    let levels = [
         (ChildOrder::Last, "└─ "),
         (ChildOrder::HasRemainingSiblings, "   ├─ "),
         (ChildOrder::Last, "   │  └─ "),
         (ChildOrder::Last, "   │     └─ "),
         (ChildOrder::HasRemainingSiblings, "   │        ├─ "),
     ];
-    let mut indenter = Indenter::new(rt.alloc(), true);
-    for (order, text) in steps {
-        indenter = indenter.deeper(order)?;
-        assert_eq!(rt; indent_of(&indenter)?.as_str(), text);
-    }
-    Ok(())
+    assert!(rt; are_indented(rt.alloc(), true, &levels));
 }
 
 #[test]
-fn no_indent_at_the_top(rt: HostRuntime) -> Result<(), Fail> {
-    let first = Indenter::new(rt.alloc(), false).deeper(ChildOrder::Last)?;
-    assert_eq!(rt; indent_of(&first)?.as_str(), "");
-    let second = first.deeper(ChildOrder::Last)?;
-    assert_eq!(rt; indent_of(&second)?.as_str(), "└─ ");
-    Ok(())
+fn no_indent_at_the_top(rt: HostRuntime) {
+    let levels = [(ChildOrder::Last, ""), (ChildOrder::Last, "└─ ")];
+    assert!(rt; are_indented(rt.alloc(), false, &levels));
 }

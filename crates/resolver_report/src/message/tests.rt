@@ -1,4 +1,6 @@
 //! Messages of graphs, byte for byte.
+//!
+//! The tests own nothing: what they call makes the rules, the graph and the message, and asserts it.
 
 ghost use Rattle.std.specs.Prelude.{◌≡◌, refl};
 ghost use Rattle.std.proofs.Common.{rules};
@@ -7,12 +9,13 @@ ghost use Rattle.resolver_report.specs.TestTexts.{name_number, name_text, set_nu
 
 use super::DisplayUnsat;
 use crate::build::graph_of;
+use crate::graph::ConflictGraph;
 use crate::rules::Rule;
 use resolver_clause_store::{
     By, Condition, ConditionId, Exhausted, Interner, Requirement, StringId, VersionSetId,
     VersionSetUnionId,
 };
-use std::alloc::Global;
+use std::alloc::{AllocError, Global};
 use std::process::Abort;
 use std::test::Fail;
 
@@ -143,57 +146,84 @@ impl Interner for Texts {
     }
 }
 
-fn required(
-    alloc: Global,
-    by: By<u32>,
-    version_set: u32,
-    candidates: &[u32],
-) -> Result<Rule<u32, u32>, Exhausted> {
-    Ok(Rule::Requires {
-        by,
-        requirement: Requirement::Single(VersionSetId(version_set)),
-        candidates: candidates.to_vec(alloc)?,
-        when: Vec::new(alloc),
-    })
+/// A rule that owns nothing.
+#[derive(Clone, Copy)]
+enum Row<'x> {
+    /// Somebody requires one of these, by this version set.
+    Requires(By<u32>, u32, &'x [u32]),
+    /// The root constrains a candidate, by this version set.
+    Constrains(u32, u32),
+    Lock { locked: u32, forbidden: u32 },
+    Marked { name: u32, instance: u32 },
 }
 
-/// Asserts the message of the graph of rules.
+fn rule_of(alloc: Global, row: &Row<'_>) -> Result<Rule<u32, u32>, AllocError> {
+    match *row {
+        Row::Requires(by, version_set, candidates) => Ok(Rule::Requires {
+            by,
+            requirement: Requirement::Single(VersionSetId(version_set)),
+            candidates: candidates.to_vec(alloc)?,
+            when: Vec::new(alloc),
+        }),
+        Row::Constrains(version_set, candidate) => Ok(Rule::Constrains {
+            by: By::Root,
+            version_set: VersionSetId(version_set),
+            candidate,
+        }),
+        Row::Lock { locked, forbidden } => Ok(Rule::Lock { locked, forbidden }),
+        Row::Marked { name, instance } => Ok(Rule::OnePerPackage { name, instance }),
+    }
+}
+
+fn graph_of_rows(alloc: Global, rows: &[Row<'_>]) -> Result<ConflictGraph<u32>, Exhausted> {
+    let mut rules = Vec::new(alloc);
+    for row in rows {
+        rules.push(rule_of(alloc, row)?)?;
+    }
+    graph_of(alloc, &rules)
+}
+
+/// The message of the graph of some rules.
+fn message_of(alloc: Global, rows: &[Row<'_>]) -> Result<String, Exhausted> {
+    let graph = graph_of_rows(alloc, rows)?;
+    let message = format!(in alloc; "{}", DisplayUnsat::new(graph, &Texts))?;
+    Ok(message)
+}
+
+/// Asserts the message of the graph of some rules.
 fn expect_message(
     rt: &impl Abort,
     alloc: Global,
-    rules: &[Rule<u32, u32>],
+    rows: &[Row<'_>],
     text: &str,
 ) -> Result<(), Exhausted> {
-    let graph = graph_of(alloc, rules)?;
-    let message = format!(in alloc; "{}", DisplayUnsat::new(graph, &Texts))?;
+    let message = message_of(alloc, rows)?;
     assert_eq!(rt; message.as_str(), text);
     Ok(())
 }
 
 #[test]
 fn two_edges_to_the_unresolved_node(rt: HostRuntime) -> Result<(), Fail> {
-    let alloc = rt.alloc();
-    let rules = [
-        required(alloc, By::Root, 7, &[])?,
-        required(alloc, By::Root, 7, &[])?,
+    let rows = [
+        Row::Requires(By::Root, 7, &[]),
+        Row::Requires(By::Root, 7, &[]),
     ];
     let text = "x * cannot be installed because there are no viable options:\n";
-    expect_message(&rt, alloc, &rules, text)?;
+    expect_message(&rt, rt.alloc(), &rows, text)?;
     Ok(())
 }
 
 #[test]
 fn two_versions_of_a_shared_dependency(rt: HostRuntime) -> Result<(), Fail> {
-    let alloc = rt.alloc();
-    let rules = [
-        required(alloc, By::Root, 4, &[3])?,
-        required(alloc, By::Solvable(3), 5, &[4])?,
-        required(alloc, By::Root, 6, &[5])?,
-        Rule::OnePerPackage {
+    let rows = [
+        Row::Requires(By::Root, 4, &[3]),
+        Row::Requires(By::Solvable(3), 5, &[4]),
+        Row::Requires(By::Root, 6, &[5]),
+        Row::Marked {
             name: 3,
             instance: 5,
         },
-        Rule::OnePerPackage {
+        Row::Marked {
             name: 3,
             instance: 4,
         },
@@ -206,16 +236,15 @@ fn two_versions_of_a_shared_dependency(rt: HostRuntime) -> Result<(), Fail> {
 └─ suitcase-utils >=54, <100 cannot be installed because there are no viable options:
    └─ suitcase-utils 54, which conflicts with the versions reported above.
 ";
-    expect_message(&rt, alloc, &rules, text)?;
+    expect_message(&rt, rt.alloc(), &rows, text)?;
     Ok(())
 }
 
 #[test]
 fn a_lock_that_is_newer(rt: HostRuntime) -> Result<(), Fail> {
-    let alloc = rt.alloc();
-    let rules = [
-        required(alloc, By::Root, 1, &[1])?,
-        Rule::Lock {
+    let rows = [
+        Row::Requires(By::Root, 1, &[1]),
+        Row::Lock {
             locked: 0,
             forbidden: 1,
         },
@@ -225,17 +254,16 @@ fn a_lock_that_is_newer(rt: HostRuntime) -> Result<(), Fail> {
    └─ a 2
 ├─ a 1 is locked, but another version is required as reported above
 ";
-    expect_message(&rt, alloc, &rules, text)?;
+    expect_message(&rt, rt.alloc(), &rows, text)?;
     Ok(())
 }
 
 #[test]
 fn a_cycle_ends(rt: HostRuntime) -> Result<(), Fail> {
-    let alloc = rt.alloc();
-    let rules = [
-        required(alloc, By::Root, 0, &[0])?,
-        required(alloc, By::Solvable(0), 2, &[2])?,
-        required(alloc, By::Solvable(2), 0, &[0])?,
+    let rows = [
+        Row::Requires(By::Root, 0, &[0]),
+        Row::Requires(By::Solvable(0), 2, &[2]),
+        Row::Requires(By::Solvable(2), 0, &[0]),
     ];
     let text = "The following packages are incompatible
 └─ a * cannot be installed because there are no viable options:
@@ -244,37 +272,31 @@ fn a_cycle_ends(rt: HostRuntime) -> Result<(), Fail> {
          └─ b 1 would require
             └─ a *, which cannot be installed because there are no viable options:
 ";
-    expect_message(&rt, alloc, &rules, text)?;
+    expect_message(&rt, rt.alloc(), &rows, text)?;
     Ok(())
 }
 
 #[test]
 fn a_cycle_of_one_ends(rt: HostRuntime) -> Result<(), Fail> {
-    let alloc = rt.alloc();
-    let rules = [
-        required(alloc, By::Root, 0, &[0])?,
-        required(alloc, By::Solvable(0), 0, &[0])?,
+    let rows = [
+        Row::Requires(By::Root, 0, &[0]),
+        Row::Requires(By::Solvable(0), 0, &[0]),
     ];
     let text = "The following packages are incompatible
 └─ a * cannot be installed because there are no viable options:
    └─ a 1 would require
       └─ a *, which cannot be installed because there are no viable options:
 ";
-    expect_message(&rt, alloc, &rules, text)?;
+    expect_message(&rt, rt.alloc(), &rows, text)?;
     Ok(())
 }
 
 #[test]
 fn a_constraint_of_the_root(rt: HostRuntime) -> Result<(), Fail> {
-    let alloc = rt.alloc();
-    let rules = [
-        required(alloc, By::Root, 0, &[0])?,
-        Rule::Constrains {
-            by: By::Root,
-            version_set: VersionSetId(3),
-            candidate: 2,
-        },
-        required(alloc, By::Solvable(0), 2, &[2])?,
+    let rows = [
+        Row::Requires(By::Root, 0, &[0]),
+        Row::Constrains(3, 2),
+        Row::Requires(By::Solvable(0), 2, &[2]),
     ];
     let text = "The following packages are incompatible
 └─ a * can be installed with any of the following options:
@@ -283,6 +305,6 @@ fn a_constraint_of_the_root(rt: HostRuntime) -> Result<(), Fail> {
          └─ b 1
 ├─ the constraint b >=2, <3 cannot be fulfilled
 ";
-    expect_message(&rt, alloc, &rules, text)?;
+    expect_message(&rt, rt.alloc(), &rows, text)?;
     Ok(())
 }

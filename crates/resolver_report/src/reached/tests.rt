@@ -1,110 +1,144 @@
 //! Which rules are left.
+//!
+//! The tests own nothing: what they call makes the rules, and says whether the wanted ones are left.
 
 use super::*;
 use resolver_clause_store::{Requirement, StringId, VersionSetId};
 use std::alloc::AllocError;
-use std::process::Abort;
-use std::test::Fail;
 
-fn required(alloc: Global, by: By<u32>, candidates: &[u32]) -> Result<Rule<u32, u32>, AllocError> {
-    Ok(Rule::Requires {
-        by,
-        requirement: Requirement::Single(VersionSetId(0)),
-        candidates: candidates.to_vec(alloc)?,
-        when: Vec::new(alloc),
-    })
+/// A rule that owns nothing.
+#[derive(Clone, Copy)]
+enum Row<'x> {
+    Requires(By<u32>, &'x [u32]),
+    Constrains { by: By<u32>, candidate: u32 },
+    Lock { locked: u32, forbidden: u32 },
+    Excluded(u32),
+    Marked { name: u32, instance: u32 },
 }
 
-fn excluded(solvable: u32) -> Rule<u32, u32> {
-    Rule::Excluded {
-        solvable,
-        reason: StringId(0),
+fn rule_of(alloc: Global, row: &Row<'_>) -> Result<Rule<u32, u32>, AllocError> {
+    match *row {
+        Row::Requires(by, candidates) => Ok(Rule::Requires {
+            by,
+            requirement: Requirement::Single(VersionSetId(0)),
+            candidates: candidates.to_vec(alloc)?,
+            when: Vec::new(alloc),
+        }),
+        Row::Constrains { by, candidate } => Ok(Rule::Constrains {
+            by,
+            version_set: VersionSetId(0),
+            candidate,
+        }),
+        Row::Lock { locked, forbidden } => Ok(Rule::Lock { locked, forbidden }),
+        Row::Excluded(solvable) => Ok(Rule::Excluded {
+            solvable,
+            reason: StringId(0),
+        }),
+        Row::Marked { name, instance } => Ok(Rule::OnePerPackage { name, instance }),
     }
 }
 
-/// The solvables of the exclusions that are left, in order.
-fn excluded_in(alloc: Global, rules: &[Rule<u32, u32>]) -> Result<Vec<u32>, AllocError> {
-    let mut solvables = Vec::new(alloc);
-    for rule in rules {
-        if let Rule::Excluded { solvable, .. } = rule {
-            solvables.push(*solvable)?;
-        }
+fn kept_of(alloc: Global, rows: &[Row<'_>]) -> Result<Vec<Rule<u32, u32>>, Exhausted> {
+    let mut rules = Vec::new(alloc);
+    for row in rows {
+        rules.push(rule_of(alloc, row)?)?;
     }
-    Ok(solvables)
+    keep_reached(alloc, rules)
+}
+
+/// Whether the root's requirement and the exclusion of 1 are left.
+fn keeps_an_exclusion(alloc: Global, rows: &[Row<'_>]) -> Result<bool, Exhausted> {
+    let kept = kept_of(alloc, rows)?;
+    Ok(matches!(
+        kept.as_slice(),
+        [
+            Rule::Requires { by: By::Root, .. },
+            Rule::Excluded { solvable: 1, .. },
+        ]
+    ))
 }
 
 #[test]
-fn what_is_not_reached_goes(rt: HostRuntime) -> Result<(), Fail> {
-    let alloc = rt.alloc();
-    let lock = Rule::Lock {
-        locked: 4,
-        forbidden: 3,
-    };
-    let rules = vec![in alloc;
-        required(alloc, By::Root, &[1])?,
-        excluded(1),
-        excluded(2),
-        lock,
-    ]?;
-    let kept = keep_reached(alloc, rules)?;
-    assert_eq!(rt; kept.len(), 2);
-    assert!(rt; matches!(&kept[0], Rule::Requires { by: By::Root, .. }));
-    assert_eq!(rt; excluded_in(alloc, &kept)?.as_slice(), [1].as_slice());
-    Ok(())
-}
-
-#[test]
-fn chains_are_reached_in_any_order(rt: HostRuntime) -> Result<(), Fail> {
-    let alloc = rt.alloc();
-    let rules = vec![in alloc;
-        excluded(4),
-        required(alloc, By::Solvable(2), &[3])?,
-        required(alloc, By::Solvable(1), &[2])?,
-        required(alloc, By::Solvable(4), &[5])?,
-        required(alloc, By::Root, &[1])?,
-        excluded(5),
-        excluded(3),
-        excluded(1),
-    ]?;
-    let kept = keep_reached(alloc, rules)?;
-    assert_eq!(rt; kept.len(), 5);
-    assert_eq!(rt; excluded_in(alloc, &kept)?.as_slice(), [3, 1].as_slice());
-    Ok(())
-}
-
-#[test]
-fn both_sides_of_a_constraint_count(rt: HostRuntime) -> Result<(), Fail> {
-    let alloc = rt.alloc();
-    let version_set = VersionSetId(0);
-    let rules = vec![in alloc;
-        required(alloc, By::Root, &[1])?,
-        Rule::Constrains {
-            by: By::Root,
-            version_set,
-            candidate: 1
+fn what_is_not_reached_goes(rt: HostRuntime) {
+    let rows = [
+        Row::Requires(By::Root, &[1]),
+        Row::Excluded(1),
+        Row::Excluded(2),
+        Row::Lock {
+            locked: 4,
+            forbidden: 3,
         },
-        Rule::Constrains {
+    ];
+    assert!(rt; matches!(keeps_an_exclusion(rt.alloc(), &rows), Ok(true)));
+}
+
+/// Whether three requirements and the exclusions of 3 and 1 are left.
+fn keeps_a_chain(alloc: Global, rows: &[Row<'_>]) -> Result<bool, Exhausted> {
+    let kept = kept_of(alloc, rows)?;
+    Ok(matches!(
+        kept.as_slice(),
+        [
+            Rule::Requires { .. },
+            Rule::Requires { .. },
+            Rule::Requires { .. },
+            Rule::Excluded { solvable: 3, .. },
+            Rule::Excluded { solvable: 1, .. },
+        ]
+    ))
+}
+
+#[test]
+fn chains_are_reached_in_any_order(rt: HostRuntime) {
+    let rows = [
+        Row::Excluded(4),
+        Row::Requires(By::Solvable(2), &[3]),
+        Row::Requires(By::Solvable(1), &[2]),
+        Row::Requires(By::Solvable(4), &[5]),
+        Row::Requires(By::Root, &[1]),
+        Row::Excluded(5),
+        Row::Excluded(3),
+        Row::Excluded(1),
+    ];
+    assert!(rt; matches!(keeps_a_chain(rt.alloc(), &rows), Ok(true)));
+}
+
+/// Whether three rules are left, and the last two are a constraint on 1 and a mark of 1.
+fn keeps_both_sides(alloc: Global, rows: &[Row<'_>]) -> Result<bool, Exhausted> {
+    let kept = kept_of(alloc, rows)?;
+    Ok(matches!(
+        kept.as_slice(),
+        [
+            _,
+            Rule::Constrains { candidate: 1, .. },
+            Rule::OnePerPackage { instance: 1, .. },
+        ]
+    ))
+}
+
+#[test]
+fn both_sides_of_a_constraint_count(rt: HostRuntime) {
+    let rows = [
+        Row::Requires(By::Root, &[1]),
+        Row::Constrains {
             by: By::Root,
-            version_set,
-            candidate: 2
+            candidate: 1,
         },
-        Rule::Constrains {
+        Row::Constrains {
+            by: By::Root,
+            candidate: 2,
+        },
+        Row::Constrains {
             by: By::Solvable(2),
-            version_set,
-            candidate: 1
+            candidate: 1,
         },
-        Rule::OnePerPackage {
+        Row::Marked {
             name: 7,
-            instance: 1
+            instance: 1,
         },
-        Rule::OnePerPackage {
+        Row::Marked {
             name: 7,
-            instance: 2
+            instance: 2,
         },
-    ]?;
-    let kept = keep_reached(alloc, rules)?;
-    assert_eq!(rt; kept.len(), 3);
-    assert!(rt; matches!(&kept[1], Rule::Constrains { candidate: 1, .. }));
-    assert!(rt; matches!(&kept[2], Rule::OnePerPackage { instance: 1, .. }));
-    Ok(())
+    ];
+    assert!(rt; matches!(keeps_both_sides(rt.alloc(), &rows), Ok(true)));
 }

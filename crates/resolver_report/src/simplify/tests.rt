@@ -1,4 +1,7 @@
 //! Which versions of a few packages are told of together.
+//!
+//! The tests own nothing: what they call makes the rules, the graph and the groups, and says whether these are the wanted
+//! ones.
 
 ghost use Rattle.std.specs.Prelude.{◌/◌, cond, codes, nat_eq, [], None, refl};
 ghost use Rattle.std.proofs.Common.{rules};
@@ -13,7 +16,6 @@ use resolver_clause_store::{
     By, Condition, ConditionId, Requirement, StringId, VersionSetId, VersionSetUnionId,
 };
 use std::alloc::AllocError;
-use std::test::Fail;
 
 /// Solvable 10 n + k is version k of package n. Package 1 is "a", the others are "b".
 struct Packages;
@@ -95,107 +97,135 @@ impl Interner for Packages {
     }
 }
 
-fn required(
-    alloc: Global,
-    by: By<u32>,
-    version_set: u32,
-    candidates: &[u32],
-) -> Result<Rule<u32, u32>, AllocError> {
-    Ok(Rule::Requires {
-        by,
-        requirement: Requirement::Single(VersionSetId(version_set)),
-        candidates: candidates.to_vec(alloc)?,
-        when: Vec::new(alloc),
-    })
+/// A rule that owns nothing.
+#[derive(Clone, Copy)]
+enum Row<'x> {
+    /// Somebody requires one of these, by this version set.
+    Requires(By<u32>, u32, &'x [u32]),
+    /// The root constrains a candidate, by this version set.
+    Constrains(u32, u32),
 }
 
-fn constrained(version_set: u32, candidate: u32) -> Rule<u32, u32> {
-    Rule::Constrains {
-        by: By::Root,
-        version_set: VersionSetId(version_set),
-        candidate,
+fn rule_of(alloc: Global, row: &Row<'_>) -> Result<Rule<u32, u32>, AllocError> {
+    match *row {
+        Row::Requires(by, version_set, candidates) => Ok(Rule::Requires {
+            by,
+            requirement: Requirement::Single(VersionSetId(version_set)),
+            candidates: candidates.to_vec(alloc)?,
+            when: Vec::new(alloc),
+        }),
+        Row::Constrains(version_set, candidate) => Ok(Rule::Constrains {
+            by: By::Root,
+            version_set: VersionSetId(version_set),
+            candidate,
+        }),
     }
 }
 
-#[test]
-fn other_requirements_part(rt: HostRuntime) -> Result<(), Fail> {
-    let alloc = rt.alloc();
-    let rules = [
-        required(alloc, By::Root, 0, &[12, 11])?,
-        required(alloc, By::Solvable(11), 1, &[])?,
-        required(alloc, By::Solvable(12), 2, &[])?,
-    ];
-    assert!(rt; graph_of(alloc, &rules)?.simplify(&Packages)?.is_empty());
-    Ok(())
+fn graph_of_rows(alloc: Global, rows: &[Row<'_>]) -> Result<ConflictGraph<u32>, Exhausted> {
+    let mut rules = Vec::new(alloc);
+    for row in rows {
+        rules.push(rule_of(alloc, row)?)?;
+    }
+    graph_of(alloc, &rules)
+}
+
+type Groups = HashMap<u32, Rc<MergedConflictNode<u32>>>;
+
+fn groups_of(alloc: Global, rows: &[Row<'_>]) -> Result<Groups, Exhausted> {
+    let graph = graph_of_rows(alloc, rows)?;
+    graph.simplify(&Packages)
+}
+
+/// Whether these two solvables alone are in a group, it is the same one, and it lists them in this order.
+fn is_one_group(groups: &Groups, ids: [u32; 2]) -> bool {
+    let [first, second] = ids;
+    match (groups.get(&first), groups.get(&second)) {
+        (Some(group), Some(other)) => {
+            (groups.len() == 2)
+                & (group.ids.as_slice() == ids.as_slice())
+                & Rc::ptr_eq(group, other)
+        }
+        _ => false,
+    }
+}
+
+fn has_one_group(alloc: Global, rows: &[Row<'_>], ids: [u32; 2]) -> Result<bool, Exhausted> {
+    let groups = groups_of(alloc, rows)?;
+    Ok(is_one_group(&groups, ids))
+}
+
+/// Whether these two versions share the one group that there is, which lists them in this order.
+fn share_a_group(alloc: Global, rows: &[Row<'_>], ids: [u32; 2]) -> bool {
+    matches!(has_one_group(alloc, rows, ids), Ok(true))
+}
+
+fn has_no_group(alloc: Global, rows: &[Row<'_>]) -> Result<bool, Exhausted> {
+    let groups = groups_of(alloc, rows)?;
+    Ok(groups.is_empty())
+}
+
+/// Whether no two versions share a group.
+fn all_part(alloc: Global, rows: &[Row<'_>]) -> bool {
+    matches!(has_no_group(alloc, rows), Ok(true))
 }
 
 #[test]
-fn other_names_part(rt: HostRuntime) -> Result<(), Fail> {
-    let alloc = rt.alloc();
-    let rules = [required(alloc, By::Root, 0, &[11, 21])?];
-    assert!(rt; graph_of(alloc, &rules)?.simplify(&Packages)?.is_empty());
-    Ok(())
+fn other_requirements_part(rt: HostRuntime) {
+    let rows = [
+        Row::Requires(By::Root, 0, &[12, 11]),
+        Row::Requires(By::Solvable(11), 1, &[]),
+        Row::Requires(By::Solvable(12), 2, &[]),
+    ];
+    assert!(rt; all_part(rt.alloc(), &rows));
 }
 
 #[test]
-fn alike_versions_share_a_group(rt: HostRuntime) -> Result<(), Fail> {
-    let alloc = rt.alloc();
-    let rules = [
-        required(alloc, By::Root, 0, &[12, 11])?,
-        required(alloc, By::Solvable(11), 1, &[])?,
-        required(alloc, By::Solvable(12), 1, &[])?,
-    ];
-    let groups = graph_of(alloc, &rules)?.simplify(&Packages)?;
-    assert_eq!(rt; groups.len(), 2);
-    let first = groups.get(&11).ok_or("no group")?;
-    let second = groups.get(&12).ok_or("no group")?;
-    assert_eq!(rt; first.ids.as_slice(), [12, 11].as_slice());
-    assert!(rt; Rc::ptr_eq(first, second));
-    Ok(())
+fn other_names_part(rt: HostRuntime) {
+    let rows = [Row::Requires(By::Root, 0, &[11, 21])];
+    assert!(rt; all_part(rt.alloc(), &rows));
 }
 
 #[test]
-fn the_order_of_edges_does_not_part(rt: HostRuntime) -> Result<(), Fail> {
-    let alloc = rt.alloc();
-    let rules = [
-        required(alloc, By::Root, 0, &[12, 11])?,
-        required(alloc, By::Solvable(11), 1, &[])?,
-        required(alloc, By::Solvable(11), 2, &[21])?,
-        required(alloc, By::Solvable(12), 2, &[21])?,
-        required(alloc, By::Solvable(12), 1, &[])?,
+fn alike_versions_share_a_group(rt: HostRuntime) {
+    let rows = [
+        Row::Requires(By::Root, 0, &[12, 11]),
+        Row::Requires(By::Solvable(11), 1, &[]),
+        Row::Requires(By::Solvable(12), 1, &[]),
     ];
-    let groups = graph_of(alloc, &rules)?.simplify(&Packages)?;
-    assert_eq!(rt; groups.len(), 2);
-    let group = groups.get(&12).ok_or("no group")?;
-    assert_eq!(rt; group.ids.as_slice(), [12, 11].as_slice());
-    Ok(())
+    assert!(rt; share_a_group(rt.alloc(), &rows, [12, 11]));
 }
 
 #[test]
-fn how_often_an_edge_stands_parts(rt: HostRuntime) -> Result<(), Fail> {
-    let alloc = rt.alloc();
-    let rules = [
-        required(alloc, By::Root, 0, &[12, 11])?,
-        required(alloc, By::Solvable(11), 1, &[])?,
-        required(alloc, By::Solvable(11), 1, &[])?,
-        required(alloc, By::Solvable(12), 1, &[])?,
+fn the_order_of_edges_does_not_part(rt: HostRuntime) {
+    let rows = [
+        Row::Requires(By::Root, 0, &[12, 11]),
+        Row::Requires(By::Solvable(11), 1, &[]),
+        Row::Requires(By::Solvable(11), 2, &[21]),
+        Row::Requires(By::Solvable(12), 2, &[21]),
+        Row::Requires(By::Solvable(12), 1, &[]),
     ];
-    assert!(rt; graph_of(alloc, &rules)?.simplify(&Packages)?.is_empty());
-    Ok(())
+    assert!(rt; share_a_group(rt.alloc(), &rows, [12, 11]));
 }
 
 #[test]
-fn conflicts_are_not_told_apart(rt: HostRuntime) -> Result<(), Fail> {
-    let alloc = rt.alloc();
-    let rules = [
-        required(alloc, By::Root, 0, &[11, 12, 13])?,
-        constrained(1, 11),
-        constrained(2, 13),
+fn how_often_an_edge_stands_parts(rt: HostRuntime) {
+    let rows = [
+        Row::Requires(By::Root, 0, &[12, 11]),
+        Row::Requires(By::Solvable(11), 1, &[]),
+        Row::Requires(By::Solvable(11), 1, &[]),
+        Row::Requires(By::Solvable(12), 1, &[]),
     ];
-    let groups = graph_of(alloc, &rules)?.simplify(&Packages)?;
-    assert_eq!(rt; groups.len(), 2);
-    let group = groups.get(&11).ok_or("no group")?;
+    assert!(rt; all_part(rt.alloc(), &rows));
+}
+
+#[test]
+fn conflicts_are_not_told_apart(rt: HostRuntime) {
+    let rows = [
+        Row::Requires(By::Root, 0, &[11, 12, 13]),
+        Row::Constrains(1, 11),
+        Row::Constrains(2, 13),
+    ];
     // The last node takes the place of the unresolved one.
-    assert_eq!(rt; group.ids.as_slice(), [13, 11].as_slice());
-    Ok(())
+    assert!(rt; share_a_group(rt.alloc(), &rows, [13, 11]));
 }
