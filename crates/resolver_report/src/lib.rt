@@ -24,6 +24,8 @@ mod rules;
 mod runs;
 mod simplify;
 mod story;
+#[cfg(test)]
+mod test_rules;
 mod texts;
 mod tree;
 mod verdict;

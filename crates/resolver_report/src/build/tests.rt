@@ -6,67 +6,10 @@ use super::*;
 use crate::edges::{Incoming, Outgoing};
 use crate::graph::Graph;
 use crate::parts::{ConflictCause, ConflictEdge};
+use crate::test_rules::{Row, graph_of_rows, marked, required};
 use resolver_clause_store::{By, Requirement, StringId, VersionSetId};
-use std::alloc::AllocError;
 
 const WANTED: Requirement = Requirement::Single(VersionSetId(0));
-
-/// A rule that owns nothing.
-#[derive(Clone, Copy)]
-enum Row<'x> {
-    Requires(By<u32>, &'x [u32]),
-    Constrains {
-        by: By<u32>,
-        version_set: u32,
-        candidate: u32,
-    },
-    Lock {
-        locked: u32,
-        forbidden: u32,
-    },
-    Excluded {
-        solvable: u32,
-        reason: u32,
-    },
-    Marked {
-        name: u32,
-        instance: u32,
-    },
-}
-
-fn rule_of(alloc: Global, row: &Row<'_>) -> Result<Rule<u32, u32>, AllocError> {
-    match *row {
-        Row::Requires(by, candidates) => Ok(Rule::Requires {
-            by,
-            requirement: WANTED,
-            candidates: candidates.to_vec(alloc)?,
-            when: Vec::new(alloc),
-        }),
-        Row::Constrains {
-            by,
-            version_set,
-            candidate,
-        } => Ok(Rule::Constrains {
-            by,
-            version_set: VersionSetId(version_set),
-            candidate,
-        }),
-        Row::Lock { locked, forbidden } => Ok(Rule::Lock { locked, forbidden }),
-        Row::Excluded { solvable, reason } => Ok(Rule::Excluded {
-            solvable,
-            reason: StringId(reason),
-        }),
-        Row::Marked { name, instance } => Ok(Rule::OnePerPackage { name, instance }),
-    }
-}
-
-fn graph_of_rows(alloc: Global, rows: &[Row<'_>]) -> Result<ConflictGraph<u32>, Exhausted> {
-    let mut rules = Vec::new(alloc);
-    for row in rows {
-        rules.push(rule_of(alloc, row)?)?;
-    }
-    graph_of(alloc, &rules)
-}
 
 fn edge(source: usize, target: usize, weight: ConflictEdge<u32>) -> Edge<u32> {
     Edge {
@@ -122,7 +65,7 @@ fn is_graph<'x>(
 #[test]
 fn constraint_on_itself(rt: HostRuntime) {
     let rows = [
-        Row::Requires(By::Root, &[1]),
+        required(By::Root, &[1]),
         Row::Constrains {
             by: By::Solvable(1),
             version_set: 7,
@@ -140,7 +83,7 @@ fn constraint_on_itself(rt: HostRuntime) {
 
 #[test]
 fn no_candidates(rt: HostRuntime) {
-    let rows = [Row::Requires(By::Root, &[])];
+    let rows = [required(By::Root, &[])];
     let nodes = [ConflictNode::Root, ConflictNode::UnresolvedDependency];
     let edges = [edge(0, 1, ConflictEdge::Requires(WANTED))];
     assert!(rt; is_graph(rt.alloc(), &rows, &nodes, &edges, Some(NodeId(1))));
@@ -149,11 +92,7 @@ fn no_candidates(rt: HostRuntime) {
 #[test]
 fn mark_listed_twice(rt: HostRuntime) {
     let second = ConflictEdge::Conflict(ConflictCause::ForbidMultipleInstances);
-    let (name, instance) = (5, 1);
-    let rows = [
-        Row::Marked { name, instance },
-        Row::Marked { name, instance },
-    ];
+    let rows = [marked(5, 1), marked(5, 1)];
     let nodes = [ConflictNode::Root, ConflictNode::Solvable(1)];
     assert!(rt; is_graph(rt.alloc(), &rows, &nodes, &[edge(1, 1, second)], None));
 }
@@ -161,20 +100,7 @@ fn mark_listed_twice(rt: HostRuntime) {
 #[test]
 fn mark_of_another_name_between(rt: HostRuntime) {
     let second = ConflictEdge::Conflict(ConflictCause::ForbidMultipleInstances);
-    let rows = [
-        Row::Marked {
-            name: 5,
-            instance: 1,
-        },
-        Row::Marked {
-            name: 6,
-            instance: 2,
-        },
-        Row::Marked {
-            name: 5,
-            instance: 3,
-        },
-    ];
+    let rows = [marked(5, 1), marked(6, 2), marked(5, 3)];
     let nodes = [
         ConflictNode::Root,
         ConflictNode::Solvable(3),
@@ -253,10 +179,7 @@ fn gives_edges(
 
 #[test]
 fn edges_newest_first(rt: HostRuntime) {
-    let rows = [
-        Row::Requires(By::Root, &[2, 1]),
-        Row::Requires(By::Solvable(1), &[2]),
-    ];
+    let rows = [required(By::Root, &[2, 1]), required(By::Solvable(1), &[2])];
     let wanted = ConflictEdge::Requires(WANTED);
     let from_root = (edge(0, 1, wanted), edge(0, 2, wanted));
     let to_second = (edge(1, 2, wanted), edge(0, 2, wanted));

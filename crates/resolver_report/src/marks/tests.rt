@@ -5,21 +5,8 @@
 use super::*;
 use crate::build::graph_of;
 use crate::rules::Rule;
-use resolver_clause_store::{By, Requirement, VersionSetId};
-
-/// Somebody requires one of these, by a requirement with this number.
-type Row<'x> = (By<u32>, u32, &'x [u32]);
-
-fn push_rule(rules: &mut Vec<Rule<u32, u32>>, row: Row<'_>) -> Result<(), Exhausted> {
-    let alloc = *rules.allocator();
-    rules.push(Rule::Requires {
-        by: row.0,
-        requirement: Requirement::Single(VersionSetId(row.1)),
-        candidates: Vec::from_slice(alloc, row.2)?,
-        when: Vec::new(alloc),
-    })?;
-    Ok(())
-}
+use crate::test_rules::{Row, graph_of_rows, required, required_in, rule_of};
+use resolver_clause_store::By;
 
 /// Adds the rules by which the root requires the first of so many solvables, and each of them the next. The last one
 /// requires what has no candidates, or nothing.
@@ -28,12 +15,13 @@ fn push_chain(
     count: u32,
     ends_missing: bool,
 ) -> Result<(), Exhausted> {
-    push_rule(rules, (By::Root, 0, &[1]))?;
+    let alloc = *rules.allocator();
+    rules.push(rule_of(alloc, required(By::Root, &[1]))?)?;
     for s in 1..count {
-        push_rule(rules, (By::Solvable(s), 0, &[s + 1]))?;
+        rules.push(rule_of(alloc, required(By::Solvable(s), &[s + 1]))?)?;
     }
     if ends_missing {
-        push_rule(rules, (By::Solvable(count), 0, &[]))?;
+        rules.push(rule_of(alloc, required(By::Solvable(count), &[]))?)?;
     }
     Ok(())
 }
@@ -96,11 +84,7 @@ fn rows_are_marked(
     installable: &[bool],
     missing: &[bool],
 ) -> Result<bool, Exhausted> {
-    let mut rules = Vec::new(alloc);
-    for row in rows {
-        push_rule(&mut rules, *row)?;
-    }
-    let graph = graph_of(alloc, &rules)?;
+    let graph = graph_of_rows(alloc, rows)?;
     are_marked(alloc, &graph, installable, missing)
 }
 
@@ -112,10 +96,10 @@ fn marks(alloc: Global, rows: &[Row<'_>], installable: &[bool], missing: &[bool]
 /// The root and the solvable 1 require each other's candidate, and so on round a cycle.
 #[test]
 fn nothing_holds_a_cycle(rt: HostRuntime) {
-    let rows: [Row<'_>; 3] = [
-        (By::Root, 0, &[1]),
-        (By::Solvable(1), 0, &[2]),
-        (By::Solvable(2), 0, &[1]),
+    let rows = [
+        required(By::Root, &[1]),
+        required(By::Solvable(1), &[2]),
+        required(By::Solvable(2), &[1]),
     ];
     assert!(rt;
         marks(
@@ -130,10 +114,10 @@ fn nothing_holds_a_cycle(rt: HostRuntime) {
 /// One of the same cycle can leave it.
 #[test]
 fn way_out_of_a_cycle(rt: HostRuntime) {
-    let rows: [Row<'_>; 3] = [
-        (By::Root, 0, &[1]),
-        (By::Solvable(1), 0, &[2]),
-        (By::Solvable(2), 0, &[1, 3]),
+    let rows = [
+        required(By::Root, &[1]),
+        required(By::Solvable(1), &[2]),
+        required(By::Solvable(2), &[1, 3]),
     ];
     let installable = [true, true, true, true];
     assert!(rt;
@@ -150,12 +134,12 @@ fn way_out_of_a_cycle(rt: HostRuntime) {
 ///
 /// The nodes: root, unresolved, 1, 2, 3, 4.
 fn marks_runs(alloc: Global, third: &[u32], installable: &[bool], missing: &[bool]) -> bool {
-    let rows: [Row<'_>; 5] = [
-        (By::Root, 0, &[1]),
-        (By::Root, 1, &[2, 3]),
-        (By::Root, 2, third),
-        (By::Solvable(2), 3, &[]),
-        (By::Solvable(4), 3, &[]),
+    let rows = [
+        required_in(By::Root, 0, &[1]),
+        required_in(By::Root, 1, &[2, 3]),
+        required_in(By::Root, 2, third),
+        required_in(By::Solvable(2), 3, &[]),
+        required_in(By::Solvable(4), 3, &[]),
     ];
     marks(alloc, &rows, installable, missing)
 }

@@ -8,14 +8,11 @@ ghost use Rattle.std.proofs.lemmas.Bool.{eqb-true, eq-eqb};
 ghost use Rattle.resolver_report.specs.TestTexts.{name_number, name_text, set_number, set_text, test_texts, version_text};
 
 use super::DisplayUnsat;
-use crate::build::graph_of;
-use crate::graph::ConflictGraph;
-use crate::rules::Rule;
+use crate::test_rules::{Row, graph_of_rows, marked, required_in};
 use resolver_clause_store::{
-    By, Condition, ConditionId, Exhausted, Interner, Requirement, StringId, VersionSetId,
-    VersionSetUnionId,
+    By, Condition, ConditionId, Exhausted, Interner, StringId, VersionSetId, VersionSetUnionId,
 };
-use std::alloc::{AllocError, Global};
+use std::alloc::Global;
 use std::process::Abort;
 use std::test::Fail;
 
@@ -146,43 +143,6 @@ impl Interner for Texts {
     }
 }
 
-/// A rule that owns nothing.
-#[derive(Clone, Copy)]
-enum Row<'x> {
-    /// Somebody requires one of these, by this version set.
-    Requires(By<u32>, u32, &'x [u32]),
-    /// The root constrains a candidate, by this version set.
-    Constrains(u32, u32),
-    Lock { locked: u32, forbidden: u32 },
-    Marked { name: u32, instance: u32 },
-}
-
-fn rule_of(alloc: Global, row: &Row<'_>) -> Result<Rule<u32, u32>, AllocError> {
-    match *row {
-        Row::Requires(by, version_set, candidates) => Ok(Rule::Requires {
-            by,
-            requirement: Requirement::Single(VersionSetId(version_set)),
-            candidates: candidates.to_vec(alloc)?,
-            when: Vec::new(alloc),
-        }),
-        Row::Constrains(version_set, candidate) => Ok(Rule::Constrains {
-            by: By::Root,
-            version_set: VersionSetId(version_set),
-            candidate,
-        }),
-        Row::Lock { locked, forbidden } => Ok(Rule::Lock { locked, forbidden }),
-        Row::Marked { name, instance } => Ok(Rule::OnePerPackage { name, instance }),
-    }
-}
-
-fn graph_of_rows(alloc: Global, rows: &[Row<'_>]) -> Result<ConflictGraph<u32>, Exhausted> {
-    let mut rules = Vec::new(alloc);
-    for row in rows {
-        rules.push(rule_of(alloc, row)?)?;
-    }
-    graph_of(alloc, &rules)
-}
-
 /// The message of the graph of some rules.
 fn message_of(alloc: Global, rows: &[Row<'_>]) -> Result<String, Exhausted> {
     let graph = graph_of_rows(alloc, rows)?;
@@ -204,10 +164,7 @@ fn expect_message(
 
 #[test]
 fn two_edges_to_the_unresolved_node(rt: HostRuntime) -> Result<(), Fail> {
-    let rows = [
-        Row::Requires(By::Root, 7, &[]),
-        Row::Requires(By::Root, 7, &[]),
-    ];
+    let rows = [required_in(By::Root, 7, &[]), required_in(By::Root, 7, &[])];
     let text = "x * cannot be installed because there are no viable options:\n";
     expect_message(&rt, rt.alloc(), &rows, text)?;
     Ok(())
@@ -216,17 +173,11 @@ fn two_edges_to_the_unresolved_node(rt: HostRuntime) -> Result<(), Fail> {
 #[test]
 fn two_versions_of_a_shared_dependency(rt: HostRuntime) -> Result<(), Fail> {
     let rows = [
-        Row::Requires(By::Root, 4, &[3]),
-        Row::Requires(By::Solvable(3), 5, &[4]),
-        Row::Requires(By::Root, 6, &[5]),
-        Row::Marked {
-            name: 3,
-            instance: 5,
-        },
-        Row::Marked {
-            name: 3,
-            instance: 4,
-        },
+        required_in(By::Root, 4, &[3]),
+        required_in(By::Solvable(3), 5, &[4]),
+        required_in(By::Root, 6, &[5]),
+        marked(3, 5),
+        marked(3, 4),
     ];
     let text = "The following packages are incompatible
 ├─ bluesky-widgets >=0, <100 can be installed with any of the following options:
@@ -243,7 +194,7 @@ fn two_versions_of_a_shared_dependency(rt: HostRuntime) -> Result<(), Fail> {
 #[test]
 fn a_lock_that_is_newer(rt: HostRuntime) -> Result<(), Fail> {
     let rows = [
-        Row::Requires(By::Root, 1, &[1]),
+        required_in(By::Root, 1, &[1]),
         Row::Lock {
             locked: 0,
             forbidden: 1,
@@ -261,9 +212,9 @@ fn a_lock_that_is_newer(rt: HostRuntime) -> Result<(), Fail> {
 #[test]
 fn a_cycle_ends(rt: HostRuntime) -> Result<(), Fail> {
     let rows = [
-        Row::Requires(By::Root, 0, &[0]),
-        Row::Requires(By::Solvable(0), 2, &[2]),
-        Row::Requires(By::Solvable(2), 0, &[0]),
+        required_in(By::Root, 0, &[0]),
+        required_in(By::Solvable(0), 2, &[2]),
+        required_in(By::Solvable(2), 0, &[0]),
     ];
     let text = "The following packages are incompatible
 └─ a * cannot be installed because there are no viable options:
@@ -279,8 +230,8 @@ fn a_cycle_ends(rt: HostRuntime) -> Result<(), Fail> {
 #[test]
 fn a_cycle_of_one_ends(rt: HostRuntime) -> Result<(), Fail> {
     let rows = [
-        Row::Requires(By::Root, 0, &[0]),
-        Row::Requires(By::Solvable(0), 0, &[0]),
+        required_in(By::Root, 0, &[0]),
+        required_in(By::Solvable(0), 0, &[0]),
     ];
     let text = "The following packages are incompatible
 └─ a * cannot be installed because there are no viable options:
@@ -294,9 +245,13 @@ fn a_cycle_of_one_ends(rt: HostRuntime) -> Result<(), Fail> {
 #[test]
 fn a_constraint_of_the_root(rt: HostRuntime) -> Result<(), Fail> {
     let rows = [
-        Row::Requires(By::Root, 0, &[0]),
-        Row::Constrains(3, 2),
-        Row::Requires(By::Solvable(0), 2, &[2]),
+        required_in(By::Root, 0, &[0]),
+        Row::Constrains {
+            by: By::Root,
+            version_set: 3,
+            candidate: 2,
+        },
+        required_in(By::Solvable(0), 2, &[2]),
     ];
     let text = "The following packages are incompatible
 └─ a * can be installed with any of the following options:

@@ -10,12 +10,10 @@ ghost use Rattle.resolver_clause_store.specs.Universe.{known, hint_none};
 ghost use Rattle.resolver_clause_store.specs.declared.Condition.TheVariants.{Requirement as Matched};
 
 use super::*;
-use crate::build::graph_of;
-use crate::rules::Rule;
+use crate::test_rules::{Row, graph_of_rows, required_in};
 use resolver_clause_store::{
-    By, Condition, ConditionId, Requirement, StringId, VersionSetId, VersionSetUnionId,
+    By, Condition, ConditionId, StringId, VersionSetId, VersionSetUnionId,
 };
-use std::alloc::AllocError;
 
 /// Solvable 10 n + k is version k of package n. Package 1 is "a", the others are "b".
 struct Packages;
@@ -97,39 +95,6 @@ impl Interner for Packages {
     }
 }
 
-/// A rule that owns nothing.
-#[derive(Clone, Copy)]
-enum Row<'x> {
-    /// Somebody requires one of these, by this version set.
-    Requires(By<u32>, u32, &'x [u32]),
-    /// The root constrains a candidate, by this version set.
-    Constrains(u32, u32),
-}
-
-fn rule_of(alloc: Global, row: &Row<'_>) -> Result<Rule<u32, u32>, AllocError> {
-    match *row {
-        Row::Requires(by, version_set, candidates) => Ok(Rule::Requires {
-            by,
-            requirement: Requirement::Single(VersionSetId(version_set)),
-            candidates: candidates.to_vec(alloc)?,
-            when: Vec::new(alloc),
-        }),
-        Row::Constrains(version_set, candidate) => Ok(Rule::Constrains {
-            by: By::Root,
-            version_set: VersionSetId(version_set),
-            candidate,
-        }),
-    }
-}
-
-fn graph_of_rows(alloc: Global, rows: &[Row<'_>]) -> Result<ConflictGraph<u32>, Exhausted> {
-    let mut rules = Vec::new(alloc);
-    for row in rows {
-        rules.push(rule_of(alloc, row)?)?;
-    }
-    graph_of(alloc, &rules)
-}
-
 type Groups = HashMap<u32, Rc<MergedConflictNode<u32>>>;
 
 fn groups_of(alloc: Global, rows: &[Row<'_>]) -> Result<Groups, Exhausted> {
@@ -173,25 +138,25 @@ fn all_part(alloc: Global, rows: &[Row<'_>]) -> bool {
 #[test]
 fn other_requirements_part(rt: HostRuntime) {
     let rows = [
-        Row::Requires(By::Root, 0, &[12, 11]),
-        Row::Requires(By::Solvable(11), 1, &[]),
-        Row::Requires(By::Solvable(12), 2, &[]),
+        required_in(By::Root, 0, &[12, 11]),
+        required_in(By::Solvable(11), 1, &[]),
+        required_in(By::Solvable(12), 2, &[]),
     ];
     assert!(rt; all_part(rt.alloc(), &rows));
 }
 
 #[test]
 fn other_names_part(rt: HostRuntime) {
-    let rows = [Row::Requires(By::Root, 0, &[11, 21])];
+    let rows = [required_in(By::Root, 0, &[11, 21])];
     assert!(rt; all_part(rt.alloc(), &rows));
 }
 
 #[test]
 fn alike_versions_share_a_group(rt: HostRuntime) {
     let rows = [
-        Row::Requires(By::Root, 0, &[12, 11]),
-        Row::Requires(By::Solvable(11), 1, &[]),
-        Row::Requires(By::Solvable(12), 1, &[]),
+        required_in(By::Root, 0, &[12, 11]),
+        required_in(By::Solvable(11), 1, &[]),
+        required_in(By::Solvable(12), 1, &[]),
     ];
     assert!(rt; share_a_group(rt.alloc(), &rows, [12, 11]));
 }
@@ -199,11 +164,11 @@ fn alike_versions_share_a_group(rt: HostRuntime) {
 #[test]
 fn the_order_of_edges_does_not_part(rt: HostRuntime) {
     let rows = [
-        Row::Requires(By::Root, 0, &[12, 11]),
-        Row::Requires(By::Solvable(11), 1, &[]),
-        Row::Requires(By::Solvable(11), 2, &[21]),
-        Row::Requires(By::Solvable(12), 2, &[21]),
-        Row::Requires(By::Solvable(12), 1, &[]),
+        required_in(By::Root, 0, &[12, 11]),
+        required_in(By::Solvable(11), 1, &[]),
+        required_in(By::Solvable(11), 2, &[21]),
+        required_in(By::Solvable(12), 2, &[21]),
+        required_in(By::Solvable(12), 1, &[]),
     ];
     assert!(rt; share_a_group(rt.alloc(), &rows, [12, 11]));
 }
@@ -211,10 +176,10 @@ fn the_order_of_edges_does_not_part(rt: HostRuntime) {
 #[test]
 fn how_often_an_edge_stands_parts(rt: HostRuntime) {
     let rows = [
-        Row::Requires(By::Root, 0, &[12, 11]),
-        Row::Requires(By::Solvable(11), 1, &[]),
-        Row::Requires(By::Solvable(11), 1, &[]),
-        Row::Requires(By::Solvable(12), 1, &[]),
+        required_in(By::Root, 0, &[12, 11]),
+        required_in(By::Solvable(11), 1, &[]),
+        required_in(By::Solvable(11), 1, &[]),
+        required_in(By::Solvable(12), 1, &[]),
     ];
     assert!(rt; all_part(rt.alloc(), &rows));
 }
@@ -222,9 +187,17 @@ fn how_often_an_edge_stands_parts(rt: HostRuntime) {
 #[test]
 fn conflicts_are_not_told_apart(rt: HostRuntime) {
     let rows = [
-        Row::Requires(By::Root, 0, &[11, 12, 13]),
-        Row::Constrains(1, 11),
-        Row::Constrains(2, 13),
+        required_in(By::Root, 0, &[11, 12, 13]),
+        Row::Constrains {
+            by: By::Root,
+            version_set: 1,
+            candidate: 11,
+        },
+        Row::Constrains {
+            by: By::Root,
+            version_set: 2,
+            candidate: 13,
+        },
     ];
     // The last node takes the place of the unresolved one.
     assert!(rt; share_a_group(rt.alloc(), &rows, [13, 11]));
