@@ -1,3 +1,4 @@
+pub mod OutcomeLemmas
 pub mod PackageLemmas
 pub mod InterningLemmas
 pub mod LinesLemmas

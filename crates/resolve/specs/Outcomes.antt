@@ -5,7 +5,10 @@ use Rattle.resolver_clause_store.specs.Universe.{Demands}
 use Rattle.resolver_report.specs.declared.Rule.{Rule}
 use Rattle.resolver_report.specs.Graphs.{graph_of}
 use Rattle.resolver_report.specs.Messages.{message}
+use Rattle.resolvo.specs.Conflicts.{rules_in}
 use Rattle.resolvo.specs.Explanations.{Explains}
+use Rattle.resolvo.specs.declared.solver.UnsolvableOrCancelled.{UnsolvableOrCancelled}
+use Rattle.resolvo.specs.declared.solver.UnsolvableOrCancelled.TheVariants.{Unsolvable, Cancelled, Exhausted}
 use Rattle.resolve.specs.declared.catalog.Catalog.{Catalog}
 use Rattle.resolve.specs.declared.ids.NameId.{NameId}
 use Rattle.resolve.specs.declared.ids.SolvableId.{SolvableId}
@@ -24,6 +27,12 @@ conflict_message it rules = message (catalog_universe it) (graph_of same_name_id
 -- what a request asks for
 abbrev pub demands_of : Request → Demands
 demands_of request = record { requirements = request.requirements.items; constraints = request.constraints.items }
+
+-- where a request has a conflict, its rules say why
+abbrev pub IsExplained : {C : Type 0} → Request → UnsolvableOrCancelled Catalog C NameId SolvableId → Type 0
+IsExplained request (Unsolvable conflict) = Explains (catalog_universe request.catalog) (demands_of request) (rules_in conflict)
+IsExplained request (Cancelled value) = ⊤
+IsExplained request (Exhausted e) = ⊤
 
 -- the text is the message of rules that say why the request has no answer
 pub record IsMessageOf (request : Request) (text : List ℕ) : Type 0 where

@@ -7,7 +7,8 @@ ghost use Rattle.resolve.specs.declared.run.Fault.TheVariants.{Exhausted as RanO
 ghost use Rattle.resolvo.specs.Conflicts.{rules_in};
 ghost use Rattle.resolvo.specs.Solvers.{provider_in};
 ghost use Rattle.resolve.specs.Faults.{exhausted_text, fault_of, status_of};
-ghost use Rattle.resolve.specs.Outcomes.{IsConflictWritten, IsOutcomeOf, conflict_message};
+ghost use Rattle.resolve.specs.Outcomes.{IsConflictWritten, IsExplained, IsOutcomeOf, conflict_message};
+ghost use Rattle.resolve.specs.declared.request.Request.{Request};
 
 use crate::catalog::Catalog;
 use crate::ids::{NameId, SolvableId};
@@ -194,13 +195,38 @@ fn solve_request(alloc: Global, request: Request) -> Result<Outcome, Fault>
         .constraints(request.constraints)
         .soft_requirements(request.soft_requirements.into_iter());
     let mut solver = Solver::new(alloc, request.catalog);
-    match solver.solve(problem) {
-        Ok(chosen) => Ok(Outcome::Answer(answer_text(alloc, solver.provider(), &chosen)?)),
-        Err(UnsolvableOrCancelled::Unsolvable(conflict)) => Ok(Outcome::Conflict(conflict_text(
-            alloc, &solver, &conflict,
-        )?)),
-        Err(UnsolvableOrCancelled::Exhausted(e)) => Err(Fault::Exhausted(e)),
-        Err(UnsolvableOrCancelled::Cancelled(value)) => match value {},
+    let answered = solver.solve(problem);
+    outcome_of(alloc, &solver, &answered)
+}
+
+/// What comes of what a solver answered.
+fn outcome_of(
+    alloc: Global,
+    solver: &Solver<Catalog>,
+    answered: &Result<Vec<SolvableId>, UnsolvableOrCancelled<Catalog>>,
+) -> Result<Outcome, Fault>
+    ensures { (request : Request) → provider_in solver.now ≡ request.catalog → IfErr answered.now (IsExplained request) → IfOk result (IsOutcomeOf request) }
+{
+    match answered {
+        Ok(chosen) => Ok(Outcome::Answer(answer_text(alloc, solver.provider(), chosen)?)),
+        Err(why) => refusal_of(alloc, solver, why),
+    }
+}
+
+/// What comes of why a solver gave no answer.
+fn refusal_of(
+    alloc: Global,
+    solver: &Solver<Catalog>,
+    why: &UnsolvableOrCancelled<Catalog>,
+) -> Result<Outcome, Fault>
+    ensures { (request : Request) → provider_in solver.now ≡ request.catalog → IsExplained request why.now → IfOk result (IsOutcomeOf request) }
+{
+    match why {
+        UnsolvableOrCancelled::Unsolvable(conflict) => {
+            Ok(Outcome::Conflict(conflict_text(alloc, solver, conflict)?))
+        }
+        UnsolvableOrCancelled::Exhausted(e) => Err(Fault::Exhausted(*e)),
+        UnsolvableOrCancelled::Cancelled(value) => match *value {},
     }
 }
 

@@ -1,8 +1,20 @@
 use super::{Line, Lines};
-use std::test::Fail;
+
+/// Whether an input has these lines, numbered from 1, and no more.
+fn has_lines(input: &str, wanted: &[&str]) -> bool {
+    let mut lines = Lines::new(input.as_bytes());
+    for (index, text) in wanted.iter().enumerate() {
+        let number = index.saturating_add(1);
+        let bytes = text.as_bytes();
+        if lines.next() != Some(Line { number, bytes }) {
+            return false;
+        }
+    }
+    lines.next().is_none()
+}
 
 #[test]
-fn lines_end_with_line_feeds(rt: HostRuntime) -> Result<(), Fail> {
+fn lines_end_with_line_feeds(rt: HostRuntime) {
     for (input, lines) in [
         ("", [].as_slice()),
         ("\n", [""].as_slice()),
@@ -16,16 +28,6 @@ fn lines_end_with_line_feeds(rt: HostRuntime) -> Result<(), Fail> {
         ("\r\n\r", ["", "\r"].as_slice()),
         (" a \n# b\n", [" a ", "# b"].as_slice()),
     ] {
-        let mut read = Vec::new(rt.alloc());
-        for line in Lines::new(input.as_bytes()) {
-            read.push(line)?;
-        }
-        assert_eq!(rt; read.len(), lines.len(), "at {input:?}");
-        for (index, (line, text)) in read.iter().zip(lines).enumerate() {
-            let bytes = text.as_bytes();
-            let number = index.saturating_add(1);
-            assert_eq!(rt; *line, Line { number, bytes }, "at {input:?}");
-        }
+        assert!(rt; has_lines(input, lines), "at {input:?}");
     }
-    Ok(())
 }

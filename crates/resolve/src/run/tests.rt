@@ -411,6 +411,9 @@ fn what_was_not_declared_may_not_be_spoken_of(rt: HostRuntime) {
         2,
     );
     expect_run(&rt, rt.alloc(), "require a\nsoft a=1\n", "", second, 2);
+    let third = "resolve: line 3: bad statement\n";
+    let late = "package a=1\nsoft a=1\nsoft a=2\npackage a=2\n";
+    expect_run(&rt, rt.alloc(), late, "", third, 2);
 }
 
 /// Fails at the first read.

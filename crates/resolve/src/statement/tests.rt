@@ -21,19 +21,55 @@ fn within(name: &str, low: u64, high: u64) -> Spec<'_> {
     Spec { name, versions }
 }
 
+const B: ConditionStep<'static> = Version(Spec {
+    name: "b",
+    versions: Range::All,
+});
+
+const C: ConditionStep<'static> = Version(Spec {
+    name: "c",
+    versions: Range::All,
+});
+
+const D: ConditionStep<'static> = Version(Spec {
+    name: "d",
+    versions: Range::All,
+});
+
+const E: ConditionStep<'static> = Version(Spec {
+    name: "e",
+    versions: Range::All,
+});
+
 /// The statement of a line that has one.
 fn statement<'a>(alloc: Global, line: &'a str) -> Result<Statement<'a>, Fail> {
     Ok(parse_line(alloc, line.as_bytes())?.ok_or("no statement")?)
 }
 
-fn require<'a>(
+/// Whether a line states that the root or a solvable requires a union under a condition.
+fn demands(
     alloc: Global,
-    union: &[Spec<'a>],
-    condition: &[ConditionStep<'a>],
-) -> Result<Statement<'a>, Fail> {
-    let union = union.to_vec(alloc)?;
-    let condition = condition.to_vec(alloc)?;
-    Ok(Statement::Require { union, condition })
+    line: &str,
+    by: Option<SolvableText<'_>>,
+    wanted: &[Spec<'_>],
+    steps: &[ConditionStep<'_>],
+) -> Result<bool, Fail> {
+    let stated = statement(alloc, line)?;
+    match &stated {
+        Statement::Require { union, condition } => Ok(
+            by.is_none() & (union.as_slice() == wanted) & (condition.as_slice() == steps),
+        ),
+        Statement::Requires {
+            solvable,
+            union,
+            condition,
+        } => Ok(
+            (by == Some(*solvable))
+                & (union.as_slice() == wanted)
+                & (condition.as_slice() == steps),
+        ),
+        _other => Ok(false),
+    }
 }
 
 #[test]
@@ -143,73 +179,56 @@ fn reasons(rt: HostRuntime) -> Result<(), Fail> {
 fn unions(rt: HostRuntime) -> Result<(), Fail> {
     let (a, b, c) = (all("a"), within("b", 2, 3), within("c", 0, 9));
     let alloc = rt.alloc();
-    assert_eq!(rt; statement(alloc, "require a")?, require(alloc, &[a], &[])?);
-    let three = require(alloc, &[a, b, c], &[])?;
-    assert_eq!(rt; statement(alloc, "require a | b@2   |  c@0..9 ")?, three);
-    let if_c = require(alloc, &[a, a], &[Version(c)])?;
-    assert_eq!(rt; statement(alloc, "require a | a if c@0..9")?, if_c);
-    let solvable = A_1;
-    let union = [b].to_vec(alloc)?;
-    let condition = [Version(a), Version(c), Or].to_vec(alloc)?;
-    let stated = Statement::Requires {
-        solvable,
-        union,
-        condition,
-    };
-    assert_eq!(rt;
-        statement(alloc, "requires a=1 b@2 if a or c@0..9")?,
-        stated
-    );
+    assert!(rt; demands(alloc, "require a", None, &[a], &[])?);
+    let line = "require a | b@2   |  c@0..9 ";
+    assert!(rt; demands(alloc, line, None, &[a, b, c], &[])?);
+    let line = "require a | a if c@0..9";
+    assert!(rt; demands(alloc, line, None, &[a, a], &[Version(c)])?);
+    let line = "requires a=1 b@2 if a or c@0..9";
+    let condition = [Version(a), Version(c), Or];
+    assert!(rt; demands(alloc, line, Some(A_1), &[b], &condition)?);
     Ok(())
-}
-
-/// `a` alone, under a condition.
-fn if_steps<'a>(alloc: Global, condition: &[ConditionStep<'a>]) -> Result<Statement<'a>, Fail> {
-    require(alloc, &[all("a")], condition)
 }
 
 #[test]
 fn conditions(rt: HostRuntime) -> Result<(), Fail> {
-    let (b, c) = (Version(all("b")), Version(all("c")));
-    let (d, e) = (Version(all("d")), Version(all("e")));
     let alloc = rt.alloc();
     for (line, condition) in [
-        ("require a if b", [b].as_slice()),
-        ("require a if ( b )", [b].as_slice()),
-        ("require a if ( ( ( b ) ) )", [b].as_slice()),
-        ("require a if b or c and d", [b, c, d, And, Or].as_slice()),
-        ("require a if b and c or d", [b, c, And, d, Or].as_slice()),
-        ("require a if b or c or d", [b, c, Or, d, Or].as_slice()),
-        ("require a if b and c and d", [b, c, And, d, And].as_slice()),
+        ("require a if b", [B].as_slice()),
+        ("require a if ( b )", [B].as_slice()),
+        ("require a if ( ( ( b ) ) )", [B].as_slice()),
+        ("require a if b or c and d", [B, C, D, And, Or].as_slice()),
+        ("require a if b and c or d", [B, C, And, D, Or].as_slice()),
+        ("require a if b or c or d", [B, C, Or, D, Or].as_slice()),
+        ("require a if b and c and d", [B, C, And, D, And].as_slice()),
         (
             "require a if ( b or c ) and d",
-            [b, c, Or, d, And].as_slice(),
+            [B, C, Or, D, And].as_slice(),
         ),
         (
             "require a if b and ( c or d )",
-            [b, c, d, Or, And].as_slice(),
+            [B, C, D, Or, And].as_slice(),
         ),
-        ("require a if b or ( c or d )", [b, c, d, Or, Or].as_slice()),
+        ("require a if b or ( c or d )", [B, C, D, Or, Or].as_slice()),
         (
             "require a if b and c or d and e",
-            [b, c, And, d, e, And, Or].as_slice(),
+            [B, C, And, D, E, And, Or].as_slice(),
         ),
         (
             "require a if b or c and d or e",
-            [b, c, d, And, Or, e, Or].as_slice(),
+            [B, C, D, And, Or, E, Or].as_slice(),
         ),
         (
             "require a if ( b and c or d ) and ( e )",
-            [b, c, And, d, Or, e, And].as_slice(),
+            [B, C, And, D, Or, E, And].as_slice(),
         ),
         (
             "require a if b or c and ( d or e )",
-            [b, c, d, e, Or, And, Or].as_slice(),
+            [B, C, D, E, Or, And, Or].as_slice(),
         ),
     ] {
-        assert_eq!(rt;
-            statement(alloc, line)?,
-            if_steps(alloc, condition)?,
+        assert!(rt;
+            demands(alloc, line, None, &[all("a")], condition)?,
             "at {line:?}"
         );
     }
@@ -393,72 +412,136 @@ fn bad_bytes(rt: HostRuntime) {
     }
 }
 
-/// `front`, then a text so many times, `middle`, and another text as many times.
-fn repeated(
-    alloc: Global,
-    front: &str,
-    texts: (&str, usize),
-    middle: &str,
-    others: (&str, usize),
-) -> Result<String, Fail> {
-    let mut line = String::from_str(alloc, front)?;
-    for _ in 0..texts.1 {
-        line.push_str(texts.0)?;
+/// `front`, then a text so many times, `middle`, and another text as often as is said.
+#[derive(Clone, Copy)]
+struct Repeated<'x> {
+    front: &'x str,
+    texts: (&'x str, usize),
+    middle: &'x str,
+    others: (&'x str, usize),
+}
+
+fn push_times(line: &mut String, text: &str, times: usize) -> Result<(), Fail> {
+    for _ in 0..times {
+        line.push_str(text)?;
     }
-    line.push_str(middle)?;
-    for _ in 0..others.1 {
-        line.push_str(others.0)?;
-    }
+    Ok(())
+}
+
+fn line_of(alloc: Global, repeated: Repeated<'_>) -> Result<String, Fail> {
+    let mut line = String::from_str(alloc, repeated.front)?;
+    push_times(&mut line, repeated.texts.0, repeated.texts.1)?;
+    line.push_str(repeated.middle)?;
+    push_times(&mut line, repeated.others.0, repeated.others.1)?;
     Ok(line)
+}
+
+/// A parenthesis that opens so often, around one version set, and closes so often.
+fn parentheses<'x>(open: usize, closed: usize) -> Repeated<'x> {
+    Repeated {
+        front: "require a if",
+        texts: (" (", open),
+        middle: " b",
+        others: (" )", closed),
+    }
+}
+
+/// The line with the text so many times behind its front, and then its end.
+fn chain<'x>(front: &'x str, text: &'x str, end: &'x str) -> Repeated<'x> {
+    Repeated {
+        front,
+        texts: (text, 100_000),
+        middle: end,
+        others: ("", 0),
+    }
+}
+
+fn is_bad(alloc: Global, repeated: Repeated<'_>) -> Result<bool, Fail> {
+    let line = line_of(alloc, repeated)?;
+    let answer = parse_line(alloc, line.as_bytes());
+    Ok(answer.err() == Some(LineError::Bad))
+}
+
+/// Whether the root requires a union under a condition by this line.
+fn demands_so(
+    alloc: Global,
+    repeated: Repeated<'_>,
+    union: &[Spec<'_>],
+    condition: &[ConditionStep<'_>],
+) -> Result<bool, Fail> {
+    let line = line_of(alloc, repeated)?;
+    demands(alloc, line.as_str(), None, union, condition)
+}
+
+/// Whether a line has so many steps in its condition, and these at the place 2 and at the end.
+fn has_steps(
+    alloc: Global,
+    line: &str,
+    count: usize,
+    third: ConditionStep<'_>,
+    last: ConditionStep<'_>,
+) -> Result<bool, Fail> {
+    let stated = statement(alloc, line)?;
+    match &stated {
+        Statement::Require { condition, .. } => Ok(
+            (condition.len() == count)
+                & (condition.get(2) == Some(&third))
+                & (condition.last() == Some(&last)),
+        ),
+        _other => Ok(false),
+    }
+}
+
+fn has_nested_steps(alloc: Global) -> Result<bool, Fail> {
+    let nested = Repeated {
+        front: "require a if b",
+        texts: (" and ( b or b", 50_000),
+        middle: "",
+        others: (" )", 50_000),
+    };
+    let line = line_of(alloc, nested)?;
+    has_steps(alloc, line.as_str(), 200_001, Version(all("b")), And)
 }
 
 #[test]
 fn deep_parentheses(rt: HostRuntime) -> Result<(), Fail> {
     let alloc = rt.alloc();
-    let line = repeated(alloc, "require a if", (" (", 100000), " b", (" )", 100000))?;
-    let b = Version(all("b"));
-    assert_eq!(rt; statement(alloc, line.as_str())?, if_steps(alloc, &[b])?);
-    let open = repeated(alloc, "require a if", (" (", 100000), " b", (" )", 99999))?;
-    assert_bad(&rt, open.as_bytes());
-    let closed = repeated(alloc, "require a if", (" (", 99999), " b", (" )", 100000))?;
-    assert_bad(&rt, closed.as_bytes());
-    let nested = repeated(
-        alloc,
-        "require a if b",
-        (" and ( b or b", 50000),
-        "",
-        (" )", 50000),
-    )?;
-    let Statement::Require { condition, .. } = statement(alloc, nested.as_str())? else {
-        return Err("no requirement".into());
-    };
-    assert_eq!(rt; condition.len(), 200001);
-    assert_eq!(rt; condition.get(2), Some(&b));
-    assert_eq!(rt; condition.last(), Some(&And));
+    let (union, condition) = ([all("a")], [Version(all("b"))]);
+    let balanced = parentheses(100_000, 100_000);
+    assert!(rt; demands_so(alloc, balanced, &union, &condition)?);
+    assert!(rt; is_bad(alloc, parentheses(100_000, 99_999))?);
+    assert!(rt; is_bad(alloc, parentheses(99_999, 100_000))?);
+    assert!(rt; has_nested_steps(alloc)?);
     Ok(())
+}
+
+/// A step, and then 100,000 times the same one, each joined by `or`.
+fn steps<'x>(alloc: Global, step: ConditionStep<'x>) -> Result<Vec<ConditionStep<'x>>, Fail> {
+    let mut steps = Vec::new(alloc);
+    steps.push(step)?;
+    for _ in 0..100_000 {
+        steps.push(step)?;
+        steps.push(Or)?;
+    }
+    Ok(steps)
+}
+
+fn demands_chain(alloc: Global) -> Result<bool, Fail> {
+    let steps = steps(alloc, Version(all("b")))?;
+    let line = chain("require a if b", " or b", "");
+    demands_so(alloc, line, &[all("a")], steps.as_slice())
+}
+
+fn demands_long_union(alloc: Global) -> Result<bool, Fail> {
+    let union = vec![in alloc; all("b"); 100_001]?;
+    let line = chain("require b", " | b", "");
+    demands_so(alloc, line, union.as_slice(), &[])
 }
 
 #[test]
 fn long_chains(rt: HostRuntime) -> Result<(), Fail> {
-    let alloc = rt.alloc();
-    let line = repeated(alloc, "require a if b", (" or b", 100000), "", ("", 0))?;
-    let b = Version(all("b"));
-    let mut condition = vec![in alloc; b]?;
-    for _ in 0..100000 {
-        condition.push(b)?;
-        condition.push(Or)?;
-    }
-    assert_eq!(rt;
-        statement(alloc, line.as_str())?,
-        if_steps(alloc, condition.as_slice())?
-    );
-    let line = repeated(alloc, "require b", (" | b", 100000), "", ("", 0))?;
-    let union = vec![in alloc; all("b"); 100001]?;
-    assert_eq!(rt;
-        statement(alloc, line.as_str())?,
-        require(alloc, union.as_slice(), &[])?
-    );
-    let line = repeated(alloc, "require b", (" | b", 100000), " |", ("", 0))?;
-    assert_bad(&rt, line.as_bytes());
+    assert!(rt; demands_chain(rt.alloc())?);
+    assert!(rt; demands_long_union(rt.alloc())?);
+    assert!(rt; is_bad(rt.alloc(), chain("require b", " | b", " |"))?);
     Ok(())
 }

@@ -4,17 +4,13 @@
 //! their places, and each has its place as its version. One more has the place after them: no package lists it, and a
 //! catalog takes an id that it does not know for one of the first package.
 
+use super::solving::digit;
 use std::alloc::Global;
 use std::fmt::Write;
 use std::test::Fail;
 
 /// Names of packages. The last one never has a version.
 const NAMES: [&str; 5] = ["a", "b", "c", "d", "m"];
-
-/// The set of one place.
-pub fn digit(place: u32) -> u32 {
-    1u32.wrapping_shl(place)
-}
 
 /// When a requirement asks for something: where a set meets these.
 #[derive(Clone, Copy)]

@@ -3,15 +3,13 @@
 //! The turns of a problem are seen by solving it with the first of its soft requirements, then with the first two, and
 //! so on: a solver takes the same turns each time.
 
-use super::random_problems::{RandomProblem, Statement, digit};
-use super::request;
-use crate::catalog::Catalog;
+use super::random_problems::{RandomProblem, Statement};
+use super::solving;
+use super::solving::{Asked, Solved, digit, set_of};
 use crate::ids::SolvableId;
-use resolvo::{Problem, Solver, UnsolvableOrCancelled};
+use resolvo::UnsolvableOrCancelled;
 use std::alloc::Global;
 use std::test::Fail;
-
-type Outcome = Result<Vec<SolvableId>, UnsolvableOrCancelled<Catalog>>;
 
 /// How many problems are drawn.
 const PROBLEMS: u64 = 500;
@@ -52,20 +50,12 @@ struct Run {
     accepted: u32,
 }
 
-fn set_of(solvables: &[SolvableId]) -> u32 {
-    let mut set = 0;
-    for solvable in solvables {
-        set |= digit(solvable.0);
-    }
-    set
-}
-
 /// What was chosen, if there is an answer.
-fn answer_of(exempt: &[SolvableId], outcome: &Outcome) -> Result<Option<Answer>, Fail> {
-    match outcome {
+fn answer_of(solved: &Solved) -> Result<Option<Answer>, Fail> {
+    match &solved.outcome {
         Ok(chosen) => Ok(Some(Answer {
             chosen: set_of(chosen),
-            exempt: set_of(exempt),
+            exempt: solved.exempt,
         })),
         Err(UnsolvableOrCancelled::Unsolvable(_)) => Ok(None),
         Err(_) => Err(Fail::from("refused")),
@@ -74,15 +64,12 @@ fn answer_of(exempt: &[SolvableId], outcome: &Outcome) -> Result<Option<Answer>,
 
 /// What the solver chooses for an input with these soft requirements, if there is an answer.
 fn solve(alloc: Global, input: &str, soft: &[SolvableId]) -> Result<Option<Answer>, Fail> {
-    let request = request(alloc, input)?;
-    let soft = Vec::from_slice(alloc, soft)?;
-    let problem = Problem::new()
-        .requirements(request.requirements)
-        .constraints(request.constraints)
-        .soft_requirements(soft.into_iter());
-    let mut solver = Solver::new(alloc, request.catalog);
-    let outcome = solver.solve(problem);
-    answer_of(solver.exempt_solvables(), &outcome)
+    let asked = Asked {
+        soft,
+        ..Asked::new(input)
+    };
+    let solved = solving::solve(alloc, asked)?;
+    answer_of(&solved)
 }
 
 fn is_within(part: u32, set: u32) -> bool {

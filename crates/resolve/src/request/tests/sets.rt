@@ -1,33 +1,18 @@
-//! Sets that the rules of a conflict leave.
+//! Sets that rules leave. A set is a number that has a binary digit for each solvable.
 
-use super::conflict_of;
+use super::solving::{digit, set_of};
 use crate::ids::{NameId, SolvableId};
 use resolvo::{By, Rule};
-use std::alloc::Global;
-use std::test::Fail;
 
-/// Declares x 1, w 2, and z 1 to 4, in this order.
-const GATED: &str =
-    "package x=1\npackage w=2\npackage z=1\npackage z=2\npackage z=3\npackage z=4\nrequires x=1 z\nconstrains w=2 z@9\nrequire x\nrequire w\n";
-
-fn is_there(by: &By<SolvableId>, set: &[SolvableId]) -> bool {
+fn is_there(by: &By<SolvableId>, set: u32) -> bool {
     match by {
         By::Root => true,
-        By::Solvable(solvable) => set.contains(solvable),
+        By::Solvable(solvable) => set & digit(solvable.0) != 0,
     }
-}
-
-fn meet(list: &[SolvableId], set: &[SolvableId]) -> bool {
-    for solvable in list {
-        if set.contains(solvable) {
-            return true;
-        }
-    }
-    false
 }
 
 /// Whether a set obeys a rule. A mark by itself asks for nothing.
-fn obeys_alone(rule: &Rule<NameId, SolvableId>, set: &[SolvableId]) -> bool {
+fn obeys_alone(rule: &Rule<NameId, SolvableId>, set: u32) -> bool {
     match rule {
         Rule::Requires {
             by,
@@ -35,107 +20,53 @@ fn obeys_alone(rule: &Rule<NameId, SolvableId>, set: &[SolvableId]) -> bool {
             when,
             ..
         } => {
-            let mut active = is_there(by, set);
-            for list in when {
-                active = active && meet(list, set);
-            }
-            !active || meet(candidates, set)
+            let holds = when.iter().all(|list| set & set_of(list) != 0);
+            !is_there(by, set) || !holds || set & set_of(candidates) != 0
         }
-        Rule::Constrains { by, candidate, .. } => !is_there(by, set) || !set.contains(candidate),
-        Rule::Lock { forbidden, .. } => !set.contains(forbidden),
-        Rule::Excluded { solvable, .. } => !set.contains(solvable),
+        Rule::Constrains { by, candidate, .. } => {
+            !is_there(by, set) || set & digit(candidate.0) == 0
+        }
+        Rule::Lock { forbidden, .. } => set & digit(forbidden.0) == 0,
+        Rule::Excluded { solvable, .. } => set & digit(solvable.0) == 0,
         Rule::OnePerPackage { .. } => true,
     }
 }
 
-/// Whether two marked instances of this name are in the set.
-fn has_two(rules: &[Rule<NameId, SolvableId>], wanted: NameId, set: &[SolvableId]) -> bool {
-    let mut first = None;
+/// The marked instances of this name.
+fn marked(rules: &[Rule<NameId, SolvableId>], wanted: NameId) -> u32 {
+    let mut instances = 0;
     for rule in rules {
         if let Rule::OnePerPackage { name, instance } = rule {
-            if *name == wanted && set.contains(instance) {
-                if first.is_some() && first != Some(*instance) {
-                    return true;
-                }
-                first = Some(*instance);
+            if *name == wanted {
+                instances |= digit(instance.0);
+            }
+        }
+    }
+    instances
+}
+
+/// Whether a set has two marked instances of a name.
+fn has_two(rules: &[Rule<NameId, SolvableId>], set: u32) -> bool {
+    for rule in rules {
+        if let Rule::OnePerPackage { name, .. } = rule {
+            if 1 < (set & marked(rules, *name)).count_ones() {
+                return true;
             }
         }
     }
     false
 }
 
-fn obeys(rules: &[Rule<NameId, SolvableId>], set: &[SolvableId]) -> bool {
-    for rule in rules {
-        if !obeys_alone(rule, set) {
+fn obeys(rules: &[Rule<NameId, SolvableId>], set: u32) -> bool {
+    !has_two(rules, set) && rules.iter().all(|rule| obeys_alone(rule, set))
+}
+
+/// Whether no set below a number obeys the rules, though the set of the first solvable obeys one of them.
+pub fn leave_no_set(rules: &[Rule<NameId, SolvableId>], bound: u32) -> bool {
+    for set in 0..bound {
+        if obeys(rules, set) {
             return false;
         }
-        if let Rule::OnePerPackage { name, .. } = rule {
-            if has_two(rules, *name, set) {
-                return false;
-            }
-        }
     }
-    true
-}
-
-/// The solvables whose place has the digit 1.
-fn members(alloc: Global, digits: u32) -> Result<Vec<SolvableId>, Fail> {
-    let mut set = Vec::new(alloc);
-    for place in 0..6u32 {
-        if (digits >> place) % 2 == 1 {
-            set.push(SolvableId(place))?;
-        }
-    }
-    Ok(set)
-}
-
-fn requires_of_x(rule: &Rule<NameId, SolvableId>) -> bool {
-    match rule {
-        Rule::Requires {
-            by: By::Solvable(SolvableId(0)),
-            candidates,
-            when,
-            ..
-        } => candidates.len() == 4 && when.is_empty(),
-        _other => false,
-    }
-}
-
-fn constrains_of_w(rule: &Rule<NameId, SolvableId>, wanted: SolvableId) -> bool {
-    match rule {
-        Rule::Constrains {
-            by: By::Solvable(SolvableId(1)),
-            candidate,
-            ..
-        } => *candidate == wanted,
-        _other => false,
-    }
-}
-
-#[test]
-fn rules_name_who_stands_on_a_gate_and_who_on_a_helper(rt: HostRuntime) -> Result<(), Fail> {
-    let conflict = conflict_of(rt.alloc(), GATED)?;
-    let rules = conflict.rules();
-    assert!(rt; rules.iter().any(requires_of_x));
-    for place in 2..6u32 {
-        let candidate = SolvableId(place);
-        assert!(rt;
-            rules.iter().any(|rule| constrains_of_w(rule, candidate)),
-            "{place}"
-        );
-    }
-    Ok(())
-}
-
-#[test]
-fn no_set_obeys_the_rules_over_a_gate_and_a_helper(rt: HostRuntime) -> Result<(), Fail> {
-    let conflict = conflict_of(rt.alloc(), GATED)?;
-    let rules = conflict.rules();
-    let x = [SolvableId(0)];
-    assert!(rt; rules.iter().any(|rule| obeys_alone(rule, &x)));
-    for digits in 0..64u32 {
-        let set = members(rt.alloc(), digits)?;
-        assert!(rt; !obeys(rules, &set), "set {digits}");
-    }
-    Ok(())
+    rules.iter().any(|rule| obeys_alone(rule, digit(0)))
 }

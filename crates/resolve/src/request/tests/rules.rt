@@ -1,0 +1,218 @@
+//! The rules of conflicts.
+
+use super::sets::leave_no_set;
+use super::solving::{Asked, solve};
+use crate::ids::{NameId, SolvableId};
+use resolver_clause_store::StringId;
+use resolver_report::find;
+use resolvo::{By, Rule, UnsolvableOrCancelled};
+use std::alloc::Global;
+use std::fmt::Write;
+use std::test::Fail;
+
+/// What is wanted of the rules of a conflict.
+#[derive(Clone, Copy)]
+enum Wanted {
+    /// The first reason excludes the first solvable, and the root requires something.
+    Excluded,
+    /// The root requires something, and the first solvable forbids itself.
+    ForbiddenByItself,
+    /// At least eight rules, which name no solvable but those from one number up to another.
+    Between(u32, u32),
+    /// The plain search finds no set.
+    Refuted,
+    /// The first solvable requires four others, and the second forbids each of the four.
+    GateAndHelper,
+    /// No set of the first six solvables obeys the rules, and their first one alone breaks some.
+    NoSet,
+}
+
+fn are_exclusion_and_requirement(rules: &[Rule<NameId, SolvableId>]) -> bool {
+    rules.len() == 2
+        && matches!(
+            &rules[0],
+            Rule::Excluded {
+                solvable: SolvableId(0),
+                reason: StringId(0)
+            }
+        )
+        && matches!(&rules[1], Rule::Requires { by: By::Root, .. })
+}
+
+fn are_requirement_and_constraint(rules: &[Rule<NameId, SolvableId>]) -> bool {
+    rules.len() == 2
+        && matches!(&rules[0], Rule::Requires { by: By::Root, .. })
+        && matches!(
+            &rules[1],
+            Rule::Constrains {
+                by: By::Solvable(SolvableId(0)),
+                candidate: SolvableId(0),
+                ..
+            }
+        )
+}
+
+/// Whether a rule names no solvable but those from one number up to another.
+fn is_between(rule: &Rule<NameId, SolvableId>, low: u32, high: u32) -> bool {
+    let named = |solvable: SolvableId| low <= solvable.0 && solvable.0 < high;
+    match rule {
+        Rule::Requires { by, candidates, .. } => {
+            let asks = match by {
+                By::Root => true,
+                By::Solvable(solvable) => named(*solvable),
+            };
+            asks && !candidates.is_empty() && candidates.iter().all(|s| named(*s))
+        }
+        Rule::Constrains { candidate, .. } => named(*candidate),
+        Rule::Lock { locked, forbidden } => named(*locked) && named(*forbidden),
+        Rule::Excluded { solvable, .. } => named(*solvable),
+        Rule::OnePerPackage { instance, .. } => named(*instance),
+    }
+}
+
+fn are_between(rules: &[Rule<NameId, SolvableId>], low: u32, high: u32) -> bool {
+    8 <= rules.len() && rules.iter().all(|rule| is_between(rule, low, high))
+}
+
+fn are_refuted(alloc: Global, rules: &[Rule<NameId, SolvableId>]) -> bool {
+    !rules.is_empty() && matches!(find(alloc, rules), Ok(None))
+}
+
+fn requires_of_x(rule: &Rule<NameId, SolvableId>) -> bool {
+    match rule {
+        Rule::Requires {
+            by: By::Solvable(SolvableId(0)),
+            candidates,
+            when,
+            ..
+        } => candidates.len() == 4 && when.is_empty(),
+        _other => false,
+    }
+}
+
+fn constrains_of_w(rule: &Rule<NameId, SolvableId>, wanted: u32) -> bool {
+    match rule {
+        Rule::Constrains {
+            by: By::Solvable(SolvableId(1)),
+            candidate,
+            ..
+        } => candidate.0 == wanted,
+        _other => false,
+    }
+}
+
+fn are_gate_and_helper(rules: &[Rule<NameId, SolvableId>]) -> bool {
+    for place in 2..6u32 {
+        if !rules.iter().any(|rule| constrains_of_w(rule, place)) {
+            return false;
+        }
+    }
+    rules.iter().any(requires_of_x)
+}
+
+fn are_as(alloc: Global, rules: &[Rule<NameId, SolvableId>], wanted: Wanted) -> bool {
+    match wanted {
+        Wanted::Excluded => are_exclusion_and_requirement(rules),
+        Wanted::ForbiddenByItself => are_requirement_and_constraint(rules),
+        Wanted::Between(low, high) => are_between(rules, low, high),
+        Wanted::Refuted => are_refuted(alloc, rules),
+        Wanted::GateAndHelper => are_gate_and_helper(rules),
+        Wanted::NoSet => leave_no_set(rules, 64),
+    }
+}
+
+/// Whether an input has a conflict, and its rules are as wanted.
+fn has_rules(alloc: Global, input: &str, wanted: Wanted) -> Result<bool, Fail> {
+    let solved = solve(alloc, Asked::new(input))?;
+    match &solved.outcome {
+        Err(UnsolvableOrCancelled::Unsolvable(conflict)) => {
+            Ok(are_as(alloc, conflict.rules(), wanted))
+        }
+        _other => Err(Fail::from("no conflict")),
+    }
+}
+
+#[test]
+fn a_conflict_lists_the_exclusion_with_its_reason(rt: HostRuntime) -> Result<(), Fail> {
+    let input = "package a=1\nexclude a=1 it is bad\nrequire a\n";
+    assert!(rt; has_rules(rt.alloc(), input, Wanted::Excluded)?);
+    Ok(())
+}
+
+#[test]
+fn a_conflict_leaves_out_what_the_search_did_not_use(rt: HostRuntime) -> Result<(), Fail> {
+    let input =
+        "package a=1\npackage a=2\nexclude a=1 it is bad\nexclude a=2 it is worse\nrequire a@1\n";
+    assert!(rt; has_rules(rt.alloc(), input, Wanted::Excluded)?);
+    Ok(())
+}
+
+#[test]
+fn a_constraint_on_its_own_package_gives_two_rules(rt: HostRuntime) -> Result<(), Fail> {
+    let input = "package a=1\nconstrains a=1 a@2..3\nrequire a@1\n";
+    assert!(rt; has_rules(rt.alloc(), input, Wanted::ForbiddenByItself)?);
+    Ok(())
+}
+
+const CLASH: &str =
+    "package p=1\npackage p=2\npackage q=1\npackage q=2\npackage r=1\npackage r=2\nrequires p=1 r@1\nrequires p=2 r@1\nrequires q=1 r@2\nrequires q=2 r@2\nrequire p\nrequire q\n";
+
+/// A clash after packages that have no part in it, each with two versions.
+fn clash_after(alloc: Global, packages: u32) -> Result<String, Fail> {
+    let mut input = String::new(alloc);
+    for number in 0..packages {
+        write!(
+            input,
+            "package u{number}=1\npackage u{number}=2\nrequire u{number}\n"
+        )?;
+    }
+    input.push_str(CLASH)?;
+    Ok(input)
+}
+
+fn are_apart(alloc: Global, packages: u32, wanted: Wanted) -> Result<bool, Fail> {
+    let input = clash_after(alloc, packages)?;
+    has_rules(alloc, &input, wanted)
+}
+
+#[test]
+fn packages_without_part_in_a_conflict_are_not_named(rt: HostRuntime) -> Result<(), Fail> {
+    assert!(rt; are_apart(rt.alloc(), 1, Wanted::Between(2, 8))?);
+    assert!(rt; are_apart(rt.alloc(), 200, Wanted::Between(400, 406))?);
+    Ok(())
+}
+
+#[test]
+fn the_plain_search_finds_no_set_for_a_conflict(rt: HostRuntime) -> Result<(), Fail> {
+    let inputs = [
+        CLASH,
+        "require x\n",
+        "package a=1\nexclude a=1 it is bad\nrequire a\n",
+        "package a=1\nconstrains a=1 a@2..3\nrequire a@1\n",
+        "package a=1\npackage a=2\nrequires a=1 x\nrequires a=2 x\nrequire a\n",
+        "package a=1\npackage a=2\nlock a=1\nrequire a@2..3\n",
+        "package a=1\npackage b=1\nrequires a=1 b\nrequire a\nconstrain b@2..3\n",
+        "package a=1\npackage b=1\nrequires a=1 b\nrequires b=1 a\nrequires b=1 missing\nrequire a\n",
+        "package p=1\npackage c=1\nrequires p=1 x if c\nrequire p\nrequire c\n",
+    ];
+    for input in inputs {
+        assert!(rt; has_rules(rt.alloc(), input, Wanted::Refuted)?, "{input}");
+    }
+    Ok(())
+}
+
+/// Declares x 1, w 2, and z 1 to 4, in this order.
+const GATED: &str =
+    "package x=1\npackage w=2\npackage z=1\npackage z=2\npackage z=3\npackage z=4\nrequires x=1 z\nconstrains w=2 z@9\nrequire x\nrequire w\n";
+
+#[test]
+fn rules_name_who_stands_on_a_gate_and_who_on_a_helper(rt: HostRuntime) -> Result<(), Fail> {
+    assert!(rt; has_rules(rt.alloc(), GATED, Wanted::GateAndHelper)?);
+    Ok(())
+}
+
+#[test]
+fn no_set_obeys_the_rules_over_a_gate_and_a_helper(rt: HostRuntime) -> Result<(), Fail> {
+    assert!(rt; has_rules(rt.alloc(), GATED, Wanted::NoSet)?);
+    Ok(())
+}

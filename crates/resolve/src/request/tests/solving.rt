@@ -1,0 +1,90 @@
+//! A solver for the problem of an input. One function owns it, and the tests see what it leaves.
+
+use super::super::{InputError, Request, read_request};
+use crate::catalog::Catalog;
+use crate::ids::SolvableId;
+use resolvo::{Problem, Solver, UnsolvableOrCancelled};
+use std::alloc::Global;
+use std::test::Fail;
+
+/// An input, the soft requirements in place of its own, and the numbers of the scores.
+#[derive(Clone, Copy)]
+pub struct Asked<'x> {
+    pub input: &'x str,
+    pub soft: &'x [SolvableId],
+    pub add: u64,
+    pub decay: u64,
+}
+
+impl<'x> Asked<'x> {
+    /// Without soft requirements, and with the scores of a new solver.
+    pub fn new(input: &'x str) -> Asked<'x> {
+        Asked {
+            input,
+            soft: &[],
+            add: 1_000_000,
+            decay: 950_000,
+        }
+    }
+}
+
+/// What came of it, and what the solver says afterwards.
+#[derive(Drop)]
+pub struct Solved {
+    pub outcome: Result<Vec<SolvableId>, UnsolvableOrCancelled<Catalog>>,
+    pub clauses: usize,
+    pub deferred: usize,
+    pub exempt: u32,
+}
+
+impl Solved {
+    /// The set that was chosen, if there is an answer.
+    pub fn chosen(&self) -> Option<u32> {
+        match &self.outcome {
+            Ok(chosen) => Some(set_of(chosen)),
+            Err(_) => None,
+        }
+    }
+}
+
+/// The set of one place. A set of solvables is a number that has a binary digit for each of the first 32.
+pub fn digit(place: u32) -> u32 {
+    1u32.wrapping_shl(place)
+}
+
+pub fn set_of(solvables: &[SolvableId]) -> u32 {
+    let mut set = 0;
+    for solvable in solvables {
+        set |= digit(solvable.0);
+    }
+    set
+}
+
+pub fn request(alloc: Global, input: &str) -> Result<Request, Fail> {
+    match read_request(alloc, input.as_bytes()) {
+        Ok(request) => Ok(request),
+        Err(e) => Err(Fail::from(if matches!(&e, InputError::Exhausted(_)) {
+            "refused"
+        } else {
+            "a bad statement"
+        })),
+    }
+}
+
+pub fn solve(alloc: Global, asked: Asked<'_>) -> Result<Solved, Fail> {
+    let soft = Vec::from_slice(alloc, asked.soft)?;
+    let request = request(alloc, asked.input)?;
+    let problem = Problem::new()
+        .requirements(request.requirements)
+        .constraints(request.constraints)
+        .soft_requirements(soft.into_iter());
+    let solver = Solver::new(alloc, request.catalog);
+    let mut solver = solver.with_activity_params(asked.add, asked.decay);
+    let outcome = solver.solve(problem);
+    Ok(Solved {
+        outcome,
+        clauses: solver.clause_count(),
+        deferred: solver.deferred_requirements_count(),
+        exempt: set_of(solver.exempt_solvables()),
+    })
+}
