@@ -71,9 +71,13 @@ pub fn request(alloc: Global, input: &str) -> Result<Request, Fail> {
     }
 }
 
-pub fn solve(alloc: Global, asked: Asked<'_>) -> Result<Solved, Fail> {
-    let soft = Vec::from_slice(alloc, asked.soft)?;
-    let request = request(alloc, asked.input)?;
+/// Solves what a request states, with these soft requirements and numbers of the scores.
+fn solve_request(
+    alloc: Global,
+    request: Request,
+    soft: Vec<SolvableId>,
+    asked: Asked<'_>,
+) -> Solved {
     let problem = Problem::new()
         .requirements(request.requirements)
         .constraints(request.constraints)
@@ -81,10 +85,16 @@ pub fn solve(alloc: Global, asked: Asked<'_>) -> Result<Solved, Fail> {
     let solver = Solver::new(alloc, request.catalog);
     let mut solver = solver.with_activity_params(asked.add, asked.decay);
     let outcome = solver.solve(problem);
-    Ok(Solved {
+    Solved {
         outcome,
         clauses: solver.clause_count(),
         deferred: solver.deferred_requirements_count(),
         exempt: set_of(solver.exempt_solvables()),
-    })
+    }
+}
+
+pub fn solve(alloc: Global, asked: Asked<'_>) -> Result<Solved, Fail> {
+    let request = request(alloc, asked.input)?;
+    let soft = Vec::from_slice(alloc, asked.soft)?;
+    Ok(solve_request(alloc, request, soft, asked))
 }
