@@ -45,6 +45,10 @@ abbrev pub IsOutcomeOf : Request → Outcome → Type 0
 IsOutcomeOf request (Answer text) = ⊤
 IsOutcomeOf request (Conflict text) = IsMessageOf request (string_bytes text)
 
+-- some request comes to this
+abbrev pub IsSomeOutcome : Outcome → Type 0
+IsSomeOutcome outcome = (request : Request) × IsOutcomeOf request outcome
+
 -- what was written is such a message, for some request
 pub record IsConflictWritten (old new : Option (List ℕ)) : Type 0 where
   pub request : Request

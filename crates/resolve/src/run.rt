@@ -7,7 +7,7 @@ ghost use Rattle.resolve.specs.declared.run.Fault.TheVariants.{Exhausted as RanO
 ghost use Rattle.resolvo.specs.Conflicts.{rules_in};
 ghost use Rattle.resolvo.specs.Solvers.{provider_in};
 ghost use Rattle.resolve.specs.Faults.{exhausted_text, fault_of, status_of};
-ghost use Rattle.resolve.specs.Outcomes.{IsConflictWritten, IsExplained, IsOutcomeOf, conflict_message};
+ghost use Rattle.resolve.specs.Outcomes.{IsConflictWritten, IsExplained, IsOutcomeOf, IsSomeOutcome, conflict_message};
 ghost use Rattle.resolve.specs.declared.request.Request.{Request};
 
 use crate::catalog::Catalog;
@@ -109,16 +109,41 @@ pub fn run<R: Read + Drop, O: Write, E: Write>(
     ensures conflict { result ≡ 1 → IsConflictWritten (O.contents output.old) (O.contents output.new) }
     ensures errors_kept { result < 2 → errors.new ≡ errors.old }
 {
-    match answer(alloc, input) {
-        Ok(Outcome::Conflict(text)) => match write_text(output, &text) {
+    let told = answer(alloc, input);
+    let status = tell(&told, output, errors);
+    drop(told);
+    status
+}
+
+/// Writes what an input came to, or why it came to nothing, and gives the status.
+fn tell<O: Write, E: Write>(told: &Result<Outcome, Fault>, output: &mut O, errors: &mut E) -> u8
+    ensures status { result ≤ 4 }
+    ensures output_kept { 1 < result → result ≢ 3 → output.new ≡ output.old }
+    ensures conflict { IfOk told.now IsSomeOutcome → result ≡ 1 → IsConflictWritten (O.contents output.old) (O.contents output.new) }
+    ensures errors_kept { result < 2 → errors.new ≡ errors.old }
+{
+    match told {
+        Ok(outcome) => tell_outcome(outcome, output, errors),
+        Err(fault) => report(errors, *fault),
+    }
+}
+
+/// Writes what an input came to, and gives the status.
+fn tell_outcome<O: Write, E: Write>(outcome: &Outcome, output: &mut O, errors: &mut E) -> u8
+    ensures status { result ≤ 4 }
+    ensures output_kept { 1 < result → result ≢ 3 → output.new ≡ output.old }
+    ensures conflict { IsSomeOutcome outcome.now → result ≡ 1 → IsConflictWritten (O.contents output.old) (O.contents output.new) }
+    ensures errors_kept { result < 2 → errors.new ≡ errors.old }
+{
+    match outcome {
+        Outcome::Conflict(text) => match write_text(output, text) {
             Ok(()) => 1,
             Err(fault) => report(errors, fault),
         },
-        Ok(Outcome::Answer(text)) => match write_text(output, &text) {
+        Outcome::Answer(text) => match write_text(output, text) {
             Ok(()) => 0,
             Err(fault) => report(errors, fault),
         },
-        Err(fault) => report(errors, fault),
     }
 }
 
@@ -178,7 +203,7 @@ fn read_input<R: Read + Drop>(alloc: Global, mut input: R) -> Result<Vec<u8>, Fa
 
 /// What the statements of an input come to.
 fn answer<R: Read + Drop>(alloc: Global, input: R) -> Result<Outcome, Fault>
-    ensures { IfOk result (λ outcome. (request : Request) × IsOutcomeOf request outcome) }
+    ensures { IfOk result IsSomeOutcome }
 {
     let bytes = read_input(alloc, input)?;
     let request = read_request(alloc, &bytes)?;
@@ -196,7 +221,10 @@ fn solve_request(alloc: Global, request: Request) -> Result<Outcome, Fault>
         .soft_requirements(request.soft_requirements.into_iter());
     let mut solver = Solver::new(alloc, request.catalog);
     let answered = solver.solve(problem);
-    outcome_of(alloc, &solver, &answered)
+    let outcome = outcome_of(alloc, &solver, &answered);
+    drop(answered);
+    drop(solver);
+    outcome
 }
 
 /// What comes of what a solver answered.
@@ -239,7 +267,9 @@ fn conflict_text(
     ensures { IfOk result (λ text. string_bytes text ≡ conflict_message (provider_in solver.now) (rules_in conflict.now)) }
 {
     let message = conflict.display_user_friendly(solver)?;
-    Ok(format!(in alloc; "{message}")?)
+    let text = format!(in alloc; "{message}");
+    drop(message);
+    Ok(text?)
 }
 
 /// The chosen solvables, by the bytes of the names and then by version.

@@ -1,6 +1,6 @@
 //! Statements, one on each line.
 
-ghost use Rattle.std.specs.Prelude.{◌≡◌, ◌==◌, ◌↔◌, None, IfOk, IfErr, IfSome, not};
+ghost use Rattle.std.specs.Prelude.{◌≡◌, ◌==◌, ◌<◌, ◌↔◌, All, None, IfOk, IfErr, IfSome, OnOk, length, not};
 ghost use Rattle.std.specs.List.{find};
 ghost use Rattle.resolver_clause_store.specs.declared.data.Exhausted.TheVariants.{Memory};
 ghost use Rattle.resolve.specs.declared.statement.LineError.TheVariants.{Exhausted as RanOut};
@@ -143,32 +143,53 @@ fn parse_requires<'a>(alloc: Global, mut words: Words<'a>) -> Result<Statement<'
 }
 
 /// Reads what follows the first word of a statement that holds no list.
-fn parse_short_statement<'a>(keyword: &[u8], mut words: Words<'a>) -> Option<Statement<'a>>
+fn parse_short_statement<'a>(keyword: &[u8], words: Words<'a>) -> Option<Statement<'a>>
     ensures { IfSome result IsWellFormed }
 {
     match keyword {
-        b"package" => Some(Statement::Package(last_solvable(words)?)),
-        b"favor" => Some(Statement::Favor(last_solvable(words)?)),
-        b"lock" => Some(Statement::Lock(last_solvable(words)?)),
-        b"soft" => Some(Statement::Soft(last_solvable(words)?)),
         b"constrain" => Some(Statement::Constrain(last_spec(words)?)),
-        b"constrains" => {
-            let solvable = next_solvable(&mut words)?;
-            let spec = last_spec(words)?;
-            Some(Statement::Constrains { solvable, spec })
-        }
+        b"constrains" => parse_constrains(words),
         b"unknown" => {
-            let solvable = next_solvable(&mut words)?;
-            let reason = parse_reason(words.rest())?;
+            let (solvable, reason) = parse_reasoned(words)?;
             Some(Statement::Unknown { solvable, reason })
         }
         b"exclude" => {
-            let solvable = next_solvable(&mut words)?;
-            let reason = parse_reason(words.rest())?;
+            let (solvable, reason) = parse_reasoned(words)?;
             Some(Statement::Exclude { solvable, reason })
         }
+        _ => parse_solvable_statement(keyword, last_solvable(words)?),
+    }
+}
+
+/// The statement that says this of a solvable alone.
+fn parse_solvable_statement<'a>(keyword: &[u8], solvable: SolvableText<'a>) -> Option<Statement<'a>>
+    requires { IsName solvable.name.now }
+    ensures { IfSome result IsWellFormed }
+{
+    match keyword {
+        b"package" => Some(Statement::Package(solvable)),
+        b"favor" => Some(Statement::Favor(solvable)),
+        b"lock" => Some(Statement::Lock(solvable)),
+        b"soft" => Some(Statement::Soft(solvable)),
         _ => None,
     }
+}
+
+fn parse_constrains<'a>(mut words: Words<'a>) -> Option<Statement<'a>>
+    ensures { IfSome result IsWellFormed }
+{
+    let solvable = next_solvable(&mut words)?;
+    let spec = last_spec(words)?;
+    Some(Statement::Constrains { solvable, spec })
+}
+
+/// Reads a solvable, and the rest of the line as a reason.
+fn parse_reasoned<'a>(mut words: Words<'a>) -> Option<(SolvableText<'a>, &'a str)>
+    ensures { IfSome result (λ parts. IsName parts.0.name.now) }
+{
+    let solvable = next_solvable(&mut words)?;
+    let reason = parse_reason(words.rest())?;
+    Some((solvable, reason))
 }
 
 fn next_solvable<'a>(words: &mut Words<'a>) -> Option<SolvableText<'a>>
@@ -211,12 +232,35 @@ fn parse_requirement<'a>(
     ensures refused { IfErr result IsRefusal }
 {
     let mut union = Vec::new(alloc);
+    let condition = match parse_union(&mut words, &mut union) {
+        Ok(word) => parse_if(alloc, word, words),
+        Err(e) => Err(e),
+    };
+    match condition {
+        Ok(condition) => Ok((union, condition)),
+        Err(e) => {
+            drop(union);
+            Err(e)
+        }
+    }
+}
+
+/// Reads specs with `|` between them, and gives the word behind them, if there is one.
+fn parse_union<'a>(
+    words: &mut Words<'a>,
+    union: &mut Vec<Spec<'a>>,
+) -> Result<Option<&'a [u8]>, LineError>
+    requires { All IsSpec union.old.items }
+    ensures specs { OnOk result (All IsSpec union.new.items) }
+    ensures nonempty { OnOk result (0 < length union.new.items) }
+    ensures refused { IfErr result IsRefusal }
+{
     loop {
         let spec = words.next().and_then(|word| parse_spec(word));
         union.push(spec.ok_or(LineError::Bad)?)?;
         match words.next() {
             Some(b"|") => {}
-            word => return Ok((union, parse_if(alloc, word, words)?)),
+            word => return Ok(word),
         }
     }
 }

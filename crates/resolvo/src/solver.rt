@@ -292,7 +292,9 @@ impl<D: DependencyProvider> Solver<D> {
         );
         self.exempt = Vec::new(self.alloc);
         self.count(&rounds);
-        self.outcome(&rounds, found)
+        let answer = self.outcome(&rounds, found);
+        drop(rounds);
+        answer
     }
 }
 

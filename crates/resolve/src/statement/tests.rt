@@ -95,34 +95,20 @@ fn lines_without_a_statement(rt: HostRuntime) -> Result<(), Fail> {
 
 #[test]
 fn statements_of_one_solvable(rt: HostRuntime) -> Result<(), Fail> {
-    assert_eq!(rt;
-        statement(rt.alloc(), "package a=1")?,
-        Statement::Package(A_1)
-    );
-    assert_eq!(rt;
-        statement(rt.alloc(), "   package    a=1   ")?,
-        Statement::Package(A_1)
-    );
-    assert_eq!(rt; statement(rt.alloc(), "favor a=1")?, Statement::Favor(A_1));
-    assert_eq!(rt; statement(rt.alloc(), "lock a=1")?, Statement::Lock(A_1));
-    assert_eq!(rt; statement(rt.alloc(), "soft a=1")?, Statement::Soft(A_1));
-    let (name, version) = ("Az0_9-.if", 4294967295);
-    let greatest = SolvableText { name, version };
-    assert_eq!(rt;
-        statement(rt.alloc(), "soft Az0_9-.if=4294967295")?,
-        Statement::Soft(greatest)
-    );
-    let (name, version) = ("..", 0);
-    let dots = SolvableText { name, version };
-    assert_eq!(rt;
-        statement(rt.alloc(), "package ..=0")?,
-        Statement::Package(dots)
-    );
+    let alloc = rt.alloc();
+    assert!(rt; states(alloc, "package a=1", &Statement::Package(A_1))?);
+    assert!(rt; states(alloc, "   package    a=1   ", &Statement::Package(A_1))?);
+    assert!(rt; states(alloc, "favor a=1", &Statement::Favor(A_1))?);
+    assert!(rt; states(alloc, "lock a=1", &Statement::Lock(A_1))?);
+    assert!(rt; states(alloc, "soft a=1", &Statement::Soft(A_1))?);
+    assert!(rt; states_soft(alloc, "soft Az0_9-.if=4294967295", "Az0_9-.if", 4294967295)?);
+    assert!(rt; states_soft(alloc, "soft ..=0", "..", 0)?);
     Ok(())
 }
 
 #[test]
 fn specs(rt: HostRuntime) -> Result<(), Fail> {
+    let alloc = rt.alloc();
     for (line, spec) in [
         ("constrain a", all("a")),
         ("constrain IF", all("IF")),
@@ -139,17 +125,38 @@ fn specs(rt: HostRuntime) -> Result<(), Fail> {
         ("constrain a@5..3", within("a", 5, 3)),
         ("constrain a.b@10..20", within("a.b", 10, 20)),
     ] {
-        assert_eq!(rt;
-            statement(rt.alloc(), line)?,
-            Statement::Constrain(spec),
-            "at {line:?}"
-        );
+        assert!(rt; states_spec(alloc, line, spec)?, "at {line:?}");
     }
+    Ok(())
+}
+
+#[test]
+fn a_constraint_of_a_solvable(rt: HostRuntime) -> Result<(), Fail> {
     let solvable = A_1;
     let spec = within("b", 2, 3);
     let constrains = Statement::Constrains { solvable, spec };
-    assert_eq!(rt; statement(rt.alloc(), "constrains a=1  b@2")?, constrains);
+    assert!(rt; states(rt.alloc(), "constrains a=1  b@2", &constrains)?);
     Ok(())
+}
+
+/// Whether a line states this.
+fn states(alloc: Global, line: &str, wanted: &Statement<'_>) -> Result<bool, Fail> {
+    let stated = statement(alloc, line)?;
+    let is_it = &stated == wanted;
+    drop(stated);
+    Ok(is_it)
+}
+
+fn states_soft(alloc: Global, line: &str, name: &str, version: u32) -> Result<bool, Fail> {
+    states(
+        alloc,
+        line,
+        &Statement::Soft(SolvableText { name, version }),
+    )
+}
+
+fn states_spec(alloc: Global, line: &str, spec: Spec<'_>) -> Result<bool, Fail> {
+    states(alloc, line, &Statement::Constrain(spec))
 }
 
 #[test]

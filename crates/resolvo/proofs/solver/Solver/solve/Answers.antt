@@ -12,11 +12,11 @@ use Rattle.resolvo.proofs.OutcomeLemmas.{IfOk-both, at_limit, found_at, same_dem
 use Rattle.resolvo.proofs.RefusalLemmas.{IfErr-weaker, IfOk-weaker}
 use Rattle.resolvo.proofs.solver.Solver.solve.Goals as goal
 
-pub outcome-requires-clause-sound : goal.outcome-requires-clause-sound
-outcome-requires-clause-sound g c = still_sound g.D.Interner.universe _ c.count.new.self c.find-found.ensures.is_true c.requires.sound.fits c.count.ensures.rest
+pub outcome-answer-requires-clause-sound : goal.outcome-answer-requires-clause-sound
+outcome-answer-requires-clause-sound g c = still_sound g.D.Interner.universe _ c.count.new.self c.find-found.ensures.is_true c.requires.sound.fits c.count.ensures.rest
 
-pub outcome-requires-clause-stop : goal.outcome-requires-clause-stop
-outcome-requires-clause-stop g c =
+pub outcome-answer-requires-clause-stop : goal.outcome-answer-requires-clause-stop
+outcome-answer-requires-clause-stop g c =
     let p : g.row.D.Denot = c.args.self.now.provider in
     let s = c.count.new.self in
     let rounds = c.find-found.new.self in
@@ -42,12 +42,12 @@ returns-clause-answer g c =
     let DoneFor : g.row.D.Denot → Demands → Type 0 = λ q d. IfOk c.find-found.result (IsDone (g.D.Interner.universe q) d w.0 rounds) in
     let DoneBy : g.row.D.Denot → Type 0 = λ q. DoneFor q root in
     let done : DoneFor s.provider root = subst DoneBy (sym provider) (subst (DoneFor p) same w.2) in
-    IfOk-both (λ chosen. (d : Demands) (xs : List g.row.D-SolvableId.Denot) → IfOk c.find-found.result (IsDone (g.D.Interner.universe s.provider) d xs rounds) → IsSoftAnswer (g.D.Interner.universe s.provider) d xs chosen.items (exempt_in c.outcome.new.self))
-    (λ chosen. (xs : List g.row.D-SolvableId.Denot) × Gives xs × IsSoftAnswer (g.D.Interner.universe p) root xs chosen.items (exempt_in c.outcome.new.self))
+    IfOk-both (λ chosen. (d : Demands) (xs : List g.row.D-SolvableId.Denot) → IfOk c.find-found.result (IsDone (g.D.Interner.universe s.provider) d xs rounds) → IsSoftAnswer (g.D.Interner.universe s.provider) d xs chosen.items (exempt_in c.outcome-answer.new.self))
+    (λ chosen. (xs : List g.row.D-SolvableId.Denot) × Gives xs × IsSoftAnswer (g.D.Interner.universe p) root xs chosen.items (exempt_in c.outcome-answer.new.self))
     (c.find-found.result ≡ Ok Answer)
-    (λ chosen h is. let For : g.row.D.Denot → Type 0 = λ q. IsSoftAnswer (g.D.Interner.universe q) root w.0 chosen.items (exempt_in c.outcome.new.self) in
+    (λ chosen h is. let For : g.row.D.Denot → Type 0 = λ q. IsSoftAnswer (g.D.Interner.universe q) root w.0 chosen.items (exempt_in c.outcome-answer.new.self) in
     (w.0, found_at (λ f. f ≡ Answer → Gives w.0) c.find-found.result Answer is w.1 refl, subst For provider (h root w.0 done)))
-    c.outcome.result c.outcome.ensures.answer c.outcome.ensures.found
+    c.outcome-answer.result c.outcome-answer.ensures.answer c.outcome-answer.ensures.found
 
 pub returns-clause-refusal : goal.returns-clause-refusal
 returns-clause-refusal g c =
@@ -63,10 +63,10 @@ returns-clause-refusal g c =
     let DoneFor : g.row.D.Denot → Demands → Type 0 = λ q d. IfOk c.find-found.result (IsDone (g.D.Interner.universe q) d w.0 rounds) in
     let DoneBy : g.row.D.Denot → Type 0 = λ q. DoneFor q root in
     let done : DoneFor s.provider root = subst DoneBy (sym provider) (subst (DoneFor p) same w.2) in
-    IfErr-weaker (λ e. (d : Demands) (xs : List g.row.D-SolvableId.Denot) → IfOk c.find-found.result (IsDone (g.D.Interner.universe s.provider) d xs rounds) → IsRefusal (g.D.Interner.universe s.provider) (g.D.DependencyProvider.may_cancel s.provider) d (IsAtLimit c.outcome.new.self) e)
-    (λ e. IsRefusal (g.D.Interner.universe p) (g.D.DependencyProvider.may_cancel p) root (IsAtLimit c.outcome.new.self) e)
-    (λ e h. let For : g.row.D.Denot → Type 0 = λ q. IsRefusal (g.D.Interner.universe q) (g.D.DependencyProvider.may_cancel q) root (IsAtLimit c.outcome.new.self) e in subst For provider (h root w.0 done))
-    c.outcome.result c.outcome.ensures.refusal
+    IfErr-weaker (λ e. (d : Demands) (xs : List g.row.D-SolvableId.Denot) → IfOk c.find-found.result (IsDone (g.D.Interner.universe s.provider) d xs rounds) → IsRefusal (g.D.Interner.universe s.provider) (g.D.DependencyProvider.may_cancel s.provider) d (IsAtLimit c.outcome-answer.new.self) e)
+    (λ e. IsRefusal (g.D.Interner.universe p) (g.D.DependencyProvider.may_cancel p) root (IsAtLimit c.outcome-answer.new.self) e)
+    (λ e h. let For : g.row.D.Denot → Type 0 = λ q. IsRefusal (g.D.Interner.universe q) (g.D.DependencyProvider.may_cancel q) root (IsAtLimit c.outcome-answer.new.self) e in subst For provider (h root w.0 done))
+    c.outcome-answer.result c.outcome-answer.ensures.refusal
 
 pub returns-clause-counted : goal.returns-clause-counted
 returns-clause-counted g c =
@@ -82,10 +82,10 @@ returns-clause-counted g c =
     let DoneFor : g.row.D.Denot → Demands → Type 0 = λ q d. IfOk c.find-found.result (IsDone (g.D.Interner.universe q) d w.0 rounds) in
     let DoneBy : g.row.D.Denot → Type 0 = λ q. DoneFor q root in
     let done : DoneFor s.provider root = subst DoneBy (sym provider) (subst (DoneFor p) same w.2) in
-    IfErr-weaker (λ e. (d : Demands) (xs : List g.row.D-SolvableId.Denot) → IfOk c.find-found.result (IsDone (g.D.Interner.universe s.provider) d xs rounds) → CountsRefuted (g.D.Interner.universe s.provider) d c.outcome.new.self e)
-    (λ e. CountsRefuted (g.D.Interner.universe p) root c.outcome.new.self e)
-    (λ e h. let For : g.row.D.Denot → Type 0 = λ q. CountsRefuted (g.D.Interner.universe q) root c.outcome.new.self e in subst For provider (h root w.0 done))
-    c.outcome.result c.outcome.ensures.counted
+    IfErr-weaker (λ e. (d : Demands) (xs : List g.row.D-SolvableId.Denot) → IfOk c.find-found.result (IsDone (g.D.Interner.universe s.provider) d xs rounds) → CountsRefuted (g.D.Interner.universe s.provider) d c.outcome-answer.new.self e)
+    (λ e. CountsRefuted (g.D.Interner.universe p) root c.outcome-answer.new.self e)
+    (λ e h. let For : g.row.D.Denot → Type 0 = λ q. CountsRefuted (g.D.Interner.universe q) root c.outcome-answer.new.self e in subst For provider (h root w.0 done))
+    c.outcome-answer.result c.outcome-answer.ensures.counted
 
 pub returns-clause-counted_answer : goal.returns-clause-counted_answer
 returns-clause-counted_answer g c =
@@ -101,7 +101,7 @@ returns-clause-counted_answer g c =
     let DoneFor : g.row.D.Denot → Demands → Type 0 = λ q d. IfOk c.find-found.result (IsDone (g.D.Interner.universe q) d w.0 rounds) in
     let DoneBy : g.row.D.Denot → Type 0 = λ q. DoneFor q root in
     let done : DoneFor s.provider root = subst DoneBy (sym provider) (subst (DoneFor p) same w.2) in
-    IfOk-weaker (λ chosen. (d : Demands) (xs : List g.row.D-SolvableId.Denot) → IfOk c.find-found.result (IsDone (g.D.Interner.universe s.provider) d xs rounds) → CountsRead (g.D.Interner.universe s.provider) d chosen.items c.outcome.new.self)
-    (λ chosen. CountsRead (g.D.Interner.universe p) root chosen.items c.outcome.new.self)
-    (λ chosen h. let For : g.row.D.Denot → Type 0 = λ q. CountsRead (g.D.Interner.universe q) root chosen.items c.outcome.new.self in subst For provider (h root w.0 done))
-    c.outcome.result c.outcome.ensures.counted_answer
+    IfOk-weaker (λ chosen. (d : Demands) (xs : List g.row.D-SolvableId.Denot) → IfOk c.find-found.result (IsDone (g.D.Interner.universe s.provider) d xs rounds) → CountsRead (g.D.Interner.universe s.provider) d chosen.items c.outcome-answer.new.self)
+    (λ chosen. CountsRead (g.D.Interner.universe p) root chosen.items c.outcome-answer.new.self)
+    (λ chosen h. let For : g.row.D.Denot → Type 0 = λ q. CountsRead (g.D.Interner.universe q) root chosen.items c.outcome-answer.new.self in subst For provider (h root w.0 done))
+    c.outcome-answer.result c.outcome-answer.ensures.counted_answer
