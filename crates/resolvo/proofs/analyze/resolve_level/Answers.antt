@@ -1,3 +1,4 @@
+use Rattle.std.proofs.lemmas.Grind.{common_steps}
 use Rattle.std.proofs.Common.{rules, arith, ◌≡◌, ◌-◌, ap, sym, ◌∙◌, true}
 use Rattle.resolver_clause_store.specs.Slots.{is_decided}
 use Rattle.resolvo.specs.Resolvents.{is_marked}
@@ -35,3 +36,24 @@ returns-in-Assumed-clause-none c = λ none. absurd (assumed c)
 
 pub places-preserved : goal.places-preserved
 places-preserved c = (omega arith, c.places.invariant.1, levelled-skip _ _ c.places.place _ c.variable_at-variable.result c.places.invariant.2 (omega arith) c.variable_at-variable.ensures.value (search rules))
+
+pub places-preserved-in-Continue-1 : goal.places-preserved-in-Continue-1
+places-preserved-in-Continue-1 c = grind (arith, common_steps)
+
+pub returns-clause-inside : goal.returns-clause-inside
+returns-clause-inside g c = grind (arith, common_steps)
+
+pub returns-clause-none : goal.returns-clause-none
+returns-clause-none g c = grind (arith, common_steps)
+
+pub returns-clause-resolvent : goal.returns-clause-resolvent
+returns-clause-resolvent c = grind (arith, common_steps)
+
+pub returns-then-is_single-clause-inside : goal.returns-then-is_single-clause-inside
+returns-then-is_single-clause-inside g c = grind (arith, common_steps)
+
+pub returns-then-is_single-clause-none : goal.returns-then-is_single-clause-none
+returns-then-is_single-clause-none g c = grind (arith, common_steps)
+
+pub returns-then-is_single-clause-resolvent : goal.returns-then-is_single-clause-resolvent
+returns-then-is_single-clause-resolvent c = grind (arith, common_steps)

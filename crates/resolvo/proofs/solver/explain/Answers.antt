@@ -1,3 +1,5 @@
+use Rattle.std.proofs.Common.{arith}
+use Rattle.std.proofs.lemmas.Grind.{common_steps}
 use Rattle.std.proofs.Common.{sym, subst, Bool, List}
 use Rattle.resolver_clause_store.specs.declared.ClauseKind.{ClauseKind}
 use Rattle.resolver_clause_store.specs.declared.Origin.{Origin}
@@ -17,3 +19,9 @@ returns-clause-explained g c = λ root notes kinds encoding core.
     (lawful_solvables u g.D.SolvableId.PartialEq.eq (g.met.D.Interner.lawful_ids c.args.provider.now) (g.met.D.Interner.solvables_compare c.args.provider.now) g.met.D.Interner.solvables_are_values) g.met.D.Interner.names_are_values encoding core
     (subst Listed (sym kinds) c.in_ok-stated.ensures.listed) (subst Stated (sym kinds) c.in_ok-stated.ensures.stated)
     c.in_ok-rules.ensures.left c.in_ok-rules.ensures.refuted c.in_ok-rules.ensures.again
+
+pub returns-clause-is_true : goal.returns-clause-is_true
+returns-clause-is_true g c = grind (arith, common_steps)
+
+pub returns-clause-refusal : goal.returns-clause-refusal
+returns-clause-refusal g c = grind (arith, common_steps)

@@ -1,3 +1,4 @@
+use Rattle.std.proofs.lemmas.Grind.{common_steps}
 use Rattle.std.proofs.Common.{arith, sym}
 use Rattle.resolver_clause_store.proofs.TrailLemmas.{value-none}
 use Rattle.resolvo.proofs.JustifiedLemmas.{justified-gains, justified-same}
@@ -27,3 +28,12 @@ pub returns-in_ok-look-in-None-clause-justified : goal.returns-in_ok-look-in-Non
 returns-in_ok-look-in-None-clause-justified c =
     let was = c.requires.visiting.propagator in
     justified-gains _ _ _ _ _ _ c.requires.justified c.in_ok-force-in-None.ensures.ok (value-none _ _ (sym c.in-None.ensures)) (omega (arith, c.requires.inside, was.watched.attached)) (own-other _ _ _ _ _ _ was c.requires.pair) c.requires.unit
+
+pub returns-in_ok-look-in-None-clause-extends : goal.returns-in_ok-look-in-None-clause-extends
+returns-in_ok-look-in-None-clause-extends c = grind (arith, common_steps)
+
+pub returns-in_ok-look-in-None-clause-look : goal.returns-in_ok-look-in-None-clause-look
+returns-in_ok-look-in-None-clause-look c = grind (arith, common_steps)
+
+pub returns-in_ok-look-in-None-clause-open : goal.returns-in_ok-look-in-None-clause-open
+returns-in_ok-look-in-None-clause-open c = grind (arith, common_steps)

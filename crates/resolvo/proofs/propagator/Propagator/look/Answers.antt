@@ -1,3 +1,5 @@
+use Rattle.std.proofs.Common.{arith}
+use Rattle.std.proofs.lemmas.Grind.{common_steps}
 use Rattle.resolvo.proofs.VisitLemmas.{below-contains, blocker-own, makes-true, own-other, paired, tested-true}
 use Rattle.resolvo.proofs.propagator.Propagator.look.Goals as goal
 
@@ -22,3 +24,39 @@ pass_by_other-requires-clause-pair c = paired _ _ _ _ _ _ c.requires.visiting.pr
 
 pub look_for_another-requires-clause-pair : goal.look_for_another-requires-clause-pair
 look_for_another-requires-clause-pair c = paired _ _ _ _ _ _ c.requires.visiting.propagator.watched c.watch_at-watch.ensures.inside c.watch_at-watch.ensures.watching (rw c.pair-pair.ensures at c.other_watched.ensures)
+
+pub returns-clause-extends : goal.returns-clause-extends
+returns-clause-extends c = grind (arith, common_steps)
+
+pub returns-clause-justified : goal.returns-clause-justified
+returns-clause-justified c = grind (arith, common_steps)
+
+pub returns-clause-look : goal.returns-clause-look
+returns-clause-look c = grind (arith, common_steps)
+
+pub returns-clause-open : goal.returns-clause-open
+returns-clause-open c = grind (arith, common_steps)
+
+pub returns-then-eq-2-clause-extends : goal.returns-then-eq-2-clause-extends
+returns-then-eq-2-clause-extends c = grind (arith, common_steps)
+
+pub returns-then-eq-2-clause-justified : goal.returns-then-eq-2-clause-justified
+returns-then-eq-2-clause-justified c = grind (arith, common_steps)
+
+pub returns-then-eq-2-clause-look : goal.returns-then-eq-2-clause-look
+returns-then-eq-2-clause-look c = grind (arith, common_steps)
+
+pub returns-then-eq-2-clause-open : goal.returns-then-eq-2-clause-open
+returns-then-eq-2-clause-open c = grind (arith, common_steps)
+
+pub returns-then-eq-clause-extends : goal.returns-then-eq-clause-extends
+returns-then-eq-clause-extends c = grind (arith, common_steps)
+
+pub returns-then-eq-clause-justified : goal.returns-then-eq-clause-justified
+returns-then-eq-clause-justified c = grind (arith, common_steps)
+
+pub returns-then-eq-clause-look : goal.returns-then-eq-clause-look
+returns-then-eq-clause-look c = grind (arith, common_steps)
+
+pub returns-then-eq-clause-open : goal.returns-then-eq-clause-open
+returns-then-eq-clause-open c = grind (arith, common_steps)

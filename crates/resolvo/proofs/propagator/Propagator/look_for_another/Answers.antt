@@ -1,3 +1,5 @@
+use Rattle.std.proofs.Common.{arith}
+use Rattle.std.proofs.lemmas.Grind.{common_steps}
 use Rattle.resolvo.proofs.VisitLemmas.{moves-stands, own-other, stands-own}
 use Rattle.resolvo.proofs.propagator.Propagator.look_for_another.Goals as goal
 
@@ -9,3 +11,24 @@ returns-in_ok-move_watch-in-Some-clause-look c =
     let moved = c.in_ok-move_watch-in-Some.ensures in
     let own = stands-own _ _ _ _ _ stands (own-other _ _ _ _ _ _ was c.requires.pair) in
     moves-stands _ _ _ _ _ _ _ _ _ c.requires.visiting stands (moved.moved stands.watch stands.is) (moved.blockers _ stands.watch stands.is own was.watched.blockers) c.requires.pair (rw c.clause.ensures at c.in-Some.ensures)
+
+pub returns-in_ok-look-in-None-clause-extends : goal.returns-in_ok-look-in-None-clause-extends
+returns-in_ok-look-in-None-clause-extends c = grind (arith, common_steps)
+
+pub returns-in_ok-look-in-None-clause-justified : goal.returns-in_ok-look-in-None-clause-justified
+returns-in_ok-look-in-None-clause-justified c = grind (arith, common_steps)
+
+pub returns-in_ok-look-in-None-clause-look : goal.returns-in_ok-look-in-None-clause-look
+returns-in_ok-look-in-None-clause-look c = grind (arith, common_steps)
+
+pub returns-in_ok-look-in-None-clause-open : goal.returns-in_ok-look-in-None-clause-open
+returns-in_ok-look-in-None-clause-open c = grind (arith, common_steps)
+
+pub returns-in_ok-move_watch-in-Some-clause-extends : goal.returns-in_ok-move_watch-in-Some-clause-extends
+returns-in_ok-move_watch-in-Some-clause-extends c = grind (arith, common_steps)
+
+pub returns-in_ok-move_watch-in-Some-clause-justified : goal.returns-in_ok-move_watch-in-Some-clause-justified
+returns-in_ok-move_watch-in-Some-clause-justified c = grind (arith, common_steps)
+
+pub returns-in_ok-move_watch-in-Some-clause-open : goal.returns-in_ok-move_watch-in-Some-clause-open
+returns-in_ok-move_watch-in-Some-clause-open c = grind (arith, common_steps)

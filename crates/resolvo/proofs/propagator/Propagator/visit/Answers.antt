@@ -1,3 +1,4 @@
+use Rattle.std.proofs.lemmas.Grind.{common_steps}
 use Rattle.std.proofs.Common.{arith}
 use Rattle.resolvo.proofs.VisitLemmas.{visited}
 use Rattle.resolver_clause_store.proofs.WatchListLemmas.{watching-stands}
@@ -8,3 +9,18 @@ returns-clause-propagator c =
     visited _ _ _ _ _ c.watchers.invariant.visiting (omega (arith, c.watchers-test.false, c.count.ensures)) (λ number watching.
     let s = watching-stands _ _ number _ c.watchers.self.watches.watched watching in
     (s.0, record { watch = s.1; is = s.2; named = s.3 }))
+
+pub returns-clause-attached : goal.returns-clause-attached
+returns-clause-attached c = grind (arith, common_steps)
+
+pub returns-clause-conflict : goal.returns-clause-conflict
+returns-clause-conflict c = grind (arith, common_steps)
+
+pub returns-clause-extends : goal.returns-clause-extends
+returns-clause-extends c = grind (arith, common_steps)
+
+pub returns-clause-justified : goal.returns-clause-justified
+returns-clause-justified c = grind (arith, common_steps)
+
+pub returns-clause-open : goal.returns-clause-open
+returns-clause-open c = grind (arith, common_steps)

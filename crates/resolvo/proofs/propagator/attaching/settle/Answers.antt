@@ -1,3 +1,5 @@
+use Rattle.std.proofs.Common.{arith}
+use Rattle.std.proofs.lemmas.Grind.{common_steps}
 use Rattle.std.proofs.Common.{rules, ap, ◌∙◌}
 use Rattle.resolver_clause_store.proofs.TrailLemmas.{value-none}
 use Rattle.resolvo.proofs.AttachingLemmas.{forces-gains, gained-satisfied, last-inside, last-within, watched-below}
@@ -34,3 +36,9 @@ returns-in_ok-pass-in-Unit-clause-propagator c =
 pub returns-in_ok-pass-in-Unit-clause-step : goal.returns-in_ok-pass-in-Unit-clause-step
 returns-in_ok-pass-in-Unit-clause-step c =
     forces-gains _ _ _ _ _ _ c.requires.justified c.in_ok-force-in-Unit.ensures.ok (value-none _ _ c.in-Unit.ensures.0) (last-within c.args.table.now c.args.trail.now c.args.propagator.now c.args.number c.requires.last c.requires.propagator) (rw c.clause.ensures at c.in-Unit.ensures.1) (rw c.clause.ensures at c.in-Unit.ensures.2)
+
+pub returns-in_ok-pass-in-Satisfied-clause-propagator : goal.returns-in_ok-pass-in-Satisfied-clause-propagator
+returns-in_ok-pass-in-Satisfied-clause-propagator c = grind (arith, common_steps)
+
+pub returns-in_ok-pass-in-Satisfied-clause-step : goal.returns-in_ok-pass-in-Satisfied-clause-step
+returns-in_ok-pass-in-Satisfied-clause-step c = grind (arith, common_steps)

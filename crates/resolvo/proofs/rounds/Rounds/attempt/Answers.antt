@@ -1,3 +1,5 @@
+use Rattle.std.proofs.Common.{arith}
+use Rattle.std.proofs.lemmas.Grind.{common_steps}
 use Rattle.std.proofs.Common.{[], ap, length, refl, ◌∷◌, ◌++◌, ◌≡◌, ◌∙◌}
 use Rattle.resolver_encoding.specs.Notes.{notes_in}
 use Rattle.resolvo.specs.ClauseSearches.{trail_of}
@@ -43,3 +45,30 @@ returns-clause-between g c = λ root done seen b.
 
 pub returns-then-answered-clause-counted : goal.returns-then-answered-clause-counted
 returns-then-answered-clause-counted g c = still_all c.is_answered.new.self (record c.is_answered.new.self { search = c.hold.new.self }) refl c.hold.ensures.clauses c.hold.ensures.learnt c.in_ok-answered.ensures.counted
+
+pub returns-clause-counted : goal.returns-clause-counted
+returns-clause-counted g c = grind (arith, common_steps)
+
+pub returns-clause-is_true : goal.returns-clause-is_true
+returns-clause-is_true g c = grind (arith, common_steps)
+
+pub returns-clause-limits : goal.returns-clause-limits
+returns-clause-limits g c = grind (arith, common_steps)
+
+pub returns-clause-refusal : goal.returns-clause-refusal
+returns-clause-refusal g c = grind (arith, common_steps)
+
+pub returns-clause-rounds : goal.returns-clause-rounds
+returns-clause-rounds g c = grind (arith, common_steps)
+
+pub returns-clause-still : goal.returns-clause-still
+returns-clause-still g c = grind (arith, common_steps)
+
+pub returns-then-answered-clause-is_true : goal.returns-then-answered-clause-is_true
+returns-then-answered-clause-is_true g c = grind (arith, common_steps)
+
+pub returns-then-answered-clause-limits : goal.returns-then-answered-clause-limits
+returns-then-answered-clause-limits g c = grind (arith, common_steps)
+
+pub returns-then-answered-clause-refusal : goal.returns-then-answered-clause-refusal
+returns-then-answered-clause-refusal g c = grind (arith, common_steps)

@@ -1,3 +1,4 @@
+use Rattle.std.proofs.lemmas.Grind.{common_steps}
 use Rattle.std.proofs.Common.{[], arith, refl, ◌≡◌, ◌<◌, ◌∙◌}
 use Rattle.resolver_clause_store.specs.Outcomes.{IsCore}
 use Rattle.resolver_clause_store.specs.Universe.{Demands}
@@ -44,3 +45,18 @@ returns-in-Refused-clause-done g c =
 
 pub soft_turns-requires-clause-counted : goal.soft_turns-requires-clause-counted
 soft_turns-requires-clause-counted g c = still_all c.all_rounds.new.self (record c.all_rounds.new.self { search = c.hold.new.self }) refl c.hold.ensures.clauses c.hold.ensures.learnt c.in_ok-all_rounds.ensures.counted
+
+pub returns-in_ok-soft_turns-in-Answer-clause-counted : goal.returns-in_ok-soft_turns-in-Answer-clause-counted
+returns-in_ok-soft_turns-in-Answer-clause-counted g c = grind (arith, common_steps)
+
+pub returns-in_ok-soft_turns-in-Answer-clause-is_true : goal.returns-in_ok-soft_turns-in-Answer-clause-is_true
+returns-in_ok-soft_turns-in-Answer-clause-is_true g c = grind (arith, common_steps)
+
+pub returns-in_ok-soft_turns-in-Answer-clause-limits : goal.returns-in_ok-soft_turns-in-Answer-clause-limits
+returns-in_ok-soft_turns-in-Answer-clause-limits g c = grind (arith, common_steps)
+
+pub returns-in_ok-soft_turns-in-Answer-clause-refusal : goal.returns-in_ok-soft_turns-in-Answer-clause-refusal
+returns-in_ok-soft_turns-in-Answer-clause-refusal g c = grind (arith, common_steps)
+
+pub returns-in_ok-soft_turns-in-Answer-clause-table : goal.returns-in_ok-soft_turns-in-Answer-clause-table
+returns-in_ok-soft_turns-in-Answer-clause-table g c = grind (arith, common_steps)

@@ -1,3 +1,5 @@
+use Rattle.std.proofs.Common.{arith}
+use Rattle.std.proofs.lemmas.Grind.{common_steps}
 use Rattle.std.proofs.Common.{sym}
 use Rattle.std.proofs.lemmas.Bool.{false≢true}
 use Rattle.resolvo.specs.RoundStates.{IsFound}
@@ -15,3 +17,9 @@ returns-clause-unanswered g c =
       | in-Contradiction w ↦ rw w.result-is (λ off. unanswered_core new _ (rw w.in-Contradiction.is at found))
       | in-Refused w ↦ rw w.result-is (λ off. unanswered_refused new (rw w.in-Refused.is at found))
     ]
+
+pub returns-clause-is_true : goal.returns-clause-is_true
+returns-clause-is_true g c = grind (arith, common_steps)
+
+pub returns-clause-limits : goal.returns-clause-limits
+returns-clause-limits g c = grind (arith, common_steps)

@@ -1,3 +1,4 @@
+use Rattle.std.proofs.lemmas.Grind.{common_steps}
 use Rattle.std.proofs.Common.{ap, arith, false, refl, subst, sym, ◌≡◌, ◌∙◌, ◌+◌, ◌-◌, ℕ}
 use Rattle.std.specs.Prelude.{None, length, take}
 use Rattle.resolvo.proofs.GoingLemmas.{still_all}
@@ -83,3 +84,15 @@ returns-clause-counted g c =
     let followed = c.in_ok-follow.ensures.followed in
     still_all mid c.follow.new.self (ap (λ (e : Encoding g.row.N.Denot g.row.S.Denot). length (notes_in e).kinds) c.in_ok-follow.ensures.following.encoding)
     (followed.clauses ∙ c.in_ok-assume.ensures.clauses ∙ c.in_ok-retract.ensures.clauses) (followed.learnt ∙ c.in_ok-assume.ensures.learnt ∙ c.in_ok-retract.ensures.learnt) c.in_ok-load.ensures.counted
+
+pub returns-clause-is_true : goal.returns-clause-is_true
+returns-clause-is_true g c = grind (arith, common_steps)
+
+pub returns-clause-limits : goal.returns-clause-limits
+returns-clause-limits g c = grind (arith, common_steps)
+
+pub returns-clause-refusal : goal.returns-clause-refusal
+returns-clause-refusal g c = grind (arith, common_steps)
+
+pub returns-clause-still : goal.returns-clause-still
+returns-clause-still g c = grind (arith, common_steps)

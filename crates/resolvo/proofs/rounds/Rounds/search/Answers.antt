@@ -1,3 +1,5 @@
+use Rattle.std.proofs.Common.{arith}
+use Rattle.std.proofs.lemmas.Grind.{common_steps}
 use Rattle.std.proofs.Common.{◌∙◌}
 use Rattle.resolvo.specs.RoundStates.{notes_of}
 use Rattle.resolvo.proofs.RoundLemmas.{searched}
@@ -19,3 +21,12 @@ returns-clause-loaded g c =
 
 pub returns-clause-turn : goal.returns-clause-turn
 returns-clause-turn g c = turn-trans c.args.self.now.search c.load.new.self.search c.run.new.self c.in_ok-load.ensures.turn c.in_ok-outcome.ensures.turn
+
+pub returns-clause-limits : goal.returns-clause-limits
+returns-clause-limits g c = grind (arith, common_steps)
+
+pub returns-clause-refusal : goal.returns-clause-refusal
+returns-clause-refusal g c = grind (arith, common_steps)
+
+pub returns-clause-same : goal.returns-clause-same
+returns-clause-same g c = grind (arith, common_steps)

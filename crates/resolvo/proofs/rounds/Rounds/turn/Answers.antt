@@ -1,3 +1,4 @@
+use Rattle.std.proofs.lemmas.Grind.{common_steps}
 use Rattle.std.proofs.Common.{[], arith, List, Some, subst, sym, ◌++◌, ◌+◌, ◌<◌, ◌∙◌, ◌∷◌, ◌≡◌}
 use Rattle.std.specs.Prelude.{Contains, length, slice_get}
 use Rattle.resolver_encoding.proofs.EncodingLemmas.{Extends-within}
@@ -69,3 +70,21 @@ returns-in_ok-attempt-in-None-clause-between g c = λ root done b.
     let loaded = between_loaded u root done (done ++ c.args.solvable ∷ []) (record old { encoding = e }) new (rounds_added u old e c.requires.rounds c.register.ensures.bounded adds).variables c.in_ok-load.ensures.same c.in_ok-load.ensures.turn after in
     let Seen : Encoding g.row.N.Denot g.row.S.Denot → Type 0 = λ x. Contains (notes_in x).seen c.args.solvable in
     c.in_ok-attempt-in-None.ensures.between root done (subst Seen (sym c.in_ok-load.ensures.same.encoding) registered.here) loaded
+
+pub returns-in_ok-attempt-in-None-clause-counted : goal.returns-in_ok-attempt-in-None-clause-counted
+returns-in_ok-attempt-in-None-clause-counted g c = grind (arith, common_steps)
+
+pub returns-in_ok-attempt-in-None-clause-is_true : goal.returns-in_ok-attempt-in-None-clause-is_true
+returns-in_ok-attempt-in-None-clause-is_true g c = grind (arith, common_steps)
+
+pub returns-in_ok-attempt-in-None-clause-limits : goal.returns-in_ok-attempt-in-None-clause-limits
+returns-in_ok-attempt-in-None-clause-limits g c = grind (arith, common_steps)
+
+pub returns-in_ok-attempt-in-None-clause-refusal : goal.returns-in_ok-attempt-in-None-clause-refusal
+returns-in_ok-attempt-in-None-clause-refusal g c = grind (arith, common_steps)
+
+pub returns-in_ok-attempt-in-None-clause-rounds : goal.returns-in_ok-attempt-in-None-clause-rounds
+returns-in_ok-attempt-in-None-clause-rounds g c = grind (arith, common_steps)
+
+pub returns-in_ok-attempt-in-None-clause-still : goal.returns-in_ok-attempt-in-None-clause-still
+returns-in_ok-attempt-in-None-clause-still g c = grind (arith, common_steps)
