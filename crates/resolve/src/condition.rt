@@ -11,7 +11,7 @@ use std::alloc::{AllocError, Global};
 
 /// One step of a condition in postfix order: a spec is put aside, and an operator joins the two that were put aside
 /// last.
-#[derive(Clone, Copy, Debug, PartialEq, Eq)]
+#[derive(Clone, Copy, PartialEq, Eq)]
 pub enum ConditionStep<'a> {
     Version(Spec<'a>),
     And,
@@ -22,7 +22,7 @@ pub enum ConditionStep<'a> {
 ///
 /// An operator is written out before one that binds no tighter waits, so at most one of each kind does, the `and` to
 /// the right of the `or`.
-#[derive(Clone, Copy, Debug)]
+#[derive(Clone, Copy)]
 struct Waiting {
     or: bool,
     and: bool,
@@ -36,7 +36,7 @@ impl Waiting {
 }
 
 /// A condition that is read from the left.
-#[derive(Debug, Drop)]
+#[derive(Drop)]
 struct Reading<'a> {
     steps: Vec<ConditionStep<'a>>,
     waiting: Waiting,

@@ -6,15 +6,15 @@ ghost use Rattle.resolve.specs.Ranges.{range_takes};
 use resolver_clause_store::Exhausted;
 
 /// Names a package.
-#[derive(Clone, Copy, Debug, PartialEq, Eq, PartialOrd, Ord, Hash)]
+#[derive(Clone, Copy, PartialEq, Eq, PartialOrd, Ord, Hash)]
 pub struct NameId(pub u32);
 
 /// Names one version of a package.
-#[derive(Clone, Copy, Debug, PartialEq, Eq, PartialOrd, Ord, Hash)]
+#[derive(Clone, Copy, PartialEq, Eq, PartialOrd, Ord, Hash)]
 pub struct SolvableId(pub u32);
 
 /// Which versions of a package are taken.
-#[derive(Clone, Copy, Debug, PartialEq, Eq, PartialOrd, Ord, Hash)]
+#[derive(Clone, Copy, PartialEq, Eq, Hash)]
 pub enum Range {
     /// Every version.
     All,
@@ -36,14 +36,14 @@ impl Range {
 }
 
 /// The versions of one package that a range takes.
-#[derive(Clone, Copy, Debug, PartialEq, Eq, PartialOrd, Ord, Hash)]
+#[derive(Clone, Copy, PartialEq, Eq, Hash)]
 pub(crate) struct VersionSet {
     pub name: NameId,
     pub range: Range,
 }
 
 /// One version of a package.
-#[derive(Clone, Copy, Debug, PartialEq, Eq, PartialOrd, Ord, Hash)]
+#[derive(Clone, Copy, PartialEq, Eq, Hash)]
 pub(crate) struct Version {
     pub name: NameId,
     pub number: u32,

@@ -5,7 +5,7 @@ ghost use Rattle.std.specs.List.{position};
 ghost use Rattle.std.specs.Str.Lines.{lines, strip_carriage_return};
 
 /// A line of an input, without its end.
-#[derive(Clone, Copy, Debug, PartialEq, Eq)]
+#[derive(Clone, Copy, PartialEq, Eq)]
 pub struct Line<'a> {
     /// Counts the lines of the input from 1.
     pub number: usize,
@@ -15,7 +15,7 @@ pub struct Line<'a> {
 /// The lines of an input, in order.
 ///
 /// A line ends with a line feed, and the last may lack it. A carriage return just before a line feed is dropped.
-#[derive(Clone, Copy, Debug)]
+#[derive(Clone, Copy)]
 pub struct Lines<'a> {
     rest: &'a [u8],
     number: usize,

@@ -20,7 +20,7 @@ use std::io;
 use std::io::{Read, Write};
 
 /// Why nothing was answered.
-#[derive(Clone, Copy, Debug, PartialEq, Eq)]
+#[derive(Clone, Copy, PartialEq, Eq)]
 pub(crate) enum Fault {
     BadStatement(usize),
     UnreadableInput,

@@ -14,7 +14,7 @@ use std::alloc::{AllocError, AllocFailed, Global};
 use std::str;
 
 /// What a line states. A condition stands in postfix order, and is empty where there is none.
-#[derive(Debug, PartialEq, Eq, Drop)]
+#[derive(PartialEq, Eq, Drop)]
 pub enum Statement<'a> {
     /// There is such a solvable, and it is a candidate.
     Package(SolvableText<'a>),

@@ -14,21 +14,21 @@ use std::str;
 pub const VERSION_LIMIT: u64 = 4294967296;
 
 /// One version of a package, as a statement names it.
-#[derive(Clone, Copy, Debug, PartialEq, Eq)]
+#[derive(Clone, Copy, PartialEq, Eq)]
 pub struct SolvableText<'a> {
     pub name: &'a str,
     pub version: u32,
 }
 
 /// A package and some of its versions, as a statement names them.
-#[derive(Clone, Copy, Debug, PartialEq, Eq)]
+#[derive(Clone, Copy, PartialEq, Eq)]
 pub struct Spec<'a> {
     pub name: &'a str,
     pub versions: Range,
 }
 
 /// The words of a line, which spaces separate.
-#[derive(Clone, Copy, Debug)]
+#[derive(Clone, Copy)]
 pub struct Words<'a> {
     rest: &'a [u8],
 }

@@ -7,7 +7,7 @@ use crate::literals::Literal;
 
 /// A clause that states a requirement: the negations of what the requirement depends on, and then its candidates in the
 /// order in which they are tried.
-#[derive(Debug, Drop)]
+#[derive(Drop)]
 pub struct RequirementClause {
     /// The clause's number.
     pub number: usize,

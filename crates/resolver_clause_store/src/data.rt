@@ -15,42 +15,42 @@ pub enum Requirement {
 }
 
 /// A requirement, and the condition under which it is active.
-#[derive(Clone, Copy, Debug, PartialEq, Eq, PartialOrd, Ord, Hash)]
+#[derive(Clone, Copy, PartialEq, Eq)]
 pub struct ConditionalRequirement {
     pub condition: Option<ConditionId>,
     pub requirement: Requirement,
 }
 
 /// How a condition joins its two parts.
-#[derive(Clone, Copy, Debug, PartialEq, Eq, PartialOrd, Ord, Hash)]
+#[derive(Clone, Copy, PartialEq, Eq)]
 pub enum LogicalOperator {
     And,
     Or,
 }
 
 /// A version set of which a candidate is chosen, or two conditions joined.
-#[derive(Clone, Copy, Debug, PartialEq, Eq, PartialOrd, Ord, Hash)]
+#[derive(Clone, Copy, PartialEq, Eq)]
 pub enum Condition {
     Requirement(VersionSetId),
     Binary(LogicalOperator, ConditionId, ConditionId),
 }
 
 /// What a solvable or a problem requires, and which version sets bind the versions of their packages.
-#[derive(Debug, Drop)]
+#[derive(Drop)]
 pub struct KnownDependencies {
     pub requirements: Vec<ConditionalRequirement>,
     pub constrains: Vec<VersionSetId>,
 }
 
 /// What a solvable needs, or why nobody knows.
-#[derive(Debug, Drop)]
+#[derive(Drop)]
 pub enum Dependencies {
     Known(KnownDependencies),
     Unknown(StringId),
 }
 
 /// Of which candidates the dependencies are cheap to ask for.
-#[derive(Debug, Drop)]
+#[derive(Drop)]
 pub enum HintDependenciesAvailable<S> {
     None,
     All,
@@ -58,7 +58,7 @@ pub enum HintDependenciesAvailable<S> {
 }
 
 /// What the provider says of a package.
-#[derive(Debug, Drop)]
+#[derive(Drop)]
 pub struct Candidates<S> {
     pub candidates: Vec<S>,
     pub favored: Option<S>,
@@ -68,7 +68,7 @@ pub struct Candidates<S> {
 }
 
 /// Who asks for something: the problem, or a solvable.
-#[derive(Clone, Copy, Debug, PartialEq, Eq)]
+#[derive(Clone, Copy, PartialEq, Eq)]
 pub enum By<S> {
     Root,
     Solvable(S),

@@ -13,7 +13,7 @@ use crate::literals::Literal;
 use crate::trail::Trail;
 
 /// A candidate of a requirement that has none yet.
-#[derive(Clone, Copy, Debug, PartialEq, Eq)]
+#[derive(Clone, Copy, PartialEq, Eq)]
 pub struct Choice {
     /// The number of the requirement's clause.
     pub number: usize,

@@ -4,7 +4,7 @@ use crate::data::{By, Requirement};
 use crate::ids::{StringId, VersionSetId};
 
 /// What a variable stands for.
-#[derive(Clone, Copy, Debug, PartialEq, Eq, PartialOrd, Ord, Hash)]
+#[derive(Clone, Copy, PartialEq, Eq, Hash)]
 pub enum Origin<N, S> {
     Root,
     Solvable(S),
@@ -19,7 +19,7 @@ pub enum Origin<N, S> {
 }
 
 /// What a clause says, in the provider's ids.
-#[derive(Debug, Drop)]
+#[derive(Drop)]
 pub enum ClauseKind<N, S> {
     /// The root is there.
     InstallRoot,

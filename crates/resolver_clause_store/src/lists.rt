@@ -5,7 +5,7 @@ ghost use Rattle.std.specs.Prelude.{◌≡◌, ◌≢◌, ◌≤◌, ◌+◌, �
 use std::alloc::{AllocError, Global};
 
 /// A list for each number, of which all but some are empty.
-#[derive(Debug, Drop)]
+#[derive(Drop)]
 pub struct Lists {
     lists: Vec<Vec<usize>>,
 }

@@ -5,7 +5,7 @@ ghost use Rattle.std.specs.Prelude.{◌≡◌, ℕ};
 use std::marker::Model;
 
 /// The number of a variable.
-#[derive(Clone, Copy, Debug, PartialEq, Eq, PartialOrd, Ord, Hash)]
+#[derive(Clone, Copy, PartialEq, Eq, Hash)]
 pub struct Variable {
     index: u32,
 }
@@ -35,7 +35,7 @@ impl Variable {
 }
 
 /// A variable, or its negation.
-#[derive(Clone, Copy, Debug, PartialEq, Eq)]
+#[derive(Clone, Copy, PartialEq, Eq)]
 pub struct Literal {
     pub variable: Variable,
     /// Whether the literal is the variable itself.

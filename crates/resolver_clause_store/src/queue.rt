@@ -39,7 +39,7 @@ fn is_true(trail: &Trail, variable: Variable) -> bool
 /// Each requirement stands in one place. It is put aside while a variable that it depends on is not true, or while a candidate
 /// of it is true. The queue follows a trail: what was put aside comes back where a variable becomes true, or loses its value.
 /// So the requirements that are not put aside are all that may be left to decide.
-#[derive(Debug, Drop)]
+#[derive(Drop)]
 pub struct DecideQueue {
     /// The requirements that are not put aside.
     active: Vec<usize>,

@@ -19,7 +19,7 @@ use std::collections::BinaryHeap;
 
 /// What requirements are compared by, where their packages have the same score: those of the root come first, then those with
 /// fewer candidates in the version set that is tried, and then those that came first.
-#[derive(Clone, Copy, Debug, PartialEq, Eq, PartialOrd, Ord)]
+#[derive(Clone, Copy, PartialEq, Eq, PartialOrd, Ord)]
 pub struct Rank {
     is_later: bool,
     count: usize,
@@ -31,7 +31,7 @@ pub struct Rank {
 }
 
 /// A rank, and the score of its package.
-#[derive(Clone, Copy, Debug)]
+#[derive(Clone, Copy)]
 pub struct Scored {
     rank: Rank,
     score: u64,
@@ -65,7 +65,7 @@ fn first_of(one: Option<Scored>, other: Option<Scored>) -> Option<Scored> {
 }
 
 /// What is known of a requirement: where it stands among the active ones, if it does, and its latest rank.
-#[derive(Clone, Copy, Debug)]
+#[derive(Clone, Copy)]
 pub struct Entry {
     place: usize,
     edition: u64,
@@ -77,7 +77,7 @@ pub struct Entry {
 /// A requirement is ranked anew where a variable of a package that it asks for gets or loses its value, and where the score of
 /// such a package grows. Nothing is proved of the order, and nothing rests on it: whichever requirement comes out, the queue looks at
 /// it before it is decided.
-#[derive(Debug, Drop)]
+#[derive(Drop)]
 pub struct Ranks {
     /// The number of the package of each variable, where it stands for a solvable.
     owners: Vec<Option<usize>>,

@@ -7,7 +7,7 @@ ghost use Rattle.resolver_clause_store.specs.declared.scores.Scores.{Scores as A
 use std::alloc::{AllocError, Global};
 
 /// How scores grow and fade.
-#[derive(Clone, Copy, Debug)]
+#[derive(Clone, Copy)]
 pub struct Activity {
     /// What a solvable in a learnt clause adds to the score of its package.
     pub add: u64,
@@ -51,7 +51,7 @@ pub fn faded_often(score: u64, decay: u64, times: u64) -> u64
 }
 
 /// A score as it was when so many clauses were learnt.
-#[derive(Clone, Copy, Debug)]
+#[derive(Clone, Copy)]
 pub struct Score {
     value: u64,
     learnt: u64,
@@ -60,7 +60,7 @@ pub struct Score {
 /// The scores of packages, by their numbers. One that was never added to is 0.
 ///
 /// A score is kept as it was when it was last added to, and fades when it is read.
-#[derive(Debug, Drop)]
+#[derive(Drop)]
 pub struct Scores {
     activity: Activity,
     scores: Vec<Score>,

@@ -9,7 +9,7 @@ use crate::literals::{Literal, Variable};
 use crate::trail::Trail;
 
 /// How a requirement stands under a trail.
-#[derive(Clone, Copy, Debug)]
+#[derive(Clone, Copy)]
 pub enum Standing {
     /// It depends on this variable, which is not true.
     Waiting(Variable),

@@ -7,7 +7,7 @@ use crate::literals::{Literal, Variable};
 use std::alloc::{AllocError, Global};
 
 /// Why a variable has its value.
-#[derive(Clone, Copy, Debug, PartialEq, Eq)]
+#[derive(Clone, Copy, PartialEq, Eq)]
 pub enum Reason {
     /// It was decided for the requirement clause with this number.
     Decided(usize),
@@ -18,7 +18,7 @@ pub enum Reason {
 }
 
 /// The value of a variable, the level and the place of the trail at which it got it, and why.
-#[derive(Clone, Copy, Debug, PartialEq, Eq)]
+#[derive(Clone, Copy, PartialEq, Eq)]
 pub struct Slot {
     pub value: bool,
     pub level: usize,
@@ -27,7 +27,7 @@ pub struct Slot {
 }
 
 /// What adding a literal to a trail did.
-#[derive(Clone, Copy, Debug, PartialEq, Eq)]
+#[derive(Clone, Copy, PartialEq, Eq)]
 pub enum Addition {
     /// Its variable had no value, and the literal is true from now on.
     Added,
@@ -42,7 +42,7 @@ pub enum Addition {
 /// The values stand in a small table besides, since most looks are for the value, and slots are wide.
 ///
 /// Levels count from 0. They never fall from place to place. A decision begins a level, and so does an assumption.
-#[derive(Debug, Drop)]
+#[derive(Drop)]
 pub struct Trail {
     slots: Vec<Option<Slot>>,
     values: Vec<Option<bool>>,

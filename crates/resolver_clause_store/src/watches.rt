@@ -10,7 +10,7 @@ use crate::literals::Literal;
 use std::alloc::{AllocError, Global};
 
 /// A clause in a literal's list.
-#[derive(Clone, Copy, Debug, PartialEq, Eq)]
+#[derive(Clone, Copy, PartialEq, Eq)]
 pub struct Watch {
     /// The clause's number.
     pub number: usize,
@@ -19,7 +19,7 @@ pub struct Watch {
 }
 
 /// The two literals that a clause watches, or none.
-#[derive(Clone, Copy, Debug, PartialEq, Eq)]
+#[derive(Clone, Copy, PartialEq, Eq)]
 pub struct WatchedPair {
     pub first: Option<Literal>,
     pub second: Option<Literal>,
@@ -110,7 +110,7 @@ fn set_at(lists: &mut Vec<Vec<Watch>>, list: usize, place: usize, blocker: Liter
 /// For each literal the clauses that watch it, and for each clause the two literals that it watches.
 ///
 /// A clause stands in the lists of its two literals and in no other list. One without two different literals watches none.
-#[derive(Debug, Drop)]
+#[derive(Drop)]
 pub struct Watches {
     lists: Vec<Vec<Watch>>,
     pairs: Vec<WatchedPair>,

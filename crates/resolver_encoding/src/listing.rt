@@ -11,7 +11,7 @@ use std::alloc::Global;
 use std::hash::Hash;
 
 /// An instance that is marked for a name.
-#[derive(Clone, Copy, Debug, PartialEq, Eq, Hash)]
+#[derive(Clone, Copy, PartialEq, Eq, Hash)]
 pub(crate) struct Mark<N, S> {
     pub name: N,
     pub instance: S,

@@ -1,7 +1,7 @@
 //! What one more reading did.
 
 /// What one more reading did.
-#[derive(Clone, Copy, Debug, PartialEq, Eq)]
+#[derive(Clone, Copy, PartialEq, Eq)]
 pub enum Progress {
     /// Nothing was read or taken out: there are the same clauses as before.
     Nothing,

@@ -8,7 +8,7 @@ use resolver_clause_store::Exhausted;
 use std::alloc::Global;
 
 /// Whether more lines stand beside a line, after it.
-#[derive(Clone, Copy, Debug, PartialEq, Eq)]
+#[derive(Clone, Copy, PartialEq, Eq)]
 pub enum ChildOrder {
     HasRemainingSiblings,
     Last,

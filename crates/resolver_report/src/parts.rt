@@ -3,7 +3,7 @@
 use resolver_clause_store::{Requirement, StringId, VersionSetId};
 
 /// Stands for the root, a solvable, what has no candidates, or a reason.
-#[derive(Clone, Copy, Debug, PartialEq, Eq, Hash)]
+#[derive(Clone, Copy, PartialEq, Eq, Hash)]
 pub enum ConflictNode<S> {
     Root,
     Solvable(S),
@@ -12,7 +12,7 @@ pub enum ConflictNode<S> {
 }
 
 /// Why two nodes do not go together.
-#[derive(Clone, Copy, Debug, PartialEq, Eq, PartialOrd, Ord, Hash)]
+#[derive(Clone, Copy, PartialEq, Eq, PartialOrd, Ord, Hash)]
 pub enum ConflictCause<S> {
     Locked(S),
     Constrains(VersionSetId),
@@ -21,18 +21,18 @@ pub enum ConflictCause<S> {
 }
 
 /// What an edge says.
-#[derive(Clone, Copy, Debug, PartialEq, Eq, PartialOrd, Ord, Hash)]
+#[derive(Clone, Copy, PartialEq, Eq, PartialOrd, Ord, Hash)]
 pub enum ConflictEdge<S> {
     Requires(Requirement),
     Conflict(ConflictCause<S>),
 }
 
 /// The place of a node among the nodes.
-#[derive(Clone, Copy, Debug, PartialEq, Eq, PartialOrd, Ord, Hash)]
+#[derive(Clone, Copy, PartialEq, Eq, PartialOrd, Ord, Hash)]
 pub struct NodeId(pub usize);
 
 /// From one node to another.
-#[derive(Clone, Copy, Debug, PartialEq, Eq)]
+#[derive(Clone, Copy, PartialEq, Eq)]
 pub struct Edge<S> {
     pub source: NodeId,
     pub target: NodeId,
@@ -40,7 +40,7 @@ pub struct Edge<S> {
 }
 
 /// An edge whose ends are nodes and not yet their places.
-#[derive(Clone, Copy, Debug, PartialEq, Eq)]
+#[derive(Clone, Copy, PartialEq, Eq)]
 pub struct Link<S> {
     pub source: ConflictNode<S>,
     pub target: ConflictNode<S>,
@@ -48,7 +48,7 @@ pub struct Link<S> {
 }
 
 /// What an edge requires, if it does, and its other end.
-#[derive(Clone, Copy, Debug, PartialEq, Eq, PartialOrd, Ord, Hash)]
+#[derive(Clone, Copy, PartialEq, Eq, PartialOrd, Ord, Hash)]
 pub struct Side {
     pub required: Option<Requirement>,
     pub other: NodeId,

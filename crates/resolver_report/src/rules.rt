@@ -6,7 +6,7 @@ use resolver_clause_store::{By, Requirement, StringId, VersionSetId};
 ///
 /// The root is always there; a solvable is there if it is in the set. What a rule was read from, as `requirement`,
 /// `version_set`, `locked` and `reason`, explains it, and has no part in whether a set obeys it.
-#[derive(Debug, Drop)]
+#[derive(Drop)]
 pub enum Rule<N, S> {
     /// If `by` is there and each list of `when` has a member in the set, then one of `candidates` is in the set.
     ///

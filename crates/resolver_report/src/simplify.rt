@@ -17,7 +17,7 @@ use std::hash::Hash;
 use std::rc::Rc;
 
 /// Alike solvables, which are told of together.
-#[derive(Debug, Drop)]
+#[derive(Drop)]
 pub struct MergedConflictNode<S> {
     /// The solvables, in the order of their nodes.
     pub ids: Vec<S>,

@@ -14,7 +14,7 @@ use std::alloc::{AllocError, Global};
 use std::mem::replace;
 
 /// Marked variables whose values on the trail contradict the causes.
-#[derive(Debug, Drop)]
+#[derive(Drop)]
 pub struct Resolvent {
     pub marks: Vec<bool>,
     /// The variables that were marked, also those whose mark was taken away.
@@ -29,7 +29,7 @@ pub struct Resolvent {
 /// A mark for each variable, of which none is set.
 ///
 /// An analysis takes the marks and puts them back, so that they are made once.
-#[derive(Debug, Drop)]
+#[derive(Drop)]
 pub struct BlankMarks {
     marks: Vec<bool>,
     ghost none: { IsUnmarked marks.items },
@@ -61,7 +61,7 @@ impl BlankMarks {
 }
 
 /// A clause that follows from others.
-#[derive(Debug, Drop)]
+#[derive(Drop)]
 pub struct Learnt {
     pub literals: Vec<Literal>,
     pub causes: Vec<usize>,
@@ -72,7 +72,7 @@ pub struct Learnt {
 }
 
 /// What a conflict teaches.
-#[derive(Debug, Drop)]
+#[derive(Drop)]
 pub enum Lesson {
     /// The clauses with these numbers contradict each other.
     Contradiction(Vec<usize>),

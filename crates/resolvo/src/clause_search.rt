@@ -31,7 +31,7 @@ use resolver_clause_store::{
 use std::alloc::{AllocError, Global};
 
 /// What a search found.
-#[derive(Debug, Drop)]
+#[derive(Drop)]
 pub enum Outcome {
     /// Values of variables, which the search's trail has: each has a reason, no clause is false or has a last literal to set,
     /// and each requirement has a candidate or depends on what is not true.
@@ -46,7 +46,7 @@ pub enum Outcome {
 ///
 /// Given clauses and learnt ones stand in one table, in the order in which they came. The clauses of requirements are known
 /// by their places in it.
-#[derive(Debug, Drop)]
+#[derive(Drop)]
 pub struct ClauseSearch {
     trail: Trail,
     propagator: Propagator,

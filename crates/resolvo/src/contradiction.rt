@@ -12,7 +12,7 @@ use resolver_clause_store::Literal;
 use std::alloc::{AllocError, Global};
 
 /// Where a clause of the table comes from.
-#[derive(Debug, Drop)]
+#[derive(Drop)]
 pub enum Source {
     /// The number of the given clause.
     Given(usize),

@@ -10,7 +10,7 @@ use resolver_clause_store::{Literal, Trail, clause};
 use std::alloc::AllocError;
 
 /// A clause under a trail.
-#[derive(Clone, Copy, Debug)]
+#[derive(Clone, Copy)]
 pub enum State {
     Satisfied,
     Falsified,
@@ -46,7 +46,7 @@ pub fn examine(trail: &Trail, clause: &[Literal]) -> State
 }
 
 /// What a look at a clause did.
-#[derive(Clone, Copy, Debug)]
+#[derive(Clone, Copy)]
 pub enum Effect {
     /// The clause is true, or two of its literals have no value.
     Nothing,
@@ -82,7 +82,7 @@ pub fn look_at(
 }
 
 /// What a look at every clause did.
-#[derive(Clone, Copy, Debug)]
+#[derive(Clone, Copy)]
 pub enum Pass {
     /// Nothing was left to set.
     Quiet,

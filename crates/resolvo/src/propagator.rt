@@ -10,7 +10,7 @@ pub use returning::begins_level;
 pub use visiting::propagate;
 
 /// A clause that was true when it was looked at last, by a literal that may be undone before a watched literal which is false.
-#[derive(Clone, Copy, Debug, PartialEq, Eq)]
+#[derive(Clone, Copy, PartialEq, Eq)]
 pub struct Late {
     /// The clause's number.
     pub number: usize,
@@ -19,7 +19,7 @@ pub struct Late {
 }
 
 /// What propagation keeps from one call to the next.
-#[derive(Debug, Drop)]
+#[derive(Drop)]
 pub struct Propagator {
     watches: Watches,
     late: Vec<Late>,

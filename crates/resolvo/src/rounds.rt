@@ -26,7 +26,7 @@ use std::alloc::Global;
 use std::hash::Hash;
 
 /// What the rounds ended with.
-#[derive(Debug, Drop)]
+#[derive(Drop)]
 pub enum Found {
     /// What is chosen is an answer.
     Answer,
@@ -37,7 +37,7 @@ pub enum Found {
 }
 
 /// What one round ended with.
-#[derive(Debug, Drop)]
+#[derive(Drop)]
 pub enum Round {
     /// There is nothing left to search or to read.
     Last(Found),

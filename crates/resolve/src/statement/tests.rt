@@ -173,12 +173,12 @@ fn reasons(rt: HostRuntime) -> Result<(), Fail> {
     ] {
         let solvable = A_1;
         let unknown = Statement::Unknown { solvable, reason };
-        assert_eq!(rt; statement(rt.alloc(), line)?, unknown, "at {line:?}");
+        assert!(rt; statement(rt.alloc(), line)? == unknown, "at {line:?}");
     }
     let solvable = A_1;
     let reason = "old";
     let exclude = Statement::Exclude { solvable, reason };
-    assert_eq!(rt; statement(rt.alloc(), "exclude a=1 old ")?, exclude);
+    assert!(rt; statement(rt.alloc(), "exclude a=1 old ")? == exclude);
     Ok(())
 }
 

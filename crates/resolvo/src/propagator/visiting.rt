@@ -16,7 +16,7 @@ use resolver_clause_store::{Literal, Trail, WatchedPair, clause};
 use std::alloc::AllocError;
 
 /// A literal that has become false.
-#[derive(Clone, Copy, Debug)]
+#[derive(Clone, Copy)]
 pub struct FalseLiteral {
     literal: Literal,
     level: usize,
@@ -25,7 +25,7 @@ pub struct FalseLiteral {
 }
 
 /// A clause that watches it.
-#[derive(Clone, Copy, Debug)]
+#[derive(Clone, Copy)]
 pub struct Watcher {
     number: usize,
     /// Where it stands in the literal's list.
@@ -35,7 +35,7 @@ pub struct Watcher {
 }
 
 /// What a look at a clause did.
-#[derive(Clone, Copy, Debug)]
+#[derive(Clone, Copy)]
 pub enum Look {
     /// The place of the clause to look at next.
     Next(usize),
