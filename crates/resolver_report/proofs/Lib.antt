@@ -27,3 +27,4 @@ pub mod MonotoneLemmas
 pub mod WorkLemmas
 pub mod ImpliedLemmas
 pub mod MessageExamples
+pub mod PendingLemmas

@@ -21,7 +21,7 @@ put_text : (top : Bool) (levels : List Bool) (p : Piece) (after : Forest) → te
 put_text top levels quiet after = refl
 put_text top levels (said text below) after = refl
 
-side_step : {X : Type 0} (top : Bool) (levels : List Bool) (tell : X → List Bool → Told Piece) (x : X) (xs : List X) (reported : List Bool) →
+pub side_step : {X : Type 0} (top : Bool) (levels : List Bool) (tell : X → List Bool → Told Piece) (x : X) (xs : List X) (reported : List Bool) →
     text_of top levels (side_by_side tell (x ∷ xs) reported).value ≡ text_at top (levels ++ (length xs == 0) ∷ []) (tell x reported).value ++ text_of top levels (side_by_side tell xs (tell x reported).reported).value
 side_step top levels tell x xs reported =
     let after = (side_by_side tell xs (tell x reported).reported).value in

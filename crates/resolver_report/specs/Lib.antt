@@ -36,3 +36,4 @@ pub mod Picks
 pub mod Indents
 pub mod ConflictTexts
 pub mod TestTexts
+pub mod PendingTexts

@@ -1,6 +1,6 @@
 //! What stands in front of a line.
 
-ghost use Rattle.std.specs.Prelude.{◌≡◌, ◌+◌, ◌-◌, ◌<◌, ◌==◌, ◌++◌, ◌∷◌, [], IfOk, IfErr, OnOk, length, map, string_bytes};
+ghost use Rattle.std.specs.Prelude.{◌≡◌, ◌+◌, ◌-◌, ◌<◌, ◌==◌, ◌++◌, ◌∷◌, [], Bool, List, IfOk, IfErr, OnOk, length, map, string_bytes};
 ghost use Rattle.resolver_report.specs.Forests.{branch_mark, indent, indent_from, stem_mark};
 ghost use Rattle.resolver_report.specs.Indents.{is_last_child, levels_in};
 
@@ -130,6 +130,14 @@ impl Indenter {
             levels,
             top_level_indent: self.top_level_indent,
         })
+    }
+
+    /// Leaves the deepest level.
+    pub fn rise(&mut self)
+        ensures levels { (levels : List Bool) (last : Bool) → levels_in self.old ≡ levels ++ last ∷ [] → levels_in self.new ≡ levels }
+        ensures top { self.new.top_level_indent ≡ self.old.top_level_indent }
+    {
+        self.levels.pop();
     }
 
     /// Writes the indent of a line at these levels.

@@ -17,6 +17,7 @@ mod listed;
 mod marks;
 mod message;
 mod parts;
+mod pending;
 mod places;
 mod plain;
 mod reached;

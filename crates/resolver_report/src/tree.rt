@@ -1,11 +1,12 @@
 //! The tree of a message.
 
-ghost use Rattle.std.specs.Prelude.{◌≡◌, ◌∷◌, ◌++◌, [], false, true, IfErr, OnOk, IsSome, MatchOption, length, map, slice_get, slice_set, string_bytes};
+ghost use Rattle.std.specs.Prelude.{◌≡◌, ◌∷◌, ◌++◌, ◌<◌, ◌==◌, [], false, true, IfErr, IfOk, IsFalse, IsTrue, OnOk, IsSome, MatchOption, length, map, slice_get, slice_set, string_bytes};
 ghost use Rattle.resolver_report.specs.Forests.{indent_from, text_of};
 ghost use Rattle.resolver_report.specs.Indents.{is_last_child, levels_in};
-ghost use Rattle.resolver_report.specs.Messages.{excluded, constraint_line as constraint_line_in, tree, is_quiet, is_reported as is_reported_in, lines_of, reason_text, run_text, requirement_text, with_group};
+ghost use Rattle.resolver_report.specs.Messages.{excluded, constraint_line as constraint_line_in, tree, is_quiet, is_reported as is_reported_in, lines_of, reason_text, run_text, requirement_text, unmarked, with_group};
+ghost use Rattle.resolver_report.specs.PendingTexts.{HasLevels, IsTellStep, below_run as below_run_in, pending_text, pending_view};
 ghost use Rattle.resolver_report.specs.Stories.{run_told_view};
-ghost use Rattle.resolver_report.specs.Tellings.{IsStory, IsToldNode, candidate_in, graph_in, keys_in, marks_in, is_requires, run_in, text_at, tree_in, verdict_rest, version_text_in};
+ghost use Rattle.resolver_report.specs.Tellings.{IsStory, IsToldNode, graph_in, keys_in, marks_in, is_requires, tree_in, verdict_rest, version_text_in};
 ghost use Rattle.resolver_report.specs.Shapes.{solvable_at as solvable_at_place};
 ghost use Rattle.resolver_report.specs.Verdicts.{verdict_view};
 
@@ -13,6 +14,7 @@ use crate::findings::group_at_node;
 use crate::indenter::{ChildOrder, Indenter};
 use crate::marks::is_marked;
 use crate::parts::{Edge, NodeId};
+use crate::pending::{Pending, set_mark};
 use crate::simplify::{MergedConflictNode, solvable_at};
 use crate::story::{Findings, NodeStory, RunStory, stories_of};
 use crate::texts::{write_reason, write_run_text, write_version, write_version_set};
@@ -32,15 +34,6 @@ pub struct Story<'i, I: Interner> {
     pub nodes: Vec<NodeStory>,
 }
 
-/// Marks a place, or takes its mark away.
-fn set_mark(marks: &mut [bool], n: usize, mark: bool)
-    ensures { marks.new ≡ slice_set marks.old n mark }
-{
-    if n < marks.len() {
-        marks[n] = mark;
-    }
-}
-
 /// Whether a group is reported.
 fn is_reported(group: Option<usize>, reported: &[bool]) -> bool
     ensures { result ≡ is_reported_in group reported.now }
@@ -52,8 +45,8 @@ fn is_reported(group: Option<usize>, reported: &[bool]) -> bool
 }
 
 /// Reports a group.
-fn report(group: Option<usize>, reported: &mut [bool])
-    ensures { reported.new ≡ with_group group reported.old }
+fn report(group: Option<usize>, reported: &mut Vec<bool>)
+    ensures { reported.new.items ≡ with_group group reported.old.items }
 {
     match group {
         Some(first) => set_mark(reported, first, true),
@@ -289,109 +282,171 @@ fn write_run_line<I: Interner>(
     Ok(())
 }
 
-/// Writes what is told of edges.
-#[cycle(tree)]
-pub fn tell_tree<I: Interner>(
-    story: &Story<'_, I>,
-    out: &mut String,
-    reported: &mut [bool],
-    branch: &mut [bool],
-    indenter: &Indenter,
-    top: bool,
-    runs: &[RunStory],
-    depth: usize,
-) -> Result<(), Exhausted>
-    requires { IsStory I.universe story.now I.SolvableId.eq }
-    ensures text { OnOk result (string_bytes out.new ≡ string_bytes out.old ++ text_of indenter.now.top_level_indent (levels_in indenter.now) (tree_in I.universe story.now depth branch.old top (map run_told_view runs.now) reported.old).value) }
-    ensures reported { OnOk result (reported.new ≡ (tree_in I.universe story.now depth branch.old top (map run_told_view runs.now) reported.old).reported) }
-    ensures branch { OnOk result (branch.new ≡ branch.old) }
-    ensures memory { IfErr result (λ e. e ≡ Exhausted.Memory) }
+/// The candidates that are told of below a run.
+fn below_run(run: &RunStory) -> &[NodeId]
+    ensures { result.now ≡ below_run_in (run_told_view run.now) }
 {
-    for i in 0..runs.len() {
-        let order = ChildOrder::at(i, runs.len());
-        tell_run(
-            story, out, reported, branch, indenter, order, top, &runs[i], depth,
-        )?;
-    }
-    Ok(())
-}
-
-/// Writes a run and what stands below it.
-#[cycle(tree)]
-fn tell_run<I: Interner>(
-    story: &Story<'_, I>,
-    out: &mut String,
-    reported: &mut [bool],
-    branch: &mut [bool],
-    indenter: &Indenter,
-    order: ChildOrder,
-    top: bool,
-    run: &RunStory,
-    depth: usize,
-) -> Result<(), Exhausted>
-    requires { IsStory I.universe story.now I.SolvableId.eq }
-    ensures text { OnOk result (string_bytes out.new ≡ string_bytes out.old ++ text_at indenter.now.top_level_indent (levels_in indenter.now ++ is_last_child order ∷ []) (run_in I.universe story.now depth branch.old top (run_told_view run.now) reported.old).value) }
-    ensures reported { OnOk result (reported.new ≡ (run_in I.universe story.now depth branch.old top (run_told_view run.now) reported.old).reported) }
-    ensures branch { OnOk result (branch.new ≡ branch.old) }
-    ensures memory { IfErr result (λ e. e ≡ Exhausted.Memory) }
-{
-    let deeper = indenter.deeper(order)?;
-    write_run_line(story.interner, &deeper, top, run, out)?;
     if run.is_unresolved {
-        return Ok(());
+        return &[];
     }
-    let below = run.candidates.as_slice();
-    for i in 0..below.len() {
-        let order = ChildOrder::at(i, below.len());
-        tell_candidate(
-            story, out, reported, branch, &deeper, order, below[i], depth,
-        )?;
-    }
+    &run.candidates
+}
+
+/// Writes the line of a run, and goes on with its candidates.
+fn tell_run<'s, I: Interner>(
+    story: &Story<'_, I>,
+    pending: &mut Pending<'s>,
+    run: &'s RunStory,
+    rest: &'s [RunStory],
+    out: &mut String,
+) -> Result<(), Exhausted>
+    requires levels { HasLevels pending.old }
+    requires candidates { pending.old.candidates.now ≡ [] }
+    requires runs { pending.old.runs.now ≡ run.now ∷ rest.now }
+    ensures step { OnOk result (IsTellStep I.universe story.now (pending_view pending.old) (pending_view pending.new) (string_bytes out.old) (string_bytes out.new)) }
+    ensures levels { OnOk result (HasLevels pending.new) }
+    ensures memory { IfErr result (λ e. e ≡ Exhausted.Memory) }
+{
+    let order = ChildOrder::before(rest);
+    let deeper = pending.indenter.deeper(order)?;
+    let top = pending.frames.is_empty();
+    write_run_line(story.interner, &deeper, top, run, out)?;
+    pending.candidates = below_run(run);
+    pending.runs = rest;
     Ok(())
 }
 
-/// Writes a candidate and what stands below it.
-#[cycle(tree)]
-fn tell_candidate<I: Interner>(
-    story: &Story<'_, I>,
-    out: &mut String,
-    reported: &mut [bool],
-    branch: &mut [bool],
-    indenter: &Indenter,
-    order: ChildOrder,
-    n: NodeId,
-    depth: usize,
-) -> Result<(), Exhausted>
-    requires { IsStory I.universe story.now I.SolvableId.eq }
-    ensures text { OnOk result (string_bytes out.new ≡ string_bytes out.old ++ text_at indenter.now.top_level_indent (levels_in indenter.now ++ is_last_child order ∷ []) (candidate_in I.universe story.now depth branch.old n.0 reported.old).value) }
-    ensures reported { OnOk result (reported.new ≡ (candidate_in I.universe story.now depth branch.old n.0 reported.old).reported) }
-    ensures branch { OnOk result (branch.new ≡ branch.old) }
+/// The levels of the candidate before these.
+fn candidate_levels(pending: &Pending<'_>, rest: &[NodeId]) -> Result<Indenter, Exhausted>
+    ensures levels { IfOk result (λ deeper. levels_in deeper ≡ levels_in pending.now.indenter ++ (length pending.now.runs.now == 0) ∷ (length rest.now == 0) ∷ []) }
+    ensures top { IfOk result (λ deeper. deeper.top_level_indent ≡ pending.now.indenter.top_level_indent) }
     ensures memory { IfErr result (λ e. e ≡ Exhausted.Memory) }
 {
-    if depth == 0 {
-        return Ok(());
-    }
-    let Some(node) = told_node(story, n, reported, branch) else {
-        return Ok(());
-    };
-    report(node.group, reported);
-    let deeper = indenter.deeper(order)?;
+    let run = pending.indenter.deeper(ChildOrder::before(pending.runs))?;
+    let candidate = run.deeper(ChildOrder::before(rest))?;
+    Ok(candidate)
+}
+
+/// Writes the lines of a candidate of which something is told, and goes down to what it requires.
+fn tell_node<'s, I: Interner>(
+    story: &'s Story<'_, I>,
+    pending: &mut Pending<'s>,
+    n: NodeId,
+    node: &'s NodeStory,
+    rest: &'s [NodeId],
+    out: &mut String,
+) -> Result<(), Exhausted>
+    requires story { IsStory I.universe story.now I.SolvableId.eq }
+    requires levels { HasLevels pending.old }
+    requires candidates { pending.old.candidates.now ≡ n ∷ rest.now }
+    requires deep { length pending.old.frames.items < pending.old.limit }
+    requires node { IsToldNode I.universe story.now pending.old.branch.items n.0 pending.old.reported.items node.now }
+    ensures step { OnOk result (IsTellStep I.universe story.now (pending_view pending.old) (pending_view pending.new) (string_bytes out.old) (string_bytes out.new)) }
+    ensures levels { OnOk result (HasLevels pending.new) }
+    ensures memory { IfErr result (λ e. e ≡ Exhausted.Memory) }
+{
+    report(node.group, &mut pending.reported);
+    let deeper = candidate_levels(pending, rest)?;
     write_candidate(story, &deeper, n, &node.verdict, out)?;
     if !requires_more(&node.verdict) {
+        pending.candidates = rest;
         return Ok(());
     }
-    set_mark(branch, n.0, true);
-    tell_tree(
-        story,
-        out,
-        reported,
-        branch,
-        &deeper,
-        false,
-        &node.runs,
-        depth - 1,
-    )?;
-    set_mark(branch, n.0, false);
+    pending.enter(n, rest, &node.runs, deeper)?;
+    Ok(())
+}
+
+/// Writes the lines of a candidate, and goes down to what it requires.
+fn tell_candidate<'s, I: Interner>(
+    story: &'s Story<'_, I>,
+    pending: &mut Pending<'s>,
+    n: NodeId,
+    rest: &'s [NodeId],
+    out: &mut String,
+) -> Result<(), Exhausted>
+    requires story { IsStory I.universe story.now I.SolvableId.eq }
+    requires levels { HasLevels pending.old }
+    requires candidates { pending.old.candidates.now ≡ n ∷ rest.now }
+    ensures step { OnOk result (IsTellStep I.universe story.now (pending_view pending.old) (pending_view pending.new) (string_bytes out.old) (string_bytes out.new)) }
+    ensures levels { OnOk result (HasLevels pending.new) }
+    ensures memory { IfErr result (λ e. e ≡ Exhausted.Memory) }
+{
+    if pending.frames.len() >= pending.limit {
+        pending.candidates = rest;
+        return Ok(());
+    }
+    let Some(node) = told_node(story, n, &pending.reported, &pending.branch) else {
+        pending.candidates = rest;
+        return Ok(());
+    };
+    tell_node(story, pending, n, node, rest, out)?;
+    Ok(())
+}
+
+/// Tells the next candidate or run, or goes up from a tree that is told. Whether something was left to do.
+fn tell_next<'s, I: Interner>(
+    story: &'s Story<'_, I>,
+    pending: &mut Pending<'s>,
+    out: &mut String,
+) -> Result<bool, Exhausted>
+    requires story { IsStory I.universe story.now I.SolvableId.eq }
+    requires levels { HasLevels pending.old }
+    ensures step { IfOk result (λ more. IsTrue more → IsTellStep I.universe story.now (pending_view pending.old) (pending_view pending.new) (string_bytes out.old) (string_bytes out.new)) }
+    ensures levels { IfOk result (λ more. IsTrue more → HasLevels pending.new) }
+    ensures told { IfOk result (λ more. IsFalse more → pending_text I.universe story.now (pending_view pending.old) ≡ []) }
+    ensures same { IfOk result (λ more. IsFalse more → string_bytes out.new ≡ string_bytes out.old) }
+    ensures memory { IfErr result (λ e. e ≡ Exhausted.Memory) }
+{
+    if let [n, rest @ ..] = pending.candidates {
+        tell_candidate(story, pending, *n, rest, out)?;
+        return Ok(true);
+    }
+    if let [run, rest @ ..] = pending.runs {
+        tell_run(story, pending, run, rest, out)?;
+        return Ok(true);
+    }
+    let more = pending.leave();
+    Ok(more)
+}
+
+/// Writes all that is still to be told.
+fn tell_pending<'s, I: Interner>(
+    story: &'s Story<'_, I>,
+    pending: &mut Pending<'s>,
+    out: &mut String,
+) -> Result<(), Exhausted>
+    requires story { IsStory I.universe story.now I.SolvableId.eq }
+    requires levels { HasLevels pending.old }
+    ensures text { OnOk result (string_bytes out.new ≡ string_bytes out.old ++ pending_text I.universe story.now (pending_view pending.old)) }
+    ensures memory { IfErr result (λ e. e ≡ Exhausted.Memory) }
+{
+    while tell_next(story, pending, out)? {}
+    Ok(())
+}
+
+/// Writes the tree over what is told of some edges.
+fn tell_tree<'s, I: Interner>(
+    story: &'s Story<'_, I>,
+    runs: &'s [RunStory],
+    top_level_indent: bool,
+    out: &mut String,
+) -> Result<(), Exhausted>
+    requires { IsStory I.universe story.now I.SolvableId.eq }
+    ensures text { OnOk result (string_bytes out.new ≡ string_bytes out.old ++ text_of top_level_indent [] (tree_in I.universe story.now (length story.now.findings.graph.now.graph.nodes) (unmarked story.now.findings.graph.now.graph) true (map run_told_view runs.now) (unmarked story.now.findings.graph.now.graph)).value) }
+    ensures memory { IfErr result (λ e. e ≡ Exhausted.Memory) }
+{
+    let alloc = *out.allocator();
+    let count = story.findings.graph.graph.nodes().len();
+    let mut pending = Pending {
+        frames: Vec::new(alloc),
+        candidates: &[],
+        runs,
+        indenter: Indenter::new(alloc, top_level_indent),
+        reported: vec![in alloc; false; count]?,
+        branch: vec![in alloc; false; count]?,
+        limit: count,
+    };
+    tell_pending(story, &mut pending, out)?;
     Ok(())
 }
 
@@ -408,19 +463,6 @@ pub fn tell_edges<I: Interner>(
 {
     let alloc = *out.allocator();
     let runs = stories_of(alloc, &story.findings, edges)?;
-    let count = story.findings.graph.graph.nodes().len();
-    let mut reported = vec![in alloc; false; count]?;
-    let mut branch = vec![in alloc; false; count]?;
-    let indenter = Indenter::new(alloc, top_level_indent);
-    tell_tree(
-        story,
-        out,
-        &mut reported,
-        &mut branch,
-        &indenter,
-        true,
-        &runs,
-        count,
-    )?;
+    tell_tree(story, &runs, top_level_indent, out)?;
     Ok(())
 }

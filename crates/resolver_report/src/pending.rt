@@ -1,0 +1,94 @@
+//! What is still to be told of a tree.
+//!
+//! A tree is as deep as a chain of packages is long. So the place at which it is told is kept in a list, and not on the call stack.
+
+ghost use Rattle.std.specs.Prelude.{◌≡◌, IfErr, OnOk, map, not, slice_set};
+ghost use Rattle.resolver_report.specs.PendingTexts.{HasLevels, entered, is_none, left, pending_view};
+ghost use Rattle.resolver_report.specs.Stories.{run_told_view};
+
+use crate::indenter::Indenter;
+use crate::parts::NodeId;
+use crate::story::RunStory;
+use resolver_clause_store::Exhausted;
+
+/// Marks a place, or takes its mark away.
+pub fn set_mark(marks: &mut Vec<bool>, n: usize, mark: bool)
+    ensures { marks.new.items ≡ slice_set marks.old.items n mark }
+{
+    if n < marks.len() {
+        marks[n] = mark;
+    }
+}
+
+/// A candidate whose tree is being told, and what comes after it.
+#[derive(Drop)]
+pub struct Frame<'s> {
+    pub node: NodeId,
+    /// The candidates after it, of the same run.
+    pub candidates: &'s [NodeId],
+    /// The runs after that one.
+    pub runs: &'s [RunStory],
+}
+
+/// What is still to be told.
+#[derive(Drop)]
+pub struct Pending<'s> {
+    /// The candidates whose trees are being told, from the top.
+    pub frames: Vec<Frame<'s>>,
+    /// The candidates that are left of a run.
+    pub candidates: &'s [NodeId],
+    /// The runs after that one.
+    pub runs: &'s [RunStory],
+    /// The levels of the tree that the runs are in.
+    pub indenter: Indenter,
+    /// The groups that were reported.
+    pub reported: Vec<bool>,
+    /// The candidates whose trees are being told.
+    pub branch: Vec<bool>,
+    /// How many candidates may stand on a branch.
+    pub limit: usize,
+}
+
+impl<'s> Pending<'s> {
+    /// Goes down to the tree of a candidate.
+    pub fn enter(
+        &mut self,
+        node: NodeId,
+        candidates: &'s [NodeId],
+        runs: &'s [RunStory],
+        indenter: Indenter,
+    ) -> Result<(), Exhausted>
+        ensures view { OnOk result (pending_view self.new ≡ entered (pending_view self.old) node.0 candidates.now (map run_told_view runs.now) indenter.top_level_indent) }
+        ensures indenter { OnOk result (self.new.indenter ≡ indenter) }
+        ensures memory { IfErr result (λ e. e ≡ Exhausted.Memory) }
+    {
+        self.frames.push(Frame {
+            node,
+            candidates,
+            runs: self.runs,
+        })?;
+        set_mark(&mut self.branch, node.0, true);
+        self.candidates = &[];
+        self.runs = runs;
+        self.indenter = indenter;
+        Ok(())
+    }
+
+    /// Goes up from a tree that is told, unless it is the whole.
+    pub fn leave(&mut self) -> bool
+        requires { HasLevels self.old }
+        ensures found { result ≡ not (is_none (pending_view self.old).frames) }
+        ensures view { pending_view self.new ≡ left (pending_view self.old) }
+        ensures levels { HasLevels self.new }
+    {
+        let Some(frame) = self.frames.pop() else {
+            return false;
+        };
+        set_mark(&mut self.branch, frame.node.0, false);
+        self.indenter.rise();
+        self.indenter.rise();
+        self.candidates = frame.candidates;
+        self.runs = frame.runs;
+        true
+    }
+}
