@@ -28,3 +28,4 @@ pub mod WorkLemmas
 pub mod ImpliedLemmas
 pub mod MessageExamples
 pub mod PendingLemmas
+pub mod ChoiceLemmas

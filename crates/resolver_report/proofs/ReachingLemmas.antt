@@ -23,7 +23,8 @@ use Rattle.resolver_report.specs.ReachedRules.{IsReachedBy, by_root, by_reached,
 use Rattle.resolver_report.specs.Reaching.{IsAbout, IsReachedSet}
 use Rattle.resolver_report.specs.Rules.{IsPresent}
 use Rattle.resolver_report.proofs.AskedLemmas.{gathered, gathered_from, slice_get-append_left, cases_lt_suc}
-use Rattle.resolver_report.proofs.SearchLemmas.{all_candidates, candidates_in, Contains-all_candidates, count_outside, count_outside-lt, list_any-outside}
+use Rattle.resolver_report.specs.Searching.{all_candidates, candidates_in, count_outside}
+use Rattle.resolver_report.proofs.SearchLemmas.{Contains-all_candidates, count_outside-lt, list_any-outside}
 
 none_in : {X : Type 0} (x : X) → Contains [] x → ⊥
 none_in x h = absurd (omega (arith, h.1))

@@ -12,6 +12,7 @@ use Rattle.resolver_clause_store.specs.declared.By.TheVariants.{Root, Solvable}
 use Rattle.resolver_report.specs.declared.rules.Rule.{Rule}
 use Rattle.resolver_report.specs.declared.rules.Rule.TheVariants.{Requires, Constrains, Lock, Excluded, OnePerPackage}
 use Rattle.resolver_report.specs.Rules.{AllMeet, AllNeeded, IsNeeded, by_root, by_needed, IsPresent, ObeysAlone, Obeys}
+use Rattle.resolver_report.specs.Searching.{all_candidates, candidates_in, count_outside}
 use Rattle.resolver_report.specs.Plain.{BreaksSome, Clashes, HasTwo, IsAllowed, IsAloneMarked, IsForbidden, IsMet, IsOpen, IsRefutedFrom, IsUnmet, MarksNoOther, MarksOther}
 
 -- what is there in a set is there in a larger one
@@ -95,23 +96,6 @@ IsOpen-refuted set wanted rules h refuted = unmet_refuted h.rule set wanted rule
 
 -- Why it ends: of all candidates that the rules name, fewer are outside the set.
 
--- the candidates that a rule names
-abbrev pub candidates_in : {N S : Type 0} → Rule N S → List S
-candidates_in (Requires by requirement candidates when) = candidates.items
-candidates_in (Constrains by version_set candidate) = []
-candidates_in (Lock locked forbidden) = []
-candidates_in (Excluded solvable reason) = []
-candidates_in (OnePerPackage name instance) = []
-
-abbrev pub all_candidates : {N S : Type 0} → List (Rule N S) → List S
-all_candidates [] = []
-all_candidates (rule ∷ rules) = candidates_in rule ++ all_candidates rules
-
--- how many of a list are outside the set
-abbrev pub count_outside : {S : Type 0} → (S → S → Bool) → List S → List S → ℕ
-count_outside same set [] = 0
-count_outside same set (x ∷ xs) = cond (list_any (λ y. same y x) set) (count_outside same set xs) (suc (count_outside same set xs))
-
 fewer_or_same : (b c : Bool) (m n : ℕ) → m ≤ n → cond (b || c) m (suc m) ≤ cond b n (suc n)
 fewer_or_same true c m n h = h
 fewer_or_same false true m n h = omega (arith, h)
@@ -174,13 +158,6 @@ unmet_named (OnePerPackage name instance) set wanted s h is = absurd h
 pub count_outside-falls : {N S : Type 0} (same : S → S → Bool) (rules : List (Rule N S)) (set wanted : List S) (s : S) → IsIdentity same → IsOpen set rules wanted → Contains wanted s → count_outside same (set ++ s ∷ []) (all_candidates rules) < count_outside same set (all_candidates rules)
 count_outside-falls same rules set wanted s identity h is =
     count_outside-lt same set s (all_candidates rules) (Contains-all_candidates rules h.rule s h.listed (unmet_named h.rule set wanted s h.unmet is)) (list_any-outside same identity set s (unmet_outside h.rule set wanted s h.unmet is)) (identity.itself s)
-
--- the measure of the recursive call
-pub falls_at : {N S : Type 0} (same : S → S → Bool) (rules : List (Rule N S)) (set wanted next : List S) (s : S) (t : ℕ) → IsIdentity same → IsOpen set rules wanted → Contains wanted s → next ≡ set ++ s ∷ [] → count_outside same set (all_candidates rules) ≡ t → count_outside same next (all_candidates rules) < t
-falls_at {N} {S} same rules set wanted next s t identity h is pushed start =
-    let lower : count_outside same (set ++ s ∷ []) (all_candidates rules) < count_outside same set (all_candidates rules) = count_outside-falls same rules set wanted s identity h is in
-    let Below : List S → Type 0 = λ list. count_outside same list (all_candidates rules) < t in
-    subst Below (sym pushed) (rw start at lower)
 
 -- Why each member is there by need, once.
 

@@ -37,3 +37,4 @@ pub mod Indents
 pub mod ConflictTexts
 pub mod TestTexts
 pub mod PendingTexts
+pub mod Searching

@@ -4,7 +4,8 @@ ghost use Rattle.std.specs.Prelude.{Any, ◌≡◌, IfErr, IfOk, MatchOption, �
 ghost use Rattle.resolver_clause_store.specs.Laws.{IsIdentity};
 ghost use Rattle.resolver_clause_store.specs.Lists.{HasNoRepeats};
 ghost use Rattle.resolver_report.specs.Rules.{AllMeet, AllNeeded, IsPresent, IsRefuted, Obeys};
-ghost use Rattle.resolver_report.specs.Plain.{BreaksSome, Clashes, HasTwo, IsAllowed, IsAloneMarked, IsForbidden, IsMet, IsOpen, IsRefutedFrom, IsUnmet, MarksNoOther, MarksOther};
+ghost use Rattle.resolver_report.specs.Plain.{BreaksSome, Clashes, HasTwo, IsAllowed, IsAloneMarked, IsForbidden, IsMet, IsOpen, IsUnmet, MarksNoOther, MarksOther};
+ghost use Rattle.resolver_report.specs.Searching.{IsChosen, IsSearching, IsStep, Shows, search_work, untried_view, work_of_choice};
 
 use crate::rules::Rule;
 use resolver_clause_store::{By, Exhausted, has, meets};
@@ -177,39 +178,145 @@ fn first_open<'a, N, S: Eq>(rules: &'a [Rule<N, S>], set: &[S]) -> Option<&'a [S
     None
 }
 
-/// Adds solvables to the set until it obeys the rules. Where no larger set does, the set is as it was.
-fn extend<N: Eq, S: Copy + Eq + Drop>(
-    rules: &[Rule<N, S>],
+/// What a set shows of the rules.
+enum Examined<'r, S> {
+    /// No larger set obeys them.
+    Refuted,
+    /// The set obeys them.
+    Obeys,
+    /// These are the candidates of the first requirement that is not met.
+    Open(&'r [S]),
+}
+
+/// What the set shows of the rules.
+fn examine<'r, N: Eq, S: Eq>(rules: &'r [Rule<N, S>], set: &[S]) -> Examined<'r, S>
+    requires names { IsIdentity N.eq }
+    requires solvables { IsIdentity S.eq }
+    ensures { Shows rules.now set.now result }
+{
+    if breaks_some(rules, set) {
+        return Examined::Refuted;
+    }
+    if has_two(rules, set) {
+        return Examined::Refuted;
+    }
+    match first_open(rules, set) {
+        Some(wanted) => Examined::Open(wanted),
+        None => Examined::Obeys,
+    }
+}
+
+/// The candidates of a requirement that were not tried yet.
+#[derive(Drop)]
+pub struct Untried<'r, S> {
+    pub candidates: &'r [S],
+}
+
+/// What a step of the search came to.
+#[derive(Clone, Copy)]
+pub enum Step {
+    /// The search goes on.
+    GoesOn,
+    /// The set obeys the rules.
+    Found,
+    /// No set obeys them.
+    Refuted,
+}
+
+/// Tests the set after a choice. Where no larger set obeys the rules, the choice is taken back.
+fn enter<'r, N: Eq, S: Copy + Eq + Drop>(
+    rules: &'r [Rule<N, S>],
     set: &mut Vec<S>,
+    untried: &mut Vec<Untried<'r, S>>,
+) -> Result<Step, Exhausted>
+    requires names { IsIdentity N.eq }
+    requires solvables { IsIdentity S.eq }
+    requires chosen { IsChosen rules.now set.old.items (untried_view untried.old.items) }
+    ensures step { IfOk result (IsStep S.eq rules.now set.new.items (untried_view untried.new.items) (work_of_choice S.eq rules.now set.old.items (untried_view untried.old.items))) }
+    ensures memory { IfErr result (λ e. e ≡ Exhausted.Memory) }
+{
+    match examine(rules, set) {
+        Examined::Refuted => {
+            set.pop();
+            Ok(Step::GoesOn)
+        }
+        Examined::Obeys => Ok(Step::Found),
+        Examined::Open(candidates) => {
+            untried.push(Untried { candidates })?;
+            Ok(Step::GoesOn)
+        }
+    }
+}
+
+/// Chooses the first of the candidates that were not tried.
+fn choose<'r, N: Eq, S: Copy + Eq + Drop>(
+    rules: &'r [Rule<N, S>],
+    set: &mut Vec<S>,
+    untried: &mut Vec<Untried<'r, S>>,
+    candidates: &'r [S],
+    solvable: S,
+    rest: &'r [S],
+) -> Result<Step, Exhausted>
+    requires names { IsIdentity N.eq }
+    requires solvables { IsIdentity S.eq }
+    requires candidates { candidates.now ≡ solvable ∷ rest.now }
+    requires searching { IsSearching rules.now set.old.items (candidates.now ∷ untried_view untried.old.items) }
+    ensures step { IfOk result (IsStep S.eq rules.now set.new.items (untried_view untried.new.items) (search_work S.eq rules.now set.old.items (candidates.now ∷ untried_view untried.old.items))) }
+    ensures memory { IfErr result (λ e. e ≡ Exhausted.Memory) }
+{
+    untried.push(Untried { candidates: rest })?;
+    set.push(solvable)?;
+    let step = enter(rules, set, untried)?;
+    Ok(step)
+}
+
+/// Chooses the next candidate, or takes back the last choice where none is left.
+fn advance<'r, N: Eq, S: Copy + Eq + Drop>(
+    rules: &'r [Rule<N, S>],
+    set: &mut Vec<S>,
+    untried: &mut Vec<Untried<'r, S>>,
+) -> Result<Step, Exhausted>
+    requires names { IsIdentity N.eq }
+    requires solvables { IsIdentity S.eq }
+    requires searching { IsSearching rules.now set.old.items (untried_view untried.old.items) }
+    ensures step { IfOk result (IsStep S.eq rules.now set.new.items (untried_view untried.new.items) (search_work S.eq rules.now set.old.items (untried_view untried.old.items))) }
+    ensures memory { IfErr result (λ e. e ≡ Exhausted.Memory) }
+{
+    let Some(level) = untried.pop() else {
+        return Ok(Step::Refuted);
+    };
+    let [solvable, rest @ ..] = level.candidates else {
+        set.pop();
+        return Ok(Step::GoesOn);
+    };
+    let step = choose(rules, set, untried, level.candidates, *solvable, rest)?;
+    Ok(step)
+}
+
+/// Searches from the empty set.
+fn search<'r, N: Eq, S: Copy + Eq + Drop>(
+    rules: &'r [Rule<N, S>],
+    set: &mut Vec<S>,
+    untried: &mut Vec<Untried<'r, S>>,
 ) -> Result<bool, Exhausted>
     requires names { IsIdentity N.eq }
     requires solvables { IsIdentity S.eq }
-    requires needed { AllNeeded rules.now set.old.items }
-    requires once { HasNoRepeats set.old.items }
+    requires nothing_chosen { set.old.items ≡ [] }
+    requires nothing_left { untried.old.items ≡ [] }
     ensures found { IfOk result (λ found. IsTrue found → Obeys set.new.items rules.now) }
     ensures needed { IfOk result (λ found. IsTrue found → AllNeeded rules.now set.new.items) }
     ensures once { IfOk result (λ found. IsTrue found → HasNoRepeats set.new.items) }
-    ensures refuted { IfOk result (λ found. IsFalse found → IsRefutedFrom set.old.items rules.now) }
-    ensures kept { IfOk result (λ found. IsFalse found → set.new.items ≡ set.old.items) }
+    ensures refuted { IfOk result (λ found. IsFalse found → IsRefuted rules.now) }
     ensures memory { IfErr result (λ e. e ≡ Exhausted.Memory) }
 {
-    if breaks_some(rules, set) {
-        return Ok(false);
+    let mut step = enter(rules, set, untried)?;
+    while let Step::GoesOn = step {
+        step = advance(rules, set, untried)?;
     }
-    if has_two(rules, set) {
-        return Ok(false);
+    match step {
+        Step::Found => Ok(true),
+        Step::Refuted | Step::GoesOn => Ok(false),
     }
-    let Some(wanted) = first_open(rules, set) else {
-        return Ok(true);
-    };
-    for solvable in wanted {
-        set.push(*solvable)?;
-        if extend(rules, set)? {
-            return Ok(true);
-        }
-        set.pop();
-    }
-    Ok(false)
 }
 
 /// A set that obeys the rules, or `None` where no set does.
@@ -219,8 +326,8 @@ fn extend<N: Eq, S: Copy + Eq + Drop>(
 /// by need, and none stands twice.
 /// The clauses say neither the order, nor which set it is where several obey the rules.
 ///
-/// The time may be exponential in the number of rules. The call stack grows with the set: a call for each solvable that
-/// is chosen, and one more.
+/// The time may be exponential in the number of rules. The choices stand in a list, so the machine's stack does not grow
+/// with them.
 ///
 /// The error is [`Exhausted::Memory`] alone.
 pub fn find<N: Eq, S: Copy + Eq + Drop>(
@@ -236,7 +343,8 @@ pub fn find<N: Eq, S: Copy + Eq + Drop>(
     ensures memory { IfErr result (λ e. e ≡ Exhausted.Memory) }
 {
     let mut set = Vec::new(alloc);
-    if extend(rules, &mut set)? {
+    let mut untried = Vec::new(alloc);
+    if search(rules, &mut set, &mut untried)? {
         Ok(Some(set))
     } else {
         Ok(None)

@@ -1,6 +1,6 @@
 use Rattle.std.proofs.Common.{◌+◌, ◌-◌, length}
 use Rattle.resolver_report.proofs.ReachingLemmas.{IsUnderway}
-use Rattle.resolver_report.proofs.SearchLemmas.{all_candidates, count_outside}
+use Rattle.resolver_report.specs.Searching.{all_candidates, count_outside}
 use Rattle.resolver_report.proofs.reached.reached_by.Given as goal
 
 abbrev pub invariant-loop-next : goal.invariant-loop-next
