@@ -237,13 +237,12 @@ fn outcome_of(
 {
     match answered {
         Ok(chosen) => Ok(Outcome::Answer(answer_text(alloc, solver.provider(), chosen)?)),
-        Err(why) => refusal_of(alloc, solver, why),
+        Err(why) => refusal_of(solver, why),
     }
 }
 
 /// What comes of why a solver gave no answer.
 fn refusal_of(
-    alloc: Global,
     solver: &Solver<Catalog>,
     why: &UnsolvableOrCancelled<Catalog>,
 ) -> Result<Outcome, Fault>
@@ -251,7 +250,7 @@ fn refusal_of(
 {
     match why {
         UnsolvableOrCancelled::Unsolvable(conflict) => {
-            Ok(Outcome::Conflict(conflict_text(alloc, solver, conflict)?))
+            Ok(Outcome::Conflict(conflict_text(solver, conflict)?))
         }
         UnsolvableOrCancelled::Exhausted(e) => Err(Fault::Exhausted(*e)),
         UnsolvableOrCancelled::Cancelled(value) => match *value {},
@@ -260,14 +259,13 @@ fn refusal_of(
 
 /// The message of a conflict.
 fn conflict_text(
-    alloc: Global,
     solver: &Solver<Catalog>,
     conflict: &Conflict<NameId, SolvableId>,
 ) -> Result<String, Fault>
     ensures { IfOk result (λ text. string_bytes text ≡ conflict_message (provider_in solver.now) (rules_in conflict.now)) }
 {
     let message = conflict.display_user_friendly(solver)?;
-    let text = format!(in alloc; "{message}");
+    let text = message.text();
     drop(message);
     Ok(text?)
 }

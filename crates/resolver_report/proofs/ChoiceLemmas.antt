@@ -1,6 +1,5 @@
 -- Steps of the plain search.
 use Rattle.std.proofs.Common.{◌≡◌, ℕ, zero, suc, ◌+◌, ◌-◌, ◌*◌, ◌<◌, ◌≤◌, Bool, List, [], ◌∷◌, ◌++◌, length, map, take, refl, sym, ◌∙◌, ap, subst, arith, Contains, All}
-use Rattle.std.specs.Prelude.{reverse}
 use Rattle.std.proofs.lemmas.List.{length-append, length-take-le, reverse-append, take-append-le, take-take, take_all}
 use Rattle.std.proofs.lemmas.List.Elements.{All-cons, All-contains_itself, All-head, All-nil, All-tail, All-weaker}
 use Rattle.std.proofs.lemmas.Nat.{mul-le}
@@ -8,7 +7,6 @@ use Rattle.resolver_clause_store.specs.Laws.{IsIdentity}
 use Rattle.resolver_report.specs.declared.plain.Untried.{Untried}
 use Rattle.resolver_report.specs.declared.rules.Rule.{Rule}
 use Rattle.resolver_report.specs.declared.rules.Rule.TheVariants.{Requires, Constrains, Lock, Excluded, OnePerPackage}
-use Rattle.resolver_report.specs.Rules.{IsRefuted}
 use Rattle.resolver_report.specs.Plain.{IsOpen, IsRefutedFrom, IsUnmet}
 use Rattle.resolver_report.specs.declared.plain.Step.{Step}
 use Rattle.resolver_report.specs.declared.plain.Step.TheVariants.{GoesOn, Found, Refuted}

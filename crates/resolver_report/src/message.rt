@@ -143,7 +143,7 @@ pub struct DisplayUnsat<'i, I: Interner> {
 }
 
 impl<'i, I: Interner> DisplayUnsat<'i, I> {
-    ghost use Rattle.resolver_report.specs.Displays.{displayed_graph, interner_in};
+    ghost use Rattle.resolver_report.specs.Displays.{displayed, displayed_graph, interner_in};
 
     /// The message of a graph, with the texts of this interner.
     pub fn new(graph: ConflictGraph<I::SolvableId>, interner: &'i I) -> Self
@@ -151,6 +151,18 @@ impl<'i, I: Interner> DisplayUnsat<'i, I> {
         ensures interner { interner_in result ≡ interner.now }
     {
         DisplayUnsat { graph, interner }
+    }
+
+    /// The message as a text, which takes half the memory that formatting it into a text takes.
+    ///
+    /// The error is [`Exhausted::Memory`] alone. A message that is too long for memory is counted first, and refused before
+    /// it is there.
+    pub fn text(&self) -> Result<String, Exhausted>
+        ensures value { IfOk result (λ text. string_bytes text ≡ displayed I.universe self.now) }
+        ensures memory { IfErr result (λ e. e ≡ Exhausted.Memory) }
+    {
+        let text = message_text(self.interner, &self.graph)?;
+        Ok(text)
     }
 }
 
@@ -160,7 +172,7 @@ impl<'i, I: Interner> fmt::Display for DisplayUnsat<'i, I> {
     ghost output = { λ d. Some (displayed I.universe d) };
 
     fn fmt<W: fmt::Write>(&self, f: &mut fmt::Formatter<W>) -> fmt::Result {
-        let Ok(text) = message_text(self.interner, &self.graph) else {
+        let Ok(text) = self.text() else {
             return Err(fmt::Error);
         };
         f.write_str(text.as_str())

@@ -2,14 +2,15 @@
 //!
 //! A tree is as deep as a chain of packages is long. So the place at which it is told is kept in a list, and not on the call stack.
 
-ghost use Rattle.std.specs.Prelude.{◌≡◌, IfErr, OnOk, map, not, slice_set};
-ghost use Rattle.resolver_report.specs.PendingTexts.{HasLevels, entered, is_none, left, pending_view};
+ghost use Rattle.std.specs.Prelude.{◌≡◌, IfErr, IfOk, OnOk, map, not, slice_set};
+ghost use Rattle.resolver_report.specs.PendingTexts.{HasLevels, entered, is_none, left, pending_view, whole_tree};
 ghost use Rattle.resolver_report.specs.Stories.{run_told_view};
 
 use crate::indenter::Indenter;
 use crate::parts::NodeId;
 use crate::story::RunStory;
 use resolver_clause_store::Exhausted;
+use std::alloc::Global;
 
 /// Marks a place, or takes its mark away.
 pub fn set_mark(marks: &mut Vec<bool>, n: usize, mark: bool)
@@ -50,6 +51,28 @@ pub struct Pending<'s> {
 }
 
 impl<'s> Pending<'s> {
+    /// What is still to be told of a whole tree, where a branch has at most so many candidates.
+    pub fn whole(
+        alloc: Global,
+        runs: &'s [RunStory],
+        top_level_indent: bool,
+        limit: usize,
+    ) -> Result<Self, Exhausted>
+        ensures view { IfOk result (λ pending. pending_view pending ≡ whole_tree top_level_indent limit (map run_told_view runs.now)) }
+        ensures levels { IfOk result HasLevels }
+        ensures memory { IfErr result (λ e. e ≡ Exhausted.Memory) }
+    {
+        Ok(Pending {
+            frames: Vec::new(alloc),
+            candidates: &[],
+            runs,
+            indenter: Indenter::new(alloc, top_level_indent),
+            reported: vec![in alloc; false; limit]?,
+            branch: vec![in alloc; false; limit]?,
+            limit,
+        })
+    }
+
     /// Goes down to the tree of a candidate.
     pub fn enter(
         &mut self,

@@ -424,6 +424,47 @@ fn tell_pending<'s, I: Interner>(
     Ok(())
 }
 
+/// Makes room in a text for all that is still to be told. It is told once into a line that is thrown away. So a text
+/// that memory cannot hold is refused before it is there, and one that it can hold is not copied while it grows.
+fn reserve_pending<'s, I: Interner>(
+    story: &'s Story<'_, I>,
+    pending: &mut Pending<'s>,
+    line: &mut String,
+    out: &mut String,
+) -> Result<(), Exhausted>
+    requires story { IsStory I.universe story.now I.SolvableId.eq }
+    requires levels { HasLevels pending.old }
+    ensures kept { OnOk result (string_bytes out.new ≡ string_bytes out.old) }
+    ensures memory { IfErr result (λ e. e ≡ Exhausted.Memory) }
+{
+    let mut length: usize = 0;
+    while tell_next(story, pending, line)? {
+        length = length.saturating_add(line.len());
+        line.clear();
+        out.reserve(length)?;
+    }
+    Ok(())
+}
+
+/// Makes room in a text for the tree over what is told of some edges.
+fn reserve_tree<'s, I: Interner>(
+    story: &'s Story<'_, I>,
+    runs: &'s [RunStory],
+    top_level_indent: bool,
+    out: &mut String,
+) -> Result<(), Exhausted>
+    requires { IsStory I.universe story.now I.SolvableId.eq }
+    ensures kept { OnOk result (string_bytes out.new ≡ string_bytes out.old) }
+    ensures memory { IfErr result (λ e. e ≡ Exhausted.Memory) }
+{
+    let count = story.findings.graph.graph.nodes().len();
+    let mut pending = Pending::whole(*out.allocator(), runs, top_level_indent, count)?;
+    let mut line = String::new(*out.allocator());
+    reserve_pending(story, &mut pending, &mut line, out)?;
+    drop(pending);
+    Ok(())
+}
+
 /// Writes the tree over what is told of some edges.
 fn tell_tree<'s, I: Interner>(
     story: &'s Story<'_, I>,
@@ -435,18 +476,11 @@ fn tell_tree<'s, I: Interner>(
     ensures text { OnOk result (string_bytes out.new ≡ string_bytes out.old ++ text_of top_level_indent [] (tree_in I.universe story.now (length story.now.findings.graph.now.graph.nodes) (unmarked story.now.findings.graph.now.graph) true (map run_told_view runs.now) (unmarked story.now.findings.graph.now.graph)).value) }
     ensures memory { IfErr result (λ e. e ≡ Exhausted.Memory) }
 {
-    let alloc = *out.allocator();
+    reserve_tree(story, runs, top_level_indent, out)?;
     let count = story.findings.graph.graph.nodes().len();
-    let mut pending = Pending {
-        frames: Vec::new(alloc),
-        candidates: &[],
-        runs,
-        indenter: Indenter::new(alloc, top_level_indent),
-        reported: vec![in alloc; false; count]?,
-        branch: vec![in alloc; false; count]?,
-        limit: count,
-    };
+    let mut pending = Pending::whole(*out.allocator(), runs, top_level_indent, count)?;
     tell_pending(story, &mut pending, out)?;
+    drop(pending);
     Ok(())
 }
 
