@@ -6,7 +6,6 @@ pub mod PartialLemmas
 pub mod RequirementLemmas
 pub mod NearLemmas
 pub mod FirstChoiceLemmas
-pub mod FirstChoiceExamples
 pub mod SoftRunLemmas
 pub mod ValidLemmas
 pub mod CacheLemmas

@@ -1,5 +1,5 @@
 -- Settled clauses are propagated.
-use Rattle.std.proofs.Common.{◌≡◌, ◌⊎◌, Option, Some, None, Bool, true, false, sym, ap, ◌∙◌, ⊎_elim, List}
+use Rattle.std.proofs.Common.{◌≡◌, Option, Some, None, Bool, true, false, sym, ap, ◌∙◌, ⊎_elim, List}
 use Rattle.std.specs.List.{Contains}
 use Rattle.std.proofs.lemmas.Bool.{false≢true}
 use Rattle.std.proofs.lemmas.List.Elements.{All-contains}

@@ -12,7 +12,6 @@ pub mod SoftRun
 pub mod Caches
 pub mod Interruptions
 pub mod Filtering
-pub mod TestProvider
 pub mod Disjuncts
 pub mod Formula
 pub mod Slots

@@ -1,5 +1,6 @@
 -- Scores of packages.
-use Rattle.std.specs.Prelude.{ℕ, zero, suc, ◌+◌, ◌-◌, ◌*◌, ◌/◌, ◌^◌, min, List, slice_index_or}
+use Rattle.std.specs.Prelude.{ℕ, zero, suc, ◌-◌, ◌*◌, ◌/◌, ◌^◌, min, List, slice_index_or}
+use Rattle.resolver_clause_store.specs.declared.scores.Activity.{Activity}
 use Rattle.resolver_clause_store.specs.declared.scores.Score.{Score}
 use Rattle.resolver_clause_store.specs.declared.scores.Scores.{Scores}
 
@@ -15,6 +16,17 @@ fade_often decay (suc times) score = fade_often decay times (fade decay score)
 -- the score of a package as it was kept, and 0 where there is none
 abbrev pub kept_score : List Score → ℕ → Score
 kept_score scores number = slice_index_or scores number (record { value = 0; learnt = 0 })
+
+-- what is kept of the score of a package, and after how many learnt clauses it was that
+abbrev pub kept_in : Scores → ℕ → Score
+kept_in it number = kept_score it.scores.items number
+
+abbrev pub kept_at : Scores → ℕ → ℕ
+kept_at it number = (kept_in it number).learnt
+
+-- how scores grow and fade
+abbrev pub activity_in : Scores → Activity
+activity_in it = it.activity
 
 -- the score of a package after so many learnt clauses
 abbrev pub score_in : Scores → ℕ → ℕ → ℕ

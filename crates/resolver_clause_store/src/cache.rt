@@ -224,6 +224,3 @@ impl<N: Copy + Eq + Hash + Drop, S: Copy + Eq + Hash + Drop> Cache<N, S> {
         }
     }
 }
-
-#[cfg(test)]
-mod tests;

@@ -88,6 +88,3 @@ pub fn a_condition_holds_where_a_disjunct_does<N, S>()
     ensures { (u : Universe N S) (set : List S) (c : ConditionId) (lists : List (List VersionSetId)) →
         IsDisjunctive u c lists → (ConditionHolds u (Contains set) c ↔ SomeHolds u (Contains set) lists) }
 {}
-
-#[cfg(test)]
-mod tests;

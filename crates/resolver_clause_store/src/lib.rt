@@ -20,8 +20,6 @@ mod requirements;
 mod scores;
 mod sets;
 mod standing;
-#[cfg(test)]
-mod test_provider;
 mod trail;
 mod variables;
 mod watches;
@@ -42,7 +40,7 @@ pub use provider::{DependencyProvider, Interner};
 pub use questions::check_cancel;
 pub use queue::DecideQueue;
 pub use requirements::requirement_candidates;
-pub use scores::Activity;
+pub use scores::{Activity, Scores};
 pub use sets::{has, meets};
 pub use trail::{Addition, Reason, Slot, Trail};
 pub use variables::Variables;

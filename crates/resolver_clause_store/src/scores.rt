@@ -1,7 +1,7 @@
 //! Scores of packages, which grow with learnt clauses and fade.
 
 ghost use Rattle.std.specs.Prelude.{◌<◌, ◌≡◌, ◌≢◌, ◌≤◌, ◌+◌, ◌-◌, ◌^◌, ℕ, OnOk, length, min, suc};
-ghost use Rattle.resolver_clause_store.specs.Scores.{fade, fade_often, kept_score, score_in};
+ghost use Rattle.resolver_clause_store.specs.Scores.{activity_in, fade, fade_often, kept_at, kept_in, kept_score, score_in};
 ghost use Rattle.resolver_clause_store.specs.declared.scores.Scores.{Scores as AllScores};
 
 use std::alloc::{AllocError, Global};
@@ -105,7 +105,7 @@ impl Scores {
     /// The score of a package after so many learnt clauses, which is kept.
     pub fn read(&mut self, number: usize, learnt: u64) -> u64
         ensures value { result ≡ score_in self.old number learnt }
-        ensures same { (kept_score self.old.scores.items number).learnt ≤ learnt → (other later : ℕ) → learnt ≤ later → score_in self.new other later ≡ score_in self.old other later }
+        ensures same { kept_at self.old number ≤ learnt → (other later : ℕ) → learnt ≤ later → score_in self.new other later ≡ score_in self.old other later }
     {
         let value = self.of(number, learnt);
         if number < self.scores.len() {
@@ -141,10 +141,10 @@ impl Scores {
 
     /// Adds to the score of a package after so many learnt clauses.
     pub fn add(&mut self, number: usize, learnt: u64) -> Result<(), AllocError>
-        ensures here { OnOk result (score_in self.new number learnt ≡ min (score_in self.old number learnt + self.old.activity.add) (2 ^ 64 - 1)) }
-        ensures dated { OnOk result ((kept_score self.new.scores.items number).learnt ≡ learnt) }
-        ensures others { OnOk result ((other : ℕ) → other ≢ number → kept_score self.new.scores.items other ≡ kept_score self.old.scores.items other) }
-        ensures activity { self.new.activity ≡ self.old.activity }
+        ensures here { OnOk result (score_in self.new number learnt ≡ min (score_in self.old number learnt + (activity_in self.old).add) (2 ^ 64 - 1)) }
+        ensures dated { OnOk result (kept_at self.new number ≡ learnt) }
+        ensures others { OnOk result ((other : ℕ) → other ≢ number → kept_in self.new other ≡ kept_in self.old other) }
+        ensures activity { activity_in self.new ≡ activity_in self.old }
     {
         let value = self.of(number, learnt).saturating_add(self.activity.add);
         self.reach(number)?;
@@ -157,6 +157,3 @@ impl Scores {
 pub fn scores_fade()
     ensures { (scores : AllScores) (number learnt : ℕ) → (kept_score scores.scores.items number).learnt ≤ learnt → score_in scores number (suc learnt) ≡ fade scores.activity.decay (score_in scores number learnt) }
 {}
-
-#[cfg(test)]
-mod tests;

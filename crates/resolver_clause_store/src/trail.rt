@@ -281,6 +281,3 @@ impl Trail {
         }
     }
 }
-
-#[cfg(test)]
-mod tests;

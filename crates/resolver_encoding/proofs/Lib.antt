@@ -20,7 +20,6 @@ pub mod Reading
 pub mod SoFarLemmas
 pub mod ReachLemmas
 pub mod HintLemmas
-pub mod RoundLemmas
 pub mod Bridge
 pub mod PromiseLemmas
 pub mod Spared

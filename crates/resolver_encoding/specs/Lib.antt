@@ -18,6 +18,5 @@ pub mod Called
 pub mod Hints
 pub mod Reach
 pub mod SoFar
-pub mod TestProvider
 pub mod Turns
 pub mod LeftOut

@@ -195,6 +195,3 @@ impl<S: Copy + Eq + Hash + Drop> Chosen<S> {
         Ok(())
     }
 }
-
-#[cfg(test)]
-mod tests;

@@ -186,6 +186,3 @@ impl<N: Copy + Eq + Hash + Drop, S: Copy + Eq + Hash + Drop> Encoding<N, S> {
         self.kinds.len()
     }
 }
-
-#[cfg(test)]
-mod tests;

@@ -277,6 +277,3 @@ pub fn rules_of_clauses<D: DependencyProvider>(
     }
     Ok(listing.into_rules())
 }
-
-#[cfg(test)]
-mod tests;

@@ -15,8 +15,6 @@ mod literals;
 mod met;
 mod progress;
 mod sources;
-#[cfg(test)]
-mod test_provider;
 
 pub use chosen::Chosen;
 pub use encoding::Encoding;

@@ -22,3 +22,5 @@ pub mod GoingLemmas
 pub mod RefusingLemmas
 pub mod SoftLemmas
 pub mod OutcomeLemmas
+pub mod FirstChoiceExamples
+pub mod ReadInTurnLemmas

@@ -4,6 +4,7 @@ pub mod Answers
 pub mod Explanations
 pub mod Refusals
 pub mod Solvers
+pub mod NotingProvider
 pub mod TestProvider
 pub mod Propagation
 pub mod Propagators

@@ -16,7 +16,7 @@ use Rattle.resolver_clause_store.specs.declared.VersionSetId.{VersionSetId}
 use Rattle.resolver_clause_store.specs.declared.Condition.{Condition}
 use Rattle.resolver_clause_store.specs.declared.Condition.TheVariants.{Requirement, Binary}
 use Rattle.resolver_clause_store.specs.declared.LogicalOperator.{LogicalOperator}
-use Rattle.resolver_clause_store.specs.declared.LogicalOperator.TheVariants.{Or}
+use Rattle.resolver_clause_store.specs.declared.LogicalOperator.TheVariants.{And, Or}
 
 -- whether a version set takes a solvable of its package
 abbrev pub takes : VersionSetId → ℕ → Bool
@@ -55,9 +55,12 @@ known_package n = record {
 abbrev pub unknown_package : Package ℕ
 unknown_package = record { listed = []; favored = None; locked = None; excluded = []; hint = hint_none }
 
--- a condition from 1000 on joins two below it
+-- a condition from 1000 on joins two below it: by "and" if the first one ends in 4, and else by "or"
+abbrev pub joined_by : ℕ → LogicalOperator
+joined_by n = cond (nat_eq (n / 1000 % 10) 4) And Or
+
 abbrev pub condition_of : ConditionId → Condition
-condition_of c = cond (nat_lt c.0 1000) (Requirement (record { 0 = c.0 })) (Binary Or (record { 0 = c.0 / 1000 }) (record { 0 = c.0 % 1000 }))
+condition_of c = cond (nat_lt c.0 1000) (Requirement (record { 0 = c.0 })) (Binary (joined_by c.0) (record { 0 = c.0 / 1000 }) (record { 0 = c.0 % 1000 }))
 
 abbrev pub test_universe : Bool → List (ℕ × ConditionalRequirement) → List (ℕ × VersionSetId) → Universe ℕ ℕ
 test_universe endless requirements constraints = record {
@@ -82,14 +85,14 @@ pub numbers_are_values : IsIdentity nat_eq
 numbers_are_values = record { alone = eqb-true; itself = λ a. eq-eqb a a refl }
 
 -- the parts of a condition that is decided by this test
-left_part : (n : ℕ) (below : Bool) → nat_lt n 1000 ≡ below → (a b : ConditionId) (op : LogicalOperator) → cond below (Requirement (record { 0 = n })) (Binary Or (record { 0 = n / 1000 }) (record { 0 = n % 1000 })) ≡ Binary op a b → a.0 < n
+left_part : (n : ℕ) (below : Bool) → nat_lt n 1000 ≡ below → (a b : ConditionId) (op : LogicalOperator) → cond below (Requirement (record { 0 = n })) (Binary (joined_by n) (record { 0 = n / 1000 }) (record { 0 = n % 1000 })) ≡ Binary op a b → a.0 < n
 left_part n true is a b op e = absurd cc
 left_part n false is a b op e =
     let same : n / 1000 ≡ a.0 = cc in
     let large : 1000 ≤ n = grind arith in
     omega arith
 
-right_part : (n : ℕ) (below : Bool) → nat_lt n 1000 ≡ below → (a b : ConditionId) (op : LogicalOperator) → cond below (Requirement (record { 0 = n })) (Binary Or (record { 0 = n / 1000 }) (record { 0 = n % 1000 })) ≡ Binary op a b → b.0 < n
+right_part : (n : ℕ) (below : Bool) → nat_lt n 1000 ≡ below → (a b : ConditionId) (op : LogicalOperator) → cond below (Requirement (record { 0 = n })) (Binary (joined_by n) (record { 0 = n / 1000 }) (record { 0 = n % 1000 })) ≡ Binary op a b → b.0 < n
 right_part n true is a b op e = absurd cc
 right_part n false is a b op e =
     let same : n % 1000 ≡ b.0 = cc in

@@ -5,12 +5,16 @@ mod analyze;
 mod clause_search;
 mod conflict;
 mod contradiction;
+#[cfg(test)]
+mod encoding_tests;
 mod owners;
 mod problem;
 mod propagate;
 mod propagator;
 mod rounds;
 mod solver;
+#[cfg(test)]
+mod store_tests;
 #[cfg(test)]
 mod test_provider;
 

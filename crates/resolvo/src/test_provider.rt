@@ -2,8 +2,9 @@
 //!
 //! Package n has the solvables 10 n + 1 and 10 n + 4, the later one preferred. Version set 10 n + k takes 10 n + k, and
 //! with k = 0 both. Package 7 is locked to 71, package 8 excludes 84, and nobody knows what 94 needs. Packages 10 to 19
-//! hint that the dependencies of all their solvables are cheap to ask for. An endless provider has packages as far as the
-//! ids go, and there 10 n + 1 requires version set 10 (n + 1).
+//! hint that the dependencies of all their solvables are cheap to ask for. A condition below 1000 is a version set, and
+//! 1000 n + k joins the conditions n and k: by "and" if n ends in 4, and else by "or". An endless provider has packages as
+//! far as the ids go, and there 10 n + 1 requires version set 10 (n + 1).
 
 ghost use Rattle.std.specs.Prelude.{◌≡◌, ◌++◌, ℕ, IfErr, IfOk, OnOk, refl};
 ghost use Rattle.resolver_clause_store.specs.Universe.{hint_of as hint_in};
@@ -37,8 +38,17 @@ pub struct TestProvider {
     pub constraints: Vec<(u32, VersionSetId)>,
     /// Which of the cancel checks to come stops the search: with 1 the next one, with 0 none.
     pub cancelling: Cell<u32>,
+    /// The digits name the packages whose candidates were asked for, in order.
+    pub log: Cell<u32>,
     /// Whether there are packages as far as the ids go, with each older solvable requiring the next one.
     pub endless: bool,
+}
+
+impl TestProvider {
+    fn note(&self, name: u32) {
+        self.log
+            .set(self.log.get().wrapping_mul(10).wrapping_add(name));
+    }
 }
 
 /// How many packages there are.
@@ -155,6 +165,9 @@ impl Interner for TestProvider {
         }
         let left = ConditionId(condition.0 / 1000);
         let right = ConditionId(condition.0 % 1000);
+        if left.0 % 10 == 4 {
+            return Condition::Binary(LogicalOperator::And, left, right);
+        }
         Condition::Binary(LogicalOperator::Or, left, right)
     }
 
@@ -191,6 +204,7 @@ impl DependencyProvider for TestProvider {
     ghost lawful_packages = { λ it. test_packages_lawful it.endless it.requirements.items it.constraints.items };
 
     fn get_candidates(&self, name: u32) -> Result<Option<Candidates<u32>>, Exhausted> {
+        self.note(name);
         if name >= package_count(self.endless) {
             return Ok(None);
         }

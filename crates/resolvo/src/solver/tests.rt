@@ -95,6 +95,7 @@ fn provider_of_nothing(alloc: Global, endless: bool) -> TestProvider {
         requirements: Vec::new(alloc),
         constraints: Vec::new(alloc),
         cancelling: Cell::new(0),
+        log: Cell::new(0),
         endless,
     }
 }

@@ -1,4 +1,0 @@
-use Rattle.resolver_encoding.proofs.encoding.tests.holds.Goals as goal
-
-pub holds_within-requires-clause-is_true : goal.holds_within-requires-clause-is_true
-holds_within-requires-clause-is_true c = c.new-cache.ensures _

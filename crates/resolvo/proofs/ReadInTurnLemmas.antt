@@ -1,0 +1,53 @@
+-- What the tests of the encoding read in turn.
+use Rattle.std.specs.Prelude.{◌≡◌, ◌∷◌, ◌++◌, [], All, Contains, List, map}
+use Rattle.std.proofs.Common.{sym, subst}
+use Rattle.std.proofs.lemmas.List.Elements.{All-append, All-cons, All-nil, All-weaker}
+use Rattle.resolver_clause_store.specs.Universe.{Universe, Demands}
+use Rattle.resolver_clause_store.specs.Candidates.{matching}
+use Rattle.resolver_clause_store.specs.Lists.{Meets}
+use Rattle.resolver_clause_store.specs.declared.Origin.TheVariants.{Solvable}
+use Rattle.resolver_encoding.specs.Encodings.{IsUnread, Notes}
+use Rattle.resolver_encoding.specs.SoFar.{IsReadSoFar, IsReading}
+use Rattle.resolver_encoding.proofs.Lists.{none_in}
+
+-- one more member of a list
+pub All-put : {X : Type 0} (P : X → Type 0) (old new : List X) (x : X) → new ≡ old ++ x ∷ [] → All P old → P x → All P new
+All-put {X} P old new x is all at =
+    let AllOf : List X → Type 0 = λ list. All P list in
+    subst AllOf (sym is) (All-append P old (x ∷ []) all (All-cons P x [] at (All-nil P)))
+
+module _ {N S : Type 0} (u : Universe N S) where
+  -- what is read for a set is read for none of it
+  pub for_none : (root : Demands) (set : List S) (notes : Notes N S) → IsReadSoFar u root set notes → IsReadSoFar u root [] notes
+  for_none root set notes so = record {
+    half = so.half;
+    set_read = λ s h. absurd (none_in s h);
+    none = record {
+      none = λ e left met. so.none.none e left
+          (All-weaker (λ xs. Meets xs []) (λ xs. Meets xs set) (λ xs at. absurd (none_in at.shared at.in_second)) (map (matching u) e.disjunct) met);
+    };
+  }
+
+  pub reading_again : (set : List S) (old new : Notes N S) → IsReading u [] old → ((root : Demands) → IsReadSoFar u root [] old → IsReadSoFar u root set new) → IsReading u [] new
+  reading_again set old new reading step = record { root = reading.root; so_far = for_none reading.root set new (step reading.root reading.so_far) }
+
+-- exemptions alone undo no reading
+pub unread_with : {N S : Type 0} (exempt : List S) (old new : Notes N S) → IsUnread old → new ≡ record old { exempt = exempt } → IsUnread new
+unread_with {N} {S} exempt old new unread is =
+    let Unread : Notes N S → Type 0 = λ notes. IsUnread notes in
+    subst Unread (sym is) (record {
+      no_origins = unread.no_origins;
+      no_table = unread.no_table;
+      no_kinds = unread.no_kinds;
+      no_requirements = unread.no_requirements;
+      none_seen = unread.none_seen;
+      sound_groups = unread.sound_groups;
+      no_groups = unread.no_groups;
+      none_asked = unread.none_asked;
+      none_helped = unread.none_helped;
+      no_gates = unread.no_gates;
+      none_constrained = unread.none_constrained;
+      none_read = unread.none_read;
+      none_deferred = unread.none_deferred;
+      sound_waiting = unread.sound_waiting;
+    })

@@ -1,0 +1,7 @@
+use Rattle.std.proofs.Common.{All, Contains}
+use Rattle.resolver_clause_store.specs.Variables.{origins_in}
+use Rattle.resolver_clause_store.specs.declared.Origin.TheVariants.{Solvable}
+use Rattle.resolvo.proofs.encoding_tests.clauses.registered.Given as goal
+
+abbrev pub invariant-loop-number : goal.invariant-loop-number
+invariant-loop-number g l = All (λ s. Contains (origins_in l.variables) (Solvable s)) l.list.items

@@ -1,0 +1,998 @@
+//! Clauses of small problems, worked out by hand.
+
+mod turns;
+
+ghost use Rattle.std.specs.Prelude.{◌≡◌, ◌≤◌, ◌^◌, [], All, Contains, IfErr, IfOk, OnOk};
+ghost use Rattle.resolver_clause_store.specs.Caches.{IsTrueCache};
+ghost use Rattle.resolver_clause_store.specs.Laws.{IsIdentity};
+ghost use Rattle.resolver_clause_store.specs.Variables.{origins_in};
+ghost use Rattle.resolver_clause_store.specs.declared.Origin.TheVariants.{Solvable as SolvableOrigin};
+ghost use Rattle.resolver_encoding.specs.Encodings.{IsUnread};
+ghost use Rattle.resolver_encoding.specs.Notes.{IsBounded, notes_in};
+ghost use Rattle.resolver_encoding.specs.SoFar.{IsReading};
+ghost use Rattle.resolvo.specs.TestProvider.{test_universe};
+
+use crate::test_provider::TestProvider;
+use indexmap::IndexSet;
+use resolver_clause_store::{
+    Cache, ConditionId, ConditionalRequirement, DependencyProvider, Exhausted, Interner,
+    Interrupted, Origin, Requirement, RequirementClause, Variable, Variables, VersionSetId, append,
+    has, is_among,
+};
+use resolver_encoding::{Encoding, Progress};
+use std::alloc::Global;
+use std::cell::Cell;
+use std::hash::Hash;
+use std::test::Fail;
+
+type Literals<'a> = &'a [(Origin<u32, u32>, bool)];
+
+const ROOT: (Origin<u32, u32>, bool) = (Origin::Root, false);
+
+fn always(version_set: u32) -> ConditionalRequirement {
+    ConditionalRequirement {
+        condition: None,
+        requirement: Requirement::Single(VersionSetId(version_set)),
+    }
+}
+
+fn when(condition: u32, version_set: u32) -> ConditionalRequirement {
+    ConditionalRequirement {
+        condition: Some(ConditionId(condition)),
+        requirement: Requirement::Single(VersionSetId(version_set)),
+    }
+}
+
+fn is_there(solvable: u32) -> (Origin<u32, u32>, bool) {
+    (Origin::Solvable(solvable), true)
+}
+
+fn is_absent(solvable: u32) -> (Origin<u32, u32>, bool) {
+    (Origin::Solvable(solvable), false)
+}
+
+fn bit(name: u32, index: u32, value: bool) -> (Origin<u32, u32>, bool) {
+    (Origin::Bit { name, index }, value)
+}
+
+fn helper(version_set: u32, positive: bool) -> (Origin<u32, u32>, bool) {
+    (Origin::ConditionHelper(VersionSetId(version_set)), positive)
+}
+
+/// A provider of which solvables require version sets, and constrain version sets.
+fn provider_of(
+    alloc: Global,
+    required: &[(u32, u32)],
+    constrained: &[(u32, u32)],
+) -> Result<TestProvider, Fail> {
+    let mut requirements = Vec::new(alloc);
+    for (solvable, version_set) in required {
+        requirements.push((*solvable, always(*version_set)))?;
+    }
+    let mut constraints = Vec::new(alloc);
+    for (solvable, version_set) in constrained {
+        constraints.push((*solvable, VersionSetId(*version_set)))?;
+    }
+    Ok(TestProvider {
+        alloc,
+        requirements,
+        constraints,
+        cancelling: Cell::new(0),
+        log: Cell::new(0),
+        endless: false,
+    })
+}
+
+/// Makes a solvable exempt, if one is given: its turn begins before any package was asked.
+fn spare<
+    N: Copy + Eq + Hash + Drop,
+    S: Copy + Eq + Hash + Drop,
+    D: DependencyProvider<NameId = N, SolvableId = S>,
+>(encoding: &mut Encoding<N, S>, provider: &D, exempt: Option<S>) -> Result<(), Exhausted>
+    requires bounded { IsBounded encoding.old }
+    requires nothing_read { IsUnread (notes_in encoding.old) }
+    ensures bounded { IsBounded encoding.new }
+    ensures nothing_read { OnOk result (IsUnread (notes_in encoding.new)) }
+    ensures memory { IfErr result (λ e. e ≡ Exhausted.Memory) }
+{
+    match exempt {
+        None => Ok(()),
+        Some(solvable) => {
+            encoding.begin_turn(provider, solvable)?;
+            Ok(())
+        }
+    }
+}
+
+/// What there is after a round of reading: what it did, how many clauses and how many disjuncts that are put off there
+/// are, how many packages were asked, and those whose candidates were read.
+type Round = (Progress, usize, usize, usize, u32);
+
+/// Puts the solvable that a variable stands for behind the others, if it stands for one. Answers whether there is such a
+/// variable.
+fn push_registered<N: Copy + Eq + Hash + Drop, S: Copy + Eq + Hash + Drop>(
+    variables: &Variables<N, S>,
+    list: &mut Vec<S>,
+    number: u32,
+) -> Result<bool, Exhausted>
+    requires known { All (λ s. Contains (origins_in variables.now) (SolvableOrigin s)) list.old.items }
+    ensures known { OnOk result (All (λ s. Contains (origins_in variables.now) (SolvableOrigin s)) list.new.items) }
+    ensures memory { IfErr result (λ e. e ≡ Exhausted.Memory) }
+{
+    match variables.origin(Variable::new(number)) {
+        None => Ok(false),
+        Some(Origin::Solvable(solvable)) => {
+            list.push(solvable)?;
+            Ok(true)
+        }
+        Some(
+            Origin::Root
+            | Origin::Bit { .. }
+            | Origin::Gate(_)
+            | Origin::ConstraintHelper(_)
+            | Origin::ConditionHelper(_),
+        ) => Ok(true),
+    }
+}
+
+/// The solvables that have variables, in the order of these.
+fn registered<N: Copy + Eq + Hash + Drop, S: Copy + Eq + Hash + Drop>(
+    alloc: Global,
+    variables: &Variables<N, S>,
+) -> Result<Vec<S>, Exhausted>
+    ensures known { IfOk result (λ list. All (λ s. Contains (origins_in variables.now) (SolvableOrigin s)) list.items) }
+    ensures memory { IfErr result (λ e. e ≡ Exhausted.Memory) }
+{
+    let mut list = Vec::new(alloc);
+    for number in 0..u32::MAX {
+        if !push_registered(variables, &mut list, number)? {
+            return Ok(list);
+        }
+    }
+    Ok(list)
+}
+
+/// Puts a solvable into the set, if it is among those that are known.
+fn choose_known<N: Copy + Eq + Hash + Drop, S: Copy + Eq + Hash + Drop>(
+    variables: &Variables<N, S>,
+    known: &[S],
+    chosen: &mut IndexSet<S>,
+    solvable: S,
+) -> Result<(), Exhausted>
+    requires solvables { IsIdentity S.eq }
+    requires all_known { All (λ s. Contains (origins_in variables.now) (SolvableOrigin s)) known.now }
+    requires known { All (λ s. Contains (origins_in variables.now) (SolvableOrigin s)) chosen.old.keys }
+    ensures known { OnOk result (All (λ s. Contains (origins_in variables.now) (SolvableOrigin s)) chosen.new.keys) }
+    ensures memory { IfErr result (λ e. e ≡ Exhausted.Memory) }
+{
+    if !has(known, &solvable) {
+        return Ok(());
+    }
+    if is_among(chosen, &solvable) {
+        return Ok(());
+    }
+    append(chosen, solvable)?;
+    Ok(())
+}
+
+/// The set of those of these that have variables.
+fn chosen_of<N: Copy + Eq + Hash + Drop, S: Copy + Eq + Hash + Drop>(
+    alloc: Global,
+    variables: &Variables<N, S>,
+    given: &[S],
+) -> Result<IndexSet<S>, Exhausted>
+    requires solvables { IsIdentity S.eq }
+    ensures known { IfOk result (λ chosen. All (λ s. Contains (origins_in variables.now) (SolvableOrigin s)) chosen.keys) }
+    ensures memory { IfErr result (λ e. e ≡ Exhausted.Memory) }
+{
+    let known = registered(alloc, variables)?;
+    let mut chosen = IndexSet::new(alloc);
+    for solvable in given {
+        choose_known(variables, &known, &mut chosen, *solvable)?;
+    }
+    Ok(chosen)
+}
+
+/// Reads those of these that have variables, as if they were all that is chosen.
+fn read_given<
+    N: Copy + Eq + Hash + Drop,
+    S: Copy + Eq + Hash + Drop,
+    D: DependencyProvider<NameId = N, SolvableId = S>,
+>(
+    alloc: Global,
+    encoding: &mut Encoding<N, S>,
+    provider: &D,
+    cache: &mut Cache<N, S>,
+    given: &[S],
+) -> Result<Progress, Interrupted<D::Cancel>>
+    requires bounded { IsBounded encoding.old }
+    requires is_true { IsTrueCache (D.universe provider.now) cache.old }
+    requires reading { IsReading (D.universe provider.now) [] (notes_in encoding.old) }
+    ensures bounded { IsBounded encoding.new }
+    ensures is_true { IsTrueCache (D.universe provider.now) cache.new }
+    ensures reading { OnOk result (IsReading (D.universe provider.now) [] (notes_in encoding.new)) }
+{
+    let chosen = chosen_of(alloc, encoding.variables(), given)?;
+    let progress = encoding.read_chosen(provider, cache, &chosen, 0)?;
+    Ok(progress)
+}
+
+/// Reads all that has variables, as if it were chosen.
+fn read_known<
+    N: Copy + Eq + Hash + Drop,
+    S: Copy + Eq + Hash + Drop,
+    D: DependencyProvider<NameId = N, SolvableId = S>,
+>(
+    alloc: Global,
+    encoding: &mut Encoding<N, S>,
+    provider: &D,
+    cache: &mut Cache<N, S>,
+) -> Result<Progress, Interrupted<D::Cancel>>
+    requires bounded { IsBounded encoding.old }
+    requires is_true { IsTrueCache (D.universe provider.now) cache.old }
+    requires reading { IsReading (D.universe provider.now) [] (notes_in encoding.old) }
+    ensures bounded { IsBounded encoding.new }
+    ensures is_true { IsTrueCache (D.universe provider.now) cache.new }
+    ensures reading { OnOk result (IsReading (D.universe provider.now) [] (notes_in encoding.new)) }
+{
+    let known = registered(alloc, encoding.variables())?;
+    let progress = read_given(alloc, encoding, provider, cache, &known)?;
+    Ok(progress)
+}
+
+/// Reads the root, where a solvable may be exempt, and then four times all that has variables by then.
+fn read<
+    N: Copy + Eq + Hash + Drop,
+    S: Copy + Eq + Hash + Drop,
+    D: DependencyProvider<NameId = N, SolvableId = S>,
+>(
+    alloc: Global,
+    encoding: &mut Encoding<N, S>,
+    provider: &D,
+    cache: &mut Cache<N, S>,
+    exempt: Option<S>,
+    requirements: &[ConditionalRequirement],
+) -> Result<(), Interrupted<D::Cancel>>
+    requires bounded { IsBounded encoding.old }
+    requires is_true { IsTrueCache (D.universe provider.now) cache.old }
+    requires nothing_read { IsUnread (notes_in encoding.old) }
+    ensures { IsTrueCache (D.universe provider.now) cache.new }
+{
+    spare(encoding, provider, exempt)?;
+    encoding.read_root(provider, cache, requirements, &[])?;
+    for _ in 0..4 {
+        read_known(alloc, encoding, provider, cache)?;
+    }
+    Ok(())
+}
+
+/// Whether the package of a solvable was asked. If it was not, the turn of the solvable makes it exempt. That turn is
+/// ended at once, so the encoding is as before.
+fn is_asked<
+    N: Copy + Eq + Hash + Drop,
+    S: Copy + Eq + Hash + Drop,
+    D: DependencyProvider<NameId = N, SolvableId = S>,
+>(
+    encoding: &mut Encoding<N, S>,
+    provider: &D,
+    cache: &mut Cache<N, S>,
+    solvable: S,
+) -> Result<bool, Interrupted<D::Cancel>>
+    requires bounded { IsBounded encoding.old }
+    requires is_true { IsTrueCache (D.universe provider.now) cache.old }
+    requires reading { IsReading (D.universe provider.now) [] (notes_in encoding.old) }
+    ensures bounded { IsBounded encoding.new }
+    ensures is_true { IsTrueCache (D.universe provider.now) cache.new }
+    ensures reading { OnOk result (IsReading (D.universe provider.now) [] (notes_in encoding.new)) }
+{
+    let before = encoding.exempt().len();
+    encoding.begin_turn(provider, solvable)?;
+    let is_asked = encoding.exempt().len() == before;
+    encoding.end_turn(provider, cache, before)?;
+    Ok(is_asked)
+}
+
+/// How many packages were asked, of those that the provider has.
+fn asked_count(
+    encoding: &mut Encoding<u32, u32>,
+    provider: &TestProvider,
+    cache: &mut Cache<u32, u32>,
+) -> Result<usize, Interrupted<u8>>
+    requires bounded { IsBounded encoding.old }
+    requires is_true { IsTrueCache (test_universe provider.now.endless provider.now.requirements.items provider.now.constraints.items) cache.old }
+    requires reading { IsReading (test_universe provider.now.endless provider.now.requirements.items provider.now.constraints.items) [] (notes_in encoding.old) }
+    ensures bounded { IsBounded encoding.new }
+    ensures is_true { IsTrueCache (test_universe provider.now.endless provider.now.requirements.items provider.now.constraints.items) cache.new }
+    ensures reading { OnOk result (IsReading (test_universe provider.now.endless provider.now.requirements.items provider.now.constraints.items) [] (notes_in encoding.new)) }
+{
+    let mut count: usize = 0;
+    for name in 0..100u32 {
+        let asked = is_asked(encoding, provider, cache, 10 * name + 1)?;
+        count = count.saturating_add(asked as usize);
+    }
+    Ok(count)
+}
+
+/// Reads the root, and then each of these in turn, as if it were all that is chosen.
+fn rounds_of(
+    encoding: &mut Encoding<u32, u32>,
+    provider: &TestProvider,
+    cache: &mut Cache<u32, u32>,
+    requirements: &[ConditionalRequirement],
+    turns: &[&[u32]],
+) -> Result<Vec<Round>, Interrupted<u8>>
+    requires bounded { IsBounded encoding.old }
+    requires is_true { IsTrueCache (test_universe provider.now.endless provider.now.requirements.items provider.now.constraints.items) cache.old }
+    requires nothing_read { IsUnread (notes_in encoding.old) }
+    ensures { IsTrueCache (test_universe provider.now.endless provider.now.requirements.items provider.now.constraints.items) cache.new }
+{
+    encoding.read_root(provider, cache, requirements, &[])?;
+    let mut rounds = Vec::new(provider.alloc);
+    for given in turns {
+        let progress = read_given(provider.alloc, encoding, provider, cache, given)?;
+        let clauses = encoding.clause_count();
+        let deferred = encoding.deferred_count();
+        let asked = asked_count(encoding, provider, cache)?;
+        rounds.push((progress, clauses, deferred, asked, provider.log.get()))?;
+    }
+    Ok(rounds)
+}
+
+/// Registers these in turn.
+fn register_all<
+    N: Copy + Eq + Hash + Drop,
+    S: Copy + Eq + Hash + Drop,
+    D: DependencyProvider<NameId = N, SolvableId = S>,
+>(encoding: &mut Encoding<N, S>, provider: &D, solvables: &[S]) -> Result<(), Exhausted>
+    requires { IsBounded encoding.old }
+    ensures { IsBounded encoding.new }
+{
+    for solvable in solvables {
+        encoding.register(provider, *solvable)?;
+    }
+    Ok(())
+}
+
+/// Whether the literals of a clause are these, in order.
+fn is_clause(encoding: &Encoding<u32, u32>, number: usize, wanted: Literals<'_>) -> bool {
+    let Some(literals) = encoding.literals().get(number) else {
+        return false;
+    };
+    if literals.len() != wanted.len() {
+        return false;
+    }
+    for (literal, (origin, positive)) in literals.iter().zip(wanted) {
+        if encoding.variables().origin(literal.variable) != Some(*origin) {
+            return false;
+        }
+        if literal.positive != *positive {
+            return false;
+        }
+    }
+    true
+}
+
+/// Whether each of these clauses stands at its place.
+fn are_clauses(encoding: &Encoding<u32, u32>, wanted: &[(usize, Literals<'_>)]) -> bool {
+    for (number, literals) in wanted {
+        if !is_clause(encoding, *number, literals) {
+            return false;
+        }
+    }
+    true
+}
+
+/// What an encoding has when the turn of a solvable has begun, and when it was refused: how many clauses, and how many
+/// exempt ones.
+type Turn = (usize, usize, usize, usize);
+
+/// What is done with an encoding.
+#[derive(Clone, Copy)]
+enum Steps<'a> {
+    /// The root is read.
+    Root,
+    /// The root is read, and then four times all that has variables by then.
+    Known,
+    /// The same, and ids run out at so many variables.
+    Ids(usize),
+    /// The root is read, and then each of the first ones in turn, as if it were all that is chosen. That comes to these rounds.
+    Rounds(&'a [&'a [u32]], &'a [Round]),
+    /// These are registered.
+    Registered(&'a [u32]),
+    /// The turn of a solvable begins behind the root's, these are read, and it is refused. That comes to this.
+    Refused(u32, &'a [u32], Turn),
+}
+
+/// What is done with an encoding, and what is there then.
+#[derive(Clone, Copy)]
+struct Case<'a> {
+    /// A solvable that is exempt. Only `Known` and `Ids` heed it.
+    exempt: Option<u32>,
+    requirements: &'a [ConditionalRequirement],
+    steps: Steps<'a>,
+    /// How many clauses there are, if that is judged.
+    count: Option<usize>,
+    /// Some of the clauses, by number, if any are judged.
+    clauses: Option<&'a [(usize, Literals<'a>)]>,
+    /// The requirements that are read, if these are judged.
+    asked: Option<&'a [(usize, bool, usize)]>,
+}
+
+/// Whether ids ran out.
+fn is_out_of_ids(outcome: &Result<(), Interrupted<u8>>) -> bool {
+    matches!(outcome, Err(Interrupted::Exhausted(Exhausted::Ids)))
+}
+
+/// Whether the rounds are these, in order.
+fn are_rounds(outcome: &Result<Vec<Round>, Interrupted<u8>>, wanted: &[Round]) -> bool {
+    match outcome {
+        Ok(rounds) => rounds.as_slice() == wanted,
+        Err(_) => false,
+    }
+}
+
+/// Does the steps, and says whether they come to what is wanted.
+fn are_done(
+    encoding: &mut Encoding<u32, u32>,
+    provider: &TestProvider,
+    cache: &mut Cache<u32, u32>,
+    case: &Case<'_>,
+) -> bool
+    requires bounded { IsBounded encoding.old }
+    requires is_true { IsTrueCache (test_universe provider.now.endless provider.now.requirements.items provider.now.constraints.items) cache.old }
+    requires nothing_read { IsUnread (notes_in encoding.old) }
+    ensures { IsTrueCache (test_universe provider.now.endless provider.now.requirements.items provider.now.constraints.items) cache.new }
+{
+    match &case.steps {
+        Steps::Root => encoding
+            .read_root(provider, cache, case.requirements, &[])
+            .is_ok(),
+        Steps::Known => read(
+            provider.alloc,
+            encoding,
+            provider,
+            cache,
+            case.exempt,
+            case.requirements,
+        )
+        .is_ok(),
+        Steps::Ids(variables) => {
+            let outcome = read(
+                provider.alloc,
+                encoding,
+                provider,
+                cache,
+                case.exempt,
+                case.requirements,
+            );
+            is_out_of_ids(&outcome) & (encoding.variables().len() == *variables)
+        }
+        Steps::Rounds(turns, rounds) => {
+            let outcome = rounds_of(encoding, provider, cache, case.requirements, turns);
+            are_rounds(&outcome, rounds)
+        }
+        Steps::Registered(solvables) => register_all(encoding, provider, solvables).is_ok(),
+        Steps::Refused(solvable, given, turn) => {
+            let outcome = turns::refused(
+                provider.alloc,
+                encoding,
+                provider,
+                cache,
+                case.requirements,
+                *solvable,
+                given,
+            );
+            turns::is_turn(&outcome, *turn)
+        }
+    }
+}
+
+/// Whether what is wanted is there.
+fn is_there_then(encoding: &Encoding<u32, u32>, case: &Case<'_>) -> bool {
+    let count = match case.count {
+        Some(count) => encoding.clause_count() == count,
+        None => true,
+    };
+    let asked = match case.asked {
+        Some(asked) => are_requirements(encoding.requirements(), asked),
+        None => true,
+    };
+    let clauses = match case.clauses {
+        Some(clauses) => are_clauses(encoding, clauses),
+        None => true,
+    };
+    count & asked & clauses
+}
+
+/// Whether a case comes out as wanted in an encoding with these limits.
+///
+/// This alone owns an encoding: a function that owns one takes the prover a minute.
+fn holds_within(
+    alloc: Global,
+    limits: (usize, usize),
+    provider: &TestProvider,
+    cache: &mut Cache<u32, u32>,
+    case: &Case<'_>,
+) -> bool
+    requires limits { limits.0 ≤ 2 ^ 31 }
+    requires is_true { IsTrueCache (test_universe provider.now.endless provider.now.requirements.items provider.now.constraints.items) cache.old }
+    ensures { IsTrueCache (test_universe provider.now.endless provider.now.requirements.items provider.now.constraints.items) cache.new }
+{
+    let mut encoding = Encoding::new(alloc, limits.0, limits.1);
+    are_done(&mut encoding, provider, cache, case) & is_there_then(&encoding, case)
+}
+
+/// Whether a case comes out as wanted, within these limits.
+fn holds(alloc: Global, limits: (usize, usize), provider: &TestProvider, case: &Case<'_>) -> bool
+    requires { limits.0 ≤ 2 ^ 31 }
+{
+    let mut cache = Cache::new(alloc);
+    holds_within(alloc, limits, provider, &mut cache, case)
+}
+
+/// Whether so many clauses come of these requirements, where one solvable may be exempt, and these are among them.
+fn states<'x>(
+    alloc: Global,
+    provider: TestProvider,
+    exempt: Option<u32>,
+    requirements: &'x [ConditionalRequirement],
+    count: usize,
+    wanted: &'x [(usize, Literals<'x>)],
+) -> bool {
+    let case = Case {
+        exempt,
+        requirements,
+        steps: Steps::Known,
+        count: Some(count),
+        clauses: Some(wanted),
+        asked: None,
+    };
+    holds(alloc, (100, 100), &provider, &case)
+}
+
+#[test]
+fn a_requirement_of_a_requirement_has_its_clause(rt: HostRuntime) -> Result<(), Fail> {
+    let provider = provider_of(rt.alloc(), &[(11, 24)], &[])?;
+    let wanted: [(usize, Literals<'_>); 3] = [
+        (0, &[(Origin::Root, true)]),
+        (1, &[ROOT, is_there(11)]),
+        (2, &[is_absent(11), is_there(24)]),
+    ];
+    assert!(rt; states(rt.alloc(), provider, None, &[always(11)], 3, &wanted));
+    Ok(())
+}
+
+#[test]
+fn candidates_of_a_package_are_kept_apart(rt: HostRuntime) -> Result<(), Fail> {
+    let provider = provider_of(rt.alloc(), &[(14, 21), (21, 1000)], &[])?;
+    let wanted: [(usize, Literals<'_>); 5] = [
+        (1, &[is_absent(14), bit(1, 0, false)]),
+        (2, &[is_absent(11), bit(1, 0, true)]),
+        (3, &[ROOT, is_there(14), is_there(11)]),
+        (4, &[is_absent(14), is_there(21)]),
+        (5, &[is_absent(21)]),
+    ];
+    assert!(rt; states(rt.alloc(), provider, None, &[always(10)], 6, &wanted));
+    Ok(())
+}
+
+/// Whether there are so many clauses once these were registered, and these are among them.
+fn has_registered<'x>(
+    alloc: Global,
+    solvables: &'x [u32],
+    count: usize,
+    wanted: &'x [(usize, Literals<'x>)],
+) -> Result<bool, Fail> {
+    let provider = provider_of(alloc, &[], &[])?;
+    let case = Case {
+        exempt: None,
+        requirements: &[],
+        steps: Steps::Registered(solvables),
+        count: Some(count),
+        clauses: Some(wanted),
+        asked: None,
+    };
+    Ok(holds(alloc, (100, 100), &provider, &case))
+}
+
+#[test]
+fn each_digit_of_a_number_has_a_clause(rt: HostRuntime) -> Result<(), Fail> {
+    let solvables = [13, 11, 10, 14, 12];
+    for (count, clauses) in [(1, 0), (2, 2), (3, 6), (4, 8), (5, 15)] {
+        assert!(rt; has_registered(rt.alloc(), &solvables[..count], clauses, &[])?);
+    }
+    assert!(rt; has_registered(rt.alloc(), &[13, 21, 13, 11], 2, &[])?);
+    Ok(())
+}
+
+#[test]
+fn a_third_solvable_brings_a_digit(rt: HostRuntime) -> Result<(), Fail> {
+    let wanted: [(usize, Literals<'_>); 4] = [
+        (2, &[is_absent(13), bit(1, 1, false)]),
+        (3, &[is_absent(11), bit(1, 1, false)]),
+        (4, &[is_absent(10), bit(1, 0, false)]),
+        (5, &[is_absent(10), bit(1, 1, true)]),
+    ];
+    assert!(rt; has_registered(rt.alloc(), &[13, 11, 10], 6, &wanted)?);
+    Ok(())
+}
+
+/// Whether the requirements are for these clauses, of the root or not, and their first version sets end there.
+fn are_requirements(found: &[RequirementClause], wanted: &[(usize, bool, usize)]) -> bool {
+    if found.len() != wanted.len() {
+        return false;
+    }
+    for (clause, (number, of_root, end)) in found.iter().zip(wanted) {
+        if clause.number != *number || clause.of_root != *of_root {
+            return false;
+        }
+        if clause.ends.as_slice() != [*end].as_slice() {
+            return false;
+        }
+    }
+    true
+}
+
+/// Whether the requirements that are read are these.
+fn asks<'x>(
+    alloc: Global,
+    provider: TestProvider,
+    requirements: &'x [ConditionalRequirement],
+    wanted: &'x [(usize, bool, usize)],
+) -> bool {
+    let case = Case {
+        exempt: None,
+        requirements,
+        steps: Steps::Known,
+        count: None,
+        clauses: None,
+        asked: Some(wanted),
+    };
+    holds(alloc, (100, 100), &provider, &case)
+}
+
+#[test]
+fn requirements_know_their_clauses(rt: HostRuntime) -> Result<(), Fail> {
+    let provider = provider_of(rt.alloc(), &[(14, 21), (21, 1000)], &[])?;
+    let wanted = [(3, true, 3), (4, false, 2), (5, false, 1)];
+    assert!(rt; asks(rt.alloc(), provider, &[always(10)], &wanted));
+    Ok(())
+}
+
+#[test]
+fn a_lock_spares_the_locked_and_the_exempt(rt: HostRuntime) -> Result<(), Fail> {
+    let provider = provider_of(rt.alloc(), &[], &[])?;
+    let wanted: [(usize, Literals<'_>); 1] = [(1, &[ROOT, is_absent(74)])];
+    assert!(rt; states(rt.alloc(), provider, None, &[always(70)], 5, &wanted));
+    let provider = provider_of(rt.alloc(), &[], &[])?;
+    assert!(rt; states(rt.alloc(), provider, Some(74), &[always(70)], 4, &[]));
+    Ok(())
+}
+
+#[test]
+fn an_exclusion_spares_the_exempt(rt: HostRuntime) -> Result<(), Fail> {
+    let provider = provider_of(rt.alloc(), &[], &[])?;
+    let wanted: [(usize, Literals<'_>); 1] = [(1, &[is_absent(84)])];
+    assert!(rt; states(rt.alloc(), provider, None, &[always(80)], 5, &wanted));
+    let provider = provider_of(rt.alloc(), &[], &[])?;
+    assert!(rt; states(rt.alloc(), provider, Some(84), &[always(80)], 4, &[]));
+    Ok(())
+}
+
+#[test]
+fn unknown_dependencies_spare_nobody(rt: HostRuntime) -> Result<(), Fail> {
+    let provider = provider_of(rt.alloc(), &[], &[])?;
+    let wanted: [(usize, Literals<'_>); 1] = [(2, &[is_absent(94)])];
+    assert!(rt; states(rt.alloc(), provider, Some(94), &[always(94)], 3, &wanted));
+    Ok(())
+}
+
+#[test]
+fn a_constraint_of_its_own_solvable_has_one_literal(rt: HostRuntime) -> Result<(), Fail> {
+    let provider = provider_of(rt.alloc(), &[], &[(11, 14), (14, 21)])?;
+    let wanted: [(usize, Literals<'_>); 2] = [
+        (4, &[is_absent(14), is_absent(24)]),
+        (5, &[is_absent(11)]),
+    ];
+    assert!(rt; states(rt.alloc(), provider, None, &[always(10)], 6, &wanted));
+    Ok(())
+}
+
+#[test]
+fn a_condition_has_helpers(rt: HostRuntime) -> Result<(), Fail> {
+    let provider = provider_of(rt.alloc(), &[], &[])?;
+    let root = [always(11), always(24), when(11_020, 34)];
+    let wanted: [(usize, Literals<'_>); 5] = [
+        (3, &[helper(11, true), is_absent(11)]),
+        (4, &[ROOT, helper(11, false), is_there(34)]),
+        (5, &[helper(20, true), is_absent(21)]),
+        (6, &[helper(20, true), is_absent(24)]),
+        (7, &[ROOT, helper(20, false), is_there(34)]),
+    ];
+    assert!(rt; states(rt.alloc(), provider, None, &root, 8, &wanted));
+    Ok(())
+}
+
+/// A provider of which solvable 11 requires version set 44 under a condition.
+fn provider_when(alloc: Global, condition: u32) -> Result<TestProvider, Fail> {
+    let mut provider = provider_of(alloc, &[], &[])?;
+    provider.requirements.push((11, when(condition, 44)))?;
+    Ok(provider)
+}
+
+/// Whether reading these in turn goes as wanted, and the clauses are there at the end.
+fn goes<'x>(
+    alloc: Global,
+    provider: TestProvider,
+    requirements: &'x [ConditionalRequirement],
+    turns: &'x [&'x [u32]],
+    rounds: &'x [Round],
+    wanted: &'x [(usize, Literals<'x>)],
+) -> bool {
+    let case = Case {
+        exempt: None,
+        requirements,
+        steps: Steps::Rounds(turns, rounds),
+        count: None,
+        clauses: Some(wanted),
+        asked: None,
+    };
+    holds(alloc, (100, 100), &provider, &case)
+}
+
+#[test]
+fn a_condition_is_encoded_once_it_holds(rt: HostRuntime) -> Result<(), Fail> {
+    let provider = provider_when(rt.alloc(), 24)?;
+    let turns: [&[u32]; 3] = [&[11], &[11, 24], &[11, 24]];
+    let rounds = [
+        (Progress::Read, 5, 1, 2, 12),
+        (Progress::Read, 7, 0, 3, 124),
+        (Progress::Nothing, 7, 0, 3, 124),
+    ];
+    let wanted: [(usize, Literals<'_>); 2] = [
+        (5, &[helper(24, true), is_absent(24)]),
+        (6, &[is_absent(11), helper(24, false), is_there(44)]),
+    ];
+    let root = [always(11), always(20)];
+    assert!(rt; goes(rt.alloc(), provider, &root, &turns, &rounds, &wanted));
+    Ok(())
+}
+
+#[test]
+fn a_condition_of_what_was_read_fires_once(rt: HostRuntime) -> Result<(), Fail> {
+    let provider = provider_when(rt.alloc(), 24)?;
+    let turns: [&[u32]; 4] = [&[24], &[11], &[11, 24], &[11, 24]];
+    let rounds = [
+        (Progress::Read, 5, 0, 2, 12),
+        (Progress::Read, 5, 1, 2, 12),
+        (Progress::Fired, 7, 0, 3, 124),
+        (Progress::Nothing, 7, 0, 3, 124),
+    ];
+    let root = [always(11), always(20)];
+    assert!(rt; goes(rt.alloc(), provider, &root, &turns, &rounds, &[]));
+    Ok(())
+}
+
+#[test]
+fn a_disjunct_that_does_not_hold_is_put_off(rt: HostRuntime) -> Result<(), Fail> {
+    let provider = provider_when(rt.alloc(), 24_031_024)?;
+    let turns: [&[u32]; 2] = [&[11, 24], &[11, 24]];
+    let rounds = [
+        (Progress::Read, 7, 1, 3, 1234),
+        (Progress::Nothing, 7, 1, 3, 1234),
+    ];
+    let wanted: [(usize, Literals<'_>); 2] = [
+        (5, &[helper(24, true), is_absent(24)]),
+        (6, &[is_absent(11), helper(24, false), is_there(44)]),
+    ];
+    let root = [always(11), always(20)];
+    assert!(rt; goes(rt.alloc(), provider, &root, &turns, &rounds, &wanted));
+    Ok(())
+}
+
+#[test]
+fn what_is_not_chosen_is_not_read(rt: HostRuntime) -> Result<(), Fail> {
+    let provider = provider_of(rt.alloc(), &[(14, 24), (11, 34)], &[(11, 44)])?;
+    let turns: [&[u32]; 1] = [&[14]];
+    let rounds = [(Progress::Read, 5, 0, 2, 12)];
+    let wanted: [(usize, Literals<'_>); 2] = [
+        (3, &[ROOT, is_there(14), is_there(11)]),
+        (4, &[is_absent(14), is_there(24)]),
+    ];
+    assert!(rt;
+        goes(
+            rt.alloc(),
+            provider,
+            &[always(10)],
+            &turns,
+            &rounds,
+            &wanted
+        )
+    );
+    Ok(())
+}
+
+#[test]
+fn the_packages_of_a_condition_are_not_asked(rt: HostRuntime) -> Result<(), Fail> {
+    let provider = provider_of(rt.alloc(), &[], &[])?;
+    let turns: [&[u32]; 1] = [&[]];
+    let rounds = [(Progress::Nothing, 1, 2, 0, 78)];
+    assert!(rt;
+        goes(
+            rt.alloc(),
+            provider,
+            &[when(70_080, 11)],
+            &turns,
+            &rounds,
+            &[]
+        )
+    );
+    Ok(())
+}
+
+#[test]
+fn hinted_candidates_are_read_at_once(rt: HostRuntime) -> Result<(), Fail> {
+    let provider = provider_of(rt.alloc(), &[(164, 174), (174, 24)], &[])?;
+    let turns: [&[u32]; 3] = [&[], &[164], &[164, 174]];
+    let rounds = [
+        (Progress::Nothing, 6, 0, 3, 1772),
+        (Progress::Nothing, 6, 0, 3, 1772),
+        (Progress::Nothing, 6, 0, 3, 1772),
+    ];
+    let wanted: [(usize, Literals<'_>); 2] = [
+        (4, &[is_absent(164), is_there(174)]),
+        (5, &[is_absent(174), is_there(24)]),
+    ];
+    assert!(rt;
+        goes(
+            rt.alloc(),
+            provider,
+            &[always(160)],
+            &turns,
+            &rounds,
+            &wanted
+        )
+    );
+    Ok(())
+}
+
+#[test]
+fn others_are_read_when_they_are_chosen(rt: HostRuntime) -> Result<(), Fail> {
+    let provider = provider_of(rt.alloc(), &[(64, 54), (54, 24)], &[])?;
+    let turns: [&[u32]; 3] = [&[], &[64], &[64, 54]];
+    let rounds = [
+        (Progress::Nothing, 4, 0, 1, 6),
+        (Progress::Read, 5, 0, 2, 65),
+        (Progress::Read, 6, 0, 3, 652),
+    ];
+    assert!(rt; goes(rt.alloc(), provider, &[always(60)], &turns, &rounds, &[]));
+    Ok(())
+}
+
+/// A provider of which solvable 161 requires version set 174 under a condition.
+fn provider_hinted_when(alloc: Global) -> Result<TestProvider, Fail> {
+    let mut provider = provider_of(alloc, &[], &[])?;
+    provider.requirements.push((161, when(164, 174)))?;
+    Ok(provider)
+}
+
+#[test]
+fn a_hint_does_not_make_a_condition_hold(rt: HostRuntime) -> Result<(), Fail> {
+    let provider = provider_hinted_when(rt.alloc())?;
+    let turns: [&[u32]; 2] = [&[161], &[164]];
+    let rounds = [
+        (Progress::Nothing, 4, 1, 1, 16),
+        (Progress::Read, 6, 0, 2, 177),
+    ];
+    assert!(rt; goes(rt.alloc(), provider, &[always(160)], &turns, &rounds, &[]));
+    Ok(())
+}
+
+/// Whether reading the root has these clauses, where an encoding before read these in turn too and had as many.
+fn is_read_again<'x>(
+    alloc: Global,
+    provider: TestProvider,
+    requirements: &'x [ConditionalRequirement],
+    turns: &'x [&'x [u32]],
+    rounds: &'x [Round],
+    count: usize,
+    wanted: &'x [(usize, Literals<'x>)],
+) -> bool {
+    let first = Case {
+        exempt: None,
+        requirements,
+        steps: Steps::Rounds(turns, rounds),
+        count: Some(count),
+        clauses: None,
+        asked: None,
+    };
+    let second = Case {
+        exempt: None,
+        requirements,
+        steps: Steps::Root,
+        count: Some(count),
+        clauses: Some(wanted),
+        asked: None,
+    };
+    let mut cache = Cache::new(alloc);
+    holds_within(alloc, (100, 100), &provider, &mut cache, &first)
+        & holds_within(alloc, (100, 100), &provider, &mut cache, &second)
+}
+
+#[test]
+fn candidates_whose_dependencies_are_cached_are_read_at_once(rt: HostRuntime) -> Result<(), Fail> {
+    let provider = provider_of(rt.alloc(), &[(21, 34), (24, 34)], &[])?;
+    let turns: [&[u32]; 1] = [&[24]];
+    let rounds = [(Progress::Read, 5, 0, 2, 23)];
+    let wanted: [(usize, Literals<'_>); 1] = [(4, &[is_absent(24), is_there(34)])];
+    assert!(rt;
+        is_read_again(
+            rt.alloc(),
+            provider,
+            &[always(20)],
+            &turns,
+            &rounds,
+            5,
+            &wanted
+        )
+    );
+    Ok(())
+}
+
+#[test]
+fn what_was_read_is_not_read_again(rt: HostRuntime) -> Result<(), Fail> {
+    let provider = provider_of(rt.alloc(), &[(11, 24)], &[])?;
+    let turns: [&[u32]; 2] = [&[11], &[11]];
+    let rounds = [
+        (Progress::Read, 3, 0, 2, 12),
+        (Progress::Nothing, 3, 0, 2, 12),
+    ];
+    assert!(rt; goes(rt.alloc(), provider, &[always(11)], &turns, &rounds, &[]));
+    Ok(())
+}
+
+#[test]
+fn a_disjunct_names_each_version_set_once(rt: HostRuntime) -> Result<(), Fail> {
+    let provider = provider_of(rt.alloc(), &[], &[])?;
+    let root = [always(34), always(14), when(34_014_034, 44)];
+    let wanted: [(usize, Literals<'_>); 3] = [
+        (3, &[helper(34, true), is_absent(34)]),
+        (4, &[helper(14, true), is_absent(14)]),
+        (
+            5,
+            &[ROOT, helper(34, false), helper(14, false), is_there(44)],
+        ),
+    ];
+    assert!(rt; states(rt.alloc(), provider, None, &root, 6, &wanted));
+    Ok(())
+}
+
+/// Whether ids run out under these limits, at so many variables and clauses.
+fn ends_at<'x>(
+    alloc: Global,
+    provider: TestProvider,
+    limits: (usize, usize),
+    requirements: &'x [ConditionalRequirement],
+    counts: (usize, usize),
+) -> bool
+    requires { limits.0 ≤ 2 ^ 31 }
+{
+    let case = Case {
+        exempt: None,
+        requirements,
+        steps: Steps::Ids(counts.0),
+        count: Some(counts.1),
+        clauses: None,
+        asked: None,
+    };
+    holds(alloc, limits, &provider, &case)
+}
+
+#[test]
+fn limits_end_the_reading(rt: HostRuntime) -> Result<(), Fail> {
+    let provider = provider_of(rt.alloc(), &[(11, 24)], &[])?;
+    assert!(rt; ends_at(rt.alloc(), provider, (2, 100), &[always(11)], (2, 2)));
+    let provider = provider_of(rt.alloc(), &[(11, 24)], &[])?;
+    assert!(rt; ends_at(rt.alloc(), provider, (100, 2), &[always(11)], (3, 2)));
+    Ok(())
+}

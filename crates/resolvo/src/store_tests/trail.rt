@@ -1,0 +1,124 @@
+//! What a trail answers.
+
+use resolver_clause_store::{Addition, Literal, Reason, Slot, Trail, Variable};
+use std::alloc::AllocError;
+use std::test::Fail;
+
+fn literal(number: u32, positive: bool) -> Literal {
+    Literal {
+        variable: Variable::new(number),
+        positive,
+    }
+}
+
+/// Adds a forced literal at the highest level, if there is such a variable.
+fn add(trail: &mut Trail, literal: Literal) -> Result<Option<Addition>, AllocError> {
+    if literal.variable.index() >= trail.variable_count() {
+        return Ok(None);
+    }
+    let level = trail.level();
+    let addition = trail.try_add_decision(literal, level, Reason::Forced(7))?;
+    Ok(Some(addition))
+}
+
+/// Makes a variable true, if it has no value.
+fn put(trail: &mut Trail, number: u32, decided: bool) -> Result<bool, AllocError> {
+    let variable = Variable::new(number);
+    if variable.index() >= trail.variable_count() || trail.slot(variable).is_some() {
+        return Ok(false);
+    }
+    let literal = Literal {
+        variable,
+        positive: true,
+    };
+    if decided {
+        trail.decide(literal, 8)?;
+        return Ok(true);
+    }
+    trail.force(literal, 9)?;
+    Ok(true)
+}
+
+fn value(trail: &Trail, literal: Literal) -> Option<bool> {
+    if literal.variable.index() < trail.variable_count() {
+        return trail.value(literal);
+    }
+    None
+}
+
+fn slot(trail: &Trail, number: u32) -> Option<Slot> {
+    let variable = Variable::new(number);
+    if variable.index() < trail.variable_count() {
+        return trail.slot(variable);
+    }
+    None
+}
+
+#[test]
+fn adding_answers_what_stands_there(rt: HostRuntime) -> Result<(), Fail> {
+    let mut trail = Trail::new(rt.alloc(), 3)?;
+    assert!(rt; trail.is_empty());
+    assert!(rt; add(&mut trail, literal(2, false))? == Some(Addition::Added));
+    assert!(rt; add(&mut trail, literal(2, false))? == Some(Addition::Present));
+    assert!(rt; add(&mut trail, literal(2, true))? == Some(Addition::Refused));
+    assert_eq!(rt; trail.len(), 1);
+    assert_eq!(rt; trail.variable_count(), 3);
+    assert_eq!(rt; value(&trail, literal(2, false)), Some(true));
+    assert_eq!(rt; value(&trail, literal(2, true)), Some(false));
+    assert_eq!(rt; value(&trail, literal(1, true)), None);
+    let expected = Slot {
+        value: false,
+        level: 0,
+        place: 0,
+        reason: Reason::Forced(7),
+    };
+    assert!(rt; slot(&trail, 2) == Some(expected));
+    Ok(())
+}
+
+#[test]
+fn undoing_keeps_the_level_and_the_lower_ones(rt: HostRuntime) -> Result<(), Fail> {
+    let mut trail = Trail::new(rt.alloc(), 6)?;
+    for number in 0..6u32 {
+        let decided = number == 1 || number == 3 || number == 4;
+        assert!(rt; put(&mut trail, number, decided)?);
+    }
+    assert_eq!(rt; trail.level(), 3);
+    if !trail.is_empty() {
+        trail.undo_last();
+    }
+    assert_eq!(rt; trail.len(), 5);
+    trail.undo_until(1);
+    assert_eq!(rt; trail.level(), 1);
+    assert_eq!(rt; trail.len(), 3);
+    assert_eq!(rt; value(&trail, literal(2, true)), Some(true));
+    assert_eq!(rt; value(&trail, literal(3, true)), None);
+    trail.undo_until(0);
+    assert_eq!(rt; trail.len(), 1);
+    Ok(())
+}
+
+/// Adds variables up to this many, if there are no more of them yet.
+fn grow(trail: &mut Trail, variables: usize) -> Result<bool, AllocError> {
+    if trail.variable_count() > variables {
+        return Ok(false);
+    }
+    trail.grow(variables)?;
+    Ok(true)
+}
+
+#[test]
+fn growing_adds_variables_without_a_value(rt: HostRuntime) -> Result<(), Fail> {
+    let mut trail = Trail::new(rt.alloc(), 2)?;
+    assert!(rt; put(&mut trail, 1, true)?);
+    assert!(rt; grow(&mut trail, 4)?);
+    assert_eq!(rt; trail.variable_count(), 4);
+    assert_eq!(rt; trail.len(), 1);
+    assert_eq!(rt; value(&trail, literal(1, true)), Some(true));
+    assert_eq!(rt; value(&trail, literal(3, true)), None);
+    assert!(rt; put(&mut trail, 3, false)?);
+    assert_eq!(rt; trail.len(), 2);
+    assert!(rt; grow(&mut trail, 4)?);
+    assert_eq!(rt; trail.variable_count(), 4);
+    Ok(())
+}
