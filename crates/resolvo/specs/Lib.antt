@@ -6,6 +6,7 @@ pub mod Refusals
 pub mod Solvers
 pub mod NotingProvider
 pub mod TestProvider
+pub mod ChainProvider
 pub mod Propagation
 pub mod Propagators
 pub mod Visits

@@ -149,10 +149,12 @@ fn a_requirement_and_a_constraint_that_leave_nothing(rt: HostRuntime) {
     expect_conflict(&rt, rt.alloc(), input, message);
 }
 
+/// p and q require different versions of r.
+const CLASH: &str =
+    "package p=1\npackage p=2\npackage q=1\npackage q=2\npackage r=1\npackage r=2\nrequires p=1 r@1\nrequires p=2 r@1\nrequires q=1 r@2\nrequires q=2 r@2\nrequire p\nrequire q\n";
+
 #[test]
 fn two_requirers_that_need_different_versions(rt: HostRuntime) {
-    let input =
-        "package p=1\npackage p=2\npackage q=1\npackage q=2\npackage r=1\npackage r=2\nrequires p=1 r@1\nrequires p=2 r@1\nrequires q=1 r@2\nrequires q=2 r@2\nrequire p\nrequire q\n";
     let message = "The following packages are incompatible
 ├─ q * can be installed with any of the following options:
 │  └─ q 1 | 2 would require
@@ -163,7 +165,7 @@ fn two_requirers_that_need_different_versions(rt: HostRuntime) {
       └─ r >=1, <2, which cannot be installed because there are no viable options:
          └─ r 1, which conflicts with the versions reported above.
 ";
-    expect_conflict(&rt, rt.alloc(), input, message);
+    expect_conflict(&rt, rt.alloc(), CLASH, message);
 }
 
 #[test]
@@ -559,4 +561,102 @@ fn a_conflict_in_a_turn_keeps_what_was_accepted(rt: HostRuntime) {
 fn the_root_takes_no_lower_version_for_a_soft_requirement(rt: HostRuntime) {
     let input = "package a=1\npackage a=2\npackage b=1\nrequires b=1 a@1\nrequire a\nsoft b=1\n";
     expect_answer(&rt, rt.alloc(), input, "a=2\n");
+}
+
+#[test]
+fn a_union_that_overlaps_itself(rt: HostRuntime) {
+    let input = "package a=1\npackage a=2\nrequire a@1..3 | a@2\n";
+    expect_answer(&rt, rt.alloc(), input, "a=2\n");
+}
+
+#[test]
+fn a_version_that_forbids_all_of_its_package(rt: HostRuntime) {
+    let input =
+        "package a=1\npackage a=2\npackage a=3\npackage a=4\npackage a=5\nconstrains a=5 a@9\nrequire a\n";
+    expect_answer(&rt, rt.alloc(), input, "a=4\n");
+}
+
+/// Adds two versions of a package, of which the newer one requires the next package.
+fn push_link(input: &mut String, number: u32) -> Result<(), Fail> {
+    use std::fmt::Write;
+    let next = number.wrapping_add(1);
+    write!(
+        input,
+        "package p{number}=1\npackage p{number}=2\nrequires p{number}=2 p{next}\n"
+    )?;
+    Ok(())
+}
+
+/// Two hundred packages in a row, of which the newest versions require each the next package, and the last one's a missing
+/// one.
+fn chain(alloc: Global) -> Result<String, Fail> {
+    let mut input = String::new(alloc);
+    for number in 0..199u32 {
+        push_link(&mut input, number)?;
+    }
+    input.push_str("package p199=1\npackage p199=2\nrequires p199=2 missing\nrequire p0\n")?;
+    Ok(input)
+}
+
+/// The names of the packages in a row, as an answer has them.
+fn names_in_chain(alloc: Global) -> Result<Vec<String>, Fail> {
+    let mut names = Vec::new(alloc);
+    for number in 0..200u32 {
+        names.push(format!(in alloc; "p{number}")?)?;
+    }
+    names.sort_unstable();
+    Ok(names)
+}
+
+/// Adds the version that is chosen of a package in a row: the newest one but of the last package.
+fn push_chosen(output: &mut String, name: &str) -> Result<(), Fail> {
+    use std::fmt::Write;
+    let version = if name == "p199" { 1 } else { 2 };
+    write!(output, "{name}={version}\n")?;
+    Ok(())
+}
+
+/// The answer for the packages in a row.
+fn chosen_in_chain(alloc: Global) -> Result<String, Fail> {
+    let names = names_in_chain(alloc)?;
+    let mut output = String::new(alloc);
+    for name in &names {
+        push_chosen(&mut output, name)?;
+    }
+    Ok(output)
+}
+
+#[test]
+fn two_hundred_packages_in_a_row(rt: HostRuntime) -> Result<(), Fail> {
+    let input = chain(rt.alloc())?;
+    let output = chosen_in_chain(rt.alloc())?;
+    expect_answer(&rt, rt.alloc(), &input, &output);
+    Ok(())
+}
+
+/// Adds a package with two versions, and that it is required.
+fn push_unneeded(input: &mut String, number: u32) -> Result<(), Fail> {
+    use std::fmt::Write;
+    write!(
+        input,
+        "package u{number}=1\npackage u{number}=2\nrequire u{number}\n"
+    )?;
+    Ok(())
+}
+
+/// A clash after two hundred packages that have no part in it.
+fn clash_after_others(alloc: Global) -> Result<String, Fail> {
+    let mut input = String::new(alloc);
+    for number in 0..200u32 {
+        push_unneeded(&mut input, number)?;
+    }
+    input.push_str(CLASH)?;
+    Ok(input)
+}
+
+#[test]
+fn a_clash_after_two_hundred_packages_without_part_in_it(rt: HostRuntime) -> Result<(), Fail> {
+    let input = clash_after_others(rt.alloc())?;
+    expect_conflict(&rt, rt.alloc(), &input, "?");
+    Ok(())
 }

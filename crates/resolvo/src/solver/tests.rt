@@ -4,6 +4,8 @@ ghost use Rattle.std.specs.Prelude.{◌^◌, ◌≤◌};
 ghost use Rattle.resolvo.specs.Solvers.{IsSound, provider_in};
 ghost use Rattle.resolvo.specs.TestProvider.{test_universe};
 
+mod strangers;
+
 use super::*;
 use crate::problem::EmptySolvables;
 use crate::test_provider::TestProvider;

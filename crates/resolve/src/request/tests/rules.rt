@@ -25,6 +25,8 @@ enum Wanted {
     GateAndHelper,
     /// No set of the first six solvables obeys the rules, and their first one alone breaks some.
     NoSet,
+    /// The root requires the second solvable or the first one, in this order, and both are excluded.
+    BothExcluded,
 }
 
 fn are_exclusion_and_requirement(rules: &[Rule<NameId, SolvableId>]) -> bool {
@@ -110,6 +112,32 @@ fn are_gate_and_helper(rules: &[Rule<NameId, SolvableId>]) -> bool {
     rules.iter().any(requires_of_x)
 }
 
+fn requires_second_or_first(rule: &Rule<NameId, SolvableId>) -> bool {
+    match rule {
+        Rule::Requires {
+            by: By::Root,
+            candidates,
+            when,
+            ..
+        } => candidates.as_slice() == [SolvableId(1), SolvableId(0)].as_slice() && when.is_empty(),
+        _other => false,
+    }
+}
+
+fn excludes(rule: &Rule<NameId, SolvableId>, wanted: u32) -> bool {
+    match rule {
+        Rule::Excluded { solvable, .. } => solvable.0 == wanted,
+        _other => false,
+    }
+}
+
+fn are_requirement_and_both_exclusions(rules: &[Rule<NameId, SolvableId>]) -> bool {
+    rules.len() == 3
+        && rules.iter().any(requires_second_or_first)
+        && rules.iter().any(|rule| excludes(rule, 0))
+        && rules.iter().any(|rule| excludes(rule, 1))
+}
+
 fn are_as(alloc: Global, rules: &[Rule<NameId, SolvableId>], wanted: Wanted) -> bool {
     match wanted {
         Wanted::Excluded => are_exclusion_and_requirement(rules),
@@ -118,6 +146,7 @@ fn are_as(alloc: Global, rules: &[Rule<NameId, SolvableId>], wanted: Wanted) -> 
         Wanted::Refuted => are_refuted(alloc, rules),
         Wanted::GateAndHelper => are_gate_and_helper(rules),
         Wanted::NoSet => leave_no_set(rules, 64),
+        Wanted::BothExcluded => are_requirement_and_both_exclusions(rules),
     }
 }
 
@@ -214,5 +243,13 @@ fn rules_name_who_stands_on_a_gate_and_who_on_a_helper(rt: HostRuntime) -> Resul
 #[test]
 fn no_set_obeys_the_rules_over_a_gate_and_a_helper(rt: HostRuntime) -> Result<(), Fail> {
     assert!(rt; has_rules(rt.alloc(), GATED, Wanted::NoSet)?);
+    Ok(())
+}
+
+#[test]
+fn a_union_that_overlaps_itself_lists_each_candidate_once(rt: HostRuntime) -> Result<(), Fail> {
+    let input =
+        "package a=1\npackage a=2\nexclude a=1 bad\nexclude a=2 bad\nrequire a@1..3 | a@2\n";
+    assert!(rt; has_rules(rt.alloc(), input, Wanted::BothExcluded)?);
     Ok(())
 }

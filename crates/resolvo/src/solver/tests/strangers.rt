@@ -1,0 +1,314 @@
+//! A solvable that no package lists, and packages without end.
+
+ghost use Rattle.std.specs.Prelude.{◌≡◌, IfErr, IfOk, refl};
+ghost use Rattle.resolvo.specs.ChainProvider.{chain_ids_lawful, chain_packages_lawful, chain_universe, required_below};
+ghost use Rattle.resolvo.specs.Solvers.{IsSound, provider_in};
+ghost use Rattle.resolvo.specs.TestProvider.{numbers_are_values};
+
+use crate::problem::Problem;
+use crate::solver::{Solver, UnsolvableOrCancelled};
+use resolver_clause_store::{
+    Candidates, Condition, ConditionId, ConditionalRequirement, Dependencies, DependencyProvider,
+    Exhausted, HintDependenciesAvailable, Interner, KnownDependencies, Requirement, StringId,
+    VersionSetId, VersionSetUnionId,
+};
+use std::alloc::{AllocError, Global};
+use std::test::Fail;
+
+/// Package n, below 4294967295, has the one candidate n, which version set n takes. It is made when it is asked for.
+#[derive(Drop)]
+struct Chain {
+    alloc: Global,
+    /// Each candidate below this number requires the version set of the next package.
+    reach: u32,
+}
+
+/// Bears the name of package 0, and is listed nowhere.
+const STRANGER: u32 = 4_294_967_295;
+
+/// What a solvable requires.
+fn required_by(
+    alloc: Global,
+    reach: u32,
+    solvable: u32,
+) -> Result<Vec<ConditionalRequirement>, Exhausted>
+    ensures value { IfOk result (λ required. required.items ≡ required_below reach solvable) }
+    ensures memory { IfErr result (λ e. e ≡ Exhausted.Memory) }
+{
+    if solvable < reach {
+        let next = ConditionalRequirement {
+            condition: None,
+            requirement: Requirement::Single(VersionSetId(solvable + 1)),
+        };
+        return Ok(Vec::from_array(alloc, [next])?);
+    }
+    Ok(Vec::new(alloc))
+}
+
+impl Interner for Chain {
+    type NameId = u32;
+
+    type SolvableId = u32;
+
+    ghost universe = { λ it. chain_universe it.reach };
+
+    ghost lawful_ids = { λ it. chain_ids_lawful it.reach };
+
+    ghost names_are_values = { numbers_are_values };
+
+    ghost solvables_are_values = { numbers_are_values };
+
+    ghost solvables_compare = { λ it. refl };
+
+    fn solvable_name(&self, solvable: u32) -> u32 {
+        if solvable < STRANGER { solvable } else { 0 }
+    }
+
+    fn version_set_name(&self, version_set: VersionSetId) -> u32 {
+        version_set.0
+    }
+
+    fn version_sets_in_union(&self, _version_set_union: VersionSetUnionId) -> &[VersionSetId] {
+        &[]
+    }
+
+    fn resolve_condition(&self, condition: ConditionId) -> Condition {
+        Condition::Requirement(VersionSetId(condition.0))
+    }
+
+    fn display_name(&self, _name: u32, _out: &mut String) -> Result<(), Exhausted> {
+        Ok(())
+    }
+
+    fn display_version_set(
+        &self,
+        _version_set: VersionSetId,
+        _out: &mut String,
+    ) -> Result<(), Exhausted> {
+        Ok(())
+    }
+
+    fn display_string(&self, _string: StringId, _out: &mut String) -> Result<(), Exhausted> {
+        Ok(())
+    }
+
+    fn display_merged_solvables(
+        &self,
+        _solvables: &[u32],
+        _out: &mut String,
+    ) -> Result<(), Exhausted> {
+        Ok(())
+    }
+}
+
+impl DependencyProvider for Chain {
+    type Cancel = u8;
+
+    ghost may_cancel = { λ _ value. value ≡ 7 };
+
+    ghost lawful_packages = { λ it. chain_packages_lawful it.reach };
+
+    fn get_candidates(&self, name: u32) -> Result<Option<Candidates<u32>>, Exhausted> {
+        if name >= STRANGER {
+            return Ok(None);
+        }
+        Ok(Some(Candidates {
+            candidates: Vec::from_array(self.alloc, [name])?,
+            favored: None,
+            locked: None,
+            hint_dependencies_available: HintDependenciesAvailable::None,
+            excluded: Vec::new(self.alloc),
+        }))
+    }
+
+    fn get_dependencies(&self, solvable: u32) -> Result<Dependencies, Exhausted> {
+        let requirements = required_by(self.alloc, self.reach, solvable)?;
+        Ok(Dependencies::Known(KnownDependencies {
+            requirements,
+            constrains: Vec::new(self.alloc),
+        }))
+    }
+
+    fn filter_candidates(
+        &self,
+        candidates: &[u32],
+        version_set: VersionSetId,
+        inverse: bool,
+    ) -> Result<Vec<u32>, Exhausted> {
+        let mut kept = Vec::new(self.alloc);
+        for solvable in candidates {
+            if (*solvable == version_set.0) != inverse {
+                kept.push(*solvable)?;
+            }
+        }
+        Ok(kept)
+    }
+
+    fn sort_candidates(&self, _candidates: &mut Vec<u32>) -> Result<(), Exhausted> {
+        Ok(())
+    }
+
+    fn should_cancel_with_value(&self) -> Option<u8> {
+        None
+    }
+}
+
+/// What a problem asks for.
+#[derive(Clone, Copy)]
+struct Asked<'x> {
+    required: &'x [ConditionalRequirement],
+    constrained: &'x [VersionSetId],
+    soft: &'x [u32],
+}
+
+/// What a problem ends with.
+#[derive(Clone, Copy)]
+enum Wanted<'x> {
+    /// These are chosen, and of them these are exempt.
+    Answer(&'x [u32], &'x [u32]),
+    /// Ids run out.
+    Ids,
+}
+
+/// The version set of package 0.
+const FIRST: ConditionalRequirement = ConditionalRequirement {
+    condition: None,
+    requirement: Requirement::Single(VersionSetId(0)),
+};
+
+type Outcome = Result<Vec<u32>, UnsolvableOrCancelled<Chain>>;
+
+fn is_answer(outcome: &Outcome, wanted: &[u32]) -> bool {
+    match outcome {
+        Ok(chosen) => chosen.as_slice() == wanted,
+        Err(_) => false,
+    }
+}
+
+fn is_wanted(solver: &Solver<Chain>, outcome: &Outcome, wanted: &Wanted<'_>) -> bool {
+    match wanted {
+        Wanted::Answer(chosen, exempt) => {
+            is_answer(outcome, chosen) & (solver.exempt_solvables() == *exempt)
+        }
+        Wanted::Ids => matches!(
+            outcome,
+            Err(UnsolvableOrCancelled::Exhausted(Exhausted::Ids))
+        ),
+    }
+}
+
+/// Whether a problem with these parts ends with this.
+fn ends_with(
+    solver: &mut Solver<Chain>,
+    required: Vec<ConditionalRequirement>,
+    constrained: Vec<VersionSetId>,
+    soft: Vec<u32>,
+    wanted: &Wanted<'_>,
+) -> bool
+    requires { IsSound (chain_universe (provider_in solver.old).reach) solver.old }
+{
+    let problem = Problem::new()
+        .requirements(required)
+        .constraints(constrained)
+        .soft_requirements(soft.into_iter());
+    let outcome = solver.solve(problem);
+    is_wanted(solver, &outcome, wanted)
+}
+
+/// Whether the problem that asks for this ends with that.
+fn solves(
+    solver: &mut Solver<Chain>,
+    asked: &Asked<'_>,
+    wanted: &Wanted<'_>,
+) -> Result<bool, AllocError>
+    requires { IsSound (chain_universe (provider_in solver.old).reach) solver.old }
+{
+    let required = Vec::from_slice(solver.alloc, asked.required)?;
+    let constrained = Vec::from_slice(solver.alloc, asked.constrained)?;
+    let soft = Vec::from_slice(solver.alloc, asked.soft)?;
+    Ok(ends_with(solver, required, constrained, soft, wanted))
+}
+
+/// The same with room for so many variables.
+fn solves_within(
+    solver: &mut Solver<Chain>,
+    room: u16,
+    asked: &Asked<'_>,
+    wanted: &Wanted<'_>,
+) -> Result<bool, AllocError>
+    requires { IsSound (chain_universe (provider_in solver.old).reach) solver.old }
+{
+    solver.variable_limit = room as usize;
+    solves(solver, asked, wanted)
+}
+
+/// Whether these are chosen, and of them these exempt, where no candidate requires anything.
+fn chooses<'x>(
+    alloc: Global,
+    asked: Asked<'x>,
+    chosen: &'x [u32],
+    exempt: &'x [u32],
+) -> Result<bool, AllocError> {
+    let mut solver = Solver::new(alloc, Chain { alloc, reach: 0 });
+    let is_right = solves(&mut solver, &asked, &Wanted::Answer(chosen, exempt));
+    drop(solver);
+    is_right
+}
+
+#[test]
+fn a_soft_requirement_that_no_package_lists_is_exempt(rt: HostRuntime) -> Result<(), Fail> {
+    let asked = Asked {
+        required: &[],
+        constrained: &[],
+        soft: &[STRANGER],
+    };
+    assert!(rt; chooses(rt.alloc(), asked, &[STRANGER], &[STRANGER])?);
+    Ok(())
+}
+
+#[test]
+fn one_whose_package_was_asked_is_not_exempt(rt: HostRuntime) -> Result<(), Fail> {
+    let asked = Asked {
+        required: &[],
+        constrained: &[VersionSetId(0)],
+        soft: &[STRANGER],
+    };
+    assert!(rt; chooses(rt.alloc(), asked, &[STRANGER], &[])?);
+    Ok(())
+}
+
+#[test]
+fn one_beside_what_is_chosen_of_its_package_is_refused(rt: HostRuntime) -> Result<(), Fail> {
+    let asked = Asked {
+        required: &[FIRST],
+        constrained: &[],
+        soft: &[STRANGER],
+    };
+    assert!(rt; chooses(rt.alloc(), asked, &[0], &[])?);
+    Ok(())
+}
+
+/// Whether ids run out in a universe without end, with room for so many variables.
+fn runs_out(alloc: Global, room: u16) -> Result<bool, AllocError> {
+    let asked = Asked {
+        required: &[FIRST],
+        constrained: &[],
+        soft: &[],
+    };
+    let mut solver = Solver::new(
+        alloc,
+        Chain {
+            alloc,
+            reach: STRANGER,
+        },
+    );
+    let is_right = solves_within(&mut solver, room, &asked, &Wanted::Ids);
+    drop(solver);
+    is_right
+}
+
+#[test]
+fn an_endless_universe_runs_out_of_variables(rt: HostRuntime) -> Result<(), Fail> {
+    assert!(rt; runs_out(rt.alloc(), 50)?);
+    Ok(())
+}
