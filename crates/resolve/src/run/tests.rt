@@ -654,9 +654,20 @@ fn clash_after_others(alloc: Global) -> Result<String, Fail> {
     Ok(input)
 }
 
+/// Runs the program on an input, keeps what it writes, and gives its status.
+fn run_into(alloc: Global, input: &str, written: &mut Vec<u8>) -> u8 {
+    let mut complaints = Vec::new(alloc);
+    run(alloc, input.as_bytes(), written, &mut complaints)
+}
+
 #[test]
 fn a_clash_after_two_hundred_packages_without_part_in_it(rt: HostRuntime) -> Result<(), Fail> {
     let input = clash_after_others(rt.alloc())?;
-    expect_conflict(&rt, rt.alloc(), &input, "?");
+    let mut among_others = Vec::new(rt.alloc());
+    let mut alone = Vec::new(rt.alloc());
+    assert_eq!(rt; run_into(rt.alloc(), &input, &mut among_others), 1);
+    assert_eq!(rt; run_into(rt.alloc(), CLASH, &mut alone), 1);
+    assert!(rt; !alone.is_empty());
+    assert_eq!(rt; among_others.as_slice(), alone.as_slice());
     Ok(())
 }
