@@ -1,6 +1,6 @@
 //! The candidates of a requirement, and where those of each version set end.
 
-ghost use Rattle.std.specs.Prelude.{◌≡◌, ◌<◌, ◌^◌, All, IfErr, IfOk};
+ghost use Rattle.std.specs.Prelude.{◌≡◌, ◌<◌, ◌^◌, All, IfErr, IfOk, OnOk};
 ghost use Rattle.resolver_clause_store.specs.Caches.{IsTrueCache};
 ghost use Rattle.resolver_clause_store.specs.Candidates.{requirement_candidates as candidates_of};
 ghost use Rattle.resolver_clause_store.specs.Interruptions.{IsInterruption};
@@ -33,6 +33,46 @@ fn list_all<S: Copy + Eq + Hash + Drop>(
     Ok(())
 }
 
+/// Counts the candidates up to the end of those of one more version set.
+fn count_next<D: DependencyProvider>(
+    provider: &D,
+    cache: &mut Cache<D::NameId, D::SolvableId>,
+    version_set: VersionSetId,
+    listed: &mut IndexSet<D::SolvableId>,
+    counts: &mut Vec<usize>,
+) -> Result<(), Interrupted<D::Cancel>>
+    requires is_true { IsTrueCache (D.universe provider.now) cache.old }
+    requires small { All (λ n. n < 2 ^ 63) counts.old.items }
+    ensures is_true { IsTrueCache (D.universe provider.now) cache.new }
+    ensures small { OnOk result (All (λ n. n < 2 ^ 63) counts.new.items) }
+    ensures refusal { IfErr result (IsInterruption (D.may_cancel provider.now)) }
+{
+    cache.ask_sorted(provider, version_set)?;
+    list_all(listed, cache.sorted(version_set))?;
+    counts.push(listed.len())?;
+    Ok(())
+}
+
+/// How many candidates stand before the end of those of each version set, what is listed already counted too.
+fn counts_behind<D: DependencyProvider>(
+    provider: &D,
+    cache: &mut Cache<D::NameId, D::SolvableId>,
+    version_sets: &[VersionSetId],
+    listed: &mut IndexSet<D::SolvableId>,
+    alloc: Global,
+) -> Result<Vec<usize>, Interrupted<D::Cancel>>
+    requires is_true { IsTrueCache (D.universe provider.now) cache.old }
+    ensures is_true { IsTrueCache (D.universe provider.now) cache.new }
+    ensures small { IfOk result (λ counts. All (λ n. n < 2 ^ 63) counts.items) }
+    ensures refusal { IfErr result (IsInterruption (D.may_cancel provider.now)) }
+{
+    let mut counts = Vec::new(alloc);
+    for version_set in version_sets {
+        count_next(provider, cache, *version_set, listed, &mut counts)?;
+    }
+    Ok(counts)
+}
+
 /// How many candidates stand before the end of those of each version set, repeats dropped.
 fn counts_of<D: DependencyProvider>(
     alloc: Global,
@@ -46,13 +86,9 @@ fn counts_of<D: DependencyProvider>(
     ensures refusal { IfErr result (IsInterruption (D.may_cancel provider.now)) }
 {
     let mut listed = IndexSet::new(alloc);
-    let mut counts = Vec::new(alloc);
-    for version_set in version_sets {
-        cache.ask_sorted(provider, *version_set)?;
-        list_all(&mut listed, cache.sorted(*version_set))?;
-        counts.push(listed.len())?;
-    }
-    Ok(counts)
+    let counts = counts_behind(provider, cache, version_sets, &mut listed, alloc);
+    drop(listed);
+    counts
 }
 
 /// The candidates of a requirement.
