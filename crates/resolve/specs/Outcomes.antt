@@ -2,7 +2,7 @@
 use Rattle.std.specs.Prelude.{◌≡◌, ◌==◌, ℕ, Bool, List, Option, ⊤, string_bytes}
 use Rattle.std.specs.Io.KnownBytes.{Appends}
 use Rattle.resolver_clause_store.specs.Universe.{Demands}
-use Rattle.resolver_report.specs.declared.Rule.{Rule}
+use Rattle.resolver_clause_store.specs.declared.Rule.{Rule}
 use Rattle.resolver_report.specs.Graphs.{graph_of}
 use Rattle.resolver_report.specs.Messages.{message}
 use Rattle.resolvo.specs.Conflicts.{rules_in}

@@ -24,3 +24,5 @@ pub mod WatchesView
 pub mod Decisions
 pub mod Queues
 pub mod Scores
+pub mod Rules
+pub mod TrueRules

@@ -10,11 +10,11 @@ use Rattle.resolver_clause_store.specs.Universe.{Universe, Demands}
 use Rattle.resolver_clause_store.specs.Candidates.{others}
 use Rattle.resolver_clause_store.specs.Valid.{demands_of}
 use Rattle.resolver_clause_store.specs.declared.ConditionId.{ConditionId}
-use Rattle.resolver_report.specs.declared.Rule.{Rule}
-use Rattle.resolver_report.specs.declared.Rule.TheVariants.{Requires as RuleRequires, Constrains as RuleConstrains, Lock as RuleLock, Excluded as RuleExcluded, OnePerPackage}
-use Rattle.resolver_report.specs.Rules as report
-use Rattle.resolver_report.specs.TrueRules as true_rules
-use Rattle.resolver_report.specs.TrueRules.{IsTrueRule}
+use Rattle.resolver_clause_store.specs.declared.Rule.{Rule}
+use Rattle.resolver_clause_store.specs.declared.Rule.TheVariants.{Requires as RuleRequires, Constrains as RuleConstrains, Lock as RuleLock, Excluded as RuleExcluded, OnePerPackage}
+use Rattle.resolver_clause_store.specs.Rules as report
+use Rattle.resolver_clause_store.specs.TrueRules as true_rules
+use Rattle.resolver_clause_store.specs.TrueRules.{IsTrueRule}
 use Rattle.resolver_clause_store.specs.declared.Origin.{Origin}
 use Rattle.resolver_clause_store.specs.declared.Origin.TheVariants.{Bit, Gate, ConstraintHelper}
 use Rattle.resolver_clause_store.specs.declared.ClauseKind.{ClauseKind}
@@ -28,7 +28,7 @@ use Rattle.std.specs.Prelude.{slice_index_or}
 use Rattle.std.proofs.lemmas.Option.{slice_get-get_or}
 use Rattle.resolver_clause_store.specs.Formula.{MakesTrue}
 use Rattle.resolver_clause_store.specs.declared.Literal.{Literal}
-use Rattle.resolver_report.specs.Rules.{IsRefuted}
+use Rattle.resolver_clause_store.specs.Rules.{IsRefuted}
 use Rattle.resolver_encoding.specs.Values.{AreEncoded, kinds_at}
 use Rattle.resolver_encoding.proofs.Lists.{list_any-witness, Contains-map}
 use Rattle.resolver_encoding.proofs.Sound.{is_plain-parts, rules_obey}

@@ -15,8 +15,7 @@ use Rattle.resolver_clause_store.specs.declared.Literal.{Literal}
 use Rattle.resolver_clause_store.specs.declared.Origin.{Origin}
 use Rattle.resolver_clause_store.specs.declared.RequirementClause.{RequirementClause}
 use Rattle.resolver_clause_store.specs.declared.Origin.TheVariants.{Root, Solvable, Bit, Gate, ConstraintHelper, ConditionHelper}
-use Rattle.resolver_clause_store.proofs.PlaceLemmas.{Keeps-trans, place_in}
-use Rattle.resolver_report.proofs.AskedLemmas.{slice_get-append_left}
+use Rattle.resolver_clause_store.proofs.PlaceLemmas.{Keeps-trans, place_in, slice_get-append_left}
 use Rattle.resolver_encoding.specs.Called.{AreAsked, IsCalledFor, to_ask}
 use Rattle.resolver_encoding.specs.Encodings.{Extends, IsEncoding, IsLeft, Notes}
 use Rattle.resolver_encoding.specs.Hints.{AreHintsReadTo, AreReadIfHinted, IsHinted, IsListedFrom, candidates_at, literals_at, stated_by, stated_by_each}

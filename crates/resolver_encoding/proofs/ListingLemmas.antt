@@ -2,8 +2,8 @@
 use Rattle.std.proofs.Common.{◌≡◌, ◌⊎◌, ℕ, ◌<◌, ◌≤◌, ◌+◌, length, get_or, take, List, [], ◌∷◌, ◌++◌, inl, inr, sym, ap, ◌∙◌, subst, ⊎_elim, Contains}
 use Rattle.std.proofs.lemmas.List.{take_all, take_more}
 use Rattle.std.proofs.lemmas.List.Elements.{Contains-append_left, Contains-push, Contains-push_cases}
-use Rattle.resolver_report.specs.declared.Rule.{Rule}
-use Rattle.resolver_report.specs.declared.Rule.TheVariants.{OnePerPackage}
+use Rattle.resolver_clause_store.specs.declared.Rule.{Rule}
+use Rattle.resolver_clause_store.specs.declared.Rule.TheVariants.{OnePerPackage}
 use Rattle.resolver_encoding.specs.Listing.{AddsRules, AreRulesOf, HasMarks, SomeOf}
 use Rattle.resolver_encoding.specs.Statements.{Statement, one_per_package, statement_of}
 use Rattle.resolver_encoding.specs.declared.listing.Listing.{Listing}

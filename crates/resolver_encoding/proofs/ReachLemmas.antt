@@ -23,8 +23,8 @@ use Rattle.resolver_clause_store.specs.declared.Requirement.{Requirement}
 use Rattle.resolver_clause_store.specs.declared.VersionSetId.{VersionSetId}
 use Rattle.resolver_clause_store.proofs.NearLemmas.{IsNamed-within, IsNear-closed, IsNear-more, OptionalConditionHolds-within}
 use Rattle.resolver_clause_store.proofs.PlaceLemmas.{place_of_member}
-use Rattle.resolver_report.specs.Rules.{IsPresent}
-use Rattle.resolver_report.specs.TrueRules.{demands_by}
+use Rattle.resolver_clause_store.specs.Rules.{IsPresent}
+use Rattle.resolver_clause_store.specs.TrueRules.{demands_by}
 use Rattle.resolver_encoding.specs.Atoms.{Atom, atom, atoms_of, origin_by}
 use Rattle.resolver_encoding.specs.Called.{Call, IsDemanded, IsNamedBy, IsSeeing, IsWantedBy, to_ask, to_see}
 use Rattle.resolver_encoding.specs.Encodings.{HasUsualHelper, IsAskStep, IsEncoding, IsFollowed, IsReadStep, IsTrueEntry, IsUnmet, Notes}

@@ -19,8 +19,8 @@ use Rattle.resolver_clause_store.specs.declared.Origin.TheVariants.{Solvable}
 use Rattle.resolver_clause_store.specs.declared.Requirement.{Requirement}
 use Rattle.resolver_clause_store.specs.declared.VersionSetId.{VersionSetId}
 use Rattle.resolver_clause_store.proofs.PlaceLemmas.{Keeps-same, Keeps-trans, place_in, place_left, place_of_member}
-use Rattle.resolver_report.specs.Rules.{IsPresent}
-use Rattle.resolver_report.specs.TrueRules.{demands_by}
+use Rattle.resolver_clause_store.specs.Rules.{IsPresent}
+use Rattle.resolver_clause_store.specs.TrueRules.{demands_by}
 use Rattle.resolver_encoding.specs.Called.{AreAsked, IsCalledFor, IsDemanded, IsNamedIn, to_ask}
 use Rattle.resolver_encoding.specs.Encodings.{AreDemandsRead, AreNeedsRead, Extends, IsConstraintRead, IsEncoding, IsLeft, IsReadStep, IsUnmet, Notes}
 use Rattle.resolver_encoding.specs.Groups.{IsNamed}

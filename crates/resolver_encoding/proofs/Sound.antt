@@ -18,11 +18,11 @@ use Rattle.resolver_clause_store.specs.declared.Requirement.{Requirement}
 use Rattle.resolver_clause_store.specs.declared.Requirement.TheVariants.{Single, Union}
 use Rattle.resolver_clause_store.specs.declared.By.{By}
 use Rattle.resolver_clause_store.specs.declared.By.TheVariants.{Root as ByRoot, Solvable as BySolvable}
-use Rattle.resolver_report.specs.declared.Rule.{Rule}
-use Rattle.resolver_report.specs.declared.Rule.TheVariants.{Requires as RuleRequires, Constrains as RuleConstrains, Lock as RuleLock, Excluded as RuleExcluded, OnePerPackage}
-use Rattle.resolver_report.specs.Rules as report
-use Rattle.resolver_report.specs.Rules.{IsPresent, Obeys}
-use Rattle.resolver_report.specs.TrueRules.{demands_by}
+use Rattle.resolver_clause_store.specs.declared.Rule.{Rule}
+use Rattle.resolver_clause_store.specs.declared.Rule.TheVariants.{Requires as RuleRequires, Constrains as RuleConstrains, Lock as RuleLock, Excluded as RuleExcluded, OnePerPackage}
+use Rattle.resolver_clause_store.specs.Rules as report
+use Rattle.resolver_clause_store.specs.Rules.{IsPresent, Obeys}
+use Rattle.resolver_clause_store.specs.TrueRules.{demands_by}
 use Rattle.resolver_clause_store.specs.declared.Origin.{Origin}
 use Rattle.resolver_clause_store.specs.declared.ClauseKind.{ClauseKind}
 use Rattle.resolver_clause_store.specs.declared.ClauseKind.TheVariants.{Requires, AnyOf, Constrains, ConstrainsExcluded, ConstrainsParent, HasBit, Lock, Excluded}

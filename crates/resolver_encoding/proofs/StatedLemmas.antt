@@ -10,7 +10,7 @@ use Rattle.resolver_clause_store.specs.declared.ClauseKind.{ClauseKind}
 use Rattle.resolver_clause_store.specs.declared.ClauseKind.TheVariants.{InstallRoot, Requires, AnyOf, Constrains, GateRequires, ConstrainsExcluded, ConstrainsParent, HasBit, Lock, Excluded}
 use Rattle.resolver_clause_store.specs.declared.Origin.{Origin}
 use Rattle.resolver_clause_store.specs.declared.Origin.TheVariants.{Root, Solvable, Bit, Gate, ConstraintHelper, ConditionHelper}
-use Rattle.resolver_report.specs.declared.Rule.{Rule}
+use Rattle.resolver_clause_store.specs.declared.Rule.{Rule}
 use Rattle.resolver_encoding.specs.Atoms.{IsStated, states_requires, states_constrains, states_gated, states_helped, states_coded, states_bit, states_lock, states_excluded}
 use Rattle.resolver_encoding.specs.Core.{IsExplained, implied_in}
 use Rattle.resolver_encoding.specs.Encodings.{IsEncoding, Notes}

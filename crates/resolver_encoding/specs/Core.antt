@@ -6,9 +6,9 @@ use Rattle.resolver_clause_store.specs.declared.Origin.{Origin}
 use Rattle.resolver_clause_store.specs.declared.Origin.TheVariants.{Bit, Gate, ConstraintHelper, ConditionHelper}
 use Rattle.resolver_clause_store.specs.declared.ClauseKind.{ClauseKind}
 use Rattle.resolver_clause_store.specs.declared.ClauseKind.TheVariants.{AnyOf, ConstrainsExcluded, HasBit}
-use Rattle.resolver_report.specs.declared.Rule.{Rule}
-use Rattle.resolver_report.specs.Rules.{IsRefuted}
-use Rattle.resolver_report.specs.TrueRules.{IsTrueRule}
+use Rattle.resolver_clause_store.specs.declared.Rule.{Rule}
+use Rattle.resolver_clause_store.specs.Rules.{IsRefuted}
+use Rattle.resolver_clause_store.specs.TrueRules.{IsTrueRule}
 use Rattle.resolver_encoding.specs.Atoms.{atoms_of, is_satisfied}
 use Rattle.resolver_encoding.specs.Truth.{same_requirement}
 

@@ -9,7 +9,7 @@ use Rattle.resolver_clause_store.specs.Variables.{Keeps}
 use Rattle.resolver_clause_store.specs.declared.VersionSetId.{VersionSetId}
 use Rattle.resolver_clause_store.specs.declared.By.TheVariants.{Root as ByRoot}
 use Rattle.resolver_clause_store.specs.declared.Origin.TheVariants.{Solvable}
-use Rattle.resolver_report.specs.Rules.{IsPresent}
+use Rattle.resolver_clause_store.specs.Rules.{IsPresent}
 use Rattle.resolver_encoding.specs.Called.{Call, IsDemanded, IsWantedBy}
 use Rattle.resolver_encoding.specs.Encodings.{AreDemandsRead, AreNeedsRead, Extends, IsEncoding, IsFollowed, IsLeft, Notes}
 use Rattle.resolver_encoding.specs.Groups.{AreGroups, IsNamed}

@@ -8,8 +8,8 @@ use Rattle.resolver_clause_store.specs.Valid.{demands_of}
 use Rattle.resolver_clause_store.specs.declared.Requirement.{Requirement}
 use Rattle.resolver_clause_store.specs.declared.Requirement.TheVariants.{Single, Union}
 use Rattle.resolver_clause_store.specs.declared.ConditionalRequirement.{ConditionalRequirement}
-use Rattle.resolver_report.specs.declared.Rule.{Rule}
-use Rattle.resolver_report.specs.TrueRules.{demands_by}
+use Rattle.resolver_clause_store.specs.declared.Rule.{Rule}
+use Rattle.resolver_clause_store.specs.TrueRules.{demands_by}
 use Rattle.resolver_clause_store.specs.declared.Origin.{Origin}
 use Rattle.resolver_clause_store.specs.declared.Origin.TheVariants.{Root, Solvable, Bit, Gate, ConstraintHelper, ConditionHelper}
 use Rattle.resolver_clause_store.specs.declared.ClauseKind.{ClauseKind}

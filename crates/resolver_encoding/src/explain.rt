@@ -16,10 +16,9 @@ ghost use Rattle.resolver_encoding.specs.Values.{kinds_at};
 use crate::listing::Listing;
 use crate::sources::{Sources, sources_of};
 use resolver_clause_store::{
-    By, Cache, ClauseKind, DependencyProvider, Exhausted, Interrupted, Origin, Requirement,
+    By, Cache, ClauseKind, DependencyProvider, Exhausted, Interrupted, Origin, Requirement, Rule,
     VersionSetId, requirement_candidates,
 };
-use resolver_report::Rule;
 use std::alloc::Global;
 use std::hash::Hash;
 

@@ -20,7 +20,7 @@ ghost use Rattle.resolver_clause_store.specs.Valid.{IsValid};
 ghost use Rattle.resolver_clause_store.specs.declared.ClauseKind.{ClauseKind};
 ghost use Rattle.resolver_clause_store.specs.declared.Literal.{Literal};
 ghost use Rattle.resolver_clause_store.specs.declared.Origin.{Origin};
-ghost use Rattle.resolver_report.specs.declared.Rule.{Rule};
+ghost use Rattle.resolver_clause_store.specs.declared.Rule.{Rule};
 ghost use Rattle.resolver_encoding.specs.Atoms.{Atom};
 ghost use Rattle.resolver_encoding.specs.Core.{IsExplained, implied_in};
 ghost use Rattle.resolver_encoding.specs.Read.{IsSettled};

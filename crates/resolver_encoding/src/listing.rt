@@ -5,8 +5,9 @@ ghost use Rattle.resolver_clause_store.specs.Laws.{IsIdentity};
 ghost use Rattle.resolver_encoding.specs.Statements.{constrains, excluded, lock, one_per_package, requires};
 
 use indexmap::IndexSet;
-use resolver_clause_store::{By, Exhausted, Requirement, StringId, VersionSetId, append, is_among};
-use resolver_report::Rule;
+use resolver_clause_store::{
+    By, Exhausted, Requirement, Rule, StringId, VersionSetId, append, is_among,
+};
 use std::alloc::Global;
 use std::hash::Hash;
 

@@ -1,7 +1,6 @@
 -- Lists that are gathered from elements.
 use Rattle.std.proofs.Common.{◌≡◌, ◌⊎◌, ℕ, zero, suc, ◌+◌, ◌<◌, List, [], ◌∷◌, ◌++◌, length, refl, sym, ◌∙◌, ap, subst, arith, get_or, take, Contains, inl, inr}
 use Rattle.std.specs.List.{flat_map}
-use Rattle.std.specs.Prelude.{slice_get}
 use Rattle.std.proofs.lemmas.List.{append-nil, take_more}
 use Rattle.std.proofs.lemmas.List.Elements.{Contains-append_left, Contains-append_right, Contains-append_cases}
 use Rattle.std.proofs.lemmas.Grind.{flat_map-append}
@@ -28,11 +27,6 @@ gathered_from f (z ∷ zs) y h = by (Contains-append_cases (f z) (flat_map f zs)
     by : Contains (f z) y ⊎ Contains (flat_map f zs) y → (Contains (flat_map f zs) y → (x : _) × Contains zs x × Contains (f x) y) → (x : _) × Contains (z ∷ zs) x × Contains (f x) y
     by (inl here) rest = (z, (zero, omega arith, refl), here)
     by (inr later) rest = let found = rest later in (found.0, Contains-append_right (z ∷ []) zs found.0 found.1, found.2)
-
-pub slice_get-append_left : {X : Type 0} (xs ys : List X) (k : ℕ) → k < length xs → slice_get (xs ++ ys) k ≡ slice_get xs k
-slice_get-append_left [] ys k h = absurd (omega (arith, h))
-slice_get-append_left (x ∷ xs) ys zero h = refl
-slice_get-append_left (x ∷ xs) ys (suc k) h = slice_get-append_left xs ys k (omega (arith, h))
 
 pub cases_lt_suc : (k n : ℕ) → k < n + 1 → (k < n) ⊎ (k ≡ n)
 cases_lt_suc zero zero h = inr refl

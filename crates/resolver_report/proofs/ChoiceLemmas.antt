@@ -5,8 +5,8 @@ use Rattle.std.proofs.lemmas.List.Elements.{All-cons, All-contains_itself, All-h
 use Rattle.std.proofs.lemmas.Nat.{mul-le}
 use Rattle.resolver_clause_store.specs.Laws.{IsIdentity}
 use Rattle.resolver_report.specs.declared.plain.Untried.{Untried}
-use Rattle.resolver_report.specs.declared.rules.Rule.{Rule}
-use Rattle.resolver_report.specs.declared.rules.Rule.TheVariants.{Requires, Constrains, Lock, Excluded, OnePerPackage}
+use Rattle.resolver_clause_store.specs.declared.Rule.{Rule}
+use Rattle.resolver_clause_store.specs.declared.Rule.TheVariants.{Requires, Constrains, Lock, Excluded, OnePerPackage}
 use Rattle.resolver_report.specs.Plain.{IsOpen, IsRefutedFrom, IsUnmet}
 use Rattle.resolver_report.specs.declared.plain.Step.{Step}
 use Rattle.resolver_report.specs.declared.plain.Step.TheVariants.{GoesOn, Found, Refuted}

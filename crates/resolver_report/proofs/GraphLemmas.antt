@@ -10,7 +10,7 @@ use Rattle.std.proofs.lemmas.List.Elements.{All-weaker, filter_passes}
 use Rattle.std.proofs.lemmas.List.Kept.{AllPairs-cons, AllPairs-filter}
 use Rattle.resolver_report.specs.declared.parts.ConflictNode.{ConflictNode}
 use Rattle.resolver_report.specs.declared.parts.ConflictNode.TheVariants.{Root, Solvable, UnresolvedDependency, Excluded as Reason}
-use Rattle.resolver_report.specs.declared.rules.Rule.{Rule}
+use Rattle.resolver_clause_store.specs.declared.Rule.{Rule}
 use Rattle.resolver_report.specs.Same.{same_node}
 use Rattle.resolver_report.specs.Graphs.{links_of, links_after, links}
 

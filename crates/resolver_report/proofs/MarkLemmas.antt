@@ -3,8 +3,8 @@ use Rattle.std.proofs.Common.{◌≡◌, ℕ, ◌+◌, ◌<◌, Bool, List, [], 
 use Rattle.std.specs.Prelude.{Option}
 use Rattle.std.proofs.lemmas.List.{reverse-append, take_more}
 use Rattle.resolver_report.specs.declared.parts.Link.{Link}
-use Rattle.resolver_report.specs.declared.rules.Rule.{Rule}
-use Rattle.resolver_report.specs.declared.rules.Rule.TheVariants.{Requires, Constrains, Lock, Excluded, OnePerPackage}
+use Rattle.resolver_clause_store.specs.declared.Rule.{Rule}
+use Rattle.resolver_clause_store.specs.declared.Rule.TheVariants.{Requires, Constrains, Lock, Excluded, OnePerPackage}
 use Rattle.resolver_report.specs.Graphs.{links, links_of, marked_last}
 use Rattle.resolver_report.specs.LastMarks.{links_marked, marked_after}
 use Rattle.resolver_report.proofs.GraphLemmas.{links-push}

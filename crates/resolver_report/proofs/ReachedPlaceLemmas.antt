@@ -17,8 +17,8 @@ use Rattle.resolver_report.specs.declared.parts.ConflictNode.TheVariants.{Root, 
 use Rattle.resolver_report.specs.declared.parts.ConflictCause.TheVariants.{Excluded as ByExclusion}
 use Rattle.resolver_report.specs.declared.parts.ConflictEdge.TheVariants.{Conflict}
 use Rattle.resolver_report.specs.declared.parts.Link.{Link}
-use Rattle.resolver_report.specs.declared.rules.Rule.{Rule}
-use Rattle.resolver_report.specs.declared.rules.Rule.TheVariants.{Requires, Constrains, Lock, Excluded, OnePerPackage}
+use Rattle.resolver_clause_store.specs.declared.Rule.{Rule}
+use Rattle.resolver_clause_store.specs.declared.Rule.TheVariants.{Requires, Constrains, Lock, Excluded, OnePerPackage}
 use Rattle.resolver_report.specs.Same.{same_node}
 use Rattle.resolver_report.specs.Graphs.{node_by, mentioned, mentions, first_mentions, requirement_link, requirement_links, marked_last, mark_links, links_of, links_after, links, is_entered, place_in, edge_in, graph_with, graph_of}
 use Rattle.resolver_report.specs.ReachedRules.{IsReachedBy, by_root, by_reached, IsAskerReached, IsKept}

@@ -5,10 +5,10 @@ use Rattle.resolver_clause_store.specs.Lists.{IsCut, cut_none, cut_left, cut_rig
 use Rattle.resolver_clause_store.specs.declared.By.{By}
 use Rattle.resolver_clause_store.specs.declared.By.TheVariants.{Root, Solvable}
 use Rattle.resolver_clause_store.specs.declared.Requirement.{Requirement}
-use Rattle.resolver_report.specs.declared.rules.Rule.{Rule}
-use Rattle.resolver_report.specs.declared.rules.Rule.TheVariants.{Requires, Constrains, Lock, Excluded, OnePerPackage}
+use Rattle.resolver_clause_store.specs.declared.Rule.{Rule}
+use Rattle.resolver_clause_store.specs.declared.Rule.TheVariants.{Requires, Constrains, Lock, Excluded, OnePerPackage}
 use Rattle.resolver_report.specs.ReachedRules.{IsReachedBy, by_root, by_reached, IsAskerReached, IsKept, LeavesKept}
-use Rattle.resolver_report.specs.Rules.{IsPresent, IsRefuted, ObeysAlone, Obeys}
+use Rattle.resolver_clause_store.specs.Rules.{IsPresent, IsRefuted, ObeysAlone, Obeys}
 use Rattle.resolver_report.proofs.SearchLemmas.{AllMeet-within}
 
 -- each element of a list that was cut is in one of the parts

@@ -15,14 +15,15 @@ use Rattle.resolver_clause_store.specs.Lists.{cut_none, cut_left, cut_right, IsW
 use Rattle.resolver_clause_store.specs.declared.By.{By}
 use Rattle.resolver_clause_store.specs.declared.Requirement.{Requirement}
 use Rattle.resolver_clause_store.specs.declared.By.TheVariants.{Root, Solvable}
-use Rattle.resolver_report.specs.declared.rules.Rule.{Rule}
-use Rattle.resolver_report.specs.declared.rules.Rule.TheVariants.{Requires, Constrains, Lock, Excluded, OnePerPackage}
+use Rattle.resolver_clause_store.specs.declared.Rule.{Rule}
+use Rattle.resolver_clause_store.specs.declared.Rule.TheVariants.{Requires, Constrains, Lock, Excluded, OnePerPackage}
 use Rattle.resolver_report.specs.Asked.{asked_in, root_asked_in}
 use Rattle.resolver_report.specs.Listed.{items_if}
 use Rattle.resolver_report.specs.ReachedRules.{IsReachedBy, by_root, by_reached, IsAskerReached, IsKept, LeavesJust}
 use Rattle.resolver_report.specs.Reaching.{IsAbout, IsReachedSet}
-use Rattle.resolver_report.specs.Rules.{IsPresent}
-use Rattle.resolver_report.proofs.AskedLemmas.{gathered, gathered_from, slice_get-append_left, cases_lt_suc}
+use Rattle.resolver_clause_store.specs.Rules.{IsPresent}
+use Rattle.resolver_clause_store.proofs.PlaceLemmas.{slice_get-append_left}
+use Rattle.resolver_report.proofs.AskedLemmas.{gathered, gathered_from, cases_lt_suc}
 use Rattle.resolver_report.specs.Searching.{all_candidates, candidates_in, count_outside}
 use Rattle.resolver_report.proofs.SearchLemmas.{Contains-all_candidates, count_outside-lt, list_any-outside}
 

@@ -14,12 +14,12 @@ use Rattle.resolver_clause_store.specs.declared.By.TheVariants.{Root as ByRoot, 
 use Rattle.resolver_report.specs.declared.parts.ConflictNode.{ConflictNode}
 use Rattle.resolver_report.specs.declared.parts.ConflictNode.TheVariants.{Solvable}
 use Rattle.resolver_report.specs.declared.parts.Link.{Link}
-use Rattle.resolver_report.specs.declared.rules.Rule.{Rule}
-use Rattle.resolver_report.specs.declared.rules.Rule.TheVariants.{Requires, Constrains, Lock, Excluded, OnePerPackage}
+use Rattle.resolver_clause_store.specs.declared.Rule.{Rule}
+use Rattle.resolver_clause_store.specs.declared.Rule.TheVariants.{Requires, Constrains, Lock, Excluded, OnePerPackage}
 use Rattle.resolver_report.specs.Graphs.{node_by, requirement_link, requirement_links, marked_last, mark_links, links_of, links_after, links, is_entered, first_mentions, place_in, edge_in, graph_with, graph_of}
 use Rattle.resolver_report.specs.Same.{same_node}
 use Rattle.resolver_report.specs.Shapes.{Shape}
-use Rattle.resolver_report.specs.TrueRules.{demands_by, IsTrueRule}
+use Rattle.resolver_clause_store.specs.TrueRules.{demands_by, IsTrueRule}
 use Rattle.resolver_report.specs.TrueEdges.{IsAskerWith, AsksFor, IsTrueBetween, IsTrueEdge, AreEdgesTrue}
 use Rattle.resolver_report.proofs.GraphLemmas.{same_node_is_identity}
 use Rattle.resolver_report.proofs.ShapeLemmas.{AllByRecursion-append, Has, EndsIn, together, first_ends, without_unresolved, without_ends}

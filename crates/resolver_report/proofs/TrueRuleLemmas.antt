@@ -13,10 +13,10 @@ use Rattle.resolver_clause_store.specs.declared.ConditionalRequirement.{Conditio
 use Rattle.resolver_clause_store.specs.declared.VersionSetId.{VersionSetId}
 use Rattle.resolver_clause_store.specs.declared.By.{By}
 use Rattle.resolver_clause_store.specs.declared.By.TheVariants.{Root, Solvable}
-use Rattle.resolver_report.specs.declared.rules.Rule.{Rule}
-use Rattle.resolver_report.specs.declared.rules.Rule.TheVariants.{Requires, Constrains, Lock, Excluded, OnePerPackage}
-use Rattle.resolver_report.specs.Rules.{AllMeet, IsPresent, ObeysAlone, Obeys}
-use Rattle.resolver_report.specs.TrueRules.{demands_by, Implies, IsTrueRule}
+use Rattle.resolver_clause_store.specs.declared.Rule.{Rule}
+use Rattle.resolver_clause_store.specs.declared.Rule.TheVariants.{Requires, Constrains, Lock, Excluded, OnePerPackage}
+use Rattle.resolver_clause_store.specs.Rules.{AllMeet, IsPresent, ObeysAlone, Obeys}
+use Rattle.resolver_clause_store.specs.TrueRules.{demands_by, Implies, IsTrueRule}
 
 requires_by : {N S : Type 0} (u : Universe N S) (root : Demands) (set : List S) (by : By S) (r : ConditionalRequirement) → IsPresent by set → Contains (demands_by u root by).requirements r → valid.Requires u root (Contains set) r
 requires_by u root set Root r here asked = inl asked

@@ -5,8 +5,8 @@ use Rattle.std.specs.HashMap.{get}
 use Rattle.resolver_clause_store.specs.declared.By.TheVariants.{Root, Solvable}
 use Rattle.resolver_report.specs.declared.askers.Asked.{Asked}
 use Rattle.resolver_report.specs.Listed.{items_at, items_if}
-use Rattle.resolver_report.specs.declared.rules.Rule.{Rule}
-use Rattle.resolver_report.specs.declared.rules.Rule.TheVariants.{Requires, Constrains, Lock, Excluded, OnePerPackage}
+use Rattle.resolver_clause_store.specs.declared.Rule.{Rule}
+use Rattle.resolver_clause_store.specs.declared.Rule.TheVariants.{Requires, Constrains, Lock, Excluded, OnePerPackage}
 
 -- the candidates of a requirement of the root
 abbrev pub root_asked_in : {N S : Type 0} → Rule N S → List S

@@ -11,8 +11,8 @@ use Rattle.resolver_report.specs.declared.parts.Edge.{Edge}
 use Rattle.resolver_report.specs.declared.parts.Link.{Link}
 use Rattle.resolver_clause_store.specs.declared.By.{By}
 use Rattle.resolver_clause_store.specs.declared.By.TheVariants.{Root as ByRoot, Solvable as BySolvable}
-use Rattle.resolver_report.specs.declared.rules.Rule.{Rule}
-use Rattle.resolver_report.specs.declared.rules.Rule.TheVariants.{Requires, Constrains, Lock, Excluded, OnePerPackage}
+use Rattle.resolver_clause_store.specs.declared.Rule.{Rule}
+use Rattle.resolver_clause_store.specs.declared.Rule.TheVariants.{Requires, Constrains, Lock, Excluded, OnePerPackage}
 use Rattle.resolver_report.specs.Same.{same_node}
 use Rattle.resolver_report.specs.Shapes.{ConflictShape}
 

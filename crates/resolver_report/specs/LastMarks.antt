@@ -4,8 +4,8 @@ use Rattle.resolver_report.specs.declared.parts.ConflictNode.TheVariants.{Root, 
 use Rattle.resolver_report.specs.declared.parts.ConflictCause.TheVariants.{Locked, Constrains as ByConstraint, Excluded as ByExclusion}
 use Rattle.resolver_report.specs.declared.parts.ConflictEdge.TheVariants.{Conflict}
 use Rattle.resolver_report.specs.declared.parts.Link.{Link}
-use Rattle.resolver_report.specs.declared.rules.Rule.{Rule}
-use Rattle.resolver_report.specs.declared.rules.Rule.TheVariants.{Requires, Constrains, Lock, Excluded, OnePerPackage}
+use Rattle.resolver_clause_store.specs.declared.Rule.{Rule}
+use Rattle.resolver_clause_store.specs.declared.Rule.TheVariants.{Requires, Constrains, Lock, Excluded, OnePerPackage}
 use Rattle.resolver_report.specs.Graphs.{node_by, requirement_links, mark_links}
 
 abbrev pub links_marked : {N S : Type 0} → (N → Option S) → Rule N S → List (Link S)

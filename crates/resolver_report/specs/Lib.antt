@@ -1,9 +1,7 @@
-pub mod Rules
 pub mod ReachedRules
 pub mod Listed
 pub mod Asked
 pub mod Reaching
-pub mod TrueRules
 pub mod TrueEdges
 pub mod ReachedPlaces
 pub mod Plain

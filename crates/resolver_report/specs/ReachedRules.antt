@@ -5,8 +5,8 @@ use Rattle.resolver_clause_store.specs.Lists.{IsCut}
 use Rattle.resolver_clause_store.specs.declared.Requirement.{Requirement}
 use Rattle.resolver_clause_store.specs.declared.By.{By}
 use Rattle.resolver_clause_store.specs.declared.By.TheVariants.{Root, Solvable}
-use Rattle.resolver_report.specs.declared.rules.Rule.{Rule}
-use Rattle.resolver_report.specs.declared.rules.Rule.TheVariants.{Requires, Constrains, Lock, Excluded, OnePerPackage}
+use Rattle.resolver_clause_store.specs.declared.Rule.{Rule}
+use Rattle.resolver_clause_store.specs.declared.Rule.TheVariants.{Requires, Constrains, Lock, Excluded, OnePerPackage}
 
 -- s is a candidate of a requirement of the root or of a solvable that is reached so, whatever its conditions
 pub data IsReachedBy {N S : Type 0} (rules : List (Rule N S)) : S → Type 0 where

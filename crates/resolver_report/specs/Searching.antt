@@ -7,9 +7,9 @@ use Rattle.resolver_report.specs.declared.plain.Examined.TheVariants.{Refuted as
 use Rattle.resolver_report.specs.declared.plain.Step.{Step}
 use Rattle.resolver_report.specs.declared.plain.Step.TheVariants.{GoesOn, Found, Refuted}
 use Rattle.resolver_report.specs.declared.plain.Untried.{Untried}
-use Rattle.resolver_report.specs.declared.rules.Rule.{Rule}
-use Rattle.resolver_report.specs.declared.rules.Rule.TheVariants.{Requires, Constrains, Lock, Excluded, OnePerPackage}
-use Rattle.resolver_report.specs.Rules.{AllNeeded, IsRefuted, Obeys}
+use Rattle.resolver_clause_store.specs.declared.Rule.{Rule}
+use Rattle.resolver_clause_store.specs.declared.Rule.TheVariants.{Requires, Constrains, Lock, Excluded, OnePerPackage}
+use Rattle.resolver_clause_store.specs.Rules.{AllNeeded, IsRefuted, Obeys}
 use Rattle.resolver_report.specs.Plain.{IsOpen, IsRefutedFrom}
 
 -- what the set shows of the rules

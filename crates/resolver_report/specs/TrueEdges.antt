@@ -12,9 +12,9 @@ use Rattle.resolver_report.specs.declared.parts.ConflictCause.TheVariants.{Locke
 use Rattle.resolver_report.specs.declared.parts.ConflictEdge.{ConflictEdge}
 use Rattle.resolver_report.specs.declared.parts.ConflictEdge.TheVariants.{Requires as Required, Conflict}
 use Rattle.resolver_report.specs.declared.parts.Edge.{Edge}
-use Rattle.resolver_report.specs.declared.rules.Rule.TheVariants.{Lock, Excluded}
+use Rattle.resolver_clause_store.specs.declared.Rule.TheVariants.{Lock, Excluded}
 use Rattle.resolver_report.specs.Shapes.{Shape}
-use Rattle.resolver_report.specs.TrueRules.{IsTrueRule}
+use Rattle.resolver_clause_store.specs.TrueRules.{IsTrueRule}
 
 -- the node is a solvable of which P holds
 abbrev pub IsSolvableWith : {S : Type 0} → (S → Type 0) → ConflictNode S → Type 0

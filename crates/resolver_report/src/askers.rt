@@ -6,8 +6,7 @@ ghost use Rattle.resolver_report.specs.Asked.{HasAsked, asked_in, root_asked_in}
 ghost use Rattle.resolver_report.specs.Listed.{items_at};
 
 use crate::listed::extend_at;
-use crate::rules::Rule;
-use resolver_clause_store::{By, Exhausted};
+use resolver_clause_store::{By, Exhausted, Rule};
 use std::alloc::Global;
 use std::collections::HashMap;
 use std::hash::Hash;

@@ -11,8 +11,7 @@ ghost use Rattle.resolver_report.specs.Places.{HasSeen, with_first};
 ghost use Rattle.resolver_report.specs.Same.{same_node};
 
 use crate::parts::{ConflictCause, ConflictEdge, ConflictNode, Link};
-use crate::rules::Rule;
-use resolver_clause_store::{By, Exhausted, Requirement};
+use resolver_clause_store::{By, Exhausted, Requirement, Rule};
 use std::alloc::Global;
 use std::collections::{HashMap, HashSet};
 use std::hash::Hash;

@@ -3,12 +3,11 @@
 ghost use Rattle.std.specs.Prelude.{Any, ◌≡◌, IfErr, IfOk, MatchOption, ◌∷◌, ◌++◌, [], IfNone, IfSome, IsTrue, IsFalse, MatchBool, Contains, All};
 ghost use Rattle.resolver_clause_store.specs.Laws.{IsIdentity};
 ghost use Rattle.resolver_clause_store.specs.Lists.{HasNoRepeats};
-ghost use Rattle.resolver_report.specs.Rules.{AllMeet, AllNeeded, IsPresent, IsRefuted, Obeys};
+ghost use Rattle.resolver_clause_store.specs.Rules.{AllMeet, AllNeeded, IsPresent, IsRefuted, Obeys};
 ghost use Rattle.resolver_report.specs.Plain.{BreaksSome, Clashes, HasTwo, IsAllowed, IsAloneMarked, IsForbidden, IsMet, IsOpen, IsUnmet, MarksNoOther, MarksOther};
 ghost use Rattle.resolver_report.specs.Searching.{IsChosen, IsSearching, IsStep, Shows, search_work, untried_view, work_of_choice};
 
-use crate::rules::Rule;
-use resolver_clause_store::{By, Exhausted, has, meets};
+use resolver_clause_store::{By, Exhausted, Rule, has, meets};
 use std::alloc::Global;
 
 /// Whether the root or a solvable is there.

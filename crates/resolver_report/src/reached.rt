@@ -7,12 +7,11 @@ ghost use Rattle.resolver_clause_store.specs.Laws.{IsIdentity};
 ghost use Rattle.resolver_report.specs.ReachedRules.{IsKept, LeavesJust, LeavesKept};
 ghost use Rattle.resolver_report.specs.Listed.{items_at};
 ghost use Rattle.resolver_report.specs.Reaching.{IsAbout, IsReachedSet};
-ghost use Rattle.resolver_report.specs.Rules.{IsPresent, IsRefuted};
+ghost use Rattle.resolver_clause_store.specs.Rules.{IsPresent, IsRefuted};
 
 use crate::askers::{Asked, asked_of};
-use crate::rules::Rule;
 use indexmap::IndexSet;
-use resolver_clause_store::{By, Exhausted};
+use resolver_clause_store::{By, Exhausted, Rule};
 use std::alloc::Global;
 use std::hash::Hash;
 

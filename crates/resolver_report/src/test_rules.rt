@@ -2,8 +2,7 @@
 
 use crate::build::graph_of;
 use crate::graph::ConflictGraph;
-use crate::rules::Rule;
-use resolver_clause_store::{By, Exhausted, Requirement, StringId, VersionSetId};
+use resolver_clause_store::{By, Exhausted, Requirement, Rule, StringId, VersionSetId};
 use std::alloc::{AllocError, Global};
 
 /// A rule that owns nothing.

@@ -19,9 +19,9 @@ use Rattle.resolver_encoding.specs.Values.{kinds_at}
 use Rattle.resolver_encoding.proofs.Bridge.{chosen_once, finished_is_valid}
 use Rattle.resolver_encoding.proofs.StatedLemmas.{encoding_core_explained}
 use Rattle.resolver_report.specs.ReachedRules.{IsKept, LeavesKept}
-use Rattle.resolver_report.specs.Rules.{IsRefuted}
-use Rattle.resolver_report.specs.TrueRules.{IsTrueRule}
-use Rattle.resolver_report.specs.declared.Rule.{Rule}
+use Rattle.resolver_clause_store.specs.Rules.{IsRefuted}
+use Rattle.resolver_clause_store.specs.TrueRules.{IsTrueRule}
+use Rattle.resolver_clause_store.specs.declared.Rule.{Rule}
 use Rattle.resolver_report.proofs.ReachedRuleLemmas.{All-left}
 use Rattle.resolvo.specs.Explanations.{Explains}
 use Rattle.resolvo.specs.declared.clause_search.ClauseSearch.{ClauseSearch}

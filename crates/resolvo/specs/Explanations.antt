@@ -1,10 +1,10 @@
 -- Rules that say why there is no answer.
 use Rattle.std.specs.Prelude.{List, All}
 use Rattle.resolver_clause_store.specs.Universe.{Universe, Demands}
-use Rattle.resolver_report.specs.declared.Rule.{Rule}
+use Rattle.resolver_clause_store.specs.declared.Rule.{Rule}
 use Rattle.resolver_report.specs.ReachedRules.{IsKept}
-use Rattle.resolver_report.specs.Rules.{IsRefuted}
-use Rattle.resolver_report.specs.TrueRules.{IsTrueRule}
+use Rattle.resolver_clause_store.specs.Rules.{IsRefuted}
+use Rattle.resolver_clause_store.specs.TrueRules.{IsTrueRule}
 
 -- true rules that no set obeys together, each of them about what their requirements reach
 pub record Explains {N S : Type 0} (u : Universe N S) (root : Demands) (rules : List (Rule N S)) : Type 0 where

@@ -8,7 +8,7 @@ ghost use Rattle.resolver_report.specs.Graphs.{graph_of as graph_of_rules};
 ghost use Rattle.resolver_report.specs.ReachedPlaces.{AreNodesReached};
 ghost use Rattle.resolver_report.specs.ReachedRules.{IsKept};
 ghost use Rattle.resolver_report.specs.TrueEdges.{AreEdgesTrue};
-ghost use Rattle.resolver_report.specs.TrueRules.{IsTrueRule};
+ghost use Rattle.resolver_clause_store.specs.TrueRules.{IsTrueRule};
 ghost use Rattle.resolvo.specs.Solvers.{provider_in};
 
 use crate::solver::Solver;

@@ -9,7 +9,7 @@ ghost use Rattle.resolver_clause_store.specs.declared.By.TheVariants.{Solvable a
 ghost use Rattle.resolver_clause_store.specs.declared.ClauseKind.TheVariants.{Excluded as ExcludedKind};
 ghost use Rattle.resolver_clause_store.specs.declared.ConditionalRequirement.{ConditionalRequirement};
 ghost use Rattle.resolver_clause_store.specs.declared.Origin.TheVariants.{Solvable as SolvableOrigin};
-ghost use Rattle.resolver_report.specs.TrueRules.{demands_by};
+ghost use Rattle.resolver_clause_store.specs.TrueRules.{demands_by};
 ghost use Rattle.resolver_encoding.specs.Called.{AreAsked, IsCalledByEach, IsCalledFor, IsDemanded, IsNamedBy, IsPlainlyNamed};
 ghost use Rattle.resolver_encoding.specs.Encodings.{AreDemandsRead, AreNeedsRead, AsksFor, AsksWithin, IsAskStep, IsConstraintRead, IsEncoding, IsEncodingOf, IsFull, IsLeft, IsReadStep, IsStep, IsUnmet, IsUnread, KeepsLimits};
 ghost use Rattle.resolver_encoding.specs.Hints.{AreHintsRead, IsListedFrom};

@@ -4,9 +4,8 @@
 
 use super::*;
 use crate::build::graph_of;
-use crate::rules::Rule;
 use crate::test_rules::{Row, graph_of_rows, required, required_in, rule_of};
-use resolver_clause_store::By;
+use resolver_clause_store::{By, Rule};
 
 /// Adds the rules by which the root requires the first of so many solvables, and each of them the next. The last one
 /// requires what has no candidates, or nothing.

@@ -4,7 +4,7 @@ use Rattle.std.proofs.lemmas.List.{get_or_default, take_all}
 use Rattle.resolver_clause_store.specs.Laws.{IsIdentity}
 use Rattle.resolver_clause_store.specs.declared.ClauseKind.{ClauseKind}
 use Rattle.resolver_clause_store.specs.declared.ClauseKind.TheVariants.{InstallRoot}
-use Rattle.resolver_report.specs.declared.Rule.{Rule}
+use Rattle.resolver_clause_store.specs.declared.Rule.{Rule}
 use Rattle.resolver_encoding.specs.Listing.{AreRulesOf, SomeOf, States}
 use Rattle.resolver_encoding.specs.Values.{kinds_at}
 use Rattle.resolver_encoding.proofs.ListingLemmas.{no_rules, rules_next}

@@ -3,7 +3,7 @@ use Rattle.std.specs.Prelude.{Option, Some, ⊤}
 use Rattle.std.proofs.lemmas.List.Elements.{All-contains_itself, All-weaker}
 use Rattle.resolver_clause_store.specs.Universe.{Demands}
 use Rattle.resolver_clause_store.specs.declared.ConditionalRequirement.{ConditionalRequirement}
-use Rattle.resolver_report.specs.TrueRules.{demands_by}
+use Rattle.resolver_clause_store.specs.TrueRules.{demands_by}
 use Rattle.resolver_encoding.specs.Called.{Call, IsCalledByEach, IsDemanded, IsNamedBy, IsPlainlyNamed}
 use Rattle.resolver_encoding.specs.Encodings.{AsksFor, AsksWithin, IsLeft, IsUnmet}
 use Rattle.resolver_encoding.specs.Notes.{notes_in}

@@ -2,7 +2,7 @@ use Rattle.std.proofs.Common.{◌≡◌, ◌∙◌, All, Contains, List, [], ref
 use Rattle.std.proofs.lemmas.List.Elements.{All-nil}
 use Rattle.resolver_clause_store.specs.Universe.{Demands}
 use Rattle.resolver_clause_store.specs.declared.By.TheVariants.{Root}
-use Rattle.resolver_report.specs.TrueRules.{demands_by}
+use Rattle.resolver_clause_store.specs.TrueRules.{demands_by}
 use Rattle.resolver_clause_store.specs.Near.{IsNear}
 use Rattle.resolver_encoding.specs.Called.{AreAsked, IsCalledFor, IsDemanded}
 use Rattle.resolver_encoding.specs.SoFar.{IsReadingOf}

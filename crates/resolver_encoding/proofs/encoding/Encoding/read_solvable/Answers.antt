@@ -3,7 +3,7 @@ use Rattle.std.specs.Prelude.{⊤}
 use Rattle.resolver_clause_store.specs.Universe.{Demands, Needs, known}
 use Rattle.resolver_clause_store.specs.Valid.{demands_of}
 use Rattle.resolver_clause_store.specs.declared.By.TheVariants.{Solvable}
-use Rattle.resolver_report.specs.TrueRules.{demands_by}
+use Rattle.resolver_clause_store.specs.TrueRules.{demands_by}
 use Rattle.resolver_encoding.specs.Called.{Call, IsDemanded}
 use Rattle.resolver_encoding.specs.Encodings.{IsUnmet}
 use Rattle.resolver_encoding.specs.Notes.{notes_in}

@@ -1,5 +1,5 @@
 use Rattle.std.proofs.Common.{refl}
-use Rattle.resolver_report.specs.declared.Rule.TheVariants.{Requires}
+use Rattle.resolver_clause_store.specs.declared.Rule.TheVariants.{Requires}
 use Rattle.resolver_encoding.proofs.ListingLemmas.{pushed}
 use Rattle.resolver_encoding.proofs.listing.Listing.require.Goals as goal
 

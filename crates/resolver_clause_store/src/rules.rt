@@ -1,6 +1,7 @@
 //! What a conflict says of sets of solvables.
 
-use resolver_clause_store::{By, Requirement, StringId, VersionSetId};
+use crate::data::{By, Requirement};
+use crate::ids::{StringId, VersionSetId};
 
 /// A rule that a set of solvables obeys or breaks.
 ///

@@ -2,11 +2,11 @@
 use Rattle.std.specs.Prelude.{◌≡◌, ℕ, ◌<◌, List, Contains, All, ⊤, remove, length, Vec}
 use Rattle.std.proofs.Common.{Global}
 use Rattle.resolver_clause_store.specs.Lists.{Meets}
-use Rattle.resolver_clause_store.specs.declared.Requirement.{Requirement}
-use Rattle.resolver_clause_store.specs.declared.By.{By}
-use Rattle.resolver_clause_store.specs.declared.By.TheVariants.{Root, Solvable}
-use Rattle.resolver_report.specs.declared.rules.Rule.{Rule}
-use Rattle.resolver_report.specs.declared.rules.Rule.TheVariants.{Requires, Constrains, Lock, Excluded, OnePerPackage}
+use Rattle.resolver_clause_store.specs.declared.data.Requirement.{Requirement}
+use Rattle.resolver_clause_store.specs.declared.data.By.{By}
+use Rattle.resolver_clause_store.specs.declared.data.By.TheVariants.{Root, Solvable}
+use Rattle.resolver_clause_store.specs.declared.rules.Rule.{Rule}
+use Rattle.resolver_clause_store.specs.declared.rules.Rule.TheVariants.{Requires, Constrains, Lock, Excluded, OnePerPackage}
 
 -- the root is always there
 abbrev pub IsPresent : {S : Type 0} → By S → List S → Type 0

@@ -5,13 +5,13 @@ use Rattle.resolver_clause_store.specs.Universe.{Universe, Demands, unknown}
 use Rattle.resolver_clause_store.specs.Candidates.{others, requirement_candidates}
 use Rattle.resolver_clause_store.specs.Conditions.{ConditionHolds}
 use Rattle.resolver_clause_store.specs.Valid.{demands_of}
-use Rattle.resolver_clause_store.specs.declared.ConditionId.{ConditionId}
-use Rattle.resolver_clause_store.specs.declared.ConditionalRequirement.{ConditionalRequirement}
-use Rattle.resolver_report.specs.Rules.{AllMeet}
-use Rattle.resolver_clause_store.specs.declared.By.{By}
-use Rattle.resolver_clause_store.specs.declared.By.TheVariants.{Root, Solvable}
-use Rattle.resolver_report.specs.declared.rules.Rule.{Rule}
-use Rattle.resolver_report.specs.declared.rules.Rule.TheVariants.{Requires, Constrains, Lock, Excluded, OnePerPackage}
+use Rattle.resolver_clause_store.specs.declared.ids.ConditionId.{ConditionId}
+use Rattle.resolver_clause_store.specs.declared.data.ConditionalRequirement.{ConditionalRequirement}
+use Rattle.resolver_clause_store.specs.Rules.{AllMeet}
+use Rattle.resolver_clause_store.specs.declared.data.By.{By}
+use Rattle.resolver_clause_store.specs.declared.data.By.TheVariants.{Root, Solvable}
+use Rattle.resolver_clause_store.specs.declared.rules.Rule.{Rule}
+use Rattle.resolver_clause_store.specs.declared.rules.Rule.TheVariants.{Requires, Constrains, Lock, Excluded, OnePerPackage}
 
 -- what the root or a solvable asks for
 abbrev pub demands_by : {N S : Type 0} → Universe N S → Demands → By S → Demands
