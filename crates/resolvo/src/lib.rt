@@ -12,6 +12,7 @@ mod problem;
 mod propagate;
 mod propagator;
 mod rounds;
+mod shrinking;
 mod solver;
 #[cfg(test)]
 mod store_tests;
