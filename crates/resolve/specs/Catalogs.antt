@@ -143,10 +143,6 @@ tables_in it = record {
 abbrev pub no_tables : Tables
 no_tables = record { names = []; packages = []; solvables = []; versions = []; version_sets = []; unions = []; conditions = []; strings = [] }
 
--- what the catalog says of a package
-abbrev pub listing_in : Catalog → NameId → Package SolvableId
-listing_in it n = listing_of (slice_get it.packages.packages.items n.0)
-
 -- the solvable is the version of that number of the package of that name
 pub record IsFound (it : Catalog) (text : List ℕ) (number : ℕ) (s : SolvableId) : Type 0 where
   pub name : NameId

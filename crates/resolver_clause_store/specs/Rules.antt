@@ -45,6 +45,6 @@ AllNeeded {N} {S} rules set = (s : S) → Contains set s → IsNeeded rules set 
 abbrev pub IsRefuted : {N S : Type 0} → List (Rule N S) → Type 0
 IsRefuted {N} {S} rules = (set : List S) → Obeys set rules → ⊥
 
--- the rules without the one at a place
+-- no set obeys the rules, and this is not so without any one of them
 abbrev pub IsIrreducible : {N S : Type 0} → List (Rule N S) → Type 0
 IsIrreducible rules = IsRefuted rules × ((k : ℕ) → k < length rules → IsRefuted (remove rules k) → ⊥)

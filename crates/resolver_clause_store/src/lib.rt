@@ -10,6 +10,7 @@ mod hints;
 mod ids;
 mod index_sets;
 mod kinds;
+mod laws;
 mod lists;
 mod literals;
 mod provider;
@@ -36,6 +37,10 @@ pub use decisions::{Choice, decide};
 pub use ids::{ConditionId, StringId, VersionSetId, VersionSetUnionId};
 pub use index_sets::{append, is_among, place_of};
 pub use kinds::{ClauseKind, Origin};
+pub use laws::{
+    a_run_over_nothing_is_its_first_answer, first_choices_are_least_closed,
+    the_need_closure_is_least_closed,
+};
 pub use literals::{Literal, Variable};
 pub use provider::{DependencyProvider, Interner};
 pub use questions::check_cancel;

@@ -213,14 +213,6 @@ impl Ranks {
         Ok(())
     }
 
-    /// The score of the package of a variable.
-    pub fn score_of(&self, variable: Variable) -> u64 {
-        match self.owner_of(variable) {
-            Some(number) => self.scores.of(number, self.learnt),
-            None => 0,
-        }
-    }
-
     /// Puts a requirement among those that are to be ranked anew.
     fn change(&mut self, requirement: usize) -> Result<(), AllocError> {
         if requirement >= self.entries.len() || self.entries[requirement].is_changed {

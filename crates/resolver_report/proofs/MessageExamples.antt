@@ -1,4 +1,4 @@
--- Texts of messages, by computation. Written by tools/gen_examples.py.
+-- Texts of messages, by computation.
 use Rattle.std.specs.Prelude.{◌≡◌, ℕ, ◌==◌, nat_le, if◌then◌else◌, List, [], ◌∷◌, ◌++◌, codes, map, Option, Some, None, unwrap_or, slice_get, refl}
 use Rattle.resolver_clause_store.specs.Universe.{Universe, hint_none, unknown}
 use Rattle.resolver_clause_store.specs.declared.Requirement.TheVariants.{Single}

@@ -24,3 +24,4 @@ pub mod SoftLemmas
 pub mod OutcomeLemmas
 pub mod FirstChoiceExamples
 pub mod ReadInTurnLemmas
+pub mod PartLemmas

@@ -11,7 +11,6 @@ use Rattle.resolver_clause_store.specs.SoftRun.{FitsNowhere, SoftRun}
 use Rattle.resolvo.specs.Answers.{IsSoftAnswer}
 use Rattle.resolver_encoding.specs.Refusals.{IsStop}
 use Rattle.resolver_encoding.specs.SoFar.{IsReadSoFar}
-use Rattle.resolvo.specs.Refusals.{CountsRead, CountsRefuted}
 use Rattle.resolvo.specs.RoundStates.{HasAllClauses, IsBetween, IsStuck, KeepsRoom, chosen_of, notes_of}
 use Rattle.resolver_clause_store.specs.Caches.{IsTrueCache}
 use Rattle.resolver_clause_store.specs.declared.Cache.{Cache}
@@ -36,24 +35,8 @@ OnOk-weaker P Q follows (Err e) h = tt
 pub same_demands : (d : Demands) (rs : List ConditionalRequirement) (vs : List VersionSetId) → rs ≡ d.requirements → vs ≡ d.constraints → record { requirements = rs; constraints = vs } ≡ d
 same_demands d rs vs r v = λ i. record { requirements = r i; constraints = v i }
 
--- what was counted
-pub counts_read : {D C N S : Type 0} (u : Universe N S) (root : Demands) (r : Rounds N S) (old new : Solver D C N S) (set : List S) → HasCounted r old → KeepsCounts old new → HasAllClauses r → set ≡ chosen_of r → IsReadSoFar u root (chosen_of r) (notes_of r) → CountsRead u root set new
-counts_read {D} {C} {N} {S} u root r old new set counts keeps all are so_far =
-    let ReadFor : List S → Type 0 = λ list. IsReadSoFar u root list (notes_of r) in
-    record {
-      notes = notes_of r;
-      so_far = subst ReadFor (sym are) so_far;
-      counted = omega (arith, counts.all all, keeps.clauses, keeps.learnt);
-      left = keeps.deferred ∙ counts.deferred;
-    }
-
 pub keeps_counts : {D C N S : Type 0} (s : Solver D C N S) → KeepsCounts s s
 keeps_counts s = record { variables = refl; clauses = refl; learnt = refl; deferred = refl }
-
-pub counts_refuted : {D C N S : Type 0} (u : Universe N S) (root : Demands) (set : List S) (s : Solver D C N S) (e : UnsolvableOrCancelled D C N S) → CountsRead u root set s → CountsRefuted u root s e
-counts_refuted u root set s (Unsolvable c) h = (set, h)
-counts_refuted u root set s (Cancelled value) h = tt
-counts_refuted u root set s (Exhausted e) h = tt
 
 -- a count of the rounds at its limit is one of the solver's
 pub at_limit : {D C N S : Type 0} (old new : Rounds N S) (s : Solver D C N S) → KeepsRoom old new → (notes_of old).variable_limit ≡ s.variable_limit → (notes_of old).clause_limit ≡ s.clause_limit → old.clause_limit ≡ s.clause_limit → old.learnt_limit ≡ s.learnt_limit → HasCounted new s →

@@ -1,5 +1,5 @@
 -- Some clauses of a table by themselves.
-use Rattle.std.specs.Prelude.{◌≡◌, ℕ, ◌<◌, ◌≤◌, [], List, Option, Some, length, slice_index, Vec, All}
+use Rattle.std.specs.Prelude.{◌≡◌, ℕ, ◌<◌, [], List, Option, Some, length, map, slice_index_or, None, Vec, All}
 use Rattle.std.specs.declared.alloc.Global.{Global}
 use Rattle.resolver_clause_store.specs.Formula.{clause_at}
 use Rattle.resolver_clause_store.specs.TrailView.{variable_count}
@@ -10,13 +10,12 @@ use Rattle.resolvo.specs.declared.clause_search.ClauseSearch.{ClauseSearch}
 use Rattle.resolvo.specs.declared.shrinking.Part.{Part}
 
 -- the clauses are those of the table with these numbers, in the order of the numbers
-pub record ArePicked (table : List (Vec Literal Global)) (numbers : List ℕ) (clauses : List (Vec Literal Global)) : Type 0 where
-  pub count : length clauses ≡ length numbers
-  pub each : (place : ℕ) → place < length numbers → clause_at clauses place ≡ clause_at table (slice_index numbers place)
+abbrev pub ArePicked : List (Vec Literal Global) → List ℕ → List (Vec Literal Global) → Type 0
+ArePicked table numbers clauses = map (λ (clause : Vec Literal Global). clause.items) clauses ≡ map (clause_at table) numbers
 
 -- each place that is given is below this number
 abbrev pub LeadWithin : List (Option ℕ) → ℕ → Type 0
-LeadWithin places bound = (number place : ℕ) → slice_index places number ≡ Some place → place < bound
+LeadWithin places bound = (number place : ℕ) → slice_index_or places number None ≡ Some place → place < bound
 
 -- the clauses of the part
 abbrev pub clauses_in : Part → List (Vec Literal Global)

@@ -12,10 +12,7 @@ module _ {D C N S : Type 0} where
   abbrev pub provider_in : Solver D C N S → D
   provider_in s = s.provider
 
-  -- how many variables, clauses and learnt clauses the present state has; learnt ones are clauses, too
-  abbrev pub variable_count_in : Solver D C N S → ℕ
-  variable_count_in s = s.variable_count
-
+  -- how many clauses and learnt clauses the present state has; learnt ones are clauses, too
   abbrev pub clause_count_in : Solver D C N S → ℕ
   clause_count_in s = s.clause_count
 

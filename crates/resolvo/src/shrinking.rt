@@ -26,8 +26,7 @@ fn pick(
 {
     let mut clauses = Vec::new(alloc);
     'numbers: for number in numbers {
-        let copy = clause(table, *number).to_vec(alloc)?;
-        clauses.push(copy)?;
+        clauses.push(clause(table, *number).to_vec(alloc)?)?;
     }
     Ok(clauses)
 }
@@ -159,7 +158,10 @@ impl Part {
             Ok(Outcome::Finished) => Ok(None),
             Ok(Outcome::Refused) => Ok(None),
             Err(Interrupted::Exhausted(Exhausted::Ids)) => Ok(None),
-            Err(e) => Err(e),
+            Err(Interrupted::Exhausted(Exhausted::Memory)) => {
+                Err(Interrupted::Exhausted(Exhausted::Memory))
+            }
+            Err(Interrupted::Cancelled(value)) => Err(Interrupted::Cancelled(value)),
         }
     }
 }

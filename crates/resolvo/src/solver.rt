@@ -16,8 +16,8 @@ ghost use Rattle.resolvo.specs.Problems.{AreItems, demands_in, soft_in};
 ghost use Rattle.std.specs.Iterator.{IsFinite};
 ghost use Rattle.resolvo.specs.declared.solver.UnsolvableOrCancelled.TheVariants.{Exhausted as ExhaustedError};
 ghost use Rattle.resolver_clause_store.specs.declared.Exhausted.TheVariants.{Memory};
-ghost use Rattle.resolvo.specs.Refusals.{CountsRead, CountsRefuted, IsRefusal};
-ghost use Rattle.resolvo.specs.RoundStates.{HasAllClauses, IsDone, IsSomeDone, chosen_of, notes_of};
+ghost use Rattle.resolvo.specs.Refusals.{IsRefusal};
+ghost use Rattle.resolvo.specs.RoundStates.{IsDone, IsSomeDone, chosen_of, notes_of};
 ghost use Rattle.resolvo.specs.Solvers.{HasActivity, HasCounted, HasLimits, IsAtLimit, IsSound, KeepsActivity, KeepsAllButCounts, KeepsCounts, KeepsLimits, clause_count_in, deferred_count_in, exempt_in, provider_in};
 
 use crate::conflict::Conflict;
@@ -226,9 +226,7 @@ impl<D: DependencyProvider> Solver<D> {
     ) -> Result<Vec<D::SolvableId>, UnsolvableOrCancelled<D>>
         requires sound { IsSound (D.universe (provider_in self.old)) self.old }
         requires none { exempt_in self.old ≡ [] }
-        requires counts { HasCounted rounds.now self.old }
         requires done { IfOk found (IsSomeDone (D.universe (provider_in self.old)) rounds.now) }
-        requires all { OnOk found (HasAllClauses rounds.now) }
         requires table { OnOk found (length (notes_of rounds.now).table ≡ length (notes_of rounds.now).kinds) }
         requires stop { IfErr found (IsStop (D.may_cancel (provider_in self.old)) (IsAtLimit self.old)) }
         ensures sound { IsSound (D.universe (provider_in self.new)) self.new }
@@ -239,8 +237,6 @@ impl<D: DependencyProvider> Solver<D> {
         ensures found { OnOk result (found ≡ Ok FoundAnswer) }
         ensures answer { IfOk result (λ chosen. (root : Demands) (soft : List D.SolvableId) → IfOk found (IsDone (D.universe (provider_in self.old)) root soft rounds.now) → IsSoftAnswer (D.universe (provider_in self.old)) root soft chosen.items (exempt_in self.new)) }
         ensures refusal { IfErr result (λ e. (root : Demands) (soft : List D.SolvableId) → IfOk found (IsDone (D.universe (provider_in self.old)) root soft rounds.now) → IsRefusal (D.universe (provider_in self.old)) (D.may_cancel (provider_in self.old)) root (IsAtLimit self.new) e) }
-        ensures counted { IfErr result (λ e. (root : Demands) (soft : List D.SolvableId) → IfOk found (IsDone (D.universe (provider_in self.old)) root soft rounds.now) → CountsRefuted (D.universe (provider_in self.old)) root self.new e) }
-        ensures counted_answer { IfOk result (λ chosen. (root : Demands) (soft : List D.SolvableId) → IfOk found (IsDone (D.universe (provider_in self.old)) root soft rounds.now) → CountsRead (D.universe (provider_in self.old)) root chosen.items self.new) }
     {
         match found {
             Err(Interrupted::Cancelled(value)) => Err(UnsolvableOrCancelled::Cancelled(value)),
@@ -272,8 +268,6 @@ impl<D: DependencyProvider> Solver<D> {
         ensures answer { IfOk result (λ chosen. (soft : List D.SolvableId) × AreItems S.next_gives (soft_in problem) soft × IsSoftAnswer (D.universe (provider_in self.old)) (demands_in problem) soft chosen.items (exempt_in self.new)) }
         ensures none { OnErr result (exempt_in self.new ≡ []) }
         ensures refusal { IfErr result (IsRefusal (D.universe (provider_in self.old)) (D.may_cancel (provider_in self.old)) (demands_in problem) (IsAtLimit self.new)) }
-        ensures counted { IfErr result (CountsRefuted (D.universe (provider_in self.old)) (demands_in problem) self.new) }
-        ensures counted_answer { IfOk result (λ chosen. CountsRead (D.universe (provider_in self.old)) (demands_in problem) chosen.items self.new) }
     {
         let mut rounds = Rounds::new(
             self.alloc,

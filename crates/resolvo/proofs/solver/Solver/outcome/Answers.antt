@@ -1,26 +1,12 @@
-use Rattle.std.proofs.Common.{List, ap, refl, ◌∙◌, subst, sym, ◌≡◌, ℕ}
+use Rattle.std.proofs.Common.{List, ap, ◌∙◌, subst, sym, ◌≡◌, ℕ}
 use Rattle.std.specs.Prelude.{IfOk, Ok}
 use Rattle.resolver_clause_store.specs.Outcomes.{IsCore}
 use Rattle.resolver_clause_store.specs.Universe.{Demands}
 use Rattle.resolver_encoding.specs.SoFar.{IsReadSoFar}
-use Rattle.resolvo.specs.Refusals.{CountsRead}
-use Rattle.resolvo.specs.RoundStates.{HasAllClauses, IsBetween, IsDone, chosen_of, notes_of}
-use Rattle.resolvo.proofs.OutcomeLemmas.{counts_read, counts_refuted, OnOk-of, found_at, ok_at}
+use Rattle.resolvo.specs.RoundStates.{IsDone, chosen_of, notes_of}
+use Rattle.resolvo.proofs.OutcomeLemmas.{OnOk-of, found_at}
 use Rattle.resolvo.specs.declared.rounds.Found.TheVariants.{Answer}
-use Rattle.resolvo.proofs.RefusalLemmas.{IfOk-weaker}
 use Rattle.resolvo.proofs.solver.Solver.outcome.Goals as goal
-
-pub returns-in-Ok-Answer-clause-counted_answer : goal.returns-in-Ok-Answer-clause-counted_answer
-returns-in-Ok-Answer-clause-counted_answer g c =
-    let u = g.D.Interner.universe c.args.self.now.provider in
-    let rounds = c.args.rounds.now in
-    IfOk-weaker (λ chosen. chosen.items ≡ chosen_of rounds)
-    (λ chosen. (root : Demands) (soft : List g.row.D-SolvableId.Denot) → IfOk c.args.found (IsDone u root soft rounds) → CountsRead u root chosen.items c.accept.new.self)
-    (λ chosen are root soft done.
-    let it : IsDone u root soft rounds c.in-Ok-Answer.field-0 = found_at (IsDone u root soft rounds) c.args.found c.in-Ok-Answer.field-0 c.in-Ok-Answer.is done in
-    let b : IsBetween u root soft rounds = rw c.in-Ok-Answer.field-0-is at it in
-    counts_read u root rounds c.args.self.now c.accept.new.self chosen.items c.requires.counts c.accept.ensures.counts (ok_at (HasAllClauses rounds) c.args.found c.in-Ok-Answer.field-0 c.in-Ok-Answer.is c.requires.all) are b.read)
-    c.accept.result c.accept.ensures.chosen
 
 pub returns-in-Ok-Contradiction-clause-refusal : goal.returns-in-Ok-Contradiction-clause-refusal
 returns-in-Ok-Contradiction-clause-refusal g c = λ root soft done.
@@ -30,14 +16,6 @@ returns-in-Ok-Contradiction-clause-refusal g c = λ root soft done.
     let both : IsReadSoFar u root (chosen_of rounds) (notes_of rounds) × IsCore (notes_of rounds).table c.in-Ok-Contradiction.core.items = rw c.in-Ok-Contradiction.field-0-is at it in
     let CoreOf : List ℕ → Type 0 = λ ns. IsCore (notes_of rounds).table ns in
     c.refuse.ensures.refusal root (notes_of rounds) (sym c.kinds.ensures) both.0.half.encoding (subst CoreOf (sym c.deref.ensures.value) both.1)
-
-pub returns-in-Ok-Contradiction-clause-counted : goal.returns-in-Ok-Contradiction-clause-counted
-returns-in-Ok-Contradiction-clause-counted g c = λ root soft done.
-    let u = g.D.Interner.universe c.args.self.now.provider in
-    let rounds = c.args.rounds.now in
-    let it : IsDone u root soft rounds c.in-Ok-Contradiction.field-0 = found_at (IsDone u root soft rounds) c.args.found c.in-Ok-Contradiction.field-0 c.in-Ok-Contradiction.is done in
-    let both : IsReadSoFar u root (chosen_of rounds) (notes_of rounds) × IsCore (notes_of rounds).table c.in-Ok-Contradiction.core.items = rw c.in-Ok-Contradiction.field-0-is at it in
-    counts_refuted u root (chosen_of rounds) c.refuse.new.self c.refuse.result (counts_read u root rounds c.args.self.now c.refuse.new.self (chosen_of rounds) c.requires.counts c.refuse.ensures.counts (ok_at (HasAllClauses rounds) c.args.found c.in-Ok-Contradiction.field-0 c.in-Ok-Contradiction.is c.requires.all) refl both.0)
 
 pub returns-in-Ok-Answer-clause-found : goal.returns-in-Ok-Answer-clause-found
 returns-in-Ok-Answer-clause-found g c = OnOk-of (c.args.found ≡ Ok Answer) (c.in-Ok-Answer.is ∙ ap Ok c.in-Ok-Answer.field-0-is) c.accept.result

@@ -4,12 +4,12 @@ use Rattle.resolver_clause_store.specs.Universe.{Demands}
 use Rattle.resolver_encoding.specs.Refusals.{IsStop}
 use Rattle.resolvo.specs.Answers.{IsSoftAnswer}
 use Rattle.resolvo.specs.Problems.{AreItems, demands_in, soft_in}
-use Rattle.resolvo.specs.Refusals.{CountsRead, CountsRefuted, IsRefusal}
+use Rattle.resolvo.specs.Refusals.{IsRefusal}
 use Rattle.resolvo.specs.RoundStates.{IsDone, IsStuck}
 use Rattle.resolvo.specs.Solvers.{IsAtLimit, exempt_in}
 use Rattle.resolvo.specs.declared.rounds.Found.TheVariants.{Answer}
 use Rattle.resolvo.proofs.OutcomeLemmas.{IfOk-both, at_limit, found_at, same_demands, soft_given, still_sound, stop_weaker}
-use Rattle.resolvo.proofs.RefusalLemmas.{IfErr-weaker, IfOk-weaker}
+use Rattle.resolvo.proofs.RefusalLemmas.{IfErr-weaker}
 use Rattle.resolvo.proofs.solver.Solver.solve.Goals as goal
 
 pub outcome-answer-requires-clause-sound : goal.outcome-answer-requires-clause-sound
@@ -68,40 +68,3 @@ returns-clause-refusal g c =
     (λ e h. let For : g.row.D.Denot → Type 0 = λ q. IsRefusal (g.D.Interner.universe q) (g.D.DependencyProvider.may_cancel q) root (IsAtLimit c.outcome-answer.new.self) e in subst For provider (h root w.0 done))
     c.outcome-answer.result c.outcome-answer.ensures.refusal
 
-pub returns-clause-counted : goal.returns-clause-counted
-returns-clause-counted g c =
-    let p : g.row.D.Denot = c.args.self.now.provider in
-    let s = c.count.new.self in
-    let rounds = c.find-found.new.self in
-    let root = demands_in c.args.problem in
-    let given : Demands = record { requirements = c.root_requirements.result.now; constraints = c.root_constraints.result.now } in
-    let same : given ≡ root = same_demands root c.root_requirements.result.now c.root_constraints.result.now c.root_requirements.ensures c.root_constraints.ensures in
-    let provider : s.provider ≡ p = c.count.ensures.rest.provider in
-    let Gives : List g.row.D-SolvableId.Denot → Type 0 = λ xs. AreItems g.S.Iterator.next_gives c.take-soft.result xs in
-    let w = soft_given Gives (λ f. f ≡ Answer) (λ xs f. IsDone (g.D.Interner.universe p) given xs rounds f) c.find-found.result c.find-found.ensures.done in
-    let DoneFor : g.row.D.Denot → Demands → Type 0 = λ q d. IfOk c.find-found.result (IsDone (g.D.Interner.universe q) d w.0 rounds) in
-    let DoneBy : g.row.D.Denot → Type 0 = λ q. DoneFor q root in
-    let done : DoneFor s.provider root = subst DoneBy (sym provider) (subst (DoneFor p) same w.2) in
-    IfErr-weaker (λ e. (d : Demands) (xs : List g.row.D-SolvableId.Denot) → IfOk c.find-found.result (IsDone (g.D.Interner.universe s.provider) d xs rounds) → CountsRefuted (g.D.Interner.universe s.provider) d c.outcome-answer.new.self e)
-    (λ e. CountsRefuted (g.D.Interner.universe p) root c.outcome-answer.new.self e)
-    (λ e h. let For : g.row.D.Denot → Type 0 = λ q. CountsRefuted (g.D.Interner.universe q) root c.outcome-answer.new.self e in subst For provider (h root w.0 done))
-    c.outcome-answer.result c.outcome-answer.ensures.counted
-
-pub returns-clause-counted_answer : goal.returns-clause-counted_answer
-returns-clause-counted_answer g c =
-    let p : g.row.D.Denot = c.args.self.now.provider in
-    let s = c.count.new.self in
-    let rounds = c.find-found.new.self in
-    let root = demands_in c.args.problem in
-    let given : Demands = record { requirements = c.root_requirements.result.now; constraints = c.root_constraints.result.now } in
-    let same : given ≡ root = same_demands root c.root_requirements.result.now c.root_constraints.result.now c.root_requirements.ensures c.root_constraints.ensures in
-    let provider : s.provider ≡ p = c.count.ensures.rest.provider in
-    let Gives : List g.row.D-SolvableId.Denot → Type 0 = λ xs. AreItems g.S.Iterator.next_gives c.take-soft.result xs in
-    let w = soft_given Gives (λ f. f ≡ Answer) (λ xs f. IsDone (g.D.Interner.universe p) given xs rounds f) c.find-found.result c.find-found.ensures.done in
-    let DoneFor : g.row.D.Denot → Demands → Type 0 = λ q d. IfOk c.find-found.result (IsDone (g.D.Interner.universe q) d w.0 rounds) in
-    let DoneBy : g.row.D.Denot → Type 0 = λ q. DoneFor q root in
-    let done : DoneFor s.provider root = subst DoneBy (sym provider) (subst (DoneFor p) same w.2) in
-    IfOk-weaker (λ chosen. (d : Demands) (xs : List g.row.D-SolvableId.Denot) → IfOk c.find-found.result (IsDone (g.D.Interner.universe s.provider) d xs rounds) → CountsRead (g.D.Interner.universe s.provider) d chosen.items c.outcome-answer.new.self)
-    (λ chosen. CountsRead (g.D.Interner.universe p) root chosen.items c.outcome-answer.new.self)
-    (λ chosen h. let For : g.row.D.Denot → Type 0 = λ q. CountsRead (g.D.Interner.universe q) root chosen.items c.outcome-answer.new.self in subst For provider (h root w.0 done))
-    c.outcome-answer.result c.outcome-answer.ensures.counted_answer

@@ -1,0 +1,7 @@
+use Rattle.std.proofs.Common.{refl}
+use Rattle.resolver_clause_store.specs.SoftRun.{FitsNowhere}
+use Rattle.resolver_clause_store.proofs.SoftRunLemmas.{SoftRun-none}
+use Rattle.resolver_clause_store.proofs.laws.a_run_over_nothing_is_its_first_answer.Goals as goal
+
+pub returns : goal.returns
+returns g c = λ u root first taken chosen exempt asked run. (SoftRun-none u root (FitsNowhere u root) first _ taken chosen exempt asked run refl).0
