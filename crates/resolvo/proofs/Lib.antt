@@ -24,4 +24,3 @@ pub mod SoftLemmas
 pub mod OutcomeLemmas
 pub mod FirstChoiceExamples
 pub mod ReadInTurnLemmas
-pub mod PartLemmas

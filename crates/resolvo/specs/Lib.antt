@@ -16,4 +16,3 @@ pub mod Resolvents
 pub mod Derivations
 pub mod ClauseSearches
 pub mod RoundStates
-pub mod Parts

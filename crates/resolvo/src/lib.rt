@@ -12,7 +12,6 @@ mod problem;
 mod propagate;
 mod propagator;
 mod rounds;
-mod shrinking;
 mod solver;
 #[cfg(test)]
 mod store_tests;

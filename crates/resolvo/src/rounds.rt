@@ -7,8 +7,6 @@ ghost use Rattle.resolver_clause_store.specs.Universe.{Demands};
 ghost use Rattle.resolver_clause_store.specs.declared.Origin.TheVariants.{Solvable as SolvableOrigin};
 ghost use Rattle.resolvo.specs.Problems.{AreItems};
 ghost use Rattle.resolver_clause_store.specs.Caches.{IsTrueCache};
-ghost use Rattle.resolver_clause_store.specs.Interruptions.{IsInterruption};
-ghost use Rattle.resolver_clause_store.specs.Outcomes.{IsCore};
 ghost use Rattle.resolver_clause_store.specs.Laws.{IsIdentity};
 ghost use Rattle.resolver_clause_store.specs.Variables.{AreDistinct};
 ghost use Rattle.resolver_encoding.specs.Refusals.{IsStop};
@@ -19,7 +17,6 @@ ghost use Rattle.resolvo.specs.ClauseSearches.{IsConsistent, IsRootTurn, KeepsTu
 
 use crate::clause_search::{ClauseSearch, Outcome};
 use crate::owners::Owners;
-use crate::shrinking::{Part, numbers_at};
 use resolver_clause_store::{
     Activity, Cache, ConditionalRequirement, DependencyProvider, Exhausted, Interner, Interrupted,
     Literal, Variable, VersionSetId,
@@ -27,9 +24,6 @@ use resolver_clause_store::{
 use resolver_encoding::{Chosen, Encoding, Progress};
 use std::alloc::Global;
 use std::hash::Hash;
-
-/// How often the clauses of a core are searched alone, at most.
-const MOST_CORE_SEARCHES: usize = 3;
 
 /// What the rounds ended with.
 #[derive(Drop)]
@@ -63,7 +57,6 @@ pub struct Rounds<N: Copy + Eq + Hash + Drop, S: Copy + Eq + Hash + Drop> {
     pub(crate) chosen: Chosen<S>,
     clause_limit: usize,
     learnt_limit: usize,
-    activity: Activity,
 }
 
 impl<N: Copy + Eq + Hash + Drop, S: Copy + Eq + Hash + Drop> Rounds<N, S> {
@@ -93,7 +86,6 @@ impl<N: Copy + Eq + Hash + Drop, S: Copy + Eq + Hash + Drop> Rounds<N, S> {
             chosen: Chosen::new::<N>(alloc),
             clause_limit,
             learnt_limit,
-            activity,
         }
     }
 
@@ -485,71 +477,6 @@ impl<N: Copy + Eq + Hash + Drop, S: Copy + Eq + Hash + Drop> Rounds<N, S> {
         }
     }
 
-    /// Searches the clauses of a core alone, for a core of fewer of them. The search learns at most as many clauses as the one
-    /// that found the first core; there is no answer where it would learn more.
-    fn search_core<D: DependencyProvider<NameId = N, SolvableId = S>>(
-        &self,
-        provider: &D,
-        core: &[usize],
-    ) -> Result<Option<Vec<usize>>, Interrupted<D::Cancel>>
-        requires rounds { AreRounds (D.universe provider.now) self.now }
-        requires core { IsCore (notes_of self.now).table core.now }
-        ensures core { IfOk result (λ answer. IfSome answer (λ found. IsCore (notes_of self.now).table found.items)) }
-        ensures refusal { IfErr result (IsInterruption (D.may_cancel provider.now)) }
-    {
-        let table = self.encoding.literals();
-        let part = Part::new(self.alloc, table, self.encoding.requirements(), core)?;
-        let mut search = ClauseSearch::new(self.alloc, self.activity);
-        let variables = self.encoding.variables().len();
-        let learnt = self.search.learnt_count();
-        let owners = self.owners.as_slice();
-        let found = part.search(
-            self.alloc,
-            provider,
-            &mut search,
-            variables,
-            owners,
-            learnt,
-            self.clause_limit,
-        );
-        drop(search);
-        match found? {
-            Some(places) => Ok(Some(numbers_at(self.alloc, core, &places)?)),
-            None => Ok(None),
-        }
-    }
-
-    /// A core with fewer clauses, where searches over those of a core alone find one. After the first there are some more, as
-    /// long as each leaves out a tenth of the clauses. A core that was found without learning is not searched again.
-    fn shrink<D: DependencyProvider<NameId = N, SolvableId = S>>(
-        &self,
-        provider: &D,
-        core: Vec<usize>,
-    ) -> Result<Vec<usize>, Interrupted<D::Cancel>>
-        requires rounds { AreRounds (D.universe provider.now) self.now }
-        requires core { IsCore (notes_of self.now).table core.items }
-        ensures core { IfOk result (λ found. IsCore (notes_of self.now).table found.items) }
-        ensures refusal { IfErr result (IsInterruption (D.may_cancel provider.now)) }
-    {
-        let mut core = core;
-        if self.search.learnt_count() == 0 {
-            return Ok(core);
-        }
-        'searches: for _ in 0..MOST_CORE_SEARCHES {
-            match self.search_core(provider, &core)? {
-                None => return Ok(core),
-                Some(found) => {
-                    let is_clear = found.len() <= core.len() - core.len() / 10;
-                    core = found;
-                    if !is_clear {
-                        return Ok(core);
-                    }
-                }
-            }
-        }
-        Ok(core)
-    }
-
     /// Reads and searches until what is chosen is an answer, or there is none. Then the soft requirements have their turns.
     pub fn find<D: DependencyProvider<NameId = N, SolvableId = S>, I: Iterator<Item = S> + Drop>(
         &mut self,
@@ -577,10 +504,7 @@ impl<N: Copy + Eq + Hash + Drop, S: Copy + Eq + Hash + Drop> Rounds<N, S> {
                 self.soft_turns(provider, cache, soft)?;
                 Ok(Found::Answer)
             }
-            Found::Contradiction(core) => {
-                let smaller = self.shrink(provider, core)?;
-                Ok(Found::Contradiction(smaller))
-            }
+            Found::Contradiction(core) => Ok(Found::Contradiction(core)),
             Found::Refused => Ok(Found::Refused),
         }
     }
