@@ -85,6 +85,8 @@ enum Step<'x> {
     Room(u16),
     /// It solves a problem, which ends with this.
     Solve(Asked<'x>, Wanted<'x>),
+    /// Its provider was asked for the candidates of these packages so far: the digits name them in order.
+    HasAsked(u32),
     /// It solves a problem, and then another one, for which this is chosen. The graph of the first one's conflict is
     /// right then.
     Graph(Asked<'x>, Asked<'x>, &'x [u32]),
@@ -259,6 +261,7 @@ fn goes(solver: &mut Solver<TestProvider>, step: &Step<'_>) -> bool
             true
         }
         Step::Solve(asked, wanted) => solves(solver, asked, wanted),
+        Step::HasAsked(packages) => solver.provider().log.get() == *packages,
         Step::Graph(first, second, chosen) => has_graph_afterwards(solver, first, second, chosen),
     }
 }
@@ -364,26 +367,25 @@ fn constraints_are_kept(rt: HostRuntime) -> Result<(), Fail> {
     Ok(())
 }
 
-/// Whether a version set, and 34 under a condition, have this answer, with so many clauses and disjuncts put off.
+/// Whether a version set, and 34 under a condition, have an answer, with so many clauses and disjuncts put off, and these
+/// packages are asked for their candidates.
 fn chooses_under_condition(
     alloc: Global,
     version_set: u32,
-    wanted: &[u32],
-    clauses: usize,
-    deferred: usize,
+    wanted: Wanted<'_>,
+    asked: u32,
 ) -> bool {
     let required = [always(version_set), when(11_021, 34)];
-    let step = Step::Solve(
-        Asked::Required(&required),
-        Wanted::Counted(wanted, clauses, deferred),
-    );
-    goes_over(alloc, &[], &[], &[step])
+    let step = Step::Solve(Asked::Required(&required), wanted);
+    goes_over(alloc, &[], &[], &[step, Step::HasAsked(asked)])
 }
 
 #[test]
 fn a_condition_activates_a_requirement(rt: HostRuntime) -> Result<(), Fail> {
-    assert!(rt; chooses_under_condition(rt.alloc(), 11, &[11, 34], 4, 1));
-    assert!(rt; chooses_under_condition(rt.alloc(), 14, &[14], 2, 2));
+    let met = Wanted::Counted(&[11, 34], 4, 1);
+    let unmet = Wanted::Counted(&[14], 2, 2);
+    assert!(rt; chooses_under_condition(rt.alloc(), 11, met, 123));
+    assert!(rt; chooses_under_condition(rt.alloc(), 14, unmet, 12));
     Ok(())
 }
 

@@ -67,4 +67,3 @@ returns-clause-refusal g c =
     (λ e. IsRefusal (g.D.Interner.universe p) (g.D.DependencyProvider.may_cancel p) root (IsAtLimit c.outcome-answer.new.self) e)
     (λ e h. let For : g.row.D.Denot → Type 0 = λ q. IsRefusal (g.D.Interner.universe q) (g.D.DependencyProvider.may_cancel q) root (IsAtLimit c.outcome-answer.new.self) e in subst For provider (h root w.0 done))
     c.outcome-answer.result c.outcome-answer.ensures.refusal
-
