@@ -15,7 +15,7 @@ use std::test::Fail;
 enum Wanted {
     /// The first reason excludes the first solvable, and the root requires something.
     Excluded,
-    /// The root requires something, and the first solvable forbids itself.
+    /// The root requires the first solvable alone, which forbids itself.
     ForbiddenByItself,
     /// At least eight rules, which name no solvable but those from one number up to another.
     Between(u32, u32),
@@ -41,9 +41,22 @@ fn are_exclusion_and_requirement(rules: &[Rule<NameId, SolvableId>]) -> bool {
         && matches!(&rules[1], Rule::Requires { by: By::Root, .. })
 }
 
+/// Whether the root requires the first solvable, and nothing else would do.
+fn requires_first_alone(rule: &Rule<NameId, SolvableId>) -> bool {
+    match rule {
+        Rule::Requires {
+            by: By::Root,
+            candidates,
+            when,
+            ..
+        } => candidates.as_slice() == [SolvableId(0)].as_slice() && when.is_empty(),
+        _other => false,
+    }
+}
+
 fn are_requirement_and_constraint(rules: &[Rule<NameId, SolvableId>]) -> bool {
     rules.len() == 2
-        && matches!(&rules[0], Rule::Requires { by: By::Root, .. })
+        && requires_first_alone(&rules[0])
         && matches!(
             &rules[1],
             Rule::Constrains {
@@ -208,6 +221,24 @@ fn are_apart(alloc: Global, packages: u32, wanted: Wanted) -> Result<bool, Fail>
 fn packages_without_part_in_a_conflict_are_not_named(rt: HostRuntime) -> Result<(), Fail> {
     assert!(rt; are_apart(rt.alloc(), 1, Wanted::Between(2, 8))?);
     assert!(rt; are_apart(rt.alloc(), 200, Wanted::Between(400, 406))?);
+    Ok(())
+}
+
+/// A clash, and behind it a package that the root requires and that has no part in it.
+const CLASH_BEFORE_W: &str =
+    "package p=1\npackage p=2\npackage q=1\npackage q=2\npackage r=1\npackage r=2\nrequires p=1 r@1\nrequires p=2 r@1\nrequires q=1 r@2\nrequires q=2 r@2\nrequire p\nrequire q\npackage w=1\nrequire w\n";
+
+#[test]
+fn a_requirement_behind_a_clash_is_not_named(rt: HostRuntime) -> Result<(), Fail> {
+    assert!(rt; has_rules(rt.alloc(), CLASH_BEFORE_W, Wanted::Between(0, 6))?);
+    Ok(())
+}
+
+#[test]
+fn the_plain_search_finds_no_set_for_a_clash_among_others(rt: HostRuntime) -> Result<(), Fail> {
+    assert!(rt; has_rules(rt.alloc(), CLASH_BEFORE_W, Wanted::Refuted)?);
+    assert!(rt; has_rules(rt.alloc(), GATED, Wanted::Refuted)?);
+    assert!(rt; are_apart(rt.alloc(), 200, Wanted::Refuted)?);
     Ok(())
 }
 
