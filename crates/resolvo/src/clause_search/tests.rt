@@ -5,6 +5,8 @@ ghost use Rattle.resolver_clause_store.specs.Formula.{AreBelow, IsBelow};
 ghost use Rattle.resolver_clause_store.specs.declared.RequirementClause.{RequirementClause};
 ghost use Rattle.resolvo.specs.ClauseSearches.{IsConsistent, base_of};
 
+mod random_clauses;
+
 use super::*;
 use crate::propagate::propagate as scan;
 use crate::test_provider::TestProvider;

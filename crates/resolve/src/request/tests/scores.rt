@@ -35,6 +35,9 @@ fn favored_versions_and_unions_without_scores(rt: HostRuntime) -> Result<(), Fai
         "package a=1\npackage a=2\npackage b=1\npackage b=2\npackage c=1\npackage c=2\nrequires a=1 c@1\nrequires b=1 c@1\nrequires b=2 c@2\nfavor a=1\nfavor b=1\nfavor c=1\nrequire a\nrequire b@2\n";
     assert_eq!(rt; chosen(rt.alloc(), input)?, Some(0b10_1010));
     let input =
+        "package a=1\npackage a=2\npackage b=1\npackage b=2\npackage c=1\npackage c=2\nfavor a=1\nfavor b=1\nfavor c=1\nrequire a\nrequire b@2\n";
+    assert_eq!(rt; chosen(rt.alloc(), input)?, Some(0b1001));
+    let input =
         "package p=1\npackage c=1\npackage c=2\npackage d=1\nrequires p=1 c | d\nrequires p=1 x if c@2\nexclude c=1 old\nrequire p\n";
     assert_eq!(rt; chosen(rt.alloc(), input)?, Some(0b1001));
     let input =
