@@ -95,14 +95,23 @@ fn are_true(clauses: &[Vec<Drawn>], digits: u32) -> bool {
     true
 }
 
-/// The digits of the variables that are true. One without a value counts as false.
+/// Whether the search found that a variable is true. One without a value counts as false.
+fn is_found_true(search: &ClauseSearch, variable: Variable) -> bool {
+    if variable.index() >= search.trail().variable_count() {
+        return false;
+    }
+    match search.trail().slot(variable) {
+        Some(slot) => slot.value,
+        None => false,
+    }
+}
+
+/// The digits of the variables that are true.
 fn digits_of(search: &ClauseSearch) -> u32 {
     let mut digits = 0;
-    for variable in 0..VARIABLES {
-        if let Some(slot) = search.trail().slot(Variable::new(variable)) {
-            if slot.value {
-                digits |= digit(variable);
-            }
+    for number in 0..VARIABLES {
+        if is_found_true(search, Variable::new(number)) {
+            digits |= digit(number);
         }
     }
     digits
