@@ -1,5 +1,7 @@
 //! Whole inputs, and what comes of them.
 
+mod examples;
+
 use super::{fault_text, run};
 use resolver_clause_store::Exhausted;
 use std::alloc::Global;
