@@ -1,6 +1,7 @@
 //! Whole inputs, and what comes of them.
 
 mod examples;
+mod failing;
 
 use super::{fault_text, run};
 use resolver_clause_store::Exhausted;

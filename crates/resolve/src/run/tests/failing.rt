@@ -1,0 +1,119 @@
+//! Readers and writers that fail, each at one of the calls that a run makes.
+
+use super::run;
+use std::alloc::Global;
+use std::io;
+use std::io::{Read, Write};
+use std::test::Fail;
+
+/// Gives an input byte by byte, for so many reads, and then fails.
+#[derive(Drop)]
+struct FailingReader<'x> {
+    left: &'x [u8],
+    reads: u32,
+}
+
+impl Read for FailingReader<'_> {
+    fn read(&mut self, buf: &mut [u8]) -> io::Result<usize> {
+        if self.reads == 0 {
+            return Err(io::Error::from(io::ErrorKind::BrokenPipe));
+        }
+        self.reads -= 1;
+        if self.left.is_empty() || buf.is_empty() {
+            return Ok(0);
+        }
+        buf[0] = self.left[0];
+        self.left = &self.left[1..];
+        Ok(1)
+    }
+}
+
+/// Takes so many bytes, one by one, and then fails.
+#[derive(Drop)]
+struct FailingWriter {
+    writes: u32,
+}
+
+impl Write for FailingWriter {
+    fn write(&mut self, buf: &[u8]) -> io::Result<usize> {
+        if self.writes == 0 {
+            return Err(io::Error::from(io::ErrorKind::BrokenPipe));
+        }
+        if buf.is_empty() {
+            return Ok(0);
+        }
+        self.writes -= 1;
+        Ok(1)
+    }
+
+    fn flush(&mut self) -> io::Result<()> {
+        Ok(())
+    }
+}
+
+const INPUT: &str = "package a=1\npackage b=2\nrequires a=1 b\nrequire a\n";
+
+const OUTPUT: &str = "a=1\nb=2\n";
+
+const CLASH: &str = "package a=1\nrequires a=1 b\nrequire a\n";
+
+/// What a run came to: the status, and what it wrote and complained of.
+type Ended = (u8, Vec<u8>, Vec<u8>);
+
+fn run_with_reads(alloc: Global, reads: u32) -> Ended {
+    let mut written = Vec::new(alloc);
+    let mut complaints = Vec::new(alloc);
+    let reader = FailingReader {
+        left: INPUT.as_bytes(),
+        reads,
+    };
+    let status = run(alloc, reader, &mut written, &mut complaints);
+    (status, written, complaints)
+}
+
+/// Whether a run that fails at a read says so, and writes nothing.
+fn is_unread(ended: &Ended) -> bool {
+    (ended.0 == 3)
+        & ended.1.is_empty()
+        & (ended.2.as_slice() == b"resolve: cannot read input\n".as_slice())
+}
+
+fn is_answered(ended: &Ended) -> bool {
+    (ended.0 == 0) & (ended.1.as_slice() == OUTPUT.as_bytes()) & ended.2.is_empty()
+}
+
+#[test]
+fn each_read_may_fail(rt: HostRuntime) -> Result<(), Fail> {
+    for reads in 0..50u32 {
+        assert!(rt; is_unread(&run_with_reads(rt.alloc(), reads)), "{reads}");
+    }
+    assert_eq!(rt; INPUT.len(), 49);
+    assert!(rt; is_answered(&run_with_reads(rt.alloc(), 50)));
+    Ok(())
+}
+
+/// The status of a run whose output takes so many bytes.
+fn status_with_writes(alloc: Global, input: &str, writes: u32) -> u8 {
+    let mut complaints: Vec<u8> = Vec::new(alloc);
+    let mut output = FailingWriter { writes };
+    run(alloc, input.as_bytes(), &mut output, &mut complaints)
+}
+
+/// How many writes a run with this input needs before it ends with another status than that of an output which cannot be
+/// written, and that status.
+fn writes_needed(alloc: Global, input: &str) -> Option<(u32, u8)> {
+    for writes in 0..2000u32 {
+        let status = status_with_writes(alloc, input, writes);
+        if status != 3 {
+            return Some((writes, status));
+        }
+    }
+    None
+}
+
+#[test]
+fn each_write_may_fail(rt: HostRuntime) -> Result<(), Fail> {
+    assert_eq!(rt; writes_needed(rt.alloc(), INPUT), Some((8, 0)));
+    assert_eq!(rt; writes_needed(rt.alloc(), CLASH), Some((137, 1)));
+    Ok(())
+}
