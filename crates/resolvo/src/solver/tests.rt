@@ -68,6 +68,8 @@ enum Wanted<'x> {
     Deferred(&'x [u32], usize),
     /// The same, and there are so many clauses, and so many disjuncts are put off.
     Counted(&'x [u32], usize, usize),
+    /// The same, and the provider was asked for the candidates of just these packages: the digits name them in order.
+    Asking(&'x [u32], usize, usize, u32),
     /// The provider stops the search.
     Stopped,
     /// Ids run out.
@@ -85,8 +87,6 @@ enum Step<'x> {
     Room(u16),
     /// It solves a problem, which ends with this.
     Solve(Asked<'x>, Wanted<'x>),
-    /// Its provider was asked for the candidates of these packages so far: the digits name them in order.
-    HasAsked(u32),
     /// It solves a problem, and then another one, for which this is chosen. The graph of the first one's conflict is
     /// right then.
     Graph(Asked<'x>, Asked<'x>, &'x [u32]),
@@ -169,6 +169,12 @@ fn is_wanted(solver: &Solver<TestProvider>, outcome: &Outcome, wanted: &Wanted<'
             is_answer(outcome, chosen)
                 & (solver.clause_count() == *clauses)
                 & (solver.deferred_requirements_count() == *deferred)
+        }
+        Wanted::Asking(chosen, clauses, deferred, asked) => {
+            is_answer(outcome, chosen)
+                & (solver.clause_count() == *clauses)
+                & (solver.deferred_requirements_count() == *deferred)
+                & (solver.provider().log.get() == *asked)
         }
         Wanted::Stopped => matches!(outcome, Err(UnsolvableOrCancelled::Cancelled(7))),
         Wanted::Ids => matches!(
@@ -261,7 +267,6 @@ fn goes(solver: &mut Solver<TestProvider>, step: &Step<'_>) -> bool
             true
         }
         Step::Solve(asked, wanted) => solves(solver, asked, wanted),
-        Step::HasAsked(packages) => solver.provider().log.get() == *packages,
         Step::Graph(first, second, chosen) => has_graph_afterwards(solver, first, second, chosen),
     }
 }
@@ -367,25 +372,27 @@ fn constraints_are_kept(rt: HostRuntime) -> Result<(), Fail> {
     Ok(())
 }
 
-/// Whether a version set, and 34 under a condition, have an answer, with so many clauses and disjuncts put off, and these
+/// Whether a version set, and 34 under a condition, have this answer, with so many clauses and disjuncts put off, and these
 /// packages are asked for their candidates.
 fn chooses_under_condition(
     alloc: Global,
     version_set: u32,
-    wanted: Wanted<'_>,
+    wanted: &[u32],
+    counts: (usize, usize),
     asked: u32,
 ) -> bool {
     let required = [always(version_set), when(11_021, 34)];
-    let step = Step::Solve(Asked::Required(&required), wanted);
-    goes_over(alloc, &[], &[], &[step, Step::HasAsked(asked)])
+    let step = Step::Solve(
+        Asked::Required(&required),
+        Wanted::Asking(wanted, counts.0, counts.1, asked),
+    );
+    goes_over(alloc, &[], &[], &[step])
 }
 
 #[test]
 fn a_condition_activates_a_requirement(rt: HostRuntime) -> Result<(), Fail> {
-    let met = Wanted::Counted(&[11, 34], 4, 1);
-    let unmet = Wanted::Counted(&[14], 2, 2);
-    assert!(rt; chooses_under_condition(rt.alloc(), 11, met, 123));
-    assert!(rt; chooses_under_condition(rt.alloc(), 14, unmet, 12));
+    assert!(rt; chooses_under_condition(rt.alloc(), 11, &[11, 34], (4, 1), 123));
+    assert!(rt; chooses_under_condition(rt.alloc(), 14, &[14], (2, 2), 12));
     Ok(())
 }
 
