@@ -23,5 +23,6 @@ pub fn first_choices_are_least_closed<N, S>()
 
 /// A run over no soft requirements ends with the answer that it starts from, and with nothing exempt.
 pub fn a_run_over_nothing_is_its_first_answer<N, S>()
-    ensures { (u : Universe N S) (root : Demands) (first taken chosen exempt : List S) (asked : List N) → SoftRun u root (FitsNowhere u root) first [] taken chosen exempt asked → chosen ≡ first }
+    ensures chosen { (u : Universe N S) (root : Demands) (first taken chosen exempt : List S) (asked : List N) → SoftRun u root (FitsNowhere u root) first [] taken chosen exempt asked → chosen ≡ first }
+    ensures exempt { (u : Universe N S) (root : Demands) (first taken chosen exempt : List S) (asked : List N) → SoftRun u root (FitsNowhere u root) first [] taken chosen exempt asked → exempt ≡ [] }
 {}
