@@ -10,11 +10,10 @@ use Rattle.resolver_clause_store.specs.Lists.{HasNoRepeats}
 use Rattle.resolver_clause_store.specs.SoftRun.{FitsNowhere, SoftRun}
 use Rattle.resolvo.specs.Answers.{IsSoftAnswer}
 use Rattle.resolver_encoding.specs.Refusals.{IsStop}
-use Rattle.resolver_encoding.specs.SoFar.{IsReadSoFar}
-use Rattle.resolvo.specs.RoundStates.{HasAllClauses, IsBetween, IsStuck, KeepsRoom, chosen_of, notes_of}
+use Rattle.resolvo.specs.RoundStates.{IsBetween, IsStuck, KeepsRoom, chosen_of, notes_of}
 use Rattle.resolver_clause_store.specs.Caches.{IsTrueCache}
 use Rattle.resolver_clause_store.specs.declared.Cache.{Cache}
-use Rattle.resolvo.specs.Solvers.{HasCounted, IsAtLimit, IsSound, KeepsAllButCounts, KeepsCounts}
+use Rattle.resolvo.specs.Solvers.{HasCounted, IsAtLimit, IsSound, KeepsAllButCounts}
 use Rattle.resolvo.specs.declared.rounds.Rounds.{Rounds}
 use Rattle.resolvo.specs.declared.solver.Solver.{Solver}
 use Rattle.resolvo.specs.declared.solver.UnsolvableOrCancelled.{UnsolvableOrCancelled}
@@ -25,18 +24,8 @@ use Rattle.resolvo.proofs.SolveLemmas.{shortage_weaker}
 pub found_at : {A E : Type 0} (P : A → Type 0) (r : Result A E) (x : A) → r ≡ Ok x → IfOk r P → P x
 found_at {A} {E} P r x is h = let At : Result A E → Type 0 = λ q. IfOk q P in subst At is h
 
-pub ok_at : {A E : Type 0} (P : Type 0) (r : Result A E) (x : A) → r ≡ Ok x → OnOk r P → P
-ok_at {A} {E} P r x is h = let At : Result A E → Type 0 = λ q. OnOk q P in subst At is h
-
-pub OnOk-weaker : {A E : Type 0} (P Q : Type 0) → (P → Q) → (r : Result A E) → OnOk r P → OnOk r Q
-OnOk-weaker P Q follows (Ok x) h = follows h
-OnOk-weaker P Q follows (Err e) h = tt
-
 pub same_demands : (d : Demands) (rs : List ConditionalRequirement) (vs : List VersionSetId) → rs ≡ d.requirements → vs ≡ d.constraints → record { requirements = rs; constraints = vs } ≡ d
 same_demands d rs vs r v = λ i. record { requirements = r i; constraints = v i }
-
-pub keeps_counts : {D C N S : Type 0} (s : Solver D C N S) → KeepsCounts s s
-keeps_counts s = record { variables = refl; clauses = refl; learnt = refl; deferred = refl }
 
 -- a count of the rounds at its limit is one of the solver's
 pub at_limit : {D C N S : Type 0} (old new : Rounds N S) (s : Solver D C N S) → KeepsRoom old new → (notes_of old).variable_limit ≡ s.variable_limit → (notes_of old).clause_limit ≡ s.clause_limit → old.clause_limit ≡ s.clause_limit → old.learnt_limit ≡ s.learnt_limit → HasCounted new s →
