@@ -67,6 +67,13 @@ pub struct Candidates<S> {
     pub excluded: Vec<(S, StringId)>,
 }
 
+/// What an answer is to hold where it can: this solvable, or one that the version set takes.
+#[derive(Clone, Copy, PartialEq, Eq)]
+pub enum SoftRequirement<Id> {
+    Solvable(Id),
+    Matching(VersionSetId),
+}
+
 /// Who asks for something: the problem, or a solvable.
 #[derive(Clone, Copy, PartialEq, Eq)]
 pub enum By<S> {

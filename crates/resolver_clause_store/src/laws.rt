@@ -3,7 +3,7 @@
 ghost use Rattle.std.specs.Prelude.{◌≡◌, Bool, Contains, List, [], true};
 ghost use Rattle.resolver_clause_store.specs.FirstChoice.{IsFirst, IsFirstNext};
 ghost use Rattle.resolver_clause_store.specs.Near.{IsNear, IsNext};
-ghost use Rattle.resolver_clause_store.specs.SoftRun.{FitsNowhere, SoftRun};
+ghost use Rattle.resolver_clause_store.specs.SoftRun.{SoftRun};
 ghost use Rattle.resolver_clause_store.specs.Universe.{Demands, Universe};
 
 /// The need closure of some seeds is the least set that has them and all candidates of each requirement, active in it, of
@@ -23,6 +23,6 @@ pub fn first_choices_are_least_closed<N, S>()
 
 /// A run over no soft requirements ends with the answer that it starts from, and with nothing exempt.
 pub fn a_run_over_nothing_is_its_first_answer<N, S>()
-    ensures chosen { (u : Universe N S) (root : Demands) (first taken chosen exempt : List S) (asked : List N) → SoftRun u root (FitsNowhere u root) first [] taken chosen exempt asked → chosen ≡ first }
-    ensures exempt { (u : Universe N S) (root : Demands) (first taken chosen exempt : List S) (asked : List N) → SoftRun u root (FitsNowhere u root) first [] taken chosen exempt asked → exempt ≡ [] }
+    ensures chosen { (u : Universe N S) (root : Demands) (first taken chosen exempt : List S) (asked : List N) → SoftRun u root first [] taken chosen exempt asked → chosen ≡ first }
+    ensures exempt { (u : Universe N S) (root : Demands) (first taken chosen exempt : List S) (asked : List N) → SoftRun u root first [] taken chosen exempt asked → exempt ≡ [] }
 {}

@@ -32,6 +32,7 @@ pub use conditions::{a_condition_holds_where_a_disjunct_does, convert_conditions
 pub use data::{
     By, Candidates, Condition, ConditionalRequirement, Dependencies, Exhausted,
     HintDependenciesAvailable, Interrupted, KnownDependencies, LogicalOperator, Requirement,
+    SoftRequirement,
 };
 pub use decisions::{Choice, decide};
 pub use ids::{ConditionId, StringId, VersionSetId, VersionSetUnionId};

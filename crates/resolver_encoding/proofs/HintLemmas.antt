@@ -143,7 +143,7 @@ module _ {N S : Type 0} (u : Universe N S) where
 
   module _ (set : List S) where
     pub hinted_none : (from : ℕ) (notes : Notes N S) → IsHintedReading u set from notes notes
-    hinted_none from notes = record { reading = IsReadingOf-same u set (IsListedFrom notes from) notes; near = λ root seeds near all. near }
+    hinted_none from notes = record { reading = IsReadingOf-same u set (IsListedFrom notes from) notes; near = λ root seeds packages near all. near }
 
     pub hinted_trans : (root : Demands) (from : ℕ) (one two three : Notes N S) → IsHalfRead u root one → IsHintedReading u set from one two → IsHintedReading u set from two three → IsHintedReading u set from one three
     hinted_trans root from one two three half first second =
@@ -152,7 +152,7 @@ module _ {N S : Type 0} (u : Universe N S) where
           reading = IsReadingOf-trans u set (IsListedFrom three from) one two three
               (IsReadingOf-weaker u set (IsListedFrom two from) (IsListedFrom three from) (λ s l. listed_on root two three after.encoding second.reading.origins second.reading.table second.reading.requirements from s l) one two first.reading)
               second.reading;
-          near = λ other seeds near all. second.near other seeds (first.near other seeds near all) all;
+          near = λ other seeds packages near all. second.near other seeds packages (first.near other seeds packages near all) all;
         }
 
     pub hinted_later : (from place : ℕ) → from ≤ place → (old new : Notes N S) → IsHintedReading u set place old new → IsHintedReading u set from old new
@@ -170,9 +170,9 @@ module _ {N S : Type 0} (u : Universe N S) where
         let Listed : S → Type 0 = λ t. IsListedFrom new place t in
         record {
           reading = IsReadingOf-weaker u set (λ t. s ≡ t) (IsListedFrom new place) (λ t same. subst Listed same here) old new reading;
-          near = λ other seeds near all.
+          near = λ other seeds packages near all.
               let Near : S → Type 0 = λ t. IsNear u other seeds t in
-              near_read u other seeds set (λ t. s ≡ t) old new reading near all (λ t same. subst Near same (near.seen s seen));
+              near_read u other seeds packages set (λ t. s ≡ t) old new reading near all (λ t same. subst Near same (near.seen s seen));
         }
 
     -- what was read for a set stays so

@@ -37,13 +37,13 @@ use Rattle.resolver_encoding.proofs.Lists.{Contains-map_back, cons_cases, none_i
 use Rattle.resolver_encoding.proofs.RequirementLemmas.{active_where}
 use Rattle.resolver_encoding.proofs.SoFarLemmas.{demanded_asked}
 
-module _ {N S : Type 0} (u : Universe N S) (root : Demands) (seeds : List S) where
+module _ {N S : Type 0} (u : Universe N S) (root : Demands) (seeds : List S) (packages : List N) where
   abbrev Near : S → Type 0
   Near s = IsNear u root seeds s
 
-  -- the package is named by what is near, or the candidate is near
+  -- the package is named by what is near or one of the packages, or the candidate is near
   abbrev pub IsLed : Call N S → Type 0
-  IsLed (to_ask n) = IsNamed u root Near n
+  IsLed (to_ask n) = IsNamed u root Near n ⊎ Contains packages n
   IsLed (to_see s) = Near s
 
   requires_by : (by : By S) (read : List S) → IsPresent by read → ((s : S) → Contains read s → Near s) → (r : ConditionalRequirement) → Contains (demands_by u root by).requirements r → Requires u root Near r
@@ -56,11 +56,11 @@ module _ {N S : Type 0} (u : Universe N S) (root : Demands) (seeds : List S) whe
 
   -- a requirement that is active leads no farther
   wanted_led : (r : ConditionalRequirement) → Requires u root Near r → IsActive u Near r → (call : Call N S) → IsWantedBy u r.requirement call → IsLed call
-  wanted_led r asked active (to_ask n) named = inr (r, named.0, asked, active, named.1, named.2)
+  wanted_led r asked active (to_ask n) named = inl (inr (r, named.0, asked, active, named.1, named.2))
   wanted_led r asked active (to_see s) listed = IsNear-closed u root seeds s (r, asked, active, listed)
 
   named_led : (list : List VersionSetId) → ((v : VersionSetId) → Contains list v → Constrains u root Near v) → (call : Call N S) → IsNamedBy u list call → IsLed call
-  named_led list constrains (to_ask n) named = inl (named.0, constrains named.0 named.1, named.2)
+  named_led list constrains (to_ask n) named = inl (inl (named.0, constrains named.0 named.1, named.2))
   named_led list constrains (to_see s) named = absurd named
 
   -- nor does what the root, or what was read, demands in a set
@@ -79,22 +79,22 @@ module _ {N S : Type 0} (u : Universe N S) (root : Demands) (seeds : List S) whe
       (OptionalConditionHolds-within u (Contains set) Near set_near is_true.0.condition (active_where u set (map (matching u) e.disjunct) is_true.0.condition is_true.3 met))
       call (subst Wanted (sym is_true.2) wanted)
 
-  followed_led : (notes : Notes N S) → AreNear u root seeds notes → (call : Call N S) → IsFollowed notes call → IsLed call
+  followed_led : (notes : Notes N S) → AreNear u root seeds packages notes → (call : Call N S) → IsFollowed notes call → IsLed call
   followed_led notes near (to_ask n) h = near.asked n h
   followed_led notes near (to_see s) h = near.seen s h
 
-  near_where : (notes : Notes N S) → ((s : S) → Contains notes.read s → Near s) → ((call : Call N S) → IsFollowed notes call → IsLed call) → AreNear u root seeds notes
+  near_where : (notes : Notes N S) → ((s : S) → Contains notes.read s → Near s) → ((call : Call N S) → IsFollowed notes call → IsLed call) → AreNear u root seeds packages notes
   near_where notes read led = record { seen = λ s h. led (to_see s) h; read = read; asked = λ n h. led (to_ask n) h }
 
   -- after a step that goes no farther
-  pub AreNear-called : (Called : Call N S → Type 0) (Premise : Demands → Type 0) (old new : Notes N S) → IsAskStep u Called Premise old new → ((call : Call N S) → Called call → IsLed call) → AreNear u root seeds old → AreNear u root seeds new
+  pub AreNear-called : (Called : Call N S → Type 0) (Premise : Demands → Type 0) (old new : Notes N S) → IsAskStep u Called Premise old new → ((call : Call N S) → Called call → IsLed call) → AreNear u root seeds packages old → AreNear u root seeds packages new
   AreNear-called Called Premise old new step led near =
       let Has : S → List S → Type 0 = λ s list. Contains list s in
       near_where new (λ s h. near.read s (subst (Has s) step.read h))
       (λ call h. ⊎_elim (λ earlier. followed_led old near call earlier) (λ called. led call called) (step.called call h))
 
   -- after one more was registered that is near itself
-  pub AreNear-seen : (s : S) (Premise : Demands → Type 0) (old new : Notes N S) → IsAskStep u (IsSeeing s) Premise old new → IsNear u root seeds s → AreNear u root seeds old → AreNear u root seeds new
+  pub AreNear-seen : (s : S) (Premise : Demands → Type 0) (old new : Notes N S) → IsAskStep u (IsSeeing s) Premise old new → IsNear u root seeds s → AreNear u root seeds packages old → AreNear u root seeds packages new
   AreNear-seen s Premise old new step here near = AreNear-called (IsSeeing s) Premise old new step led near
     where
       led : (call : Call N S) → IsSeeing s call → IsLed call
@@ -102,7 +102,7 @@ module _ {N S : Type 0} (u : Universe N S) (root : Demands) (seeds : List S) whe
       led (to_see t) same = subst Near same here
 
   -- after what is near was read, in a set that is near
-  pub near_read : (set : List S) (Reads : S → Type 0) (old new : Notes N S) → IsReadingOf u set Reads old new → AreNear u root seeds old → All (IsNear u root seeds) set → ((s : S) → Reads s → IsNear u root seeds s) → AreNear u root seeds new
+  pub near_read : (set : List S) (Reads : S → Type 0) (old new : Notes N S) → IsReadingOf u set Reads old new → AreNear u root seeds packages old → All (IsNear u root seeds) set → ((s : S) → Reads s → IsNear u root seeds s) → AreNear u root seeds packages new
   near_read set Reads old new reading near all reads =
       let set_near : (s : S) → Contains set s → Near s = λ s h. All-contains (IsNear u root seeds) set s all h in
       let new_near : (s : S) → Contains new.read s → Near s = λ s h. ⊎_elim (λ earlier. near.read s earlier) (λ may. reads s may) (reading.reads s h) in
@@ -113,10 +113,10 @@ module _ {N S : Type 0} (u : Universe N S) (root : Demands) (seeds : List S) whe
       (reading.called call h))
 
   -- after one more reading of a set that is near
-  pub near_after : (set : List S) (old mid new : Notes N S) → IsReadingOf u set (Contains set) old mid → IsFiring u set mid new → IsHalfRead u root old → AreNear u root seeds old → All (IsNear u root seeds) set → AreNear u root seeds new
+  pub near_after : (set : List S) (old mid new : Notes N S) → IsReadingOf u set (Contains set) old mid → IsFiring u set mid new → IsHalfRead u root old → AreNear u root seeds packages old → All (IsNear u root seeds) set → AreNear u root seeds packages new
   near_after set old mid new reading firing before near all =
       let set_near : (s : S) → Contains set s → Near s = λ s h. All-contains (IsNear u root seeds) set s all h in
-      let here : AreNear u root seeds mid = near_read set (Contains set) old mid reading near all set_near in
+      let here : AreNear u root seeds packages mid = near_read set (Contains set) old mid reading near all set_near in
       let mid_near : (s : S) → Contains mid.read s → Near s = here.read in
       let half : IsHalfRead u root mid = reading.keeps root before in
       let Has : S → List S → Type 0 = λ s list. Contains list s in
@@ -126,18 +126,18 @@ module _ {N S : Type 0} (u : Universe N S) (root : Demands) (seeds : List S) whe
       (λ w. entry_led set mid.read set_near mid_near w.0 (half.encoding.left_true w.0 w.1) (half.left_read w.0 w.1) w.2 call w.3)
       (firing.called call h))
 
-  -- what is near stays so with more seeds
-  pub AreNear-more : (more : List S) → IsWithin seeds more → (notes : Notes N S) → AreNear u root seeds notes → AreNear u root more notes
-  AreNear-more more within notes near =
+  -- what is near stays so with more seeds, and more packages
+  pub AreNear-more : (more : List S) (others : List N) → IsWithin seeds more → IsWithin packages others → (notes : Notes N S) → AreNear u root seeds packages notes → AreNear u root more others notes
+  AreNear-more more others within besides notes near =
       let on : (s : S) → IsNear u root seeds s → IsNear u root more s = IsNear-more u root seeds more within in
       record {
         seen = λ s h. on s (near.seen s h);
         read = λ s h. on s (near.read s h);
-        asked = λ n h. IsNamed-within u root (IsNear u root seeds) (IsNear u root more) on n (near.asked n h);
+        asked = λ n h. ⊎_elim (λ named. inl (IsNamed-within u root (IsNear u root seeds) (IsNear u root more) on n named)) (λ own. inr (besides n own)) (near.asked n h);
       }
 
 -- the root alone leads to what it demands without a condition
-module _ {N S : Type 0} (u : Universe N S) (root : Demands) (seeds : List S) (bare new : Notes N S)
+module _ {N S : Type 0} (u : Universe N S) (root : Demands) (seeds : List S) (packages : List N) (bare new : Notes N S)
     (step : IsReadStep u (IsUnmet u [] ByRoot) (IsDemanded u [] root) (λ r. demands_by u r ByRoot ≡ root) bare new) (nothing : IsBare bare) where
   none_followed : (call : Call N S) → IsFollowed bare call → ⊥
   none_followed (to_ask n) h = let Has : List N → Type 0 = λ list. Contains list n in none_in n (subst Has nothing.none_asked h)
@@ -146,11 +146,11 @@ module _ {N S : Type 0} (u : Universe N S) (root : Demands) (seeds : List S) (ba
   none_read : (s : S) → Contains new.read s → ⊥
   none_read s h = let Has : List S → Type 0 = λ list. Contains list s in none_in s (subst Has (step.read ∙ nothing.none_read) h)
 
-  pub root_near : AreNear u root seeds new
-  root_near = near_where u root seeds new (λ s h. absurd (none_read s h))
+  pub root_near : AreNear u root seeds packages new
+  root_near = near_where u root seeds packages new (λ s h. absurd (none_read s h))
       (λ call h. ⊎_elim
       (λ (before : IsFollowed bare call). absurd (none_followed call before))
-      (λ demanded. demanded_led u root seeds [] [] (λ s k. absurd (none_in s k)) (λ s k. absurd (none_in s k)) ByRoot tt call demanded)
+      (λ demanded. demanded_led u root seeds packages [] [] (λ s k. absurd (none_in s k)) (λ s k. absurd (none_in s k)) ByRoot tt call demanded)
       (step.called call h))
 
 -- what the root and a set that was read name was asked

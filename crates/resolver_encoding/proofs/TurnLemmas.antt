@@ -14,12 +14,12 @@ use Rattle.resolver_clause_store.specs.declared.Origin.TheVariants.{Solvable}
 use Rattle.resolver_clause_store.specs.declared.StringId.{StringId}
 use Rattle.resolver_clause_store.proofs.PlaceLemmas.{Keeps-same}
 use Rattle.resolver_encoding.specs.Atoms.{Atom}
-use Rattle.resolver_encoding.specs.Called.{IsSeeing}
+use Rattle.resolver_encoding.specs.Called.{IsAsking, IsSeeing, to_ask}
 use Rattle.resolver_encoding.specs.Encodings.{AddsClause, IsEncoding, IsEncodingWhile, IsLeft, IsStep, IsStepWhile, Notes, owing_for, IsAskStep}
 use Rattle.resolver_encoding.specs.ReadState.{Deferred}
 use Rattle.resolver_encoding.specs.SoFar.{IsHalfRead}
 use Rattle.resolver_encoding.specs.Truth.{AreDue}
-use Rattle.resolver_encoding.specs.Turns.{AddsPlainly, IsPaid, IsRegistered, IsTurnEnd, StaysRead}
+use Rattle.resolver_encoding.specs.Turns.{AddsPlainly, AsksOnly, IsPaid, IsRegistered, IsTurnEnd, StaysRead}
 use Rattle.resolver_encoding.proofs.EncodingLemmas.{Extends-same, IsWithin-same}
 use Rattle.resolver_encoding.proofs.Lists.{cons_cases, here, there}
 use Rattle.resolver_encoding.proofs.ReadLemmas.{AreDemandsRead-grown, AreNeedsRead-grown}
@@ -27,16 +27,13 @@ use Rattle.resolver_encoding.proofs.SoFarLemmas.{Contains-kept, IsPresent-within
 
 module _ {N S : Type 0} (u : Universe N S) where
   -- what was read stays read where clauses are added, and nothing is read or put off
-  module _ (old new : Notes N S) (origins : Keeps old.origins new.origins) (kinds : IsWithin old.kinds new.kinds) (asked : new.asked ≡ old.asked) (read : new.read ≡ old.read) (deferred : new.deferred ≡ old.deferred)
+  module _ (old new : Notes N S) (origins : Keeps old.origins new.origins) (kinds : IsWithin old.kinds new.kinds) (asked_on : IsWithin old.asked new.asked) (read : new.read ≡ old.read) (deferred : new.deferred ≡ old.deferred)
       (keeps : (root : Demands) → IsEncoding u root old → IsEncoding u root new) where
     left_on : (e : Deferred S) → IsLeft old e → IsLeft new e
     left_on e h = IsWithin-equal old.deferred new.deferred deferred (Some e) h
 
     left_back : (e : Deferred S) → IsLeft new e → IsLeft old e
     left_back e h = IsWithin-equal new.deferred old.deferred (sym deferred) (Some e) h
-
-    asked_on : IsWithin old.asked new.asked
-    asked_on = IsWithin-equal old.asked new.asked asked
 
     read_back : IsWithin new.read old.read
     read_back = IsWithin-equal new.read old.read (sym read)
@@ -78,7 +75,7 @@ module _ {N S : Type 0} (u : Universe N S) where
     deferred = step.deferred;
     waiting = step.waiting;
     exempt = step.exempt;
-    stays = StaysRead-of old new step.origins step.kinds asked step.read step.deferred (λ root before. step.keeps root tt before);
+    stays = StaysRead-of old new step.origins step.kinds (IsWithin-equal old.asked new.asked asked) step.read step.deferred (λ root before. step.keeps root tt before);
   }
 
   -- other exemptions, of which the clauses make nothing wrong
@@ -134,7 +131,7 @@ module _ {N S : Type 0} (u : Universe N S) where
   pub StaysRead-exempting : (s : S) (old new : Notes N S) → (Contains old.asked (u.name s) → ⊥) → new ≡ record old { exempt = old.exempt ++ s ∷ [] } → StaysRead u old new
   StaysRead-exempting s old new unasked is =
       let Stays : Notes N S → Type 0 = λ n. StaysRead u old n in
-      subst Stays (sym is) (StaysRead-of old (record old { exempt = old.exempt ++ s ∷ [] }) (Keeps-same old.origins) (IsWithin-same old.kinds) refl refl refl
+      subst Stays (sym is) (StaysRead-of old (record old { exempt = old.exempt ++ s ∷ [] }) (Keeps-same old.origins) (IsWithin-same old.kinds) (IsWithin-same old.asked) refl refl
       (λ root start. with_exempt root old (old.exempt ++ s ∷ []) (AreDue-exempting old.asked old.exempt old.kinds s unasked start.due) (λ t h. Contains-append_left old.exempt (s ∷ []) t h) start))
 
   -- the last exempt one is exempt no longer, and its clauses are owed
@@ -263,7 +260,7 @@ module _ {N S : Type 0} (u : Universe N S) where
         read = step.read;
         deferred = step.deferred;
         waiting = step.waiting;
-        stays = StaysRead-of old new step.origins step.kinds step.asked step.read step.deferred (λ root before. owing_closed root (step.keeps root tt (owing_opened root before)));
+        stays = StaysRead-of old new step.origins step.kinds (IsWithin-equal old.asked new.asked step.asked) step.read step.deferred (λ root before. owing_closed root (step.keeps root tt (owing_opened root before)));
       }
 
   -- what a package lists, locks and excludes, as it was found
@@ -294,6 +291,41 @@ module _ {N S : Type 0} (u : Universe N S) where
 
   pub AddsPlainly-clause : (old new : Notes N S) (kind : ClauseKind N S) (atoms : List (Atom N S)) → AddsClause old new kind atoms → AddsPlainly old new
   AddsPlainly-clause old new kind atoms adds = record { requirements = ap (λ (n : Notes N S). n.requirements) adds.is; seen = ap (λ (n : Notes N S). n.seen) adds.is }
+
+  -- a step that asked one package
+  pub AsksOnly-of : (n : N) (old new : Notes N S) → IsAskStep u (IsAsking n) (λ root. ⊤) old new → Contains new.asked n → AddsPlainly old new → AsksOnly u n old new
+  AsksOnly-of n old new step here plain =
+      let Asked : N → Type 0 = λ m. Contains new.asked m in
+      record {
+        asked = record { stays = step.asked; only = λ m h. ⊎_elim (λ was. inl was) (λ is. inr (sym is)) (step.called (to_ask m) h); all = λ m is. subst Asked (sym is) here };
+        origins = step.origins;
+        table = step.table;
+        kinds = step.kinds;
+        requirements = plain.requirements;
+        seen = plain.seen;
+        read = step.read;
+        deferred = step.deferred;
+        waiting = step.waiting;
+        exempt = step.exempt;
+        stays = StaysRead-of old new step.origins step.kinds step.asked step.read step.deferred (λ root before. step.keeps root tt before);
+      }
+
+  pub AsksOnly-same : (n : N) (notes : Notes N S) → Contains notes.asked n → AsksOnly u n notes notes
+  AsksOnly-same n notes here =
+      let Asked : N → Type 0 = λ m. Contains notes.asked m in
+      record {
+        asked = record { stays = λ m h. h; only = λ m h. inl h; all = λ m is. subst Asked (sym is) here };
+        origins = Keeps-same notes.origins;
+        table = Extends-same notes.table;
+        kinds = IsWithin-same notes.kinds;
+        requirements = refl;
+        seen = refl;
+        read = refl;
+        deferred = refl;
+        waiting = refl;
+        exempt = refl;
+        stays = StaysRead-same notes;
+      }
 
   pub IsTurnEnd-same : (notes : Notes N S) → IsTurnEnd u notes notes
   IsTurnEnd-same notes = record {

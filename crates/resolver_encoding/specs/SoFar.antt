@@ -162,4 +162,4 @@ pub record IsBare {N S : Type 0} (notes : Notes N S) : Type 0 where
 -- Candidates of clauses from this place on were read. What was near stays so, with a set that is near.
 pub record IsHintedReading {N S : Type 0} (u : Universe N S) (set : List S) (from : ℕ) (old new : Notes N S) : Type 0 where
   pub reading : IsReadingOf u set (IsListedFrom new from) old new
-  pub near : (root : Demands) (seeds : List S) → AreNear u root seeds old → All (IsNear u root seeds) set → AreNear u root seeds new
+  pub near : (root : Demands) (seeds : List S) (packages : List N) → AreNear u root seeds packages old → All (IsNear u root seeds) set → AreNear u root seeds packages new

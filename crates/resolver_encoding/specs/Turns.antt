@@ -5,6 +5,7 @@ use Rattle.resolver_clause_store.specs.Universe.{Universe, Demands}
 use Rattle.resolver_clause_store.specs.Variables.{Keeps}
 use Rattle.resolver_clause_store.specs.declared.ClauseKind.TheVariants.{Lock, Excluded}
 use Rattle.resolver_clause_store.specs.declared.StringId.{StringId}
+use Rattle.resolver_encoding.specs.Called.{AreAsked}
 use Rattle.resolver_encoding.specs.Encodings.{Extends, Notes}
 use Rattle.resolver_encoding.specs.SoFar.{IsHalfRead, IsReadSoFar}
 
@@ -50,4 +51,18 @@ pub record IsTurnEnd {N S : Type 0} (u : Universe N S) (old new : Notes N S) : T
   pub read : new.read ≡ old.read
   pub deferred : new.deferred ≡ old.deferred
   pub waiting : new.waiting ≡ old.waiting
+  pub stays : StaysRead u old new
+
+-- The package was asked and no other, and nothing was read, registered or put off.
+pub record AsksOnly {N S : Type 0} (u : Universe N S) (n : N) (old new : Notes N S) : Type 0 where
+  pub asked : AreAsked (λ m. m ≡ n) old.asked new.asked
+  pub origins : Keeps old.origins new.origins
+  pub table : Extends old.table new.table
+  pub kinds : IsWithin old.kinds new.kinds
+  pub requirements : new.requirements ≡ old.requirements
+  pub seen : new.seen ≡ old.seen
+  pub read : new.read ≡ old.read
+  pub deferred : new.deferred ≡ old.deferred
+  pub waiting : new.waiting ≡ old.waiting
+  pub exempt : new.exempt ≡ old.exempt
   pub stays : StaysRead u old new

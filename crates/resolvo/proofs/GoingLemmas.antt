@@ -88,7 +88,7 @@ module _ {N S : Type 0} where
   module _ (u : Universe N S) (root : Demands) (notes : Notes N S) (trail : Trail) (size : variable_count trail ≡ length notes.origins)
       (drawn : (variable : ℕ) (slot : Slot) → slot_of trail variable ≡ Some slot → (slot.reason ≡ Assumed) ⊎ ((clause : Vec Literal Global) × Contains notes.table clause × Contains clause.items (record { variable = variable; positive = slot.value })))
       (positives : (clause : Vec Literal Global) → Contains notes.table clause → (l : Literal) → Contains clause.items l → l.positive ≡ true → (s : S) → origin_at notes.origins l.variable ≡ Solvable s → Contains notes.seen s)
-      (done taken refused : List S) (within : IsWithin taken done) (assumed : AreAssumed notes.origins taken refused trail) (near : AreNear u root done notes) where
+      (done taken refused : List S) (packages : List N) (within : IsWithin taken done) (assumed : AreAssumed notes.origins taken refused trail) (near : AreNear u root done packages notes) where
     near_at : (v : ℕ) (slot : Slot) (s : S) → slot_of trail v ≡ Some slot → origin_at notes.origins v ≡ Solvable s → slot.value ≡ true → IsNear u root done s
     near_at v slot s at origin value = ⊎_elim
         (λ (reason : slot.reason ≡ Assumed).
@@ -125,10 +125,10 @@ module _ {N S : Type 0} where
   pub goes_trans : (u : Universe N S) (one two three : Rounds N S) → variable_count (trail_of one.search) ≤ length (notes_of one).origins → GoesOn u one two → GoesOn u two three → GoesOn u one three
   goes_trans u one two three known first second = record {
     read = keeps_trans u one two three first.read second.read;
-    near = λ root done taken refused so within assumed near.
-        second.near root done taken refused (first.read root so) within
+    near = λ root done taken refused packages so within assumed near.
+        second.near root done taken refused packages (first.read root so) within
         (assumed_still (notes_of one).origins (notes_of two).origins (trail_of one.search) (trail_of two.search) taken refused first.origins known first.turn.assumed.was assumed)
-        (first.near root done taken refused so within assumed near);
+        (first.near root done taken refused packages so within assumed near);
     origins = Keeps-trans (notes_of one).origins (notes_of two).origins (notes_of three).origins first.origins second.origins;
     table = Extends-trans (notes_of one).table (notes_of two).table (notes_of three).table first.table second.table;
     exempt = second.exempt ∙ first.exempt;
@@ -143,7 +143,7 @@ module _ {N S : Type 0} where
       let WithEncoding : Encoding N S → Type 0 = λ e. Keeps (notes_of old).origins (notes_in e).origins in
       record {
         read = keeps_searched u old new new same (λ root so. so);
-        near = λ root done taken refused so within assumed near. let Near : Encoding N S → Type 0 = λ e. AreNear u root done (notes_in e) in subst Near (sym same.encoding) near;
+        near = λ root done taken refused packages so within assumed near. let Near : Encoding N S → Type 0 = λ e. AreNear u root done packages (notes_in e) in subst Near (sym same.encoding) near;
         origins = subst WithEncoding (sym same.encoding) (Keeps-same (notes_of old).origins);
         table = let Table : Encoding N S → Type 0 = λ e. Extends (notes_of old).table (notes_in e).table in subst Table (sym same.encoding) (Extends-same (notes_of old).table);
         exempt = ap (λ (e : Encoding N S). (notes_in e).exempt) same.encoding;
@@ -156,19 +156,19 @@ module _ {N S : Type 0} where
   module _ (u : Universe N S) (old mid : Rounds N S) (from : ℕ) (keys : List S) (encoding : Encoding N S) (up : IsUpToDate old) (following : IsFollowing old mid from) (followed : HasFollowed old mid) (is : keys ≡ chosen_of mid)
       (more : IsReadMore u keys (notes_of mid) (notes_in encoding))
       (reads : (root : Demands) → IsReadSoFar u root (take from keys) (notes_of mid) → IsReadSoFar u root keys (notes_in encoding))
-      (near_after : (root : Demands) (seeds : List S) → IsReadSoFar u root (take from keys) (notes_of mid) → AreNear u root seeds (notes_of mid) → All (IsNear u root seeds) keys → AreNear u root seeds (notes_in encoding))
+      (near_after : (root : Demands) (seeds : List S) (packages : List N) → IsReadSoFar u root (take from keys) (notes_of mid) → AreNear u root seeds packages (notes_of mid) → All (IsNear u root seeds) keys → AreNear u root seeds packages (notes_in encoding))
       (asked_stays : IsWithin (notes_of mid).asked (notes_in encoding).asked)
       (drawn : (variable : ℕ) (slot : Slot) → slot_of (trail_of old.search) variable ≡ Some slot → (slot.reason ≡ Assumed) ⊎ ((clause : Vec Literal Global) × Contains (notes_of old).table clause × Contains clause.items (record { variable = variable; positive = slot.value })))
       (positives : (root : Demands) → IsEncoding u root (notes_of old) → (clause : Vec Literal Global) → Contains (notes_of old).table clause → (l : Literal) → Contains clause.items l → l.positive ≡ true → (s : S) → origin_at (notes_of old).origins l.variable ≡ Solvable s → Contains (notes_of old).seen s) where
     keeps_near : KeepsNear u old (record mid { encoding = encoding })
-    keeps_near root done taken refused so within assumed near =
-        let Near : Encoding N S → Type 0 = λ e. AreNear u root done (notes_in e) in
+    keeps_near root done taken refused packages so within assumed near =
+        let Near : Encoding N S → Type 0 = λ e. AreNear u root done packages (notes_in e) in
         let Among : List S → S → Type 0 = λ list s. Contains list s in
-        near_after root done (read_first u root old mid from keys following is so) (subst Near (sym following.encoding) near)
+        near_after root done packages (read_first u root old mid from keys following is so) (subst Near (sym following.encoding) near)
         (λ k d below. let s : S = get_or keys k d in
         let h : Contains keys s = Contains-get_or keys k d below in
         let Has : List S → Type 0 = λ list. Among list s in
-        chosen_near u root (notes_of old) (trail_of old.search) up.variables drawn (positives root so.half.encoding) done taken refused within assumed near s (subst Has (is ∙ followed.chosen) h))
+        chosen_near u root (notes_of old) (trail_of old.search) up.variables drawn (positives root so.half.encoding) done taken refused packages within assumed near s (subst Has (is ∙ followed.chosen) h))
 
     pub goes_read : GoesOn u old (record mid { encoding = encoding })
     goes_read =
@@ -222,7 +222,7 @@ module _ {N S : Type 0} where
   pub goes_begin : (u : Universe N S) (r : Rounds N S) → GoesOn u r r
   goes_begin u r = record {
     read = λ root so. so;
-    near = λ root done taken refused so within assumed near. near;
+    near = λ root done taken refused packages so within assumed near. near;
     origins = Keeps-same (notes_of r).origins;
     table = Extends-same (notes_of r).table;
     exempt = refl;

@@ -21,6 +21,7 @@ pub mod RoundLemmas
 pub mod GoingLemmas
 pub mod RefusingLemmas
 pub mod SoftLemmas
+pub mod SoftTurnLemmas
 pub mod OutcomeLemmas
 pub mod FirstChoiceExamples
 pub mod ReadInTurnLemmas

@@ -5,9 +5,10 @@ use Rattle.resolver_clause_store.specs.Universe.{Universe, Demands}
 use Rattle.resolver_clause_store.specs.declared.ConditionalRequirement.{ConditionalRequirement}
 use Rattle.resolver_clause_store.specs.declared.Interrupted.{Interrupted}
 use Rattle.resolver_clause_store.specs.declared.Interrupted.TheVariants.{Cancelled as IsCancelled, Exhausted as IsExhausted}
+use Rattle.resolver_clause_store.specs.declared.SoftRequirement.{SoftRequirement}
 use Rattle.resolver_clause_store.specs.declared.VersionSetId.{VersionSetId}
 use Rattle.resolver_clause_store.specs.Lists.{HasNoRepeats}
-use Rattle.resolver_clause_store.specs.SoftRun.{FitsNowhere, SoftRun}
+use Rattle.resolver_clause_store.specs.SoftRun.{SoftRun}
 use Rattle.resolvo.specs.Answers.{IsSoftAnswer}
 use Rattle.resolver_encoding.specs.Refusals.{IsStop}
 use Rattle.resolvo.specs.RoundStates.{IsBetween, IsStuck, KeepsRoom, chosen_of, notes_of}
@@ -58,13 +59,13 @@ soft_given Gives IsAt Is (Ok a) h = (h.0, h.1, h.2)
 soft_given Gives IsAt Is (Err e) h = ([], tt, tt)
 
 -- an answer with soft requirements
-pub soft_answer : {E S N : Type 0} (u : Universe N S) (rounds : Rounds N S) (result : Result (Vec S Global) E) (exempt : List S) → IfOk result (λ chosen. chosen.items ≡ chosen_of rounds) → OnOk result (exempt ≡ (notes_of rounds).exempt) → (root : Demands) (soft : List S) → IsBetween u root soft rounds →
+pub soft_answer : {E S N : Type 0} (u : Universe N S) (rounds : Rounds N S) (result : Result (Vec S Global) E) (exempt : List S) → IfOk result (λ chosen. chosen.items ≡ chosen_of rounds) → OnOk result (exempt ≡ (notes_of rounds).exempt) → (root : Demands) (soft : List (SoftRequirement S)) → IsBetween u root soft rounds →
     IfOk result (λ chosen. IsSoftAnswer u root soft chosen.items exempt)
 soft_answer {E} {S} {N} u rounds (Ok chosen) exempt are free root soft b =
-    let Run : List S → List S → Type 0 = λ c e. SoftRun u root (FitsNowhere u root) b.first soft b.taken c e (notes_of rounds).asked in
+    let Run : List S → List S → Type 0 = λ c e. SoftRun u root b.first soft b.taken c e (notes_of rounds).asked in
     let RunFor : List S → Type 0 = λ c. Run c exempt in
     let Once : List S → Type 0 = λ list. HasNoRepeats list in
-    record { first = b.first; promise = b.promise; taken = b.taken; asked = (notes_of rounds).asked; run = subst RunFor (sym are) (subst (Run (chosen_of rounds)) (sym free) b.run); once = subst Once (sym are) b.once }
+    record { first = b.first; promise = b.promise; taken = b.taken; asked = (notes_of rounds).asked; run = subst RunFor (sym are) (subst (Run (chosen_of rounds)) (sym free) b.run); once = subst Once (sym are) b.standing.once }
 soft_answer u rounds (Err e) exempt are free root soft b = tt
 
 pub OnOk-of : {A E : Type 0} (P : Type 0) → P → (r : Result A E) → OnOk r P

@@ -1,5 +1,6 @@
 -- What a soft requirement's turn does to the rounds.
 use Rattle.std.proofs.Common.{◌≡◌, ◌≢◌, ℕ, suc, ◌+◌, ◌-◌, ◌<◌, ◌≤◌, ◌⊎◌, List, [], ◌∷◌, rules, Bool, true, false, ◌++◌, append-nil, length, length-append, take, arith, inl, inr, refl, sym, ap, ◌∙◌, subst, ⊎_elim, Contains, Option, Some, None, Vec, Global}
+use Rattle.std.specs.List.{flat_map}
 use Rattle.std.specs.Prelude.{slice_get}
 use Rattle.std.specs.Option.{option_map, option_map_or}
 use Rattle.std.proofs.Math.Seq.{take-append_seam}
@@ -9,7 +10,7 @@ use Rattle.std.proofs.lemmas.List.Elements.{Contains-append_cases, Contains-appe
 use Rattle.resolver_clause_store.specs.Laws.{IsIdentity}
 use Rattle.resolver_clause_store.specs.Lists.{HasNoRepeats, IsWithin}
 use Rattle.resolver_clause_store.specs.Near.{IsNamed, IsNear}
-use Rattle.resolver_clause_store.specs.SoftRun.{Exempts, FitsNowhere, IsAsked, SoftRun, accepted, asked_before, chosen_before, not_asked, refused, start}
+use Rattle.resolver_clause_store.specs.SoftRun.{Exempts, FitsNowhere, IsAsked, SoftRun, asked_before, not_asked, options, own_packages, start}
 use Rattle.resolver_clause_store.specs.Slots.{is_decided}
 use Rattle.resolver_clause_store.specs.TrailView.{Gains, IsCut, KeepsPlaces, length_of, level_of, slot_of, variable_at, variable_count}
 use Rattle.resolver_clause_store.specs.Universe.{Universe, Demands}
@@ -20,6 +21,7 @@ use Rattle.resolver_clause_store.specs.declared.Origin.{Origin}
 use Rattle.resolver_clause_store.specs.declared.Origin.TheVariants.{Root, Solvable}
 use Rattle.resolver_clause_store.specs.declared.Reason.TheVariants.{Assumed, Decided}
 use Rattle.resolver_clause_store.specs.declared.Slot.{Slot}
+use Rattle.resolver_clause_store.specs.declared.SoftRequirement.{SoftRequirement}
 use Rattle.resolver_clause_store.specs.declared.Trail.{Trail}
 use Rattle.resolver_clause_store.proofs.KeptLemmas.{keeps_all, keeps_places, keeps_through, slot_at}
 use Rattle.resolver_clause_store.proofs.PlaceLemmas.{Keeps-same, Keeps-trans}
@@ -34,7 +36,7 @@ use Rattle.resolver_encoding.specs.ReadState.{AreSeeds}
 use Rattle.resolver_encoding.specs.SoFar.{IsReadSoFar}
 use Rattle.resolver_encoding.specs.Trails.{AreAssumed, Follows, atoms_before, chosen_in, origin_at, solvable_if, solvables_before, value_of}
 use Rattle.resolver_encoding.specs.Truth.{HasLawfulSolvables, Spares}
-use Rattle.resolver_encoding.specs.Turns.{IsRegistered, IsTurnEnd}
+use Rattle.resolver_encoding.specs.Turns.{AsksOnly, IsRegistered, IsTurnEnd}
 use Rattle.resolver_encoding.specs.declared.chosen.Chosen.{Chosen}
 use Rattle.resolver_encoding.specs.declared.encoding.Encoding.{Encoding}
 use Rattle.resolver_encoding.proofs.Bridge.{before-back, has_value, is_chosen, stands, true_before}
@@ -43,7 +45,7 @@ use Rattle.resolver_encoding.proofs.LeftOutLemmas.{left_out_more, left_out_nowhe
 use Rattle.resolver_encoding.proofs.Lists.{cons_cases, here, none_in, there}
 use Rattle.resolver_encoding.proofs.TrailLemmas.{before_extends, follows_still, none_at, same_before, same_origin}
 use Rattle.resolvo.specs.ClauseSearches.{IsConsistent, IsRootTurn, KeepsLoaded, KeepsMark, KeepsTurn, base_of, held_of, kept_of, trail_of}
-use Rattle.resolvo.specs.RoundStates.{AreRounds, GoesOn, HasAssumed, HasMark, IsAnswering, IsFollowing, IsBetween, IsBetweenFor, IsRefusing, IsSearchOf, IsStill, IsUnanswered, chosen_of, notes_of}
+use Rattle.resolvo.specs.RoundStates.{AreRounds, GoesOn, HasAssumed, HasMark, HasTurned, IsAnswering, IsFollowing, IsBetween, IsRefusing, IsSearchOf, IsStanding, IsStill, IsTurned, IsUnanswered, is_accepted, is_refused, was_chosen, chosen_of, notes_of}
 use Rattle.resolvo.specs.declared.clause_search.ClauseSearch.{ClauseSearch}
 use Rattle.resolvo.specs.declared.rounds.Rounds.{Rounds}
 use Rattle.resolvo.proofs.RoundLemmas.{Keeps-longer, keeps_itself, so_far_less}
@@ -52,20 +54,31 @@ use Rattle.resolvo.proofs.GoingLemmas.{assumed_still}
 use Rattle.resolvo.proofs.RefusingLemmas.{trail_agrees}
 use Rattle.resolvo.proofs.TurnLemmas.{decided-assumed, keeps-back}
 
--- clauses were added, and nothing was asked for, read or put off
+-- clauses were added, and nothing was read or put off
 pub record IsAddition {N S : Type 0} (u : Universe N S) (old new : Notes N S) : Type 0 where
   pub origins : Keeps old.origins new.origins
   pub table : Extends old.table new.table
   pub requirements : new.requirements ≡ old.requirements
-  pub asked : new.asked ≡ old.asked
+  pub asked : IsWithin old.asked new.asked
+  pub seen : IsWithin old.seen new.seen
   pub read : new.read ≡ old.read
   pub keeps : (root : Demands) (set : List S) → IsReadSoFar u root set old → IsReadSoFar u root set new
 
 pub registered_adds : {N S : Type 0} (u : Universe N S) (s : S) (old new : Notes N S) → IsRegistered u s old new → IsAddition u old new
-registered_adds u s old new r = record { origins = r.origins; table = r.table; requirements = r.requirements; asked = r.asked; read = r.read; keeps = r.stays.so_far }
+registered_adds {N} {S} u s old new r =
+    let Asked : List N → Type 0 = λ list. IsWithin old.asked list in
+    record { origins = r.origins; table = r.table; requirements = r.requirements; asked = subst Asked (sym r.asked) (λ n h. h); seen = Extends-within old.seen new.seen r.seen; read = r.read; keeps = r.stays.so_far }
+
+pub asking_adds : {N S : Type 0} (u : Universe N S) (n : N) (old new : Notes N S) → AsksOnly u n old new → IsAddition u old new
+asking_adds {N} {S} u n old new a =
+    let Seen : List S → Type 0 = λ list. IsWithin old.seen list in
+    record { origins = a.origins; table = a.table; requirements = a.requirements; asked = a.asked.stays; seen = subst Seen (sym a.seen) (λ s h. h); read = a.read; keeps = a.stays.so_far }
 
 pub ended_adds : {N S : Type 0} (u : Universe N S) (old new : Notes N S) → IsTurnEnd u old new → IsAddition u old new
-ended_adds u old new e = record { origins = e.origins; table = e.table; requirements = e.requirements; asked = e.asked; read = e.read; keeps = e.stays.so_far }
+ended_adds {N} {S} u old new e =
+    let Asked : List N → Type 0 = λ list. IsWithin old.asked list in
+    let Seen : List S → Type 0 = λ list. IsWithin old.seen list in
+    record { origins = e.origins; table = e.table; requirements = e.requirements; asked = subst Asked (sym e.asked) (λ n h. h); seen = subst Seen (sym e.seen) (λ s h. h); read = e.read; keeps = e.stays.so_far }
 
 -- a list with one more behind
 pub last_in : {X : Type 0} (xs : List X) (x : X) → Contains (xs ++ x ∷ []) x
@@ -135,9 +148,9 @@ module _ {N S : Type 0} where
       let same : w.0 ≡ v = distinct.same w.0 v (Solvable s) w.3 origin in
       never w.1 (ap (slot_of trail) (sym same) ∙ w.2) w.4
 
-  -- what is asked for, where what was read is near the seeds
-  pub asked_for : (u : Universe N S) (root : Demands) (chosen seeds : List S) (notes : Notes N S) → IsReadSoFar u root chosen notes → AreNear u root seeds notes → IsAsked u root chosen seeds notes.asked
-  asked_for u root chosen seeds notes so near = record { named = asked_named u root chosen notes so; near = near.asked }
+  -- what is asked for, where what was read is near the soft requirements
+  pub asked_for : (u : Universe N S) (root : Demands) (chosen : List S) (soft : List (SoftRequirement S)) (notes : Notes N S) → IsReadSoFar u root chosen notes → AreNear u root (flat_map (options u) soft) (flat_map (own_packages u) soft) notes → IsAsked u root chosen soft notes.asked
+  asked_for u root chosen soft notes so near = record { named = asked_named u root chosen notes so; near = near.asked }
 
   -- clauses that were added change nothing of the rounds
   pub rounds_added : (u : Universe N S) (old : Rounds N S) (encoding : Encoding N S) → AreRounds u old → IsBounded encoding → IsAddition u (notes_of old) (notes_in encoding) → AreRounds u (record old { encoding = encoding })
@@ -174,59 +187,61 @@ module _ {N S : Type 0} where
         chosen = still.chosen ∙ sym (same_before (notes_of old).origins (notes_in encoding).origins trail trail (length_of trail) keeps rounds.variables (keeps_itself trail (length_of trail) (omega arith)) (length_of trail) (omega arith));
       }
 
-  -- a soft requirement was registered
-  module _ (u : Universe N S) (root : Demands) (done : List S) (s : S) (old : Rounds N S) (encoding : Encoding N S) (rounds : AreRounds u old) (adds : IsAddition u (notes_of old) (notes_in encoding)) (exempt : (notes_in encoding).exempt ≡ (notes_of old).exempt)
-      (only : (t : S) → Contains (notes_in encoding).seen t → Contains (notes_of old).seen t ⊎ (t ≡ s)) (more : IsWithin (notes_of old).seen (notes_in encoding).seen) (b : IsBetween u root done old) where
-    near_registered : AreNear u root (done ++ s ∷ []) (notes_in encoding)
-    near_registered =
-        let before : AreNear u root (done ++ s ∷ []) (notes_of old) = AreNear-more u root done (done ++ s ∷ []) (λ t h. earlier_in done s t h) (notes_of old) b.near in
-        let Near : S → Type 0 = λ t. IsNear u root (done ++ s ∷ []) t in
-        let Read : List S → Type 0 = λ list. (t : S) → Contains list t → Near t in
-        let Asked : List N → Type 0 = λ list. (n : N) → Contains list n → IsNamed u root (IsNear u root (done ++ s ∷ [])) n in
+  -- where clauses were added that are near, what stands goes on to stand
+  module _ (u : Universe N S) (root : Demands) (taken refused seeds : List S) (packages : List N) (old : Rounds N S) (encoding : Encoding N S) (rounds : AreRounds u old) (adds : IsAddition u (notes_of old) (notes_in encoding)) (exempt : (notes_in encoding).exempt ≡ (notes_of old).exempt)
+      (b : IsStanding u root taken refused seeds packages old) where
+    pub standing_added : AreNear u root seeds packages (notes_in encoding) → IsStanding u root taken refused seeds packages (record old { encoding = encoding })
+    standing_added near =
+        let Seeds : List S → Type 0 = λ e. AreSeeds u taken (chosen_of old) (notes_in encoding).asked (notes_in encoding).seen e in
+        let Exempt : List S → Type 0 = λ e. IsWithin e taken in
         record {
-          seen = λ t h. ⊎_elim (λ was. before.seen t was) (λ e. subst Near (sym e) (0, last_in done s)) (only t h);
-          read = subst Read (sym adds.read) before.read;
-          asked = subst Asked (sym adds.asked) before.asked;
-        }
-
-    pub between_registered : IsBetweenFor u root done (done ++ s ∷ []) (record old { encoding = encoding })
-    between_registered =
-        let RunWith : List S → List N → Type 0 = λ e a. SoftRun u root (FitsNowhere u root) b.first done b.taken (chosen_of old) e a in
-        let RunFor : List S → Type 0 = λ e. RunWith e (notes_in encoding).asked in
-        let SeedsWith : List N → List S → Type 0 = λ a e. AreSeeds u b.taken (chosen_of old) a (notes_in encoding).seen e in
-        let SeedsFor : List N → Type 0 = λ a. SeedsWith a (notes_in encoding).exempt in
-        let Exempt : List S → Type 0 = λ e. IsWithin e b.taken in
-        record {
-          first = b.first;
-          promise = b.promise;
-          taken = b.taken;
-          refused = b.refused;
-          run = subst RunFor (sym exempt) (subst (RunWith (notes_of old).exempt) (sym adds.asked) b.run);
           read = adds.keeps root (chosen_of old) b.read;
           once = b.once;
-          assumed = assumed_still (notes_of old).origins (notes_in encoding).origins (trail_of old.search) (trail_of old.search) b.taken b.refused adds.origins rounds.variables (λ v slot at reason. at) b.assumed;
+          assumed = assumed_still (notes_of old).origins (notes_in encoding).origins (trail_of old.search) (trail_of old.search) taken refused adds.origins rounds.variables (λ v slot at reason. at) b.assumed;
           left_out = λ t h. left_out_more (notes_of old).origins (notes_in encoding).origins (notes_of old).table (notes_in encoding).table (chosen_of old) (chosen_of old) t adds.origins adds.table (λ x k. k) (b.left_out t h);
-          seeded = subst SeedsFor (sym adds.asked) (subst (SeedsWith (notes_of old).asked) (sym exempt) (record { seed_chosen = b.seeded.seed_chosen; seed_registered = λ t h. more t (b.seeded.seed_registered t h); seed_free = b.seeded.seed_free }));
+          seeded = subst Seeds (sym exempt) (record {
+            seed_chosen = b.seeded.seed_chosen;
+            seed_registered = λ t h. adds.seen t (b.seeded.seed_registered t h);
+            seed_free = λ t h. ⊎_elim (λ e. inl e) (λ asked. inr (adds.asked (u.name t) asked)) (b.seeded.seed_free t h);
+          });
           within = b.within;
           exempt = subst Exempt (sym exempt) b.exempt;
-          near = near_registered;
+          near = near;
         }
 
+    -- a seed was registered
+    pub standing_registered : (s : S) → Contains seeds s → ((t : S) → Contains (notes_in encoding).seen t → Contains (notes_of old).seen t ⊎ (t ≡ s)) → (notes_in encoding).asked ≡ (notes_of old).asked → IsStanding u root taken refused seeds packages (record old { encoding = encoding })
+    standing_registered s seed only asked =
+        let Near : S → Type 0 = λ t. IsNear u root seeds t in
+        let Read : List S → Type 0 = λ list. (t : S) → Contains list t → Near t in
+        let Asked : List N → Type 0 = λ list. (n : N) → Contains list n → IsNamed u root (IsNear u root seeds) n ⊎ Contains packages n in
+        standing_added (record {
+          seen = λ t h. ⊎_elim (λ was. b.near.seen t was) (λ e. subst Near (sym e) (0, seed)) (only t h);
+          read = subst Read (sym adds.read) b.near.read;
+          asked = subst Asked (sym asked) b.near.asked;
+        })
+
+    -- one of the packages was asked
+    pub standing_asked : (n : N) → Contains packages n → AsksOnly u n (notes_of old) (notes_in encoding) → IsStanding u root taken refused seeds packages (record old { encoding = encoding })
+    standing_asked n own alone =
+        let Near : List S → Type 0 = λ list. (t : S) → Contains list t → IsNear u root seeds t in
+        let Own : N → Type 0 = λ m. Contains packages m in
+        standing_added (record {
+          seen = subst Near (sym alone.seen) b.near.seen;
+          read = subst Near (sym alone.read) b.near.read;
+          asked = λ m h. ⊎_elim (λ was. b.near.asked m was) (λ is. inr (subst Own (sym is) own)) (alone.asked.only m h);
+        })
+
   -- what was added was loaded
-  pub between_loaded : (u : Universe N S) (root : Demands) (done seeds : List S) (old new : Rounds N S) → variable_count (trail_of old.search) ≤ length (notes_of old).origins → IsSearchOf old new → KeepsTurn old.search new.search → IsBetweenFor u root done seeds old → IsBetweenFor u root done seeds new
-  between_loaded u root done seeds old new known same turn b =
-      let Between : Encoding N S → Chosen S → Type 0 = λ e c. IsBetweenFor u root done seeds (record new { encoding = e; chosen = c }) in
-      let WithChosen : Chosen S → Type 0 = λ c. Between new.encoding c in
-      let WithEncoding : Encoding N S → Type 0 = λ e. Between e old.chosen in
+  pub standing_loaded : (u : Universe N S) (root : Demands) (taken refused seeds : List S) (packages : List N) (old new : Rounds N S) → variable_count (trail_of old.search) ≤ length (notes_of old).origins → IsSearchOf old new → KeepsTurn old.search new.search → IsStanding u root taken refused seeds packages old → IsStanding u root taken refused seeds packages new
+  standing_loaded u root taken refused seeds packages old new known same turn b =
+      let Standing : Encoding N S → Chosen S → Type 0 = λ e c. IsStanding u root taken refused seeds packages (record new { encoding = e; chosen = c }) in
+      let WithChosen : Chosen S → Type 0 = λ c. Standing new.encoding c in
+      let WithEncoding : Encoding N S → Type 0 = λ e. Standing e old.chosen in
       subst WithChosen (sym same.chosen) (subst WithEncoding (sym same.encoding) (record {
-        first = b.first;
-        promise = b.promise;
-        taken = b.taken;
-        refused = b.refused;
-        run = b.run;
         read = b.read;
         once = b.once;
-        assumed = assumed_still (notes_of old).origins (notes_of old).origins (trail_of old.search) (trail_of new.search) b.taken b.refused (Keeps-same (notes_of old).origins) known turn.assumed.was b.assumed;
+        assumed = assumed_still (notes_of old).origins (notes_of old).origins (trail_of old.search) (trail_of new.search) taken refused (Keeps-same (notes_of old).origins) known turn.assumed.was b.assumed;
         left_out = b.left_out;
         seeded = b.seeded;
         within = b.within;
@@ -234,10 +249,27 @@ module _ {N S : Type 0} where
         near = b.near;
       }))
 
+  -- a turn may be told of from an earlier state in which as much was chosen, exempt and asked for
+  pub turned_from : (u : Universe N S) (root : Demands) (taken refused seeds : List S) (packages : List N) (s : S) (before old new : Rounds N S) (is_chosen : Bool) → chosen_of old ≡ chosen_of before → (notes_of old).exempt ≡ (notes_of before).exempt → (notes_of old).asked ≡ (notes_of before).asked →
+      HasTurned u root taken refused seeds packages s old new is_chosen → HasTurned u root taken refused seeds packages s before new is_chosen
+  turned_from u root taken refused seeds packages s before old new is_chosen chosen exempt asked h =
+      let Turned : List S → List S → List N → Type 0 = λ c e a. IsTurned u root taken c e a s h.taken_now (chosen_of new) (notes_of new).exempt is_chosen in
+      let WithChosen : List S → Type 0 = λ c. Turned c (notes_of old).exempt (notes_of old).asked in
+      let WithExempt : List S → Type 0 = λ e. Turned (chosen_of before) e (notes_of old).asked in
+      let WithAsked : List N → Type 0 = λ a. Turned (chosen_of before) (notes_of before).exempt a in
+      let Asked : List N → Type 0 = λ a. IsWithin a (notes_of new).asked in
+      record {
+        taken_now = h.taken_now;
+        refused_now = h.refused_now;
+        turned = subst WithAsked asked (subst WithExempt exempt (subst WithChosen chosen h.turned));
+        standing = h.standing;
+        asked = subst Asked asked h.asked;
+      }
+
   -- one that is decided is skipped
-  pub skipped : (u : Universe N S) → HasLawfulSolvables u → (eq : N → N → Bool) → IsIdentity eq → (root : Demands) (done : List S) (s : S) (v : ℕ) (slot : Slot) (r : Rounds N S) → AreRounds u r → variable_count (trail_of r.search) ≡ length (notes_of r).origins → IsStill r →
-      slice_get (notes_of r).origins v ≡ Some (Solvable s) → slot_of (trail_of r.search) v ≡ Some slot → IsBetweenFor u root done (done ++ s ∷ []) r → IsBetween u root (done ++ s ∷ []) r
-  skipped u lawful eq names root done s v slot r rounds size still origin at b =
+  pub skipped : (u : Universe N S) → HasLawfulSolvables u → (eq : N → N → Bool) → IsIdentity eq → (root : Demands) (taken refused seeds : List S) (packages : List N) (s : S) (v : ℕ) (slot : Slot) (r : Rounds N S) → AreRounds u r → variable_count (trail_of r.search) ≡ length (notes_of r).origins → IsStill r →
+      slice_get (notes_of r).origins v ≡ Some (Solvable s) → slot_of (trail_of r.search) v ≡ Some slot → IsStanding u root taken refused seeds packages r → HasTurned u root taken refused seeds packages s r r slot.value
+  skipped u lawful eq names root taken refused seeds packages s v slot r rounds size still origin at b =
       let encoding = b.read.half.encoding in
       let stays : (x : ℕ) (other : Slot) (n : ℕ) (t : S) → slot_of (trail_of r.search) x ≡ Some other → other.reason ≡ Decided n → other.level ≤ slot.level → other.value ≡ true → slice_get (notes_of r).origins x ≡ Some (Solvable t) → Contains (chosen_of r) t =
       λ x other n t is reason low on stands. let Chosen : List S → Type 0 = λ list. Contains list t in
@@ -246,37 +278,22 @@ module _ {N S : Type 0} where
       let left : slot.value ≡ false → IsLeftOut (notes_of r).origins (notes_of r).table (chosen_of r) s = λ off. record {
         variable = v;
         stands = origin;
-        never = λ values holds are. trail_agrees u root (notes_of r) encoding r.search rounds.consistent rounds.loaded (chosen_of r) b.taken b.refused rounds.variables b.assumed b.left_out values holds are slot.level
+        never = λ values holds are. trail_agrees u root (notes_of r) encoding r.search rounds.consistent rounds.loaded (chosen_of r) taken refused rounds.variables b.assumed b.left_out values holds are slot.level
             (λ t h x is. are x t (b.seeded.seed_chosen t h) is) stays v slot at (omega arith) ∙ off;
       } in
-      let asks : IsAsked u root (chosen_of r) (done ++ s ∷ []) (notes_of r).asked = asked_for u root (chosen_of r) (done ++ s ∷ []) (notes_of r) b.read b.near in
-      let Run : Type 0 = SoftRun u root (FitsNowhere u root) b.first (done ++ s ∷ []) b.taken (chosen_of r) (notes_of r).exempt (notes_of r).asked in
+      let Turned : Bool → Type 0 = λ on. IsTurned u root taken (chosen_of r) (notes_of r).exempt (notes_of r).asked s taken (chosen_of r) (notes_of r).exempt on in
       let Has : List S → Type 0 = λ list. Contains list s in
-      let run : Run = ⊎_elim
-      (λ (on : slot.value ≡ true). chosen_before b.run (subst Has (sym still.chosen) (slot_chosen (notes_of r).origins (trail_of r.search) size v slot s at (get_or_from_slice_get (notes_of r).origins v (Solvable s) Root origin) on)) (λ n h. h) asks)
+      let turned : Turned slot.value = ⊎_elim
+      (λ (on : slot.value ≡ true). subst Turned (sym on) (was_chosen (subst Has (sym still.chosen) (slot_chosen (notes_of r).origins (trail_of r.search) size v slot s at (get_or_from_slice_get (notes_of r).origins v (Solvable s) Root origin) on))))
       (λ (off : slot.value ≡ false).
       let never : Contains (chosen_of r) s → ⊥ = λ h. unchosen (notes_of r).origins (trail_of r.search) encoding.distinct size v s origin (λ other is on. false≢true (sym off ∙ ap (λ (q : Slot). q.value) (same_Some _ _ (sym at ∙ is)) ∙ on)) (subst Has still.chosen h) in
-      ⊎_elim
-      (λ was. refused b.run never (asked_before was) (left_out_nowhere u root (notes_of r) encoding lawful (chosen_of r) (notes_of r).exempt s (spares_present u (notes_of r).asked (notes_of r).exempt (notes_of r).kinds encoding.due) (left off)) (λ n h. h) asks)
-      (λ not. refused b.run never (not_asked not) (left_out_nowhere u root (notes_of r) encoding lawful (chosen_of r) ((notes_of r).exempt ++ s ∷ []) s (spares_exempting u (notes_of r).asked (notes_of r).exempt s ((notes_of r).exempt ++ s ∷ []) (notes_of r).kinds encoding.due (not_asked not)) (left off)) (λ n h. h) asks)
-      (in_or_not eq names (notes_of r).asked (u.name s)))
+      subst Turned (sym off) (⊎_elim
+      (λ was. is_refused never (asked_before was) (left_out_nowhere u root (notes_of r) encoding lawful (chosen_of r) (notes_of r).exempt s (spares_present u (notes_of r).asked (notes_of r).exempt (notes_of r).kinds encoding.due) (left off)))
+      (λ not. is_refused never (not_asked not) (left_out_nowhere u root (notes_of r) encoding lawful (chosen_of r) ((notes_of r).exempt ++ s ∷ []) s (spares_exempting u (notes_of r).asked (notes_of r).exempt s ((notes_of r).exempt ++ s ∷ []) (notes_of r).kinds encoding.due (not_asked not)) (left off)))
+      (in_or_not eq names (notes_of r).asked (u.name s))))
       (cases_Bool slot.value)
       in
-      record {
-        first = b.first;
-        promise = b.promise;
-        taken = b.taken;
-        refused = b.refused;
-        run = run;
-        read = b.read;
-        once = b.once;
-        assumed = b.assumed;
-        left_out = b.left_out;
-        seeded = b.seeded;
-        within = λ t h. earlier_in done s t (b.within t h);
-        exempt = b.exempt;
-        near = b.near;
-      }
+      record { taken_now = taken; refused_now = refused; turned = turned; standing = b; asked = λ n h. h }
 
   -- what is chosen once the turn was undone was chosen before
   pub refused_within : (u : Universe N S) (old : Rounds N S) (cut new : Trail) (v : ℕ) (chosen : List S) → AreRounds u old → 0 < base_of old.search → IsCut (trail_of old.search) cut (held_of old.search - 1) →
@@ -316,14 +333,14 @@ module _ {N S : Type 0} where
       }
 
   -- the turn of a soft requirement that is not decided: it may be exempt, and is assumed
-  module _ (u : Universe N S) (root : Demands) (done : List S) (s : S) (v : ℕ) (old : Rounds N S) (encoding : Encoding N S) (search : ClauseSearch)
+  module _ (u : Universe N S) (root : Demands) (taken refused seeds : List S) (packages : List N) (s : S) (v : ℕ) (old : Rounds N S) (encoding : Encoding N S) (search : ClauseSearch)
       (known : variable_count (trail_of old.search) ≡ length (notes_of old).origins) (distinct : AreDistinct (notes_of old).origins) (still : IsStill old)
-      (origin : slice_get (notes_of old).origins v ≡ Some (Solvable s)) (free : slot_of (trail_of old.search) v ≡ None) (seen : Contains (notes_of old).seen s)
+      (origin : slice_get (notes_of old).origins v ≡ Some (Solvable s)) (free : slot_of (trail_of old.search) v ≡ None) (seen : Contains (notes_of old).seen s) (seed : Contains seeds s)
       (only : notes_in encoding ≡ record (notes_of old) { exempt = (notes_in encoding).exempt })
       (exempts : (Contains (notes_of old).exempt s → ⊥) → Exempts u (notes_of old).asked (notes_of old).exempt s (notes_in encoding).exempt)
       (stays : (d : Demands) (set : List S) → IsReadSoFar u d set (notes_of old) → IsReadSoFar u d set (notes_in encoding))
       (gains : Gains (trail_of old.search) (trail_of search) (record { variable = v; positive = true }) (level_of (trail_of old.search) + 1) Assumed)
-      (held : held_of search ≡ length_of (trail_of search)) (b : IsBetweenFor u root done (done ++ s ∷ []) old) where
+      (held : held_of search ≡ length_of (trail_of search)) (b : IsStanding u root taken refused seeds packages old) where
     abbrev t0 : Trail
     t0 = trail_of old.search
 
@@ -352,15 +369,15 @@ module _ {N S : Type 0} where
     made_exempt = exempts (λ h. not_chosen (b.seeded.seed_chosen s (b.exempt s h)))
 
     abbrev taken_now : List S
-    taken_now = b.taken ++ s ∷ []
+    taken_now = taken ++ s ∷ []
 
-    begun_assumed : AreAssumed (notes_in encoding).origins taken_now b.refused (trail_of search)
+    begun_assumed : AreAssumed (notes_in encoding).origins taken_now refused (trail_of search)
     begun_assumed =
-        let Kept : List (Origin N S) → Type 0 = λ os. AreAssumed os taken_now b.refused (trail_of search) in
+        let Kept : List (Origin N S) → Type 0 = λ os. AreAssumed os taken_now refused (trail_of search) in
         subst Kept (sym same_origins) (record {
           taken = λ x slot at reason value. ⊎_elim
-              (λ made. (s, ap (origin_at (notes_of old).origins) made.0 ∙ get_or_from_slice_get (notes_of old).origins v (Solvable s) Root origin, last_in b.taken s))
-              (λ was. let w = b.assumed.taken x slot was reason value in (w.0, w.1, earlier_in b.taken s w.0 w.2))
+              (λ made. (s, ap (origin_at (notes_of old).origins) made.0 ∙ get_or_from_slice_get (notes_of old).origins v (Solvable s) Root origin, last_in taken s))
+              (λ was. let w = b.assumed.taken x slot was reason value in (w.0, w.1, earlier_in taken s w.0 w.2))
               (gains-cases t0 (trail_of search) (record { variable = v; positive = true }) (level_of t0 + 1) Assumed gains x slot at);
           left_out = λ x slot at reason value. ⊎_elim
               (λ made. absurd (false≢true (sym value ∙ ap (λ (q : Slot). q.value) made.1)))
@@ -368,8 +385,8 @@ module _ {N S : Type 0} where
               (gains-cases t0 (trail_of search) (record { variable = v; positive = true }) (level_of t0 + 1) Assumed gains x slot at);
         })
 
-    begun_near : AreNear u root (done ++ s ∷ []) (notes_in encoding)
-    begun_near = let Near : Notes N S → Type 0 = λ n. AreNear u root (done ++ s ∷ []) n in subst Near (sym only) (record { seen = b.near.seen; read = b.near.read; asked = b.near.asked })
+    begun_near : AreNear u root seeds packages (notes_in encoding)
+    begun_near = let Near : Notes N S → Type 0 = λ n. AreNear u root seeds packages n in subst Near (sym only) (record { seen = b.near.seen; read = b.near.read; asked = b.near.asked })
 
     same_asked : (notes_in encoding).asked ≡ (notes_of old).asked
     same_asked = ap (λ (n : Notes N S). n.asked) only
@@ -377,8 +394,8 @@ module _ {N S : Type 0} where
     same_seen : (notes_in encoding).seen ≡ (notes_of old).seen
     same_seen = ap (λ (n : Notes N S). n.seen) only
 
-    within_now : IsWithin taken_now (done ++ s ∷ [])
-    within_now t h = ⊎_elim (λ was. earlier_in done s t (b.within t was)) (λ e. let Has : S → Type 0 = λ x. Contains (done ++ s ∷ []) x in subst Has e (last_in done s)) (pushed_cases b.taken s t h)
+    within_now : IsWithin taken_now seeds
+    within_now t h = ⊎_elim (λ was. b.within t was) (λ e. let Has : S → Type 0 = λ x. Contains seeds x in subst Has e seed) (pushed_cases taken s t h)
 
     module _ (rest : Rounds N S) (goes : GoesOn u begun rest) where
       abbrev t2 : Trail
@@ -405,8 +422,8 @@ module _ {N S : Type 0} where
       rest_read : IsReadSoFar u root (chosen_of rest) (notes_of rest)
       rest_read = goes.read root (stays root (chosen_of old) b.read)
 
-      rest_near : AreNear u root (done ++ s ∷ []) (notes_of rest)
-      rest_near = goes.near root (done ++ s ∷ []) taken_now b.refused (stays root (chosen_of old) b.read) within_now begun_assumed begun_near
+      rest_near : AreNear u root seeds packages (notes_of rest)
+      rest_near = goes.near root seeds taken_now refused packages (stays root (chosen_of old) b.read) within_now begun_assumed begun_near
 
       asked_rest : IsWithin (notes_of old).asked (notes_of rest).asked
       asked_rest n h = let Has : List N → Type 0 = λ list. Contains list n in goes.asked n (subst Has (sym same_asked) h)
@@ -424,10 +441,10 @@ module _ {N S : Type 0} where
       made_rest : slot_of t2 v ≡ Some assumption
       made_rest = places.slots v assumption gains.here (omega (arith, held, gains.count))
 
-      rest_assumed : AreAssumed o2 taken_now b.refused t2
-      rest_assumed = assumed_still (notes_in encoding).origins o2 (trail_of search) t2 taken_now b.refused goes.origins begun_known goes.turn.assumed.was begun_assumed
+      rest_assumed : AreAssumed o2 taken_now refused t2
+      rest_assumed = assumed_still (notes_in encoding).origins o2 (trail_of search) t2 taken_now refused goes.origins begun_known goes.turn.assumed.was begun_assumed
 
-      left_rest : (larger : List S) → IsWithin (chosen_of old) larger → (t : S) → Contains b.refused t → IsLeftOut o2 (notes_of rest).table larger t
+      left_rest : (larger : List S) → IsWithin (chosen_of old) larger → (t : S) → Contains refused t → IsLeftOut o2 (notes_of rest).table larger t
       left_rest larger within t h = left_out_more (notes_of old).origins o2 (notes_of old).table (notes_of rest).table (chosen_of old) larger t keeps_rest table_rest within (b.left_out t h)
 
       -- it was accepted
@@ -450,8 +467,8 @@ module _ {N S : Type 0} where
         more_exempt e (not_asked not) = λ t h. earlier_in (notes_of old).exempt s t h
 
         few_exempt : (e : List S) → Exempts u (notes_of old).asked (notes_of old).exempt s e → IsWithin e taken_now
-        few_exempt e (asked_before was) = λ t h. earlier_in b.taken s t (b.exempt t h)
-        few_exempt e (not_asked not) = λ t h. ⊎_elim (λ was. earlier_in b.taken s t (b.exempt t was)) (λ same. let Has : S → Type 0 = λ x. Contains taken_now x in subst Has same (last_in b.taken s)) (pushed_cases (notes_of old).exempt s t h)
+        few_exempt e (asked_before was) = λ t h. earlier_in taken s t (b.exempt t h)
+        few_exempt e (not_asked not) = λ t h. ⊎_elim (λ was. earlier_in taken s t (b.exempt t was)) (λ same. let Has : S → Type 0 = λ x. Contains taken_now x in subst Has same (last_in taken s)) (pushed_cases (notes_of old).exempt s t h)
 
         freed : (e : List S) → Exempts u (notes_of old).asked (notes_of old).exempt s e → Contains e s ⊎ Contains (notes_of old).asked (u.name s)
         freed e (asked_before was) = inr was
@@ -459,31 +476,32 @@ module _ {N S : Type 0} where
 
         now_seeded : AreSeeds u taken_now (chosen_of rest) (notes_of rest).asked (notes_of rest).seen (notes_of rest).exempt
         now_seeded = record {
-          seed_chosen = λ t h. ⊎_elim (λ was. stays_chosen t (b.seeded.seed_chosen t was)) (λ e. let Has : S → Type 0 = λ x. Contains (chosen_of rest) x in subst Has e now_chosen) (pushed_cases b.taken s t h);
-          seed_registered = λ t h. ⊎_elim (λ was. seen_rest t (b.seeded.seed_registered t was)) (λ e. let Has : S → Type 0 = λ x. Contains (notes_of rest).seen x in subst Has e (seen_rest s seen)) (pushed_cases b.taken s t h);
+          seed_chosen = λ t h. ⊎_elim (λ was. stays_chosen t (b.seeded.seed_chosen t was)) (λ e. let Has : S → Type 0 = λ x. Contains (chosen_of rest) x in subst Has e now_chosen) (pushed_cases taken s t h);
+          seed_registered = λ t h. ⊎_elim (λ was. seen_rest t (b.seeded.seed_registered t was)) (λ e. let Has : S → Type 0 = λ x. Contains (notes_of rest).seen x in subst Has e (seen_rest s seen)) (pushed_cases taken s t h);
           seed_free = λ t h. ⊎_elim
               (λ was. ⊎_elim (λ free_before. inl (more_exempt (notes_of rest).exempt rest_exempts t free_before)) (λ asked. inr (asked_rest (u.name t) asked)) (b.seeded.seed_free t was))
               (λ e. let Free : S → Type 0 = λ x. Contains (notes_of rest).exempt x ⊎ Contains (notes_of rest).asked (u.name x) in subst Free e (⊎_elim (λ is. inl is) (λ asked. inr (asked_rest (u.name s) asked)) (freed (notes_of rest).exempt rest_exempts)))
-              (pushed_cases b.taken s t h);
+              (pushed_cases taken s t h);
         }
 
-        pub between_accepted : IsBetween u root (done ++ s ∷ []) rest
-        between_accepted =
-            let answer = answering.answer root taken_now b.refused rest_read rest_assumed now_seeded in
+        pub accepted : HasTurned u root taken refused seeds packages s old rest true
+        accepted =
+            let answer = answering.answer root taken_now refused rest_read rest_assumed now_seeded in
             record {
-              first = b.first;
-              promise = b.promise;
-              taken = taken_now;
-              refused = b.refused;
-              run = accepted b.run not_chosen rest_exempts stays_chosen now_chosen answer.valid answer.reached asked_rest (asked_for u root (chosen_of rest) (done ++ s ∷ []) (notes_of rest) rest_read rest_near);
-              read = rest_read;
-              once = answering.once;
-              assumed = rest_assumed;
-              left_out = left_rest (chosen_of rest) stays_chosen;
-              seeded = now_seeded;
-              within = within_now;
-              exempt = few_exempt (notes_of rest).exempt rest_exempts;
-              near = rest_near;
+              taken_now = taken_now;
+              refused_now = refused;
+              turned = is_accepted not_chosen rest_exempts stays_chosen now_chosen answer.valid answer.reached;
+              standing = record {
+                read = rest_read;
+                once = answering.once;
+                assumed = rest_assumed;
+                left_out = left_rest (chosen_of rest) stays_chosen;
+                seeded = now_seeded;
+                within = within_now;
+                exempt = few_exempt (notes_of rest).exempt rest_exempts;
+                near = rest_near;
+              };
+              asked = asked_rest;
             }
 
       -- it was refused
@@ -537,7 +555,7 @@ module _ {N S : Type 0} where
             let same : solvables_before o2 t2 n0 ≡ solvables_before o2 mark.base n0 = same_before o2 o2 mark.base t2 (kept_of rest.search) (Keeps-same o2) mark.known mark.kept n0 marked in
             subst Has (sym mark.follows.is) (Extends-within (solvables_before o2 mark.base n0) (solvables_before o2 mark.base (length_of mark.base)) (before_extends o2 mark.base n0 (length_of mark.base) (omega (arith, marked, mark.kept.were))) t (subst Has (sym prefix ∙ same) h))
 
-        after_assumed : AreAssumed o3 b.taken (b.refused ++ s ∷ []) t3
+        after_assumed : AreAssumed o3 taken (refused ++ s ∷ []) t3
         after_assumed =
             let origin_after : (x : ℕ) (slot : Slot) → slot_of t0 x ≡ Some slot → origin_at o3 x ≡ origin_at (notes_of old).origins x = λ x slot at.
             let inside : x < variable_count t0 = slot-within _ x slot.place (ap (option_map (λ (q : Slot). q.place)) at) in
@@ -556,8 +574,8 @@ module _ {N S : Type 0} where
                   (λ was. let w = b.assumed.taken x slot (back x slot was reason) reason value in (w.0, origin_after x slot (back x slot was reason) ∙ w.1, w.2))
                   (gains-cases refusing.cut t3 (record { variable = v; positive = false }) (level_of refusing.cut + 1) Assumed refusing.gains x slot at);
               left_out = λ x slot at reason value. ⊎_elim
-                  (λ made. (s, ap (origin_at o3) made.0 ∙ get_or_from_slice_get o3 v (Solvable s) Root (keeps_after.kept v (Solvable s) origin), last_in b.refused s))
-                  (λ was. let w = b.assumed.left_out x slot (back x slot was reason) reason value in (w.0, origin_after x slot (back x slot was reason) ∙ w.1, earlier_in b.refused s w.0 w.2))
+                  (λ made. (s, ap (origin_at o3) made.0 ∙ get_or_from_slice_get o3 v (Solvable s) Root (keeps_after.kept v (Solvable s) origin), last_in refused s))
+                  (λ was. let w = b.assumed.left_out x slot (back x slot was reason) reason value in (w.0, origin_after x slot (back x slot was reason) ∙ w.1, earlier_in refused s w.0 w.2))
                   (gains-cases refusing.cut t3 (record { variable = v; positive = false }) (level_of refusing.cut + 1) Assumed refusing.gains x slot at);
             }
 
@@ -577,10 +595,10 @@ module _ {N S : Type 0} where
         asked_after : IsWithin (notes_of old).asked (notes_of after).asked
         asked_after n h = let Has : List N → Type 0 = λ list. Contains list n in subst Has (sym refusing.ended.asked) (asked_rest n h)
 
-        near_same : AreNear u root (done ++ s ∷ []) (notes_of after)
+        near_same : AreNear u root seeds packages (notes_of after)
         near_same =
-            let Read : List S → Type 0 = λ list. (t : S) → Contains list t → IsNear u root (done ++ s ∷ []) t in
-            let Asked : List N → Type 0 = λ list. (n : N) → Contains list n → IsNamed u root (IsNear u root (done ++ s ∷ [])) n in
+            let Read : List S → Type 0 = λ list. (t : S) → Contains list t → IsNear u root seeds t in
+            let Asked : List N → Type 0 = λ list. (n : N) → Contains list n → IsNamed u root (IsNear u root seeds) n ⊎ Contains packages n in
             record { seen = subst Read (sym refusing.ended.seen) rest_near.seen; read = subst Read (sym refusing.ended.read) rest_near.read; asked = subst Asked (sym refusing.ended.asked) rest_near.asked }
 
         -- what was decided at the levels up to the assumption's was chosen before
@@ -618,9 +636,9 @@ module _ {N S : Type 0} where
                   let seeds_true : (t : S) → Contains taken_now t → (x : ℕ) → slice_get o2 x ≡ Some (Solvable t) → values x ≡ true = λ t h x is. ⊎_elim
                   (λ was. are x t (b.seeded.seed_chosen t was) is)
                   (λ e. let Stands : S → Type 0 = λ y. slice_get o2 v ≡ Some (Solvable y) in ap values (encoding_rest.distinct.same x v (Solvable t) is (subst Stands e stands_rest)) ∙ on)
-                  (pushed_cases b.taken s t h)
+                  (pushed_cases taken s t h)
                   in
-                  absurd (unanswered.none values holds (trail_agrees u root (notes_of rest) encoding_rest rest.search rounds.consistent rounds.loaded (chosen_of old) taken_now b.refused rounds.variables rest_assumed (left_rest (chosen_of old) (λ t h. h)) values holds are (base_of rest.search) seeds_true decided_chosen)))
+                  absurd (unanswered.none values holds (trail_agrees u root (notes_of rest) encoding_rest rest.search rounds.consistent rounds.loaded (chosen_of old) taken_now refused rounds.variables rest_assumed (left_rest (chosen_of old) (λ t h. h)) values holds are (base_of rest.search) seeds_true decided_chosen)))
                   (λ (off : values v ≡ false). off)
                   (cases_Bool (values v));
             }
@@ -631,41 +649,42 @@ module _ {N S : Type 0} where
             left_out_nowhere u root (notes_of rest) rest_read.half.encoding lawful (chosen_of old) (notes_in encoding).exempt s
             (subst Spared goes.exempt (spares_present u (notes_of rest).asked (notes_of rest).exempt (notes_of rest).kinds rest_read.half.encoding.due)) out_rest
 
-        left_after : (t : S) → Contains (b.refused ++ s ∷ []) t → IsLeftOut o3 (notes_of after).table (chosen_of old) t
+        left_after : (t : S) → Contains (refused ++ s ∷ []) t → IsLeftOut o3 (notes_of after).table (chosen_of old) t
         left_after t h =
             let Left : S → Type 0 = λ x. IsLeftOut o2 (notes_of rest).table (chosen_of old) x in
             left_out_more o2 o3 (notes_of rest).table (notes_of after).table (chosen_of old) (chosen_of old) t refusing.ended.origins refusing.ended.table (λ x k. k)
-            (⊎_elim (λ was. left_rest (chosen_of old) (λ x k. k) t was) (λ e. subst Left e out_rest) (pushed_cases b.refused s t h))
+            (⊎_elim (λ was. left_rest (chosen_of old) (λ x k. k) t was) (λ e. subst Left e out_rest) (pushed_cases refused s t h))
 
-        pub between_refused : IsBetween u root (done ++ s ∷ []) after
-        between_refused =
+        pub not_accepted : HasTurned u root taken refused seeds packages s old after false
+        not_accepted =
             let read_after : IsReadSoFar u root (chosen_of old) (notes_of after) = so_far_less u root (chosen_of old) (chosen_of rest) (notes_of after) old_within (refusing.ended.stays.so_far root (chosen_of rest) rest_read) in
             let Read : List S → Type 0 = λ list. IsReadSoFar u root list (notes_of after) in
-            let Run : List S → List S → Type 0 = λ c e. SoftRun u root (FitsNowhere u root) b.first (done ++ s ∷ []) b.taken c e (notes_of after).asked in
-            let RunFor : List S → Type 0 = λ c. Run c (notes_of after).exempt in
-            let Seeded : List S → List S → Type 0 = λ c e. AreSeeds u b.taken c (notes_of after).asked (notes_of after).seen e in
+            let Turned : List S → List S → Type 0 = λ c e. IsTurned u root taken (chosen_of old) (notes_of old).exempt (notes_of old).asked s taken c e false in
+            let TurnedTo : List S → Type 0 = λ c. Turned c (notes_of after).exempt in
+            let Seeded : List S → List S → Type 0 = λ c e. AreSeeds u taken c (notes_of after).asked (notes_of after).seen e in
             let SeededFor : List S → Type 0 = λ c. Seeded c (notes_of after).exempt in
             let Once : List S → Type 0 = λ list. HasNoRepeats list in
-            let Exempt : List S → Type 0 = λ e. IsWithin e b.taken in
-            let Left : List S → Type 0 = λ list. (t : S) → Contains (b.refused ++ s ∷ []) t → IsLeftOut o3 (notes_of after).table list t in
+            let Exempt : List S → Type 0 = λ e. IsWithin e taken in
+            let Left : List S → Type 0 = λ list. (t : S) → Contains (refused ++ s ∷ []) t → IsLeftOut o3 (notes_of after).table list t in
             record {
-              first = b.first;
-              promise = b.promise;
-              taken = b.taken;
-              refused = b.refused ++ s ∷ [];
-              run = subst RunFor (sym same_chosen) (subst (Run (chosen_of old)) (sym exempt_after) (refused b.run not_chosen made_exempt fits_nowhere asked_after (asked_for u root (chosen_of old) (done ++ s ∷ []) (notes_of after) read_after near_same)));
-              read = subst Read (sym same_chosen) read_after;
-              once = subst Once (sym same_chosen) b.once;
-              assumed = after_assumed;
-              left_out = subst Left (sym same_chosen) left_after;
-              seeded = subst SeededFor (sym same_chosen) (subst (Seeded (chosen_of old)) (sym exempt_after) (record {
-                seed_chosen = b.seeded.seed_chosen;
-                seed_registered = λ t h. let Seen : List S → Type 0 = λ list. Contains list t in subst Seen (sym refusing.ended.seen) (seen_rest t (b.seeded.seed_registered t h));
-                seed_free = λ t h. ⊎_elim (λ e. inl e) (λ asked. inr (asked_after (u.name t) asked)) (b.seeded.seed_free t h);
-              }));
-              within = λ t h. earlier_in done s t (b.within t h);
-              exempt = subst Exempt (sym exempt_after) b.exempt;
-              near = near_same;
+              taken_now = taken;
+              refused_now = refused ++ s ∷ [];
+              turned = subst TurnedTo (sym same_chosen) (subst (Turned (chosen_of old)) (sym exempt_after) (is_refused not_chosen made_exempt fits_nowhere));
+              standing = record {
+                read = subst Read (sym same_chosen) read_after;
+                once = subst Once (sym same_chosen) b.once;
+                assumed = after_assumed;
+                left_out = subst Left (sym same_chosen) left_after;
+                seeded = subst SeededFor (sym same_chosen) (subst (Seeded (chosen_of old)) (sym exempt_after) (record {
+                  seed_chosen = b.seeded.seed_chosen;
+                  seed_registered = λ t h. let Seen : List S → Type 0 = λ list. Contains list t in subst Seen (sym refusing.ended.seen) (seen_rest t (b.seeded.seed_registered t h));
+                  seed_free = λ t h. ⊎_elim (λ e. inl e) (λ asked. inr (asked_after (u.name t) asked)) (b.seeded.seed_free t h);
+                }));
+                within = b.within;
+                exempt = subst Exempt (sym exempt_after) b.exempt;
+                near = near_same;
+              };
+              asked = asked_after;
             }
 
   -- before a turn, where nothing but the exemptions changed and a variable was assumed
@@ -714,24 +733,16 @@ module _ {N S : Type 0} where
       chosen = chosen ∙ ap (λ (t : Trail). solvables_before (notes_of old).origins t (length_of t)) (sym trail);
     }
 
-    pub between_held : (root : Demands) (done : List S) → IsBetween u root done old → IsBetween u root done (record old { search = search })
-    between_held root done b =
-        let Assuming : Trail → Type 0 = λ t. AreAssumed (notes_of old).origins b.taken b.refused t in
-        record {
-          first = b.first;
-          promise = b.promise;
-          taken = b.taken;
-          refused = b.refused;
-          run = b.run;
-          read = b.read;
-          once = b.once;
-          assumed = subst Assuming (sym trail) b.assumed;
-          left_out = b.left_out;
-          seeded = b.seeded;
-          within = b.within;
-          exempt = b.exempt;
-          near = b.near;
-        }
+    standing_held : (root : Demands) (taken refused seeds : List S) (packages : List N) → IsStanding u root taken refused seeds packages old → IsStanding u root taken refused seeds packages (record old { search = search })
+    standing_held root taken refused seeds packages b =
+        let Assuming : Trail → Type 0 = λ t. AreAssumed (notes_of old).origins taken refused t in
+        record { read = b.read; once = b.once; assumed = subst Assuming (sym trail) b.assumed; left_out = b.left_out; seeded = b.seeded; within = b.within; exempt = b.exempt; near = b.near }
+
+    pub between_held : (root : Demands) (done : List (SoftRequirement S)) → IsBetween u root done old → IsBetween u root done (record old { search = search })
+    between_held root done b = record { first = b.first; promise = b.promise; taken = b.taken; refused = b.refused; run = b.run; standing = standing_held root b.taken b.refused (flat_map (options u) done) (flat_map (own_packages u) done) b.standing }
+
+    pub turned_held : (root : Demands) (taken refused seeds : List S) (packages : List N) (s : S) (before : Rounds N S) (is_chosen : Bool) → HasTurned u root taken refused seeds packages s before old is_chosen → HasTurned u root taken refused seeds packages s before (record old { search = search }) is_chosen
+    turned_held root taken refused seeds packages s before is_chosen h = record { taken_now = h.taken_now; refused_now = h.refused_now; turned = h.turned; standing = standing_held root h.taken_now h.refused_now seeds packages h.standing; asked = h.asked }
 
 -- the variable that was assumed
 pub just_assumed : (old new : ClauseSearch) (v : ℕ) → Gains (trail_of old) (trail_of new) (record { variable = v; positive = true }) (level_of (trail_of old) + 1) Assumed → base_of new ≡ level_of (trail_of old) + 1 → held_of new ≡ length_of (trail_of new) → HasAssumed new v
@@ -741,17 +752,17 @@ just_assumed old new v gains base held =
     record { base = omega (arith, base); place = ap (variable_at (trail_of new)) place ∙ ((trail_of new).listed v made gains.here).1 }
 
 -- the root's turn ended with an answer: no soft requirement had its turn yet
-pub between_begun : {N S : Type 0} (u : Universe N S) (root : Demands) (old rest : Rounds N S) → IsReadSoFar u root (chosen_of old) (notes_of old) → AreNear u root [] (notes_of old) → (notes_of old).exempt ≡ [] → IsRootTurn old.search → GoesOn u old rest → IsAnswering u rest → IsBetween u root [] rest
+pub between_begun : {N S : Type 0} (u : Universe N S) (root : Demands) (old rest : Rounds N S) → IsReadSoFar u root (chosen_of old) (notes_of old) → AreNear u root [] [] (notes_of old) → (notes_of old).exempt ≡ [] → IsRootTurn old.search → GoesOn u old rest → IsAnswering u rest → IsBetween u root [] rest
 between_begun {N} {S} u root old rest read near exempt turn goes answering =
     let none_old : AreAssumed (notes_of old).origins [] [] (trail_of old.search) = record { taken = λ v slot at reason value. absurd (turn.none v slot at reason); left_out = λ v slot at reason value. absurd (turn.none v slot at reason) } in
     let none : AreAssumed (notes_of rest).origins [] [] (trail_of rest.search) = record { taken = λ v slot at reason value. absurd (turn.none v slot (goes.turn.assumed.was v slot at reason) reason); left_out = λ v slot at reason value. absurd (turn.none v slot (goes.turn.assumed.was v slot at reason) reason) } in
     let seeded : AreSeeds u [] (chosen_of rest) (notes_of rest).asked (notes_of rest).seen (notes_of rest).exempt = record { seed_chosen = λ s h. absurd (none_in s h); seed_registered = λ s h. absurd (none_in s h); seed_free = λ s h. absurd (none_in s h) } in
     let now : IsReadSoFar u root (chosen_of rest) (notes_of rest) = goes.read root read in
-    let close : AreNear u root [] (notes_of rest) = goes.near root [] [] [] read (λ s h. h) none_old near in
+    let close : AreNear u root [] [] (notes_of rest) = goes.near root [] [] [] [] read (λ s h. h) none_old near in
     let answer = answering.answer root [] [] now none seeded in
     let free : (notes_of rest).exempt ≡ [] = goes.exempt ∙ exempt in
     let Valid : List S → Type 0 = λ e. IsValid u root (chosen_of rest) e in
-    let Run : List S → Type 0 = λ e. SoftRun u root (FitsNowhere u root) (chosen_of rest) [] [] (chosen_of rest) e (notes_of rest).asked in
+    let Run : List S → Type 0 = λ e. SoftRun u root (chosen_of rest) [] [] (chosen_of rest) e (notes_of rest).asked in
     let Within : List S → Type 0 = λ e. IsWithin e [] in
     record {
       first = chosen_of rest;
@@ -759,12 +770,14 @@ between_begun {N} {S} u root old rest read near exempt turn goes answering =
       taken = [];
       refused = [];
       run = subst Run (sym free) (start (subst Valid free answer.valid) answer.reached (asked_for u root (chosen_of rest) [] (notes_of rest) now close));
-      read = now;
-      once = answering.once;
-      assumed = none;
-      left_out = λ s h. absurd (none_in s h);
-      seeded = seeded;
-      within = λ s h. h;
-      exempt = subst Within (sym free) (λ s h. h);
-      near = close;
+      standing = record {
+        read = now;
+        once = answering.once;
+        assumed = none;
+        left_out = λ s h. absurd (none_in s h);
+        seeded = seeded;
+        within = λ s h. h;
+        exempt = subst Within (sym free) (λ s h. h);
+        near = close;
+      };
     }

@@ -3,6 +3,7 @@ use Rattle.std.specs.Iterator.{Drains}
 use Rattle.std.specs.Prelude.{◌≡◌, List, [], Option, Some, None, Vec}
 use Rattle.std.proofs.Common.{Global}
 use Rattle.resolver_clause_store.specs.Universe.{Demands}
+use Rattle.resolver_clause_store.specs.declared.SoftRequirement.{SoftRequirement}
 use Rattle.resolvo.specs.declared.problem.Problem.{Problem}
 
 -- the items of a list that may be absent
@@ -22,3 +23,7 @@ demands_in p = record { requirements = items_of p.requirements; constraints = it
 -- what gives the soft requirements, where they were set
 abbrev pub soft_in : {Id S : Type 0} → Problem Id S → Option S
 soft_in p = p.soft_requirements
+
+-- the list of soft requirements
+abbrev pub list_in : {Id S : Type 0} → Problem Id S → List (SoftRequirement Id)
+list_in p = items_of p.soft_list

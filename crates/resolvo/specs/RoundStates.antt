@@ -1,11 +1,15 @@
 -- Rounds of searching and reading.
 use Rattle.std.specs.Prelude.{◌≡◌, ℕ, ◌+◌, ◌-◌, ◌<◌, ◌≤◌, ◌⊎◌, Bool, Some, true, false, List, [], ◌∷◌, ◌++◌, Contains, None, Vec, length, take}
+use Rattle.std.specs.List.{flat_map}
 use Rattle.std.specs.declared.alloc.Global.{Global}
 use Rattle.resolver_clause_store.specs.FirstChoice.{TakesFirstChoices}
 use Rattle.resolver_clause_store.specs.Outcomes.{IsCore}
 use Rattle.resolver_clause_store.specs.Formula.{Satisfies}
 use Rattle.resolver_clause_store.specs.Lists.{HasNoRepeats, IsWithin}
-use Rattle.resolver_clause_store.specs.SoftRun.{FitsNowhere, SoftRun}
+use Rattle.resolver_clause_store.specs.Reached.{AllReached}
+use Rattle.resolver_clause_store.specs.SoftRun.{Exempts, FitsNowhere, SoftRun, options, own_packages}
+use Rattle.resolver_clause_store.specs.Valid.{IsValid}
+use Rattle.resolver_clause_store.specs.declared.SoftRequirement.{SoftRequirement}
 use Rattle.resolver_clause_store.specs.Variables.{Keeps}
 use Rattle.resolver_clause_store.specs.TrailView.{Gains, IsCut, KeepsPlaces, length_of, level_of, slot_of, variable_at, variable_count}
 use Rattle.resolver_clause_store.specs.Universe.{Universe, Demands}
@@ -39,6 +43,19 @@ pub record HasLoaded (table : List (Vec Literal Global)) (requirements : List �
   pub loaded : IsLoaded given numbers search
   pub clauses : Extends given table
   pub asking : Extends numbers requirements
+
+-- After the turn of a solvable these are taken, chosen and exempt, and it is chosen or not.
+pub data IsTurned {N S : Type 0} (u : Universe N S) (root : Demands) (taken chosen exempt : List S) (asked : List N) (s : S) : (taken_now chosen_now exempt_now : List S) → Bool → Type 0 where
+  was_chosen : Contains chosen s → IsTurned u root taken chosen exempt asked s taken chosen exempt true
+  is_accepted : {chosen_now exempt_now : List S} → (Contains chosen s → ⊥) → Exempts u asked exempt s exempt_now → IsWithin chosen chosen_now → Contains chosen_now s →
+      IsValid u root chosen_now exempt_now → AllReached u root chosen_now (taken ++ s ∷ []) → IsTurned u root taken chosen exempt asked s (taken ++ s ∷ []) chosen_now exempt_now true
+  is_refused : {exempt_now : List S} → (Contains chosen s → ⊥) → Exempts u asked exempt s exempt_now → FitsNowhere u root chosen exempt_now s → IsTurned u root taken chosen exempt asked s taken chosen exempt false
+
+-- After the turns of candidates none of which was chosen one is taken, or none.
+pub data IsOneTaken {N S : Type 0} (u : Universe N S) (root : Demands) (taken chosen exempt candidates : List S) : (taken_now chosen_now : List S) → Bool → Type 0 where
+  one_fits : {s : S} {chosen_now : List S} → Contains candidates s → IsWithin chosen chosen_now → Contains chosen_now s → IsValid u root chosen_now exempt → AllReached u root chosen_now (taken ++ s ∷ []) →
+      IsOneTaken u root taken chosen exempt candidates (taken ++ s ∷ []) chosen_now true
+  none_fits : ((s : S) → Contains candidates s → FitsNowhere u root chosen exempt s) → IsOneTaken u root taken chosen exempt candidates taken chosen false
 
 -- the chosen ones are those of the trail as it was when it was last marked
 pub record FollowsMark {N S : Type 0} (origins : List (Origin N S)) (chosen : Chosen S) (search : ClauseSearch) : Type 0 where
@@ -110,10 +127,10 @@ module _ {N S : Type 0} where
   abbrev pub KeepsRead : Universe N S → Rounds N S → Rounds N S → Type 0
   KeepsRead u old new = (root : Demands) → IsReadSoFar u root (chosen_of old) (notes_of old) → IsReadSoFar u root (chosen_of new) (notes_of new)
 
-  -- These taken and refused ones alone are assumed. Then what was near the soft requirements so far stays so.
+  -- These taken and refused ones alone are assumed. Then what was near the seeds stays so.
   abbrev pub KeepsNear : Universe N S → Rounds N S → Rounds N S → Type 0
-  KeepsNear u old new = (root : Demands) (done taken refused : List S) → IsReadSoFar u root (chosen_of old) (notes_of old) → IsWithin taken done → AreAssumed (notes_of old).origins taken refused (trail_of old.search) →
-      AreNear u root done (notes_of old) → AreNear u root done (notes_of new)
+  KeepsNear u old new = (root : Demands) (seeds taken refused : List S) (packages : List N) → IsReadSoFar u root (chosen_of old) (notes_of old) → IsWithin taken seeds → AreAssumed (notes_of old).origins taken refused (trail_of old.search) →
+      AreNear u root seeds packages (notes_of old) → AreNear u root seeds packages (notes_of new)
 
   -- a later state of the same turn
   pub record GoesOn (u : Universe N S) (old new : Rounds N S) : Type 0 where
@@ -132,24 +149,43 @@ module _ {N S : Type 0} where
     pub marked : kept_of r.search ≡ length_of (trail_of r.search)
     pub chosen : chosen_of r ≡ solvables_before (notes_of r).origins (trail_of r.search) (length_of (trail_of r.search))
 
-  -- The turns of the soft requirements `done` are over. What was registered, read and asked for is near the seeds.
-  pub record IsBetweenFor (u : Universe N S) (root : Demands) (done seeds : List S) (r : Rounds N S) : Type 0 where
-    pub first : List S
-    pub promise : TakesFirstChoices u root first
-    pub taken : List S
-    pub refused : List S
-    pub run : SoftRun u root (FitsNowhere u root) first done taken (chosen_of r) (notes_of r).exempt (notes_of r).asked
+  -- In the turns so far solvables were taken and refused. What was registered, read and asked for is near the seeds, or one of the
+  -- packages.
+  pub record IsStanding (u : Universe N S) (root : Demands) (taken refused seeds : List S) (packages : List N) (r : Rounds N S) : Type 0 where
     pub read : IsReadSoFar u root (chosen_of r) (notes_of r)
     pub once : HasNoRepeats (chosen_of r)
     pub assumed : AreAssumed (notes_of r).origins taken refused (trail_of r.search)
     pub left_out : (s : S) → Contains refused s → IsLeftOut (notes_of r).origins (notes_of r).table (chosen_of r) s
     pub seeded : AreSeeds u taken (chosen_of r) (notes_of r).asked (notes_of r).seen (notes_of r).exempt
-    pub within : IsWithin taken done
+    pub within : IsWithin taken seeds
     pub exempt : IsWithin (notes_of r).exempt taken
-    pub near : AreNear u root seeds (notes_of r)
+    pub near : AreNear u root seeds packages (notes_of r)
 
-  abbrev pub IsBetween : Universe N S → Demands → List S → Rounds N S → Type 0
-  IsBetween u root done r = IsBetweenFor u root done done r
+  -- A solvable had its turn: it was chosen before, it is accepted, or it is refused.
+  pub record HasTurned (u : Universe N S) (root : Demands) (taken refused seeds : List S) (packages : List N) (s : S) (old new : Rounds N S) (is_chosen : Bool) : Type 0 where
+    pub taken_now : List S
+    pub refused_now : List S
+    pub turned : IsTurned u root taken (chosen_of old) (notes_of old).exempt (notes_of old).asked s taken_now (chosen_of new) (notes_of new).exempt is_chosen
+    pub standing : IsStanding u root taken_now refused_now seeds packages new
+    pub asked : IsWithin (notes_of old).asked (notes_of new).asked
+
+  -- Candidates had their turns, and none of them was exempt. The last one is accepted, or each is refused.
+  pub record HaveTurned (u : Universe N S) (root : Demands) (taken seeds : List S) (packages : List N) (candidates : List S) (old new : Rounds N S) (is_chosen : Bool) : Type 0 where
+    pub taken_now : List S
+    pub refused_now : List S
+    pub turned : IsOneTaken u root taken (chosen_of old) (notes_of old).exempt candidates taken_now (chosen_of new) is_chosen
+    pub exempt : (notes_of new).exempt ≡ (notes_of old).exempt
+    pub standing : IsStanding u root taken_now refused_now seeds packages new
+    pub asked : IsWithin (notes_of old).asked (notes_of new).asked
+
+  -- the turns of the soft requirements `done` are over
+  pub record IsBetween (u : Universe N S) (root : Demands) (done : List (SoftRequirement S)) (r : Rounds N S) : Type 0 where
+    pub first : List S
+    pub promise : TakesFirstChoices u root first
+    pub taken : List S
+    pub refused : List S
+    pub run : SoftRun u root first done taken (chosen_of r) (notes_of r).exempt (notes_of r).asked
+    pub standing : IsStanding u root taken refused (flat_map (options u) done) (flat_map (own_packages u) done) r
 
   -- The turn that began with this variable is undone, and then the variable is assumed to be false. So many are exempt as before it.
   pub record IsRefusing (u : Universe N S) (variable count : ℕ) (old new : Rounds N S) : Type 0 where
@@ -212,7 +248,7 @@ module _ {N S : Type 0} where
   IsFound u r Refused = IsRefused (notes_of r).table (trail_of r.search) (base_of r.search)
 
   -- what all turns end with
-  abbrev pub IsDone : Universe N S → Demands → List S → Rounds N S → Found → Type 0
+  abbrev pub IsDone : Universe N S → Demands → List (SoftRequirement S) → Rounds N S → Found → Type 0
   IsDone u root soft r Answer = IsBetween u root soft r
   IsDone u root soft r (Contradiction core) = IsReadSoFar u root (chosen_of r) (notes_of r) × IsCore (notes_of r).table core.items
   IsDone u root soft r Refused = ⊥
@@ -220,7 +256,7 @@ module _ {N S : Type 0} where
   -- so they did, for some problem
   pub record IsSomeDone (u : Universe N S) (r : Rounds N S) (found : Found) : Type 0 where
     pub root : Demands
-    pub soft : List S
+    pub soft : List (SoftRequirement S)
     pub done : IsDone u root soft r found
 
   -- each round but the last one leaves fewer disjuncts put off, or has read more

@@ -23,7 +23,7 @@ pub use problem::{EmptySolvables, Problem};
 pub use resolver_clause_store::{
     Candidates, Condition, ConditionId, ConditionalRequirement, Dependencies, DependencyProvider,
     Exhausted, HintDependenciesAvailable, Interner, KnownDependencies, LogicalOperator,
-    Requirement, StringId, VersionSetId, VersionSetUnionId,
+    Requirement, SoftRequirement, StringId, VersionSetId, VersionSetUnionId,
 };
 pub use resolver_report::{
     By, ConflictCause, ConflictEdge, ConflictGraph, ConflictNode, DisplayUnsat, Edge, Graph,

@@ -3,7 +3,7 @@
 ghost use Rattle.std.specs.Prelude.{◌≡◌, None, Some, []};
 ghost use Rattle.std.specs.Iterator.{at_most};
 
-use resolver_clause_store::{ConditionalRequirement, VersionSetId};
+use resolver_clause_store::{ConditionalRequirement, SoftRequirement, VersionSetId};
 use std::marker::PhantomData;
 
 /// No soft requirements.
@@ -30,51 +30,55 @@ impl<Id> Iterator for EmptySolvables<Id> {
 
 /// What is required of an answer. A part that was never set is absent, and asks for nothing.
 ///
-/// `Id` names solvables, and `S` gives the soft requirements. Those are taken in their order, each where it can be.
+/// `Id` names solvables. Soft requirements are taken in their order, each where it can be: first the solvables that `S`
+/// gives, and then the list, in which solvables and version sets may stand mixed.
 #[derive(Drop)]
 pub struct Problem<Id, S> {
     pub(crate) requirements: Option<Vec<ConditionalRequirement>>,
     pub(crate) constraints: Option<Vec<VersionSetId>>,
-    id: PhantomData<Id>,
+    pub(crate) soft_list: Option<Vec<SoftRequirement<Id>>>,
     pub(crate) soft_requirements: Option<S>,
 }
 
 impl<Id> Problem<Id, EmptySolvables<Id>> {
-    ghost use Rattle.resolvo.specs.Problems.{demands_in, soft_in};
+    ghost use Rattle.resolvo.specs.Problems.{demands_in, list_in, soft_in};
 
     /// A problem that every set answers which the provider allows.
     pub fn new() -> Self
         ensures demands { demands_in result ≡ record { requirements = []; constraints = [] } }
         ensures soft { soft_in result ≡ None }
+        ensures list { list_in result ≡ [] }
     {
         Problem {
             requirements: None,
             constraints: None,
-            id: PhantomData,
+            soft_list: None,
             soft_requirements: None,
         }
     }
 }
 
 impl<Id> Default for Problem<Id, EmptySolvables<Id>> {
-    ghost use Rattle.resolvo.specs.Problems.{demands_in, soft_in};
+    ghost use Rattle.resolvo.specs.Problems.{demands_in, list_in, soft_in};
 
     /// As `new`.
     fn default() -> Self
         ensures demands { demands_in result ≡ record { requirements = []; constraints = [] } }
         ensures soft { soft_in result ≡ None }
+        ensures list { list_in result ≡ [] }
     {
         Problem::new()
     }
 }
 
-impl<Id, S: Drop> Problem<Id, S> {
-    ghost use Rattle.resolvo.specs.Problems.{demands_in, soft_in};
+impl<Id: Drop, S: Drop> Problem<Id, S> {
+    ghost use Rattle.resolvo.specs.Problems.{demands_in, list_in, soft_in};
 
     /// The same problem with these requirements in place of what was set before.
     pub fn requirements(self, requirements: Vec<ConditionalRequirement>) -> Self
         ensures demands { demands_in result ≡ record (demands_in self) { requirements = requirements.items } }
         ensures soft { soft_in result ≡ soft_in self }
+        ensures list { list_in result ≡ list_in self }
     {
         Problem {
             requirements: Some(requirements),
@@ -86,6 +90,7 @@ impl<Id, S: Drop> Problem<Id, S> {
     pub fn constraints(self, constraints: Vec<VersionSetId>) -> Self
         ensures demands { demands_in result ≡ record (demands_in self) { constraints = constraints.items } }
         ensures soft { soft_in result ≡ soft_in self }
+        ensures list { list_in result ≡ list_in self }
     {
         Problem {
             constraints: Some(constraints),
@@ -93,18 +98,35 @@ impl<Id, S: Drop> Problem<Id, S> {
         }
     }
 
-    /// The same problem with these soft requirements in place of what was set before.
+    /// The same problem with these soft requirements in place of those that were set so before. The list stays.
     ///
     /// They are taken in this order, each where it fits what was taken before it.
     pub fn soft_requirements<I: Iterator<Item = Id>>(self, soft_requirements: I) -> Problem<Id, I>
         ensures demands { demands_in result ≡ demands_in self }
         ensures soft { soft_in result ≡ Some soft_requirements }
+        ensures list { list_in result ≡ list_in self }
     {
         Problem {
             requirements: self.requirements,
             constraints: self.constraints,
-            id: PhantomData,
+            soft_list: self.soft_list,
             soft_requirements: Some(soft_requirements),
+        }
+    }
+
+    /// The same problem with this list in place of the one that was set before. Its turns come after those of
+    /// `soft_requirements`.
+    ///
+    /// A version set asks for any of its candidates, the first of which that fits is taken. If one is chosen already, it
+    /// asks for nothing.
+    pub fn soft_list(self, soft_list: Vec<SoftRequirement<Id>>) -> Self
+        ensures demands { demands_in result ≡ demands_in self }
+        ensures soft { soft_in result ≡ soft_in self }
+        ensures list { list_in result ≡ soft_list.items }
+    {
+        Problem {
+            soft_list: Some(soft_list),
+            ..self
         }
     }
 
@@ -125,6 +147,16 @@ impl<Id, S: Drop> Problem<Id, S> {
         match &self.constraints {
             None => &[],
             Some(constraints) => constraints,
+        }
+    }
+
+    /// The list of soft requirements, or none where it was not set.
+    pub(crate) fn listed_soft_requirements(&self) -> &[SoftRequirement<Id>]
+        ensures { result.now ≡ list_in self.now }
+    {
+        match &self.soft_list {
+            None => &[],
+            Some(list) => list,
         }
     }
 }

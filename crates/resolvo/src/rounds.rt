@@ -1,9 +1,12 @@
 //! Rounds of searching and reading: what a search chooses is read, until what is chosen is an answer.
 
+mod soft_turns;
+
 ghost use Rattle.std.specs.Iterator.{Drains, IsFinite};
-ghost use Rattle.std.specs.Prelude.{◌≡◌, ◌+◌, ◌++◌, ◌∷◌, ◌≤◌, ◌<◌, ◌^◌, [], Contains, IfErr, IfNone, IfOk, IfSome, List, None, OnOk, Some, false, length, slice_get, true};
+ghost use Rattle.std.specs.Prelude.{◌≡◌, ◌+◌, ◌++◌, ◌∷◌, ◌≤◌, ◌<◌, ◌^◌, [], Contains, IfErr, IfNone, IfOk, IfSome, List, None, OnOk, Some, false, length, map, slice_get, true};
 ghost use Rattle.resolver_clause_store.specs.TrailView.{slot_of};
 ghost use Rattle.resolver_clause_store.specs.Universe.{Demands};
+ghost use Rattle.resolver_clause_store.specs.declared.SoftRequirement.TheVariants.{Solvable as SoftSolvable};
 ghost use Rattle.resolver_clause_store.specs.declared.Origin.TheVariants.{Solvable as SolvableOrigin};
 ghost use Rattle.resolvo.specs.Problems.{AreItems};
 ghost use Rattle.resolver_clause_store.specs.Caches.{IsTrueCache};
@@ -19,7 +22,7 @@ use crate::clause_search::{ClauseSearch, Outcome};
 use crate::owners::Owners;
 use resolver_clause_store::{
     Activity, Cache, ConditionalRequirement, DependencyProvider, Exhausted, Interner, Interrupted,
-    Literal, Variable, VersionSetId,
+    Literal, SoftRequirement, Variable, VersionSetId,
 };
 use resolver_encoding::{Chosen, Encoding, Progress};
 use std::alloc::Global;
@@ -60,7 +63,7 @@ pub struct Rounds<N: Copy + Eq + Hash + Drop, S: Copy + Eq + Hash + Drop> {
 }
 
 impl<N: Copy + Eq + Hash + Drop, S: Copy + Eq + Hash + Drop> Rounds<N, S> {
-    ghost use Rattle.resolvo.specs.RoundStates.{AreRounds, GoesOn, HasAllClauses, HasFollowed, HasMark, HasAssumed, IsAnswering, IsBetween, IsBetweenFor, IsDone, IsFollowing, IsRefusing, IsFound, IsFresh, IsStill, IsRound, IsSearchOf, IsStuck, IsUnanswered, IsUpToDate, KeepsRead, KeepsRoom, chosen_of, clause_limit_of, learnt_limit_of, notes_of, search_of};
+    ghost use Rattle.resolvo.specs.RoundStates.{AreRounds, GoesOn, HasAllClauses, HasFollowed, HasMark, HasAssumed, HasTurned, IsAnswering, IsDone, IsStanding, IsFollowing, IsRefusing, IsFound, IsFresh, IsStill, IsRound, IsSearchOf, IsStuck, IsUnanswered, IsUpToDate, KeepsRead, KeepsRoom, chosen_of, clause_limit_of, learnt_limit_of, notes_of, search_of};
 
     /// Nothing read yet. There may be as many variables, clauses and learnt clauses as the limits say, and scores grow and fade
     /// as the activity says.
@@ -120,7 +123,7 @@ impl<N: Copy + Eq + Hash + Drop, S: Copy + Eq + Hash + Drop> Rounds<N, S> {
         ensures is_true { IsTrueCache (D.universe provider.now) cache.new }
         ensures rounds { OnOk result (AreRounds (D.universe provider.now) self.new) }
         ensures read { OnOk result (IsReadSoFar (D.universe provider.now) (record { requirements = requirements.now; constraints = constraints.now }) (chosen_of self.new) (notes_of self.new)) }
-        ensures near { OnOk result (AreNear (D.universe provider.now) (record { requirements = requirements.now; constraints = constraints.now }) [] (notes_of self.new)) }
+        ensures near { OnOk result (AreNear (D.universe provider.now) (record { requirements = requirements.now; constraints = constraints.now }) [] [] (notes_of self.new)) }
         ensures exempt { OnOk result ((notes_of self.new).exempt ≡ []) }
         ensures turn { OnOk result (IsRootTurn (search_of self.new)) }
         ensures limits { KeepsRoom self.old self.new }
@@ -357,14 +360,15 @@ impl<N: Copy + Eq + Hash + Drop, S: Copy + Eq + Hash + Drop> Rounds<N, S> {
         }
     }
 
-    /// Tries a soft requirement that is not decided: it is assumed, and kept where what is chosen then is an answer.
+    /// Tries a solvable that is not decided: it is assumed, and kept where what is chosen then is an answer. Answers whether
+    /// it is kept.
     fn attempt<D: DependencyProvider<NameId = N, SolvableId = S>>(
         &mut self,
         provider: &D,
         cache: &mut Cache<N, S>,
         solvable: S,
         variable: Variable,
-    ) -> Result<(), Interrupted<D::Cancel>>
+    ) -> Result<bool, Interrupted<D::Cancel>>
         requires rounds { AreRounds (D.universe provider.now) self.old }
         requires loaded { IsUpToDate self.old }
         requires still { IsStill self.old }
@@ -375,7 +379,7 @@ impl<N: Copy + Eq + Hash + Drop, S: Copy + Eq + Hash + Drop> Rounds<N, S> {
         ensures rounds { OnOk result (AreRounds (D.universe provider.now) self.new) }
         ensures still { OnOk result (IsStill self.new) }
         ensures counted { OnOk result (HasAllClauses self.new) }
-        ensures between { OnOk result ((root : Demands) (done : List S) → Contains (notes_of self.old).seen solvable → IsBetweenFor (D.universe provider.now) root done (done ++ solvable ∷ []) self.old → IsBetween (D.universe provider.now) root (done ++ solvable ∷ []) self.new) }
+        ensures turned { IfOk result (λ is_chosen. (root : Demands) (taken refused seeds : List S) (packages : List N) → Contains (notes_of self.old).seen solvable → Contains seeds solvable → IsStanding (D.universe provider.now) root taken refused seeds packages self.old → HasTurned (D.universe provider.now) root taken refused seeds packages solvable self.old self.new is_chosen) }
         ensures limits { KeepsRoom self.old self.new }
         ensures refusal { IfErr result (IsStop (D.may_cancel provider.now) (IsStuck self.new)) }
     {
@@ -388,19 +392,19 @@ impl<N: Copy + Eq + Hash + Drop, S: Copy + Eq + Hash + Drop> Rounds<N, S> {
         let answered = self.is_answered(provider, cache)?;
         if answered {
             self.search.hold();
-            return Ok(());
+            return Ok(true);
         }
         self.refuse(provider, cache, variable, exempt)?;
-        Ok(())
+        Ok(false)
     }
 
-    /// The turn of one soft requirement. One that is decided already is skipped.
+    /// The turn of one solvable. One that is decided already is skipped. Answers whether it is chosen now.
     fn turn<D: DependencyProvider<NameId = N, SolvableId = S>>(
         &mut self,
         provider: &D,
         cache: &mut Cache<N, S>,
         solvable: S,
-    ) -> Result<(), Interrupted<D::Cancel>>
+    ) -> Result<bool, Interrupted<D::Cancel>>
         requires rounds { AreRounds (D.universe provider.now) self.old }
         requires still { IsStill self.old }
         requires is_true { IsTrueCache (D.universe provider.now) cache.old }
@@ -408,72 +412,18 @@ impl<N: Copy + Eq + Hash + Drop, S: Copy + Eq + Hash + Drop> Rounds<N, S> {
         ensures rounds { OnOk result (AreRounds (D.universe provider.now) self.new) }
         ensures still { OnOk result (IsStill self.new) }
         ensures counted { OnOk result (HasAllClauses self.new) }
-        ensures between { OnOk result ((root : Demands) (done : List S) → IsBetween (D.universe provider.now) root done self.old → IsBetween (D.universe provider.now) root (done ++ solvable ∷ []) self.new) }
+        ensures turned { IfOk result (λ is_chosen. (root : Demands) (taken refused seeds : List S) (packages : List N) → Contains seeds solvable → IsStanding (D.universe provider.now) root taken refused seeds packages self.old → HasTurned (D.universe provider.now) root taken refused seeds packages solvable self.old self.new is_chosen) }
         ensures limits { KeepsRoom self.old self.new }
         ensures refusal { IfErr result (IsStop (D.may_cancel provider.now) (IsStuck self.new)) }
     {
         let variable = self.encoding.register(provider, solvable)?;
         self.load(provider)?;
         match self.search.trail().slot(variable) {
-            Some(_) => Ok(()),
+            Some(slot) => Ok(slot.value),
             None => {
-                self.attempt(provider, cache, solvable, variable)?;
-                Ok(())
+                let is_chosen = self.attempt(provider, cache, solvable, variable)?;
+                Ok(is_chosen)
             }
-        }
-    }
-
-    /// The turns of the soft requirements, in their order.
-    fn all_turns<D: DependencyProvider<NameId = N, SolvableId = S>, I: Iterator<Item = S> + Drop>(
-        &mut self,
-        provider: &D,
-        cache: &mut Cache<N, S>,
-        soft: I,
-    ) -> Result<(), Interrupted<D::Cancel>>
-        requires can_next { I.can_next soft }
-        requires ends { IsFinite (I.remaining soft) }
-        requires rounds { AreRounds (D.universe provider.now) self.old }
-        requires still { IsStill self.old }
-        requires counted { HasAllClauses self.old }
-        requires is_true { IsTrueCache (D.universe provider.now) cache.old }
-        ensures is_true { IsTrueCache (D.universe provider.now) cache.new }
-        ensures rounds { OnOk result (AreRounds (D.universe provider.now) self.new) }
-        ensures counted { OnOk result (HasAllClauses self.new) }
-        ensures between { OnOk result ((root : Demands) → IsBetween (D.universe provider.now) root [] self.old → (items : List S) × Drains I.next_gives soft items × IsBetween (D.universe provider.now) root items self.new) }
-        ensures limits { KeepsRoom self.old self.new }
-        ensures refusal { IfErr result (IsStop (D.may_cancel provider.now) (IsStuck self.new)) }
-    {
-        for solvable in soft {
-            self.turn(provider, cache, solvable)?;
-        }
-        Ok(())
-    }
-    /// The turns of the soft requirements, if there are some.
-    fn soft_turns<D: DependencyProvider<NameId = N, SolvableId = S>, I: Iterator<Item = S> + Drop>(
-        &mut self,
-        provider: &D,
-        cache: &mut Cache<N, S>,
-        soft: Option<I>,
-    ) -> Result<(), Interrupted<D::Cancel>>
-        requires can_next { IfSome soft (λ it. I.can_next it) }
-        requires ends { IfSome soft (λ it. IsFinite (I.remaining it)) }
-        requires rounds { AreRounds (D.universe provider.now) self.old }
-        requires still { IsStill self.old }
-        requires counted { HasAllClauses self.old }
-        requires is_true { IsTrueCache (D.universe provider.now) cache.old }
-        ensures is_true { IsTrueCache (D.universe provider.now) cache.new }
-        ensures rounds { OnOk result (AreRounds (D.universe provider.now) self.new) }
-        ensures counted { OnOk result (HasAllClauses self.new) }
-        ensures between { OnOk result ((root : Demands) → IsBetween (D.universe provider.now) root [] self.old → (items : List S) × AreItems I.next_gives soft items × IsBetween (D.universe provider.now) root items self.new) }
-        ensures limits { KeepsRoom self.old self.new }
-        ensures refusal { IfErr result (IsStop (D.may_cancel provider.now) (IsStuck self.new)) }
-    {
-        match soft {
-            Some(soft) => {
-                self.all_turns(provider, cache, soft)?;
-                Ok(())
-            }
-            None => Ok(()),
         }
     }
 
@@ -485,13 +435,14 @@ impl<N: Copy + Eq + Hash + Drop, S: Copy + Eq + Hash + Drop> Rounds<N, S> {
         requirements: &[ConditionalRequirement],
         constraints: &[VersionSetId],
         soft: Option<I>,
+        list: &[SoftRequirement<S>],
     ) -> Result<Found, Interrupted<D::Cancel>>
         requires can_next { IfSome soft (λ it. I.can_next it) }
         requires ends { IfSome soft (λ it. IsFinite (I.remaining it)) }
         requires fresh { IsFresh self.old }
         requires is_true { IsTrueCache (D.universe provider.now) cache.old }
         ensures is_true { IsTrueCache (D.universe provider.now) cache.new }
-        ensures done { IfOk result (λ found. (items : List S) × (found ≡ FoundAnswer → AreItems I.next_gives soft items) × IsDone (D.universe provider.now) (record { requirements = requirements.now; constraints = constraints.now }) items self.new found) }
+        ensures done { IfOk result (λ found. (items : List S) × (found ≡ FoundAnswer → AreItems I.next_gives soft items) × IsDone (D.universe provider.now) (record { requirements = requirements.now; constraints = constraints.now }) (map SoftSolvable items ++ list.now) self.new found) }
         ensures counted { OnOk result (HasAllClauses self.new) }
         ensures table { OnOk result (length (notes_of self.new).table ≡ length (notes_of self.new).kinds) }
         ensures limits { KeepsRoom self.old self.new }
@@ -501,7 +452,7 @@ impl<N: Copy + Eq + Hash + Drop, S: Copy + Eq + Hash + Drop> Rounds<N, S> {
         match self.all_rounds(provider, cache)? {
             Found::Answer => {
                 self.search.hold();
-                self.soft_turns(provider, cache, soft)?;
+                self.soft_turns(provider, cache, soft, list)?;
                 Ok(Found::Answer)
             }
             Found::Contradiction(core) => Ok(Found::Contradiction(core)),

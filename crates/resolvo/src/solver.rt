@@ -1,6 +1,6 @@
 //! The solver.
 
-ghost use Rattle.std.specs.Prelude.{[], All, IfErr, IfOk, IfSome, List, Ok, OnErr, OnOk, length, ◌<◌, ◌^◌, ◌≡◌};
+ghost use Rattle.std.specs.Prelude.{[], All, IfErr, IfOk, IfSome, List, Ok, OnErr, OnOk, length, map, ◌++◌, ◌<◌, ◌^◌, ◌≡◌};
 ghost use Rattle.resolver_clause_store.specs.Caches.{IsTrueCache};
 ghost use Rattle.resolver_clause_store.specs.Interruptions.{IsInterruption};
 ghost use Rattle.resolver_clause_store.specs.Outcomes.{IsCore};
@@ -12,7 +12,9 @@ ghost use Rattle.resolvo.specs.Answers.{IsSoftAnswer};
 ghost use Rattle.resolvo.specs.Conflicts.{rules_in};
 ghost use Rattle.resolvo.specs.Explanations.{Explains};
 ghost use Rattle.resolvo.specs.declared.rounds.Found.TheVariants.{Answer as FoundAnswer};
-ghost use Rattle.resolvo.specs.Problems.{AreItems, demands_in, soft_in};
+ghost use Rattle.resolvo.specs.Problems.{AreItems, demands_in, list_in, soft_in};
+ghost use Rattle.resolver_clause_store.specs.declared.SoftRequirement.{SoftRequirement as SoftRequirementOf};
+ghost use Rattle.resolver_clause_store.specs.declared.SoftRequirement.TheVariants.{Solvable as SoftSolvable};
 ghost use Rattle.std.specs.Iterator.{IsFinite};
 ghost use Rattle.resolvo.specs.declared.solver.UnsolvableOrCancelled.TheVariants.{Exhausted as ExhaustedError};
 ghost use Rattle.resolver_clause_store.specs.declared.Exhausted.TheVariants.{Memory};
@@ -235,8 +237,8 @@ impl<D: DependencyProvider> Solver<D> {
         ensures activity { KeepsActivity self.old self.new }
         ensures none { OnErr result (exempt_in self.new ≡ []) }
         ensures found { OnOk result (found ≡ Ok FoundAnswer) }
-        ensures answer { IfOk result (λ chosen. (root : Demands) (soft : List D.SolvableId) → IfOk found (IsDone (D.universe (provider_in self.old)) root soft rounds.now) → IsSoftAnswer (D.universe (provider_in self.old)) root soft chosen.items (exempt_in self.new)) }
-        ensures refusal { IfErr result (λ e. (root : Demands) (soft : List D.SolvableId) → IfOk found (IsDone (D.universe (provider_in self.old)) root soft rounds.now) → IsRefusal (D.universe (provider_in self.old)) (D.may_cancel (provider_in self.old)) root (IsAtLimit self.new) e) }
+        ensures answer { IfOk result (λ chosen. (root : Demands) (soft : List (SoftRequirementOf D.SolvableId)) → IfOk found (IsDone (D.universe (provider_in self.old)) root soft rounds.now) → IsSoftAnswer (D.universe (provider_in self.old)) root soft chosen.items (exempt_in self.new)) }
+        ensures refusal { IfErr result (λ e. (root : Demands) (soft : List (SoftRequirementOf D.SolvableId)) → IfOk found (IsDone (D.universe (provider_in self.old)) root soft rounds.now) → IsRefusal (D.universe (provider_in self.old)) (D.may_cancel (provider_in self.old)) root (IsAtLimit self.new) e) }
     {
         match found {
             Err(Interrupted::Cancelled(value)) => Err(UnsolvableOrCancelled::Cancelled(value)),
@@ -251,9 +253,9 @@ impl<D: DependencyProvider> Solver<D> {
     /// chosen.
     ///
     /// Solvables are read once a search has chosen them, and a requirement under a condition once the condition holds. Soft
-    /// requirements are taken in their order, each once what was chosen before stands. One whose package was not asked for
-    /// then is exempt from that package's lock and exclusions. One is refused only where it fits into no answer that keeps
-    /// what was chosen before.
+    /// requirements are taken in their order, those of the list last, each once what was chosen before stands. A solvable
+    /// whose package was not asked for then is exempt from that package's lock and exclusions; the candidates of a version
+    /// set never are. One is refused only where it fits into no answer that keeps what was chosen before.
     pub fn solve<S: Iterator<Item = D::SolvableId> + Drop>(
         &mut self,
         mut problem: Problem<D::SolvableId, S>,
@@ -265,7 +267,7 @@ impl<D: DependencyProvider> Solver<D> {
         ensures provider { provider_in self.new ≡ provider_in self.old }
         ensures limits { KeepsLimits self.old self.new }
         ensures activity { KeepsActivity self.old self.new }
-        ensures answer { IfOk result (λ chosen. (soft : List D.SolvableId) × AreItems S.next_gives (soft_in problem) soft × IsSoftAnswer (D.universe (provider_in self.old)) (demands_in problem) soft chosen.items (exempt_in self.new)) }
+        ensures answer { IfOk result (λ chosen. (soft : List D.SolvableId) × AreItems S.next_gives (soft_in problem) soft × IsSoftAnswer (D.universe (provider_in self.old)) (demands_in problem) (map SoftSolvable soft ++ list_in problem) chosen.items (exempt_in self.new)) }
         ensures none { OnErr result (exempt_in self.new ≡ []) }
         ensures refusal { IfErr result (IsRefusal (D.universe (provider_in self.old)) (D.may_cancel (provider_in self.old)) (demands_in problem) (IsAtLimit self.new)) }
     {
@@ -283,6 +285,7 @@ impl<D: DependencyProvider> Solver<D> {
             problem.root_requirements(),
             problem.root_constraints(),
             soft,
+            problem.listed_soft_requirements(),
         );
         self.exempt = Vec::new(self.alloc);
         self.count(&rounds);

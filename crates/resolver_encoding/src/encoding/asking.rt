@@ -7,7 +7,7 @@ ghost use Rattle.resolver_clause_store.specs.declared.ClauseKind.TheVariants.{Ex
 ghost use Rattle.resolver_encoding.specs.Called.{IsAsking, IsNamedBy};
 ghost use Rattle.resolver_encoding.specs.Encodings.{Doing, IsAskStep, IsFull, IsLockRead, IsStepWhile, KeepsLimits, asking_for};
 ghost use Rattle.resolver_encoding.specs.Refusals.{IsShortage, IsStop};
-ghost use Rattle.resolver_encoding.specs.Turns.{AddsPlainly};
+ghost use Rattle.resolver_encoding.specs.Turns.{AddsPlainly, AsksOnly};
 
 use super::Encoding;
 use resolver_clause_store::{
@@ -67,6 +67,7 @@ impl<N: Copy + Eq + Hash + Drop, S: Copy + Eq + Hash + Drop> Encoding<N, S> {
         requires locked { locked ≡ ((D.universe provider.now).package_named name).locked }
         ensures bounded { IsBounded self.new }
         ensures step { OnOk result (IsStepWhile (D.universe provider.now) (asking_for name) (λ root. ⊤) (notes_in self.old) (notes_in self.new)) }
+        ensures plain { OnOk result (AddsPlainly (notes_in self.old) (notes_in self.new)) }
         ensures read { OnOk result (IsLockRead (notes_in self.new).kinds (notes_in self.old).exempt locked listed.now) }
         ensures asked { OnOk result ((notes_in self.new).asked ≡ (notes_in self.old).asked) }
         ensures limits { KeepsLimits (notes_in self.old) (notes_in self.new) }
@@ -119,6 +120,7 @@ impl<N: Copy + Eq + Hash + Drop, S: Copy + Eq + Hash + Drop> Encoding<N, S> {
         requires excluded { excluded.now ≡ ((D.universe provider.now).package_named name).excluded }
         ensures bounded { IsBounded self.new }
         ensures step { OnOk result (IsStepWhile (D.universe provider.now) (asking_for name) (λ root. ⊤) (notes_in self.old) (notes_in self.new)) }
+        ensures plain { OnOk result (AddsPlainly (notes_in self.old) (notes_in self.new)) }
         ensures read { OnOk result (All (λ e. (Contains (notes_in self.old).exempt e.0 → ⊥) → Contains (notes_in self.new).kinds (ExcludedKind e.0 e.1)) excluded.now) }
         ensures asked { OnOk result ((notes_in self.new).asked ≡ (notes_in self.old).asked) }
         ensures limits { KeepsLimits (notes_in self.old) (notes_in self.new) }
@@ -130,8 +132,12 @@ impl<N: Copy + Eq + Hash + Drop, S: Copy + Eq + Hash + Drop> Encoding<N, S> {
         Ok(())
     }
 
-    /// Reads what a package locks and excludes, if it was not asked before.
-    pub(super) fn ask<D: DependencyProvider<NameId = N, SolvableId = S>>(
+    /// Asks a package, if it was not asked before: what it locks and excludes gets its clauses, and no solvable is read or
+    /// registered.
+    ///
+    /// Packages that a requirement or a constraint names are asked when that is read, without this call. It asks those that a
+    /// soft requirement names.
+    pub fn ask<D: DependencyProvider<NameId = N, SolvableId = S>>(
         &mut self,
         provider: &D,
         cache: &mut Cache<N, S>,
@@ -142,6 +148,7 @@ impl<N: Copy + Eq + Hash + Drop, S: Copy + Eq + Hash + Drop> Encoding<N, S> {
         ensures bounded { IsBounded self.new }
         ensures is_true { IsTrueCache (D.universe provider.now) cache.new }
         ensures step { OnOk result (IsAskStep (D.universe provider.now) (IsAsking name) (λ root. ⊤) (notes_in self.old) (notes_in self.new)) }
+        ensures alone { OnOk result (AsksOnly (D.universe provider.now) name (notes_in self.old) (notes_in self.new)) }
         ensures asked { OnOk result (Contains (notes_in self.new).asked name) }
         ensures limits { KeepsLimits (notes_in self.old) (notes_in self.new) }
         ensures refusal { IfErr result (IsStop (D.may_cancel provider.now) (IsFull (notes_in self.new))) }

@@ -324,7 +324,7 @@ impl<N: Copy + Eq + Hash + Drop, S: Copy + Eq + Hash + Drop> Encoding<N, S> {
         ensures is_true { IsTrueCache (D.universe provider.now) cache.new }
         ensures read { OnOk result (IsReadSoFar (D.universe provider.now) (record { requirements = requirements.now; constraints = constraints.now }) [] (notes_in self.new)) }
         ensures asked { OnOk result (AreAsked (IsCalledFor (D.universe provider.now) (record { requirements = requirements.now; constraints = constraints.now }) (notes_in self.new).read []) [] (notes_in self.new).asked) }
-        ensures near { OnOk result ((seeds : List S) → AreNear (D.universe provider.now) (record { requirements = requirements.now; constraints = constraints.now }) seeds (notes_in self.new)) }
+        ensures near { OnOk result ((seeds : List S) (packages : List N) → AreNear (D.universe provider.now) (record { requirements = requirements.now; constraints = constraints.now }) seeds packages (notes_in self.new)) }
         ensures reads { OnOk result ((s : S) → Contains (notes_in self.new).read s → IsListedFrom (notes_in self.new) 0 s) }
         ensures hinted { OnOk result (AreHintsRead (D.universe provider.now) 0 (notes_in self.new)) }
         ensures exempt { OnOk result ((notes_in self.new).exempt ≡ (notes_in self.old).exempt) }
@@ -358,7 +358,7 @@ impl<N: Copy + Eq + Hash + Drop, S: Copy + Eq + Hash + Drop> Encoding<N, S> {
         ensures is_true { IsTrueCache (D.universe provider.now) cache.new }
         ensures read { OnOk result ((root : Demands) → IsReadSoFar (D.universe provider.now) root (take from chosen.now.keys) (notes_in self.old) → IsReadSoFar (D.universe provider.now) root chosen.now.keys (notes_in self.new)) }
         ensures asked { OnOk result ((root : Demands) → IsReadSoFar (D.universe provider.now) root (take from chosen.now.keys) (notes_in self.old) → AreAsked (IsCalledFor (D.universe provider.now) root (notes_in self.new).read chosen.now.keys) (notes_in self.old).asked (notes_in self.new).asked) }
-        ensures near { OnOk result ((root : Demands) (seeds : List S) → IsReadSoFar (D.universe provider.now) root (take from chosen.now.keys) (notes_in self.old) → AreNear (D.universe provider.now) root seeds (notes_in self.old) → All (IsNear (D.universe provider.now) root seeds) chosen.now.keys → AreNear (D.universe provider.now) root seeds (notes_in self.new)) }
+        ensures near { OnOk result ((root : Demands) (seeds : List S) (packages : List N) → IsReadSoFar (D.universe provider.now) root (take from chosen.now.keys) (notes_in self.old) → AreNear (D.universe provider.now) root seeds packages (notes_in self.old) → All (IsNear (D.universe provider.now) root seeds) chosen.now.keys → AreNear (D.universe provider.now) root seeds packages (notes_in self.new)) }
         ensures hinted { OnOk result (AreHintsRead (D.universe provider.now) (length (notes_in self.old).requirements) (notes_in self.new)) }
         ensures more { OnOk result (IsReadMore (D.universe provider.now) chosen.now.keys (notes_in self.old) (notes_in self.new)) }
         ensures progress { IfOk result (IsProgress (notes_in self.old) (notes_in self.new)) }

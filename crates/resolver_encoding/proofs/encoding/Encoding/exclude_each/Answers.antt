@@ -8,6 +8,7 @@ use Rattle.resolver_clause_store.proofs.SetLemmas.{All-done, Contains-item}
 use Rattle.resolver_encoding.proofs.EncodingLemmas.{IsStep-same, IsStep-trans, KeepsLimits-same, KeepsLimits-trans}
 use Rattle.resolver_encoding.proofs.Lists.{here}
 use Rattle.resolver_encoding.proofs.NoteLemmas.{All-grown}
+use Rattle.resolver_encoding.proofs.TurnLemmas.{AddsPlainly-same, AddsPlainly-trans}
 use Rattle.resolver_encoding.proofs.encoding.Encoding.exclude_each.Goals as goal
 
 pub loop-solvable-init : goal.loop-solvable-init
@@ -16,6 +17,7 @@ loop-solvable-init g c = record {
   limits = KeepsLimits-same _;
   step = IsStep-same (g.D.Interner.universe c.args.provider.now) (asking_for c.args.name) (λ root. ⊤) (notes_in c.args.self.now);
   read = All-nil (λ e. (Contains (notes_in c.args.self.now).exempt e.0 → ⊥) → Contains (notes_in c.args.self.now).kinds (Excluded e.0 e.1));
+  plain = AddsPlainly-same (g.D.Interner.universe c.args.provider.now) (notes_in c.args.self.now);
   asked = refl;
 }
 
@@ -43,6 +45,7 @@ loop-solvable-preserved g c =
       limits = KeepsLimits-trans _ _ _ before.limits c.exclude.ensures.limits;
       step = IsStep-trans u (asking_for c.args.name) (λ root. ⊤) _ _ _ before.step step;
       read = All-grown (λ e. (Contains (notes_in c.args.self.now).exempt e.0 → ⊥) → Contains (notes_in c.loop-solvable.self).kinds (Excluded e.0 e.1)) (λ e. (Contains (notes_in c.args.self.now).exempt e.0 → ⊥) → Contains (notes_in c.exclude.new.self).kinds (Excluded e.0 e.1)) c.args.excluded.now c.loop-solvable.solvable-index c.loop-solvable-item.result (λ y h free. step.kinds _ (h free)) (omega arith) c.loop-solvable-item.is before.read (subst Free before.step.exempt c.in_ok-exclude.ensures.forbidden);
+      plain = AddsPlainly-trans u _ _ _ before.plain c.in_ok-exclude.ensures.plain;
       asked = c.in_ok-exclude.ensures.asked ∙ before.asked;
     }
 

@@ -8,6 +8,7 @@ use Rattle.resolver_clause_store.proofs.SetLemmas.{All-done, Contains-item}
 use Rattle.resolver_encoding.proofs.EncodingLemmas.{IsStep-same, IsStep-trans, KeepsLimits-same, KeepsLimits-trans}
 use Rattle.resolver_encoding.proofs.Lists.{here}
 use Rattle.resolver_encoding.proofs.NoteLemmas.{All-grown}
+use Rattle.resolver_encoding.proofs.TurnLemmas.{AddsPlainly-same, AddsPlainly-trans}
 use Rattle.resolver_encoding.proofs.encoding.Encoding.lock_out_others.Goals as goal
 
 pub loop-candidate-init : goal.loop-candidate-init
@@ -16,6 +17,7 @@ loop-candidate-init g c = record {
   limits = KeepsLimits-same _;
   step = IsStep-same (g.D.Interner.universe c.args.provider.now) (asking_for c.args.name) (λ root. ⊤) (notes_in c.args.self.now);
   forbidden = All-nil (λ s. (s ≡ c.in-Some.locked → ⊥) → (Contains (notes_in c.args.self.now).exempt s → ⊥) → Contains (notes_in c.args.self.now).kinds (Lock c.in-Some.locked s));
+  plain = AddsPlainly-same (g.D.Interner.universe c.args.provider.now) (notes_in c.args.self.now);
   asked = refl;
 }
 
@@ -45,6 +47,7 @@ loop-candidate-preserved g c =
       limits = KeepsLimits-trans _ _ _ before.limits c.lock_out.ensures.limits;
       step = IsStep-trans u (asking_for c.args.name) (λ root. ⊤) _ _ _ before.step step;
       forbidden = All-grown (λ s. (s ≡ t → ⊥) → (Contains (notes_in c.args.self.now).exempt s → ⊥) → Contains (notes_in c.loop-candidate.self).kinds (Lock t s)) (λ s. (s ≡ t → ⊥) → (Contains (notes_in c.args.self.now).exempt s → ⊥) → Contains (notes_in c.lock_out.new.self).kinds (Lock t s)) c.args.listed.now c.loop-candidate.candidate-index c.candidate-item.result (λ y h apart free. step.kinds _ (h apart free)) (omega arith) c.candidate-item.is before.forbidden (subst Free before.step.exempt c.in_ok-lock_out.ensures.forbidden);
+      plain = AddsPlainly-trans u _ _ _ before.plain c.in_ok-lock_out.ensures.plain;
       asked = c.in_ok-lock_out.ensures.asked ∙ before.asked;
     }
 

@@ -3,6 +3,7 @@ use Rattle.std.specs.Prelude.{⊤}
 use Rattle.resolver_clause_store.specs.declared.ClauseKind.TheVariants.{Lock}
 use Rattle.resolver_encoding.specs.Encodings.{IsStepWhile, KeepsLimits, asking_for}
 use Rattle.resolver_encoding.specs.Notes.{IsBounded, notes_in}
+use Rattle.resolver_encoding.specs.Turns.{AddsPlainly}
 use Rattle.resolver_encoding.proofs.encoding.Encoding.lock_out_others.Given as goal
 
 abbrev pub invariant-loop-candidate : goal.invariant-loop-candidate
@@ -11,5 +12,6 @@ invariant-loop-candidate g l = record {
   limits : KeepsLimits (notes_in l.fn.self) (notes_in l.self);
   step : IsStepWhile (g.D.Interner.universe l.provider) (asking_for l.name) (λ root. ⊤) (notes_in l.fn.self) (notes_in l.self);
   forbidden : All (λ s. (s ≡ l.locked → ⊥) → (Contains (notes_in l.fn.self).exempt s → ⊥) → Contains (notes_in l.self).kinds (Lock l.locked s)) (take l.candidate-index l.listed);
+  plain : AddsPlainly (notes_in l.fn.self) (notes_in l.self);
   asked : (notes_in l.self).asked ≡ (notes_in l.fn.self).asked;
 }

@@ -79,9 +79,9 @@ returns-clause-asked g c = λ root so.
     (all_asked u set old mid fired reading firing root c.args.from so here quiet lawful packages)
 
 pub returns-clause-near : goal.returns-clause-near
-returns-clause-near g c = λ root seeds so near all.
-    c.in_ok-hinted.ensures.reading.near root seeds
-    (near_after (g.D.Interner.universe c.args.provider.now) root seeds c.args.chosen.now.keys (notes_in c.args.self.now) (notes_in c.read_each.new.self) (notes_in c.fire_deferred.new.self) c.in_ok-read.ensures.reading c.in_ok-fired.ensures.firing so.half near all)
+returns-clause-near g c = λ root seeds packages so near all.
+    c.in_ok-hinted.ensures.reading.near root seeds packages
+    (near_after (g.D.Interner.universe c.args.provider.now) root seeds packages c.args.chosen.now.keys (notes_in c.args.self.now) (notes_in c.read_each.new.self) (notes_in c.fire_deferred.new.self) c.in_ok-read.ensures.reading c.in_ok-fired.ensures.firing so.half near all)
     all
 
 pub returns-clause-hinted : goal.returns-clause-hinted

@@ -63,7 +63,7 @@ returns-clause-asked g c =
     asked_on u [] root (IsListedFrom new 0) [] mid new so reading (subst Asked (sym none) asked)
 
 pub returns-clause-near : goal.returns-clause-near
-returns-clause-near g c = λ seeds.
+returns-clause-near g c = λ seeds packages.
     let u = g.D.Interner.universe c.args.provider.now in
     let root : Demands = record { requirements = c.args.requirements.now; constraints = c.args.constraints.now } in
     let bare = notes_in c.install_root.new.self in
@@ -71,7 +71,7 @@ returns-clause-near g c = λ seeds.
     let Step : List g.row.S.Denot → Type 0 = λ set. IsReadStep u (IsUnmet u set Root) (IsDemanded u set root) (λ r. demands_by u r Root ≡ root) bare mid in
     let step = subst Step c.new-none.ensures.empty c.in_ok-read_demands.ensures.step in
     let AllNear : List g.row.S.Denot → Type 0 = λ set. All (IsNear u root seeds) set in
-    c.in_ok-read_hinted.ensures.reading.near root seeds (root_near u root seeds bare mid step c.in_ok-install_root.ensures.nothing)
+    c.in_ok-read_hinted.ensures.reading.near root seeds packages (root_near u root seeds packages bare mid step c.in_ok-install_root.ensures.nothing)
     (subst AllNear (sym c.new-none.ensures.empty) (All-nil (IsNear u root seeds)))
 
 pub returns-clause-reads : goal.returns-clause-reads

@@ -1,12 +1,12 @@
 use Rattle.std.proofs.Common.{arith}
 use Rattle.std.proofs.lemmas.Grind.{common_steps}
-use Rattle.std.proofs.Common.{[], ap, length, refl, ◌∷◌, ◌++◌, ◌≡◌, ◌∙◌}
+use Rattle.std.proofs.Common.{ap, length, refl, true, ◌≡◌, ◌∙◌}
 use Rattle.resolver_encoding.specs.Notes.{notes_in}
 use Rattle.resolvo.specs.ClauseSearches.{trail_of}
 use Rattle.resolvo.specs.RoundStates.{HasAssumed, notes_of}
 use Rattle.resolvo.proofs.GoingLemmas.{still_all}
 use Rattle.resolvo.proofs.SolveLemmas.{lawful_solvables}
-use Rattle.resolvo.proofs.SoftLemmas.{between_accepted, between_held, between_refused, just_assumed, rounds_assumed, rounds_held, still_assumed}
+use Rattle.resolvo.proofs.SoftLemmas.{accepted, just_assumed, not_accepted, rounds_assumed, rounds_held, still_assumed, turned_held}
 use Rattle.resolvo.proofs.rounds.Rounds.attempt.Goals as goal
 
 pub is_answered-requires-clause-rounds : goal.is_answered-requires-clause-rounds
@@ -18,13 +18,13 @@ pub returns-then-answered-clause-rounds : goal.returns-then-answered-clause-roun
 returns-then-answered-clause-rounds g c =
     rounds_held (g.D.Interner.universe c.args.provider.now) c.is_answered.new.self c.hold.new.self c.hold.ensures.trail c.hold.ensures.count c.in_ok-answered.ensures.rounds c.hold.ensures.consistent c.hold.ensures.loaded
 
-pub returns-then-answered-clause-between : goal.returns-then-answered-clause-between
-returns-then-answered-clause-between g c = λ root done seen b.
+pub returns-then-answered-clause-turned : goal.returns-then-answered-clause-turned
+returns-then-answered-clause-turned g c = λ root taken refused seeds packages seen seed b.
     let u = g.D.Interner.universe c.args.provider.now in
     let old = c.args.self.now in
-    between_held u c.is_answered.new.self c.hold.new.self c.hold.ensures.trail c.hold.ensures.count root (done ++ c.args.solvable ∷ [])
-    (between_accepted u root done c.args.solvable c.args.variable old c.begin_turn.new.self c.assume.new.self c.requires.loaded.variables c.requires.rounds.reading.so_far.half.encoding.distinct c.requires.still
-    c.requires.stands c.requires.free seen c.begin_turn.ensures.only c.in_ok-begin_turn.ensures.exempts c.in_ok-begin_turn.ensures.stays.so_far c.in_ok-assume.ensures.gains c.in_ok-assume.ensures.held b
+    turned_held u c.is_answered.new.self c.hold.new.self c.hold.ensures.trail c.hold.ensures.count root taken refused seeds packages c.args.solvable old true
+    (accepted u root taken refused seeds packages c.args.solvable c.args.variable old c.begin_turn.new.self c.assume.new.self c.requires.loaded.variables c.requires.rounds.reading.so_far.half.encoding.distinct c.requires.still
+    c.requires.stands c.requires.free seen seed c.begin_turn.ensures.only c.in_ok-begin_turn.ensures.exempts c.in_ok-begin_turn.ensures.stays.so_far c.in_ok-assume.ensures.gains c.in_ok-assume.ensures.held b
     c.is_answered.new.self c.in_ok-answered.ensures.keeps (c.in_ok-answered.ensures.answer c.if-answered.true))
 
 pub refuse-requires-clause-assumed : goal.refuse-requires-clause-assumed
@@ -33,12 +33,12 @@ refuse-requires-clause-assumed g c =
     still_assumed c.assume.new.self c.is_answered.new.self.search c.args.variable c.in_ok-assume.ensures.consistent c.in_ok-answered.ensures.keeps.turn
     (just_assumed old.search c.assume.new.self c.args.variable c.in_ok-assume.ensures.gains c.in_ok-assume.ensures.base c.in_ok-assume.ensures.held)
 
-pub returns-clause-between : goal.returns-clause-between
-returns-clause-between g c = λ root done seen b.
+pub returns-clause-turned : goal.returns-clause-turned
+returns-clause-turned g c = λ root taken refused seeds packages seen seed b.
     let u = g.D.Interner.universe c.args.provider.now in
     let old = c.args.self.now in
-    between_refused u root done c.args.solvable c.args.variable old c.begin_turn.new.self c.assume.new.self c.requires.loaded.variables c.requires.rounds.reading.so_far.half.encoding.distinct c.requires.still
-    c.requires.stands c.requires.free seen c.begin_turn.ensures.only c.in_ok-begin_turn.ensures.exempts c.in_ok-begin_turn.ensures.stays.so_far c.in_ok-assume.ensures.gains c.in_ok-assume.ensures.held b
+    not_accepted u root taken refused seeds packages c.args.solvable c.args.variable old c.begin_turn.new.self c.assume.new.self c.requires.loaded.variables c.requires.rounds.reading.so_far.half.encoding.distinct c.requires.still
+    c.requires.stands c.requires.free seen seed c.begin_turn.ensures.only c.in_ok-begin_turn.ensures.exempts c.in_ok-begin_turn.ensures.stays.so_far c.in_ok-assume.ensures.gains c.in_ok-assume.ensures.held b
     c.is_answered.new.self c.in_ok-answered.ensures.keeps
     (lawful_solvables u g.S.PartialEq.eq (g.met.D.Interner.lawful_ids c.args.provider.now) (g.met.D.Interner.solvables_compare c.args.provider.now) g.met.D.Interner.solvables_are_values) c.in_ok-assume.ensures.base (c.in_ok-answered.ensures.unanswered c.if-answered.false)
     (length c.exempt-exempt.result.now) (ap length c.exempt-exempt.ensures) c.in_ok-answered.ensures.rounds c.refuse.new.self c.in_ok-refuse.ensures.refused c.in_ok-refuse.ensures.still

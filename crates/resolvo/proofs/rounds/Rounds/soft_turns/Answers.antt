@@ -1,26 +1,8 @@
-use Rattle.std.proofs.Common.{arith}
-use Rattle.std.proofs.lemmas.Grind.{common_steps}
-use Rattle.std.proofs.Common.{Option, subst, sym}
-use Rattle.resolvo.specs.Problems.{AreItems}
+use Rattle.std.specs.Prelude.{map}
+use Rattle.resolver_clause_store.specs.declared.SoftRequirement.TheVariants.{Solvable}
 use Rattle.resolvo.proofs.rounds.Rounds.soft_turns.Goals as goal
 
-pub returns-in_ok-all_turns-in-Some-clause-between : goal.returns-in_ok-all_turns-in-Some-clause-between
-returns-in_ok-all_turns-in-Some-clause-between g c = λ root b.
-    let w = c.in_ok-all_turns-in-Some.ensures.between root b in
-    let Items : Option g.row.I.Denot → Type 0 = λ soft. AreItems g.I.Iterator.next_gives soft w.0 in
-    (w.0, subst Items (sym c.in-Some.is) w.1, w.2)
-
-pub returns-in_ok-all_turns-in-Some-clause-counted : goal.returns-in_ok-all_turns-in-Some-clause-counted
-returns-in_ok-all_turns-in-Some-clause-counted g c = grind (arith, common_steps)
-
-pub returns-in_ok-all_turns-in-Some-clause-is_true : goal.returns-in_ok-all_turns-in-Some-clause-is_true
-returns-in_ok-all_turns-in-Some-clause-is_true g c = grind (arith, common_steps)
-
-pub returns-in_ok-all_turns-in-Some-clause-limits : goal.returns-in_ok-all_turns-in-Some-clause-limits
-returns-in_ok-all_turns-in-Some-clause-limits g c = grind (arith, common_steps)
-
-pub returns-in_ok-all_turns-in-Some-clause-refusal : goal.returns-in_ok-all_turns-in-Some-clause-refusal
-returns-in_ok-all_turns-in-Some-clause-refusal g c = grind (arith, common_steps)
-
-pub returns-in_ok-all_turns-in-Some-clause-rounds : goal.returns-in_ok-all_turns-in-Some-clause-rounds
-returns-in_ok-all_turns-in-Some-clause-rounds g c = grind (arith, common_steps)
+pub returns-clause-between : goal.returns-clause-between
+returns-clause-between g c = λ root b.
+    let w = c.in_ok-given_turns.ensures.between root b in
+    (w.0, w.1, c.in_ok-list_turns.ensures.between root (map Solvable w.0) w.2)

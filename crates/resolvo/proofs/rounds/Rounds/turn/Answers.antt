@@ -1,17 +1,17 @@
 use Rattle.std.proofs.lemmas.Grind.{common_steps}
-use Rattle.std.proofs.Common.{[], arith, List, Some, subst, sym, ◌++◌, ◌+◌, ◌<◌, ◌∙◌, ◌∷◌, ◌≡◌}
+use Rattle.std.proofs.Common.{ap, arith, List, Some, subst, sym, ◌+◌, ◌<◌, ◌∙◌, ◌≡◌}
 use Rattle.std.specs.Prelude.{Contains, length, slice_get}
-use Rattle.resolver_encoding.proofs.EncodingLemmas.{Extends-within}
 use Rattle.std.proofs.lemmas.Option.{slice_get_within}
 use Rattle.resolver_clause_store.specs.TrailView.{slot_of, variable_count}
 use Rattle.resolver_clause_store.specs.declared.Origin.TheVariants.{Solvable as SolvableOrigin}
 use Rattle.resolver_clause_store.specs.declared.Trail.{Trail}
 use Rattle.resolver_encoding.specs.Notes.{notes_in}
+use Rattle.resolver_encoding.specs.Trails.{chosen_in}
 use Rattle.resolver_encoding.specs.declared.encoding.Encoding.{Encoding}
 use Rattle.resolvo.specs.ClauseSearches.{trail_of}
 use Rattle.resolvo.specs.RoundStates.{IsStill, notes_of}
 use Rattle.resolvo.proofs.SolveLemmas.{lawful_solvables}
-use Rattle.resolvo.proofs.SoftLemmas.{between_loaded, between_registered, registered_adds, rounds_added, skipped, still_added}
+use Rattle.resolvo.proofs.SoftLemmas.{registered_adds, rounds_added, skipped, standing_loaded, standing_registered, still_added, turned_from}
 use Rattle.resolvo.proofs.rounds.Rounds.turn.Goals as goal
 
 pub load-requires : goal.load-requires
@@ -41,50 +41,56 @@ returns-in-Some-clause-still g c =
     let old = c.args.self.now in
     c.in_ok-load.ensures.still (still_added u old c.register.new.self c.requires.rounds c.in_ok-variable.ensures.registered.origins c.requires.still)
 
-pub returns-in-Some-clause-between : goal.returns-in-Some-clause-between
-returns-in-Some-clause-between g c = λ root done b.
+pub returns-in-Some-clause-turned : goal.returns-in-Some-clause-turned
+returns-in-Some-clause-turned g c = λ root taken refused seeds packages seed b.
     let u = g.D.Interner.universe c.args.provider.now in
+    let s = c.args.solvable in
     let old = c.args.self.now in
     let e = c.register.new.self in
     let new = c.load.new.self in
     let registered = c.in_ok-variable.ensures.registered in
-    let adds = registered_adds u c.args.solvable (notes_of old) (notes_in e) registered in
-    let after = between_registered u root done c.args.solvable old e c.requires.rounds adds registered.exempt registered.only (Extends-within (notes_of old).seen (notes_in e).seen registered.seen) b in
-    let loaded = between_loaded u root done (done ++ c.args.solvable ∷ []) (record old { encoding = e }) new (rounds_added u old e c.requires.rounds c.register.ensures.bounded adds).variables c.in_ok-load.ensures.same c.in_ok-load.ensures.turn after in
-    let Stands : Encoding g.row.N.Denot g.row.S.Denot → Type 0 = λ x. slice_get (notes_in x).origins c.in_ok-variable.variable ≡ Some (SolvableOrigin c.args.solvable) in
-    let At : Trail → Type 0 = λ t. slot_of t c.in_ok-variable.variable ≡ Some c.in-Some.field-0 in
-    skipped u (lawful_solvables u g.S.PartialEq.eq (g.met.D.Interner.lawful_ids c.args.provider.now) (g.met.D.Interner.solvables_compare c.args.provider.now) g.met.D.Interner.solvables_are_values) g.N.PartialEq.eq g.met.D.Interner.names_are_values root done c.args.solvable c.in_ok-variable.variable c.in-Some.field-0 new c.in_ok-load.ensures.rounds c.in_ok-load.ensures.loaded.variables
+    let adds = registered_adds u s (notes_of old) (notes_in e) registered in
+    let same = c.in_ok-load.ensures.same in
+    let loaded = standing_loaded u root taken refused seeds packages (record old { encoding = e }) new (rounds_added u old e c.requires.rounds c.register.ensures.bounded adds).variables same c.in_ok-load.ensures.turn
+        (standing_registered u root taken refused seeds packages old e c.requires.rounds adds registered.exempt b s seed registered.only registered.asked) in
+    let Stands : Encoding g.row.N.Denot g.row.S.Denot → Type 0 = λ x. slice_get (notes_in x).origins c.in_ok-variable.variable ≡ Some (SolvableOrigin s) in
+    let At : Trail → Type 0 = λ t. slot_of t c.in_ok-variable.variable ≡ Some c.in-Some.slot in
+    turned_from u root taken refused seeds packages s old new new c.in-Some.slot.value (ap chosen_in same.chosen) (ap (λ x. (notes_in x).exempt) same.encoding ∙ registered.exempt) (ap (λ x. (notes_in x).asked) same.encoding ∙ registered.asked)
+    (skipped u (lawful_solvables u g.S.PartialEq.eq (g.met.D.Interner.lawful_ids c.args.provider.now) (g.met.D.Interner.solvables_compare c.args.provider.now) g.met.D.Interner.solvables_are_values) g.N.PartialEq.eq g.met.D.Interner.names_are_values root taken refused seeds packages s c.in_ok-variable.variable c.in-Some.slot new c.in_ok-load.ensures.rounds c.in_ok-load.ensures.loaded.variables
     (c.in_ok-load.ensures.still (still_added u old e c.requires.rounds registered.origins c.requires.still))
-    (subst Stands (sym c.in_ok-load.ensures.same.encoding) c.in_ok-variable.ensures.variable)
-    (subst At c.trail.ensures (sym c.slot.ensures ∙ c.in-Some.is)) loaded
+    (subst Stands (sym same.encoding) c.in_ok-variable.ensures.variable)
+    (subst At c.trail.ensures (sym c.slot.ensures ∙ c.in-Some.is)) loaded)
 
-pub returns-in_ok-attempt-in-None-clause-between : goal.returns-in_ok-attempt-in-None-clause-between
-returns-in_ok-attempt-in-None-clause-between g c = λ root done b.
+pub returns-in_ok-is_chosen-in-None-clause-turned : goal.returns-in_ok-is_chosen-in-None-clause-turned
+returns-in_ok-is_chosen-in-None-clause-turned g c = λ root taken refused seeds packages seed b.
     let u = g.D.Interner.universe c.args.provider.now in
+    let s = c.args.solvable in
     let old = c.args.self.now in
     let e = c.register.new.self in
-    let new = c.load.new.self in
+    let mid = c.load.new.self in
     let registered = c.in_ok-variable.ensures.registered in
-    let adds = registered_adds u c.args.solvable (notes_of old) (notes_in e) registered in
-    let after = between_registered u root done c.args.solvable old e c.requires.rounds adds registered.exempt registered.only (Extends-within (notes_of old).seen (notes_in e).seen registered.seen) b in
-    let loaded = between_loaded u root done (done ++ c.args.solvable ∷ []) (record old { encoding = e }) new (rounds_added u old e c.requires.rounds c.register.ensures.bounded adds).variables c.in_ok-load.ensures.same c.in_ok-load.ensures.turn after in
-    let Seen : Encoding g.row.N.Denot g.row.S.Denot → Type 0 = λ x. Contains (notes_in x).seen c.args.solvable in
-    c.in_ok-attempt-in-None.ensures.between root done (subst Seen (sym c.in_ok-load.ensures.same.encoding) registered.here) loaded
+    let adds = registered_adds u s (notes_of old) (notes_in e) registered in
+    let same = c.in_ok-load.ensures.same in
+    let loaded = standing_loaded u root taken refused seeds packages (record old { encoding = e }) mid (rounds_added u old e c.requires.rounds c.register.ensures.bounded adds).variables same c.in_ok-load.ensures.turn
+        (standing_registered u root taken refused seeds packages old e c.requires.rounds adds registered.exempt b s seed registered.only registered.asked) in
+    let Seen : Encoding g.row.N.Denot g.row.S.Denot → Type 0 = λ x. Contains (notes_in x).seen s in
+    turned_from u root taken refused seeds packages s old mid _ _ (ap chosen_in same.chosen) (ap (λ x. (notes_in x).exempt) same.encoding ∙ registered.exempt) (ap (λ x. (notes_in x).asked) same.encoding ∙ registered.asked)
+    (c.in_ok-is_chosen-in-None.ensures.turned root taken refused seeds packages (subst Seen (sym same.encoding) registered.here) seed loaded)
 
-pub returns-in_ok-attempt-in-None-clause-counted : goal.returns-in_ok-attempt-in-None-clause-counted
-returns-in_ok-attempt-in-None-clause-counted g c = grind (arith, common_steps)
+pub returns-in_ok-is_chosen-in-None-clause-counted : goal.returns-in_ok-is_chosen-in-None-clause-counted
+returns-in_ok-is_chosen-in-None-clause-counted g c = grind (arith, common_steps)
 
-pub returns-in_ok-attempt-in-None-clause-is_true : goal.returns-in_ok-attempt-in-None-clause-is_true
-returns-in_ok-attempt-in-None-clause-is_true g c = grind (arith, common_steps)
+pub returns-in_ok-is_chosen-in-None-clause-is_true : goal.returns-in_ok-is_chosen-in-None-clause-is_true
+returns-in_ok-is_chosen-in-None-clause-is_true g c = grind (arith, common_steps)
 
-pub returns-in_ok-attempt-in-None-clause-limits : goal.returns-in_ok-attempt-in-None-clause-limits
-returns-in_ok-attempt-in-None-clause-limits g c = grind (arith, common_steps)
+pub returns-in_ok-is_chosen-in-None-clause-limits : goal.returns-in_ok-is_chosen-in-None-clause-limits
+returns-in_ok-is_chosen-in-None-clause-limits g c = grind (arith, common_steps)
 
-pub returns-in_ok-attempt-in-None-clause-refusal : goal.returns-in_ok-attempt-in-None-clause-refusal
-returns-in_ok-attempt-in-None-clause-refusal g c = grind (arith, common_steps)
+pub returns-in_ok-is_chosen-in-None-clause-refusal : goal.returns-in_ok-is_chosen-in-None-clause-refusal
+returns-in_ok-is_chosen-in-None-clause-refusal g c = grind (arith, common_steps)
 
-pub returns-in_ok-attempt-in-None-clause-rounds : goal.returns-in_ok-attempt-in-None-clause-rounds
-returns-in_ok-attempt-in-None-clause-rounds g c = grind (arith, common_steps)
+pub returns-in_ok-is_chosen-in-None-clause-rounds : goal.returns-in_ok-is_chosen-in-None-clause-rounds
+returns-in_ok-is_chosen-in-None-clause-rounds g c = grind (arith, common_steps)
 
-pub returns-in_ok-attempt-in-None-clause-still : goal.returns-in_ok-attempt-in-None-clause-still
-returns-in_ok-attempt-in-None-clause-still g c = grind (arith, common_steps)
+pub returns-in_ok-is_chosen-in-None-clause-still : goal.returns-in_ok-is_chosen-in-None-clause-still
+returns-in_ok-is_chosen-in-None-clause-still g c = grind (arith, common_steps)

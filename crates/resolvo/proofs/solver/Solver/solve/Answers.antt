@@ -1,9 +1,11 @@
-use Rattle.std.proofs.Common.{List, refl, subst, sym, ◌∙◌, ◌≡◌}
-use Rattle.std.specs.Prelude.{IfOk, Ok, Option}
+use Rattle.std.proofs.Common.{List, refl, subst, sym, ◌∙◌, ◌≡◌, ◌++◌}
+use Rattle.std.specs.Prelude.{IfOk, Ok, Option, map}
+use Rattle.resolver_clause_store.specs.declared.SoftRequirement.{SoftRequirement}
+use Rattle.resolver_clause_store.specs.declared.SoftRequirement.TheVariants.{Solvable}
 use Rattle.resolver_clause_store.specs.Universe.{Demands}
 use Rattle.resolver_encoding.specs.Refusals.{IsStop}
 use Rattle.resolvo.specs.Answers.{IsSoftAnswer}
-use Rattle.resolvo.specs.Problems.{AreItems, demands_in, soft_in}
+use Rattle.resolvo.specs.Problems.{AreItems, demands_in, list_in, soft_in}
 use Rattle.resolvo.specs.Refusals.{IsRefusal}
 use Rattle.resolvo.specs.RoundStates.{IsDone, IsStuck}
 use Rattle.resolvo.specs.Solvers.{IsAtLimit, exempt_in}
@@ -37,16 +39,18 @@ returns-clause-answer g c =
     let same : given ≡ root = same_demands root c.root_requirements.result.now c.root_constraints.result.now c.root_requirements.ensures c.root_constraints.ensures in
     let provider : s.provider ≡ p = c.count.ensures.rest.provider in
     let Gives : List g.row.D-SolvableId.Denot → Type 0 = λ xs. AreItems g.S.Iterator.next_gives (soft_in c.args.problem) xs in
-    let From : Option g.row.S.Denot → Type 0 = λ o. IfOk c.find-found.result (λ f. (xs : List g.row.D-SolvableId.Denot) × (f ≡ Answer → AreItems g.S.Iterator.next_gives o xs) × IsDone (g.D.Interner.universe p) given xs rounds f) in
-    let w = soft_given Gives (λ f. f ≡ Answer) (λ xs f. IsDone (g.D.Interner.universe p) given xs rounds f) c.find-found.result (subst From c.take-soft.ensures.value c.find-found.ensures.done) in
-    let DoneFor : g.row.D.Denot → Demands → Type 0 = λ q d. IfOk c.find-found.result (IsDone (g.D.Interner.universe q) d w.0 rounds) in
+    let From : Option g.row.S.Denot → Type 0 = λ o. IfOk c.find-found.result (λ f. (xs : List g.row.D-SolvableId.Denot) × (f ≡ Answer → AreItems g.S.Iterator.next_gives o xs) × IsDone (g.D.Interner.universe p) given (map Solvable xs ++ c.listed_soft_requirements.result.now) rounds f) in
+    let w = soft_given Gives (λ f. f ≡ Answer) (λ xs f. IsDone (g.D.Interner.universe p) given (map Solvable xs ++ c.listed_soft_requirements.result.now) rounds f) c.find-found.result (subst From c.take-soft.ensures.value c.find-found.ensures.done) in
+    let DoneFor : g.row.D.Denot → Demands → Type 0 = λ q d. IfOk c.find-found.result (IsDone (g.D.Interner.universe q) d (map Solvable w.0 ++ c.listed_soft_requirements.result.now) rounds) in
     let DoneBy : g.row.D.Denot → Type 0 = λ q. DoneFor q root in
     let done : DoneFor s.provider root = subst DoneBy (sym provider) (subst (DoneFor p) same w.2) in
-    IfOk-both (λ chosen. (d : Demands) (xs : List g.row.D-SolvableId.Denot) → IfOk c.find-found.result (IsDone (g.D.Interner.universe s.provider) d xs rounds) → IsSoftAnswer (g.D.Interner.universe s.provider) d xs chosen.items (exempt_in c.outcome-answer.new.self))
-    (λ chosen. (xs : List g.row.D-SolvableId.Denot) × Gives xs × IsSoftAnswer (g.D.Interner.universe p) root xs chosen.items (exempt_in c.outcome-answer.new.self))
+    let list = c.listed_soft_requirements.result.now in
+    let Answered : List (SoftRequirement g.row.D-SolvableId.Denot) → List g.row.D-SolvableId.Denot → Type 0 = λ more chosen. IsSoftAnswer (g.D.Interner.universe p) root (map Solvable w.0 ++ more) chosen (exempt_in c.outcome-answer.new.self) in
+    IfOk-both (λ chosen. (d : Demands) (xs : List (SoftRequirement g.row.D-SolvableId.Denot)) → IfOk c.find-found.result (IsDone (g.D.Interner.universe s.provider) d xs rounds) → IsSoftAnswer (g.D.Interner.universe s.provider) d xs chosen.items (exempt_in c.outcome-answer.new.self))
+    (λ chosen. (xs : List g.row.D-SolvableId.Denot) × Gives xs × IsSoftAnswer (g.D.Interner.universe p) root (map Solvable xs ++ list_in c.args.problem) chosen.items (exempt_in c.outcome-answer.new.self))
     (c.find-found.result ≡ Ok Answer)
-    (λ chosen h is. let For : g.row.D.Denot → Type 0 = λ q. IsSoftAnswer (g.D.Interner.universe q) root w.0 chosen.items (exempt_in c.outcome-answer.new.self) in
-    (w.0, found_at (λ f. f ≡ Answer → Gives w.0) c.find-found.result Answer is w.1 refl, subst For provider (h root w.0 done)))
+    (λ chosen h is. let For : g.row.D.Denot → Type 0 = λ q. IsSoftAnswer (g.D.Interner.universe q) root (map Solvable w.0 ++ list) chosen.items (exempt_in c.outcome-answer.new.self) in
+    (w.0, found_at (λ f. f ≡ Answer → Gives w.0) c.find-found.result Answer is w.1 refl, (let For-list : List (SoftRequirement g.row.D-SolvableId.Denot) → Type 0 = λ more. Answered more chosen.items in subst For-list c.listed_soft_requirements.ensures (subst For provider (h root (map Solvable w.0 ++ list) done)))))
     c.outcome-answer.result c.outcome-answer.ensures.answer c.outcome-answer.ensures.found
 
 pub returns-clause-refusal : goal.returns-clause-refusal
@@ -59,11 +63,11 @@ returns-clause-refusal g c =
     let same : given ≡ root = same_demands root c.root_requirements.result.now c.root_constraints.result.now c.root_requirements.ensures c.root_constraints.ensures in
     let provider : s.provider ≡ p = c.count.ensures.rest.provider in
     let Gives : List g.row.D-SolvableId.Denot → Type 0 = λ xs. AreItems g.S.Iterator.next_gives c.take-soft.result xs in
-    let w = soft_given Gives (λ f. f ≡ Answer) (λ xs f. IsDone (g.D.Interner.universe p) given xs rounds f) c.find-found.result c.find-found.ensures.done in
-    let DoneFor : g.row.D.Denot → Demands → Type 0 = λ q d. IfOk c.find-found.result (IsDone (g.D.Interner.universe q) d w.0 rounds) in
+    let w = soft_given Gives (λ f. f ≡ Answer) (λ xs f. IsDone (g.D.Interner.universe p) given (map Solvable xs ++ c.listed_soft_requirements.result.now) rounds f) c.find-found.result c.find-found.ensures.done in
+    let DoneFor : g.row.D.Denot → Demands → Type 0 = λ q d. IfOk c.find-found.result (IsDone (g.D.Interner.universe q) d (map Solvable w.0 ++ c.listed_soft_requirements.result.now) rounds) in
     let DoneBy : g.row.D.Denot → Type 0 = λ q. DoneFor q root in
     let done : DoneFor s.provider root = subst DoneBy (sym provider) (subst (DoneFor p) same w.2) in
-    IfErr-weaker (λ e. (d : Demands) (xs : List g.row.D-SolvableId.Denot) → IfOk c.find-found.result (IsDone (g.D.Interner.universe s.provider) d xs rounds) → IsRefusal (g.D.Interner.universe s.provider) (g.D.DependencyProvider.may_cancel s.provider) d (IsAtLimit c.outcome-answer.new.self) e)
+    IfErr-weaker (λ e. (d : Demands) (xs : List (SoftRequirement g.row.D-SolvableId.Denot)) → IfOk c.find-found.result (IsDone (g.D.Interner.universe s.provider) d xs rounds) → IsRefusal (g.D.Interner.universe s.provider) (g.D.DependencyProvider.may_cancel s.provider) d (IsAtLimit c.outcome-answer.new.self) e)
     (λ e. IsRefusal (g.D.Interner.universe p) (g.D.DependencyProvider.may_cancel p) root (IsAtLimit c.outcome-answer.new.self) e)
-    (λ e h. let For : g.row.D.Denot → Type 0 = λ q. IsRefusal (g.D.Interner.universe q) (g.D.DependencyProvider.may_cancel q) root (IsAtLimit c.outcome-answer.new.self) e in subst For provider (h root w.0 done))
+    (λ e h. let For : g.row.D.Denot → Type 0 = λ q. IsRefusal (g.D.Interner.universe q) (g.D.DependencyProvider.may_cancel q) root (IsAtLimit c.outcome-answer.new.self) e in subst For provider (h root (map Solvable w.0 ++ c.listed_soft_requirements.result.now) done))
     c.outcome-answer.result c.outcome-answer.ensures.refusal

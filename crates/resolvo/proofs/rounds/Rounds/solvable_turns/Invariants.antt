@@ -1,8 +1,10 @@
 use Rattle.std.proofs.Common.{[]}
+use Rattle.std.specs.Prelude.{map}
 use Rattle.resolver_clause_store.specs.Caches.{IsTrueCache}
 use Rattle.resolver_clause_store.specs.Universe.{Demands}
+use Rattle.resolver_clause_store.specs.declared.SoftRequirement.TheVariants.{Solvable}
 use Rattle.resolvo.specs.RoundStates.{AreRounds, HasAllClauses, IsBetween, IsStill, KeepsRoom}
-use Rattle.resolvo.proofs.rounds.Rounds.all_turns.Given as goal
+use Rattle.resolvo.proofs.rounds.Rounds.solvable_turns.Given as goal
 
 abbrev pub invariant-loop-solvable : goal.invariant-loop-solvable
 invariant-loop-solvable g l = record {
@@ -11,5 +13,5 @@ invariant-loop-solvable g l = record {
   still : IsStill l.self;
   counted : HasAllClauses l.self;
   room : KeepsRoom l.fn.self l.self;
-  between : (root : Demands) → IsBetween (g.D.Interner.universe l.provider) root [] l.fn.self → IsBetween (g.D.Interner.universe l.provider) root l.yielded l.self;
+  between : (root : Demands) → IsBetween (g.D.Interner.universe l.provider) root [] l.fn.self → IsBetween (g.D.Interner.universe l.provider) root (map Solvable l.yielded) l.self;
 }

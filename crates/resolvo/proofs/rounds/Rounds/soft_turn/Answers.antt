@@ -1,0 +1,24 @@
+use Rattle.std.proofs.Common.{[], ◌∷◌, ◌++◌, subst, sym}
+use Rattle.std.specs.List.{flat_map}
+use Rattle.resolver_clause_store.specs.SoftRun.{options, own_packages}
+use Rattle.resolver_clause_store.specs.declared.SoftRequirement.{SoftRequirement}
+use Rattle.resolver_clause_store.specs.declared.SoftRequirement.TheVariants.{Solvable}
+use Rattle.resolver_encoding.proofs.Lists.{here}
+use Rattle.resolvo.specs.RoundStates.{IsBetween}
+use Rattle.resolvo.proofs.SoftTurnLemmas.{between_solvable, gathered_last, standing_for}
+use Rattle.resolvo.proofs.rounds.Rounds.soft_turn.Goals as goal
+
+pub returns-in_ok-turn-in-Solvable-clause-between : goal.returns-in_ok-turn-in-Solvable-clause-between
+returns-in_ok-turn-in-Solvable-clause-between g c = λ root done b.
+    let u = g.D.Interner.universe c.args.provider.now in
+    let s = c.in-Solvable.solvable in
+    let r : SoftRequirement g.row.S.Denot = Solvable s in
+    let Between : SoftRequirement g.row.S.Denot → Type 0 = λ q. IsBetween u root (done ++ q ∷ []) c.turn.new.self in
+    subst Between (sym c.in-Solvable.is) (between_solvable u root done s c.args.self.now c.turn.new.self _ b
+    (c.in_ok-turn-in-Solvable.ensures.turned root b.taken b.refused (flat_map (options u) (done ++ r ∷ [])) (flat_map (own_packages u) (done ++ r ∷ [])) (gathered_last (options u) done r s (here s [])) (standing_for u root done r b.taken b.refused c.args.self.now b.standing)))
+
+pub returns-in_ok-version_set_turn-in-Matching-clause-between : goal.returns-in_ok-version_set_turn-in-Matching-clause-between
+returns-in_ok-version_set_turn-in-Matching-clause-between g c = λ root done b.
+    let u = g.D.Interner.universe c.args.provider.now in
+    let Between : SoftRequirement g.row.S.Denot → Type 0 = λ q. IsBetween u root (done ++ q ∷ []) c.version_set_turn.new.self in
+    subst Between (sym c.in-Matching.is) (c.in_ok-version_set_turn-in-Matching.ensures.between root done b)

@@ -1,0 +1,263 @@
+//! The turns of soft requirements, once there is an answer without them.
+
+ghost use Rattle.std.specs.Iterator.{Drains, IsFinite};
+ghost use Rattle.std.specs.Prelude.{◌≡◌, ◌++◌, ◌∷◌, [], All, Contains, IfErr, IfOk, IfSome, List, MatchBool, OnOk, length, map};
+ghost use Rattle.resolver_clause_store.specs.Candidates.{matching};
+ghost use Rattle.resolver_clause_store.specs.Caches.{IsTrueCache};
+ghost use Rattle.resolver_clause_store.specs.Laws.{IsIdentity};
+ghost use Rattle.resolver_clause_store.specs.Lists.{IsWithin, Meets};
+ghost use Rattle.resolver_clause_store.specs.Universe.{Demands};
+ghost use Rattle.resolver_clause_store.specs.declared.SoftRequirement.{SoftRequirement as SoftRequirementOf};
+ghost use Rattle.resolver_clause_store.specs.declared.SoftRequirement.TheVariants.{Matching, Solvable as SoftSolvable};
+ghost use Rattle.resolver_encoding.specs.Refusals.{IsStop};
+ghost use Rattle.resolver_encoding.specs.Turns.{AsksOnly};
+ghost use Rattle.resolvo.specs.Problems.{AreItems};
+
+use super::Rounds;
+use indexmap::IndexSet;
+use resolver_clause_store::{
+    Cache, DependencyProvider, Interner, Interrupted, Requirement, SoftRequirement, VersionSetId,
+    is_among, requirement_candidates,
+};
+use std::hash::Hash;
+
+/// Whether the set has one of the list.
+fn has_any<T: Eq + Hash>(set: &IndexSet<T>, list: &[T]) -> bool
+    requires { IsIdentity T.eq }
+    ensures { MatchBool result (Meets list.now set.now.keys) (Meets list.now set.now.keys → ⊥) }
+{
+    for member in list {
+        if is_among(set, member) {
+            return true;
+        }
+    }
+    false
+}
+
+impl<N: Copy + Eq + Hash + Drop, S: Copy + Eq + Hash + Drop> Rounds<N, S> {
+    ghost use Rattle.resolvo.specs.RoundStates.{AreRounds, HasAllClauses, HaveTurned, IsBetween, IsStanding, IsStill, IsStuck, IsUpToDate, KeepsRoom, chosen_of, notes_of};
+
+    /// The turns of candidates, of packages that were asked, until one is accepted. Answers whether one is.
+    fn take_first<D: DependencyProvider<NameId = N, SolvableId = S>>(
+        &mut self,
+        provider: &D,
+        cache: &mut Cache<N, S>,
+        candidates: &[S],
+    ) -> Result<bool, Interrupted<D::Cancel>>
+        requires rounds { AreRounds (D.universe provider.now) self.old }
+        requires still { IsStill self.old }
+        requires counted { HasAllClauses self.old }
+        requires is_true { IsTrueCache (D.universe provider.now) cache.old }
+        requires asked { All (λ s. Contains (notes_of self.old).asked ((D.universe provider.now).name s)) candidates.now }
+        requires none { Meets candidates.now (chosen_of self.old) → ⊥ }
+        ensures is_true { IsTrueCache (D.universe provider.now) cache.new }
+        ensures rounds { OnOk result (AreRounds (D.universe provider.now) self.new) }
+        ensures still { OnOk result (IsStill self.new) }
+        ensures counted { OnOk result (HasAllClauses self.new) }
+        ensures turned { IfOk result (λ is_chosen. (root : Demands) (taken refused seeds : List S) (packages : List N) → IsWithin candidates.now seeds → IsStanding (D.universe provider.now) root taken refused seeds packages self.old → HaveTurned (D.universe provider.now) root taken seeds packages candidates.now self.old self.new is_chosen) }
+        ensures limits { KeepsRoom self.old self.new }
+        ensures refusal { IfErr result (IsStop (D.may_cancel provider.now) (IsStuck self.new)) }
+    {
+        for candidate in candidates {
+            if self.turn(provider, cache, *candidate)? {
+                return Ok(true);
+            }
+        }
+        Ok(false)
+    }
+
+    /// Asks the package of a version set, and loads what it locks and excludes.
+    fn ask<D: DependencyProvider<NameId = N, SolvableId = S>>(
+        &mut self,
+        provider: &D,
+        cache: &mut Cache<N, S>,
+        version_set: VersionSetId,
+    ) -> Result<(), Interrupted<D::Cancel>>
+        requires rounds { AreRounds (D.universe provider.now) self.old }
+        requires still { IsStill self.old }
+        requires is_true { IsTrueCache (D.universe provider.now) cache.old }
+        ensures is_true { IsTrueCache (D.universe provider.now) cache.new }
+        ensures rounds { OnOk result (AreRounds (D.universe provider.now) self.new) }
+        ensures still { OnOk result (IsStill self.new) }
+        ensures counted { OnOk result (HasAllClauses self.new) }
+        ensures chosen { OnOk result (chosen_of self.new ≡ chosen_of self.old) }
+        ensures alone { OnOk result (AsksOnly (D.universe provider.now) ((D.universe provider.now).version_set_name version_set) (notes_of self.old) (notes_of self.new)) }
+        ensures standing { OnOk result ((root : Demands) (taken refused seeds : List S) (packages : List N) → Contains packages ((D.universe provider.now).version_set_name version_set) → IsStanding (D.universe provider.now) root taken refused seeds packages self.old → IsStanding (D.universe provider.now) root taken refused seeds packages self.new) }
+        ensures limits { KeepsRoom self.old self.new }
+        ensures refusal { IfErr result (IsStop (D.may_cancel provider.now) (IsStuck self.new)) }
+    {
+        let name = provider.version_set_name(version_set);
+        self.encoding.ask(provider, cache, name)?;
+        self.load(provider)?;
+        Ok(())
+    }
+
+    /// The turn of a version set: the first of its candidates that fits is taken. If one is chosen already, nothing happens.
+    fn version_set_turn<D: DependencyProvider<NameId = N, SolvableId = S>>(
+        &mut self,
+        provider: &D,
+        cache: &mut Cache<N, S>,
+        version_set: VersionSetId,
+    ) -> Result<(), Interrupted<D::Cancel>>
+        requires rounds { AreRounds (D.universe provider.now) self.old }
+        requires still { IsStill self.old }
+        requires counted { HasAllClauses self.old }
+        requires is_true { IsTrueCache (D.universe provider.now) cache.old }
+        ensures is_true { IsTrueCache (D.universe provider.now) cache.new }
+        ensures rounds { OnOk result (AreRounds (D.universe provider.now) self.new) }
+        ensures still { OnOk result (IsStill self.new) }
+        ensures counted { OnOk result (HasAllClauses self.new) }
+        ensures between { OnOk result ((root : Demands) (done : List (SoftRequirementOf S)) → IsBetween (D.universe provider.now) root done self.old → IsBetween (D.universe provider.now) root (done ++ Matching version_set ∷ []) self.new) }
+        ensures limits { KeepsRoom self.old self.new }
+        ensures refusal { IfErr result (IsStop (D.may_cancel provider.now) (IsStuck self.new)) }
+    {
+        let candidates = requirement_candidates(cache, provider, Requirement::Single(version_set))?;
+        if has_any(self.chosen.solvables(), &candidates) {
+            return Ok(());
+        }
+        self.ask(provider, cache, version_set)?;
+        self.take_first(provider, cache, &candidates)?;
+        Ok(())
+    }
+
+    /// The turn of one soft requirement.
+    fn soft_turn<D: DependencyProvider<NameId = N, SolvableId = S>>(
+        &mut self,
+        provider: &D,
+        cache: &mut Cache<N, S>,
+        requirement: SoftRequirement<S>,
+    ) -> Result<(), Interrupted<D::Cancel>>
+        requires rounds { AreRounds (D.universe provider.now) self.old }
+        requires still { IsStill self.old }
+        requires counted { HasAllClauses self.old }
+        requires is_true { IsTrueCache (D.universe provider.now) cache.old }
+        ensures is_true { IsTrueCache (D.universe provider.now) cache.new }
+        ensures rounds { OnOk result (AreRounds (D.universe provider.now) self.new) }
+        ensures still { OnOk result (IsStill self.new) }
+        ensures counted { OnOk result (HasAllClauses self.new) }
+        ensures between { OnOk result ((root : Demands) (done : List (SoftRequirementOf S)) → IsBetween (D.universe provider.now) root done self.old → IsBetween (D.universe provider.now) root (done ++ requirement ∷ []) self.new) }
+        ensures limits { KeepsRoom self.old self.new }
+        ensures refusal { IfErr result (IsStop (D.may_cancel provider.now) (IsStuck self.new)) }
+    {
+        match requirement {
+            SoftRequirement::Solvable(solvable) => {
+                self.turn(provider, cache, solvable)?;
+                Ok(())
+            }
+            SoftRequirement::Matching(version_set) => {
+                self.version_set_turn(provider, cache, version_set)?;
+                Ok(())
+            }
+        }
+    }
+
+    /// The turns of soft requirements that are solvables, in their order.
+    fn solvable_turns<D: DependencyProvider<NameId = N, SolvableId = S>, I: Iterator<Item = S> + Drop>(
+        &mut self,
+        provider: &D,
+        cache: &mut Cache<N, S>,
+        soft: I,
+    ) -> Result<(), Interrupted<D::Cancel>>
+        requires can_next { I.can_next soft }
+        requires ends { IsFinite (I.remaining soft) }
+        requires rounds { AreRounds (D.universe provider.now) self.old }
+        requires still { IsStill self.old }
+        requires counted { HasAllClauses self.old }
+        requires is_true { IsTrueCache (D.universe provider.now) cache.old }
+        ensures is_true { IsTrueCache (D.universe provider.now) cache.new }
+        ensures rounds { OnOk result (AreRounds (D.universe provider.now) self.new) }
+        ensures still { OnOk result (IsStill self.new) }
+        ensures counted { OnOk result (HasAllClauses self.new) }
+        ensures between { OnOk result ((root : Demands) → IsBetween (D.universe provider.now) root [] self.old → (items : List S) × Drains I.next_gives soft items × IsBetween (D.universe provider.now) root (map SoftSolvable items) self.new) }
+        ensures limits { KeepsRoom self.old self.new }
+        ensures refusal { IfErr result (IsStop (D.may_cancel provider.now) (IsStuck self.new)) }
+    {
+        for solvable in soft {
+            self.soft_turn(provider, cache, SoftRequirement::Solvable(solvable))?;
+        }
+        Ok(())
+    }
+
+    /// The turns of the soft requirements of a list, in its order.
+    fn list_turns<D: DependencyProvider<NameId = N, SolvableId = S>>(
+        &mut self,
+        provider: &D,
+        cache: &mut Cache<N, S>,
+        list: &[SoftRequirement<S>],
+    ) -> Result<(), Interrupted<D::Cancel>>
+        requires rounds { AreRounds (D.universe provider.now) self.old }
+        requires still { IsStill self.old }
+        requires counted { HasAllClauses self.old }
+        requires is_true { IsTrueCache (D.universe provider.now) cache.old }
+        ensures is_true { IsTrueCache (D.universe provider.now) cache.new }
+        ensures rounds { OnOk result (AreRounds (D.universe provider.now) self.new) }
+        ensures counted { OnOk result (HasAllClauses self.new) }
+        ensures between { OnOk result ((root : Demands) (done : List (SoftRequirementOf S)) → IsBetween (D.universe provider.now) root done self.old → IsBetween (D.universe provider.now) root (done ++ list.now) self.new) }
+        ensures limits { KeepsRoom self.old self.new }
+        ensures refusal { IfErr result (IsStop (D.may_cancel provider.now) (IsStuck self.new)) }
+    {
+        for requirement in list {
+            self.soft_turn(provider, cache, *requirement)?;
+        }
+        Ok(())
+    }
+
+    /// The turns of soft requirements that are solvables, if there are some.
+    fn given_turns<D: DependencyProvider<NameId = N, SolvableId = S>, I: Iterator<Item = S> + Drop>(
+        &mut self,
+        provider: &D,
+        cache: &mut Cache<N, S>,
+        soft: Option<I>,
+    ) -> Result<(), Interrupted<D::Cancel>>
+        requires can_next { IfSome soft (λ it. I.can_next it) }
+        requires ends { IfSome soft (λ it. IsFinite (I.remaining it)) }
+        requires rounds { AreRounds (D.universe provider.now) self.old }
+        requires still { IsStill self.old }
+        requires counted { HasAllClauses self.old }
+        requires is_true { IsTrueCache (D.universe provider.now) cache.old }
+        ensures is_true { IsTrueCache (D.universe provider.now) cache.new }
+        ensures rounds { OnOk result (AreRounds (D.universe provider.now) self.new) }
+        ensures still { OnOk result (IsStill self.new) }
+        ensures counted { OnOk result (HasAllClauses self.new) }
+        ensures between { OnOk result ((root : Demands) → IsBetween (D.universe provider.now) root [] self.old → (items : List S) × AreItems I.next_gives soft items × IsBetween (D.universe provider.now) root (map SoftSolvable items) self.new) }
+        ensures limits { KeepsRoom self.old self.new }
+        ensures refusal { IfErr result (IsStop (D.may_cancel provider.now) (IsStuck self.new)) }
+    {
+        match soft {
+            Some(soft) => {
+                self.solvable_turns(provider, cache, soft)?;
+                Ok(())
+            }
+            None => Ok(()),
+        }
+    }
+
+    /// The turns of all soft requirements: of the given solvables, and then of the list.
+    pub(super) fn soft_turns<
+        D: DependencyProvider<NameId = N, SolvableId = S>,
+        I: Iterator<Item = S> + Drop,
+    >(
+        &mut self,
+        provider: &D,
+        cache: &mut Cache<N, S>,
+        soft: Option<I>,
+        list: &[SoftRequirement<S>],
+    ) -> Result<(), Interrupted<D::Cancel>>
+        requires can_next { IfSome soft (λ it. I.can_next it) }
+        requires ends { IfSome soft (λ it. IsFinite (I.remaining it)) }
+        requires rounds { AreRounds (D.universe provider.now) self.old }
+        requires still { IsStill self.old }
+        requires counted { HasAllClauses self.old }
+        requires is_true { IsTrueCache (D.universe provider.now) cache.old }
+        ensures is_true { IsTrueCache (D.universe provider.now) cache.new }
+        ensures rounds { OnOk result (AreRounds (D.universe provider.now) self.new) }
+        ensures counted { OnOk result (HasAllClauses self.new) }
+        ensures between { OnOk result ((root : Demands) → IsBetween (D.universe provider.now) root [] self.old → (items : List S) × AreItems I.next_gives soft items × IsBetween (D.universe provider.now) root (map SoftSolvable items ++ list.now) self.new) }
+        ensures limits { KeepsRoom self.old self.new }
+        ensures refusal { IfErr result (IsStop (D.may_cancel provider.now) (IsStuck self.new)) }
+    {
+        self.given_turns(provider, cache, soft)?;
+        self.list_turns(provider, cache, list)?;
+        Ok(())
+    }
+}
