@@ -24,3 +24,5 @@ pub mod SoftLemmas
 pub mod OutcomeLemmas
 pub mod FirstChoiceExamples
 pub mod ReadInTurnLemmas
+pub mod SameLemmas
+pub mod MinimalLemmas
