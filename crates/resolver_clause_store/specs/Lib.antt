@@ -26,3 +26,4 @@ pub mod Queues
 pub mod Scores
 pub mod Rules
 pub mod TrueRules
+pub mod SameRules

@@ -1,7 +1,11 @@
 //! What a conflict says of sets of solvables.
 
-use crate::data::{By, Requirement};
+ghost use Rattle.std.specs.Prelude.{◌≡◌, IfErr, IfOk};
+ghost use Rattle.resolver_clause_store.specs.SameRules.{StatesTheSame, lists_of};
+
+use crate::data::{By, Exhausted, Requirement};
 use crate::ids::{StringId, VersionSetId};
+use std::alloc::AllocError;
 
 /// A rule that a set of solvables obeys or breaks.
 ///
@@ -45,4 +49,66 @@ pub enum Rule<N, S> {
         name: N,
         instance: S,
     },
+}
+
+/// A copy of each list, in their order.
+fn copy_lists<S: Copy + Drop>(lists: &Vec<Vec<S>>) -> Result<Vec<Vec<S>>, AllocError>
+    ensures { IfOk result (λ copies. lists_of lists.now.items ≡ lists_of copies.items) }
+{
+    let alloc = *lists.allocator();
+    let mut copies = Vec::new(alloc);
+    for list in lists {
+        let copy = Vec::from_slice(alloc, list)?;
+        copies.push(copy)?;
+    }
+    Ok(copies)
+}
+
+impl<N: Copy, S: Copy + Drop> Rule<N, S> {
+    /// A copy, which states the same.
+    ///
+    /// The error is [`Exhausted::Memory`] alone.
+    pub fn clone(&self) -> Result<Rule<N, S>, Exhausted>
+        ensures same { IfOk result (λ copy. StatesTheSame self.now copy) }
+        ensures memory { IfErr result (λ e. e ≡ Exhausted.Memory) }
+    {
+        match self {
+            Rule::Requires {
+                by,
+                requirement,
+                candidates,
+                when,
+            } => {
+                let listed = Vec::from_slice(*candidates.allocator(), candidates)?;
+                let lists = copy_lists(when)?;
+                Ok(Rule::Requires {
+                    by: *by,
+                    requirement: *requirement,
+                    candidates: listed,
+                    when: lists,
+                })
+            }
+            Rule::Constrains {
+                by,
+                version_set,
+                candidate,
+            } => Ok(Rule::Constrains {
+                by: *by,
+                version_set: *version_set,
+                candidate: *candidate,
+            }),
+            Rule::Lock { locked, forbidden } => Ok(Rule::Lock {
+                locked: *locked,
+                forbidden: *forbidden,
+            }),
+            Rule::Excluded { solvable, reason } => Ok(Rule::Excluded {
+                solvable: *solvable,
+                reason: *reason,
+            }),
+            Rule::OnePerPackage { name, instance } => Ok(Rule::OnePerPackage {
+                name: *name,
+                instance: *instance,
+            }),
+        }
+    }
 }

@@ -25,3 +25,5 @@ pub mod SoftTurnLemmas
 pub mod OutcomeLemmas
 pub mod FirstChoiceExamples
 pub mod ReadInTurnLemmas
+pub mod SameLemmas
+pub mod MinimalLemmas

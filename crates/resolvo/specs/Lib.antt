@@ -16,3 +16,4 @@ pub mod Resolvents
 pub mod Derivations
 pub mod ClauseSearches
 pub mod RoundStates
+pub mod Minimal

@@ -8,14 +8,19 @@ ghost use Rattle.resolver_report.specs.Graphs.{graph_of as graph_of_rules};
 ghost use Rattle.resolver_report.specs.ReachedPlaces.{AreNodesReached};
 ghost use Rattle.resolver_report.specs.ReachedRules.{IsKept};
 ghost use Rattle.resolver_report.specs.TrueEdges.{AreEdgesTrue};
+ghost use Rattle.resolver_clause_store.specs.Laws.{IsIdentity};
+ghost use Rattle.resolver_clause_store.specs.Rules.{IsIrreducible, IsRefuted};
 ghost use Rattle.resolver_clause_store.specs.TrueRules.{IsTrueRule};
+ghost use Rattle.resolvo.specs.Explanations.{Explains};
+ghost use Rattle.resolvo.specs.Minimal.{CopiesLeft, CopiesPart};
 ghost use Rattle.resolvo.specs.Solvers.{provider_in};
 
+use crate::minimal::{copies_of, left_in_turn};
 use crate::solver::Solver;
 use resolver_clause_store::{DependencyProvider, Exhausted, Interner};
 use resolver_report::{
     ConflictGraph, DisplayUnsat, Rule, graph_of, graphs_of_kept_rules_are_reached,
-    graphs_of_true_rules_are_true,
+    graphs_of_true_rules_are_true, keep_reached,
 };
 use std::hash::Hash;
 
@@ -40,6 +45,29 @@ impl<N, S> Conflict<N, S> {
 
 impl<N: Copy + Eq + Ord + Hash + Drop, S: Copy + Eq + Ord + Hash + Drop> Conflict<N, S> {
     ghost use Rattle.resolvo.specs.Conflicts.{rules_in};
+
+    /// A conflict of which no rule can be left out: without any one of its rules, some set of solvables obeys the others.
+    ///
+    /// Each rule has its turn, first to last, and is left out exactly if no set obeys those that were kept before it and
+    /// those behind it. What is left stands in its order, and there may be a smaller conflict with other rules.
+    ///
+    /// This is so where no set obeys the rules, as of each conflict that `solve` answers. The error is
+    /// [`Exhausted::Memory`] alone.
+    pub fn minimal(&self) -> Result<Conflict<N, S>, Exhausted>
+        requires names { IsIdentity N.eq }
+        requires solvables { IsIdentity S.eq }
+        ensures part { IfOk result (λ minimal. CopiesPart (rules_in self.now) (rules_in minimal)) }
+        ensures in_turn { IfOk result (λ minimal. IsRefuted (rules_in self.now) → CopiesLeft (rules_in self.now) (rules_in minimal)) }
+        ensures irreducible { IfOk result (λ minimal. IsRefuted (rules_in self.now) → IsIrreducible (rules_in minimal)) }
+        ensures explains { IfOk result (λ minimal. (u : Universe N S) (root : Demands) → Explains u root (rules_in self.now) → Explains u root (rules_in minimal)) }
+        ensures memory { IfErr result (λ e. e ≡ Exhausted.Memory) }
+    {
+        let alloc = *self.rules.allocator();
+        let marks = left_in_turn(alloc, self.rules())?;
+        let copies = copies_of(alloc, self.rules(), &marks)?;
+        let rules = keep_reached(alloc, copies)?;
+        Ok(Conflict { rules })
+    }
 
     /// The graph of the rules. What the solver has done since does not matter, since nothing of it is read.
     ///

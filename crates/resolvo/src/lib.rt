@@ -7,6 +7,7 @@ mod conflict;
 mod contradiction;
 #[cfg(test)]
 mod encoding_tests;
+mod minimal;
 mod owners;
 mod problem;
 mod propagate;

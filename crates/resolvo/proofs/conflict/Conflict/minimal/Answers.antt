@@ -1,0 +1,24 @@
+use Rattle.resolvo.proofs.MinimalLemmas.{minimal_explains, minimal_irreducible, minimal_left, minimal_part}
+use Rattle.resolvo.specs.Conflicts.{rules_in}
+use Rattle.resolvo.specs.Minimal.{marked}
+use Rattle.resolvo.proofs.conflict.Conflict.minimal.Goals as goal
+
+pub returns-clause-part : goal.returns-clause-part
+returns-clause-part g c =
+    minimal_part (rules_in c.args.self.now) (marked c.in_ok-marks.marks.items (rules_in c.args.self.now)) c.in_ok-copies.copies.items c.in_ok-rules.rules.items
+    (rw c.rules.ensures at c.in_ok-marks.ensures.left) (rw (c.deref.ensures.value, c.rules-2.ensures) at c.in_ok-copies.ensures.same) c.in_ok-rules.ensures.left
+
+pub returns-clause-in_turn : goal.returns-clause-in_turn
+returns-clause-in_turn g c = λ refuted.
+    minimal_left (rules_in c.args.self.now) (marked c.in_ok-marks.marks.items (rules_in c.args.self.now)) c.in_ok-copies.copies.items c.in_ok-rules.rules.items
+    (rw c.rules.ensures at c.in_ok-marks.ensures.left) (rw (c.deref.ensures.value, c.rules-2.ensures) at c.in_ok-copies.ensures.same) c.in_ok-rules.ensures.left refuted c.in_ok-rules.ensures.refuted
+
+pub returns-clause-irreducible : goal.returns-clause-irreducible
+returns-clause-irreducible g c = λ refuted.
+    minimal_irreducible (rules_in c.args.self.now) (marked c.in_ok-marks.marks.items (rules_in c.args.self.now)) c.in_ok-copies.copies.items c.in_ok-rules.rules.items
+    (rw c.rules.ensures at c.in_ok-marks.ensures.left) (rw (c.deref.ensures.value, c.rules-2.ensures) at c.in_ok-copies.ensures.same) c.in_ok-rules.ensures.left refuted c.in_ok-rules.ensures.refuted
+
+pub returns-clause-explains : goal.returns-clause-explains
+returns-clause-explains g c =
+    minimal_explains (rules_in c.args.self.now) (marked c.in_ok-marks.marks.items (rules_in c.args.self.now)) c.in_ok-copies.copies.items c.in_ok-rules.rules.items
+    (rw c.rules.ensures at c.in_ok-marks.ensures.left) (rw (c.deref.ensures.value, c.rules-2.ensures) at c.in_ok-copies.ensures.same) c.in_ok-rules.ensures.left c.in_ok-rules.ensures.refuted c.in_ok-rules.ensures.again
