@@ -5,6 +5,7 @@ ghost use Rattle.resolver_clause_store.specs.Laws.{HasLawfulIds, HasLawfulPackag
 ghost use Rattle.resolve.specs.declared.request.InputError.TheVariants.{Exhausted as RanOut};
 ghost use Rattle.resolve.specs.Catalogs.{IsFound, IsUnfound, catalog_universe};
 ghost use Rattle.resolve.specs.declared.ids.SolvableId.{SolvableId};
+ghost use Rattle.resolver_clause_store.specs.declared.SoftRequirement.TheVariants.{Solvable as SoftSolvable};
 
 use crate::catalog::Catalog;
 use crate::condition::ConditionStep;
@@ -13,7 +14,8 @@ use crate::lines::Lines;
 use crate::statement::{LineError, Statement, parse_line};
 use crate::words::{SolvableText, Spec};
 use resolver_clause_store::{
-    ConditionId, ConditionalRequirement, Exhausted, LogicalOperator, Requirement, VersionSetId,
+    ConditionId, ConditionalRequirement, Exhausted, LogicalOperator, Requirement, SoftRequirement,
+    VersionSetId,
 };
 use std::alloc::Global;
 
@@ -25,7 +27,7 @@ pub struct Request {
     pub requirements: Vec<ConditionalRequirement>,
     pub constraints: Vec<VersionSetId>,
     /// In the order of their statements.
-    pub soft_requirements: Vec<SolvableId>,
+    pub soft_requirements: Vec<SoftRequirement<SolvableId>>,
 }
 
 /// Why an input gives no request.
@@ -100,6 +102,7 @@ impl Request {
             Statement::Require { union, condition } => self.require(&union, &condition),
             Statement::Constrain(spec) => self.constrain(spec),
             Statement::Soft(solvable) => self.add_soft_requirement(solvable),
+            Statement::SoftMatching(spec) => self.add_soft_version_set(spec),
         }
     }
 
@@ -188,12 +191,21 @@ impl Request {
     /// Asks for the solvable where it can be taken, if it was declared. Answers whether it was.
     fn add_soft_requirement(&mut self, solvable: SolvableText<'_>) -> Result<bool, Exhausted>
         ensures only { self.new ≡ record self.old { soft_requirements = self.new.soft_requirements } }
-        ensures added { IfOk result (λ declared. MatchBool declared ((s : SolvableId) × IsFound self.old.catalog solvable.entry.name.now solvable.entry.version s × (self.new.soft_requirements.items ≡ self.old.soft_requirements.items ++ s ∷ [])) ((self.new.soft_requirements.items ≡ self.old.soft_requirements.items) × IsUnfound self.old.catalog solvable.entry.name.now solvable.entry.version)) }
+        ensures added { IfOk result (λ declared. MatchBool declared ((s : SolvableId) × IsFound self.old.catalog solvable.entry.name.now solvable.entry.version s × (self.new.soft_requirements.items ≡ self.old.soft_requirements.items ++ SoftSolvable s ∷ [])) ((self.new.soft_requirements.items ≡ self.old.soft_requirements.items) × IsUnfound self.old.catalog solvable.entry.name.now solvable.entry.version)) }
     {
         let Some(found) = self.catalog.find_solvable(solvable.name, solvable.version) else {
             return Ok(false);
         };
-        self.soft_requirements.push(found)?;
+        self.soft_requirements
+            .push(SoftRequirement::Solvable(found))?;
+        Ok(true)
+    }
+
+    /// Asks for one of the versions where one can be taken. A package without candidates is no bad statement.
+    fn add_soft_version_set(&mut self, spec: Spec<'_>) -> Result<bool, Exhausted> {
+        let version_set = self.version_set(spec)?;
+        self.soft_requirements
+            .push(SoftRequirement::Matching(version_set))?;
         Ok(true)
     }
 

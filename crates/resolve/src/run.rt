@@ -218,7 +218,7 @@ fn solve_request(alloc: Global, request: Request) -> Result<Outcome, Fault>
     let problem = Problem::new()
         .requirements(request.requirements)
         .constraints(request.constraints)
-        .soft_requirements(request.soft_requirements.into_iter());
+        .soft_list(request.soft_requirements);
     let mut solver = Solver::new(alloc, request.catalog);
     let answered = solver.solve(problem);
     let outcome = outcome_of(alloc, &solver, &answered);

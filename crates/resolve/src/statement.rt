@@ -61,6 +61,9 @@ pub enum Statement<'a> {
 
     /// The problem takes the solvable where it can.
     Soft(SolvableText<'a>),
+
+    /// The problem takes one of these versions where it can.
+    SoftMatching(Spec<'a>),
 }
 
 /// Why a line gives no statement.
@@ -157,7 +160,23 @@ fn parse_short_statement<'a>(keyword: &[u8], words: Words<'a>) -> Option<Stateme
             let (solvable, reason) = parse_reasoned(words)?;
             Some(Statement::Exclude { solvable, reason })
         }
+        b"soft" => parse_soft(words),
         _ => parse_solvable_statement(keyword, last_solvable(words)?),
+    }
+}
+
+/// Reads the next word, if no other follows, as a solvable or else as a spec.
+fn parse_soft(mut words: Words<'_>) -> Option<Statement<'_>>
+    ensures { IfSome result IsWellFormed }
+{
+    let word = words.next()?;
+    let statement = match parse_solvable(word) {
+        Some(solvable) => Statement::Soft(solvable),
+        None => Statement::SoftMatching(parse_spec(word)?),
+    };
+    match words.next() {
+        Some(_) => None,
+        None => Some(statement),
     }
 }
 
@@ -170,7 +189,6 @@ fn parse_solvable_statement<'a>(keyword: &[u8], solvable: SolvableText<'a>) -> O
         b"package" => Some(Statement::Package(solvable)),
         b"favor" => Some(Statement::Favor(solvable)),
         b"lock" => Some(Statement::Lock(solvable)),
-        b"soft" => Some(Statement::Soft(solvable)),
         _ => None,
     }
 }

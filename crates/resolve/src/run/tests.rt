@@ -569,6 +569,36 @@ fn the_root_takes_no_lower_version_for_a_soft_requirement(rt: HostRuntime) {
 }
 
 #[test]
+fn a_soft_version_set_takes_what_the_lock_leaves(rt: HostRuntime) {
+    let input = "package a=1\npackage a=2\npackage a=3\nlock a=2\nsoft a@1..4\n";
+    expect_answer(&rt, rt.alloc(), input, "a=2\n");
+}
+
+#[test]
+fn soft_version_sets_and_solvables_keep_their_order(rt: HostRuntime) {
+    let first = "package x=1\npackage y=1\npackage y=2\nrequires x=1 y@1\nsoft y\nsoft x=1\n";
+    expect_answer(&rt, rt.alloc(), first, "y=2\n");
+    let second = "package x=1\npackage y=1\npackage y=2\nrequires x=1 y@1\nsoft x=1\nsoft y\n";
+    expect_answer(&rt, rt.alloc(), second, "x=1\ny=1\n");
+}
+
+#[test]
+fn a_soft_version_set_asks_its_package(rt: HostRuntime) {
+    let first = "package t=1\nexclude t=1 old\nsoft t\nsoft t=1\n";
+    expect_answer(&rt, rt.alloc(), first, "");
+    let second = "package t=1\nexclude t=1 old\nsoft t=1\nsoft t\n";
+    expect_answer(&rt, rt.alloc(), second, "t=1\n");
+}
+
+#[test]
+fn a_soft_version_set_takes_the_first_version_that_fits(rt: HostRuntime) {
+    let input = "package a=1\npackage a=2\nrequires a=2 missing\nsoft a\n";
+    expect_answer(&rt, rt.alloc(), input, "a=1\n");
+    expect_answer(&rt, rt.alloc(), "soft nothing\n", "");
+    expect_run(&rt, rt.alloc(), "soft a b\n", "", "resolve: line 1: bad statement\n", 2);
+}
+
+#[test]
 fn a_union_that_overlaps_itself(rt: HostRuntime) {
     let input = "package a=1\npackage a=2\nrequire a@1..3 | a@2\n";
     expect_answer(&rt, rt.alloc(), input, "a=2\n");

@@ -103,6 +103,7 @@ fn statements_of_one_solvable(rt: HostRuntime) -> Result<(), Fail> {
     assert!(rt; states(alloc, "soft a=1", &Statement::Soft(A_1))?);
     assert!(rt; states_soft(alloc, "soft Az0_9-.if=4294967295", "Az0_9-.if", 4294967295)?);
     assert!(rt; states_soft(alloc, "soft ..=0", "..", 0)?);
+    assert!(rt; states(alloc, "soft a", &Statement::SoftMatching(all("a")))?);
     Ok(())
 }
 
@@ -319,8 +320,10 @@ fn bad_forms(rt: HostRuntime) {
         "lock",
         "lock a=1 b=1",
         "soft",
-        "soft a",
+        "soft a b",
+        "soft a | b",
         "soft a=1 b=1",
+        "soft a=1 b",
         "constrain",
         "constrain a b",
         "constrain a | b",

@@ -83,6 +83,13 @@ struct Taken {
     set: u32,
 }
 
+/// A soft requirement: a solvable by its place, or the versions of a package from one up to but not including another.
+#[derive(Clone, Copy)]
+pub enum Soft {
+    Solvable(u32),
+    Versions { package: u32, low: u32, high: u32 },
+}
+
 /// A problem, and what is still to be drawn.
 #[derive(Drop)]
 pub struct RandomProblem {
@@ -131,10 +138,24 @@ impl RandomProblem {
         }
     }
 
-    /// A soft requirement: a place, in some cases the one after the listed ones.
-    pub fn soft_requirement(&mut self) -> u32 {
-        let count = self.count;
-        self.random.below(count.wrapping_add(1))
+    /// A soft requirement: some versions of a package, or a solvable, in some cases the one after the listed ones.
+    pub fn soft_requirement(&mut self) -> Soft {
+        let count = self.count.wrapping_add(1);
+        if self.random.below(3) == 0 {
+            let package = self.random.below(4);
+            let low = self.random.below(count);
+            let high = low.wrapping_add(self.random.below(count)).wrapping_add(1);
+            return Soft::Versions { package, low, high };
+        }
+        Soft::Solvable(self.random.below(count))
+    }
+
+    /// The solvables of which one meets a soft requirement.
+    pub fn options(&self, soft: Soft) -> u32 {
+        match soft {
+            Soft::Solvable(place) => digit(place),
+            Soft::Versions { package, low, high } => self.listed(digit(package), low, high),
+        }
     }
 
     /// The listed solvables of these packages with a place from one up to but not including another.
@@ -149,7 +170,7 @@ impl RandomProblem {
     }
 
     /// The name of a package.
-    fn name(package: u32) -> &'static str {
+    pub fn name(package: u32) -> &'static str {
         match NAMES.get(package as usize) {
             None => "m",
             Some(name) => name,

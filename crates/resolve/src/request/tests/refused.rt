@@ -3,10 +3,9 @@
 //! The turns of a problem are seen by solving it with the first of its soft requirements, then with the first two, and
 //! so on: a solver takes the same turns each time.
 
-use super::random_problems::{RandomProblem, Statement};
+use super::random_problems::{RandomProblem, Soft, Statement};
 use super::solving;
 use super::solving::{Asked, Solved, digit, set_of};
-use crate::ids::SolvableId;
 use resolvo::UnsolvableOrCancelled;
 use std::alloc::Global;
 use std::test::Fail;
@@ -29,6 +28,9 @@ enum Turn {
     Accepted,
     Exempt,
     Refused,
+    /// A candidate of a version set was accepted, or each was refused.
+    Matched,
+    Unmatched,
 }
 
 /// How often each came, and a problem of which something is wrong.
@@ -40,6 +42,8 @@ struct Counts {
     accepted: u32,
     exempt: u32,
     refused: u32,
+    matched: u32,
+    unmatched: u32,
 }
 
 /// A run over soft requirements: what it chose, from which ones it has come, and which of them it accepted.
@@ -48,6 +52,16 @@ struct Run {
     answer: Answer,
     tried: u32,
     accepted: u32,
+    /// Packages of version sets that had their turns.
+    asked: u32,
+}
+
+/// What a turn tries: one of these solvables of a package, which may be exempt unless a version set names them.
+#[derive(Clone, Copy)]
+struct Tried {
+    options: u32,
+    package: u32,
+    may_be_exempt: bool,
 }
 
 /// What was chosen, if there is an answer.
@@ -63,7 +77,7 @@ fn answer_of(solved: &Solved) -> Result<Option<Answer>, Fail> {
 }
 
 /// What the solver chooses for an input with these soft requirements, if there is an answer.
-fn solve(alloc: Global, input: &str, soft: &[SolvableId]) -> Result<Option<Answer>, Fail> {
+fn solve(alloc: Global, input: &str, soft: &[Soft]) -> Result<Option<Answer>, Fail> {
     let asked = Asked {
         soft,
         ..Asked::new(input)
@@ -177,51 +191,104 @@ fn named_by(statement: Statement, set: u32) -> u32 {
     }
 }
 
-/// Whether an accepted solvable led from one answer to a next one that may follow. It must not be exempt where its package
-/// was certainly asked, and must be where it cannot have been.
-fn is_accepted(statements: &[Statement], run: Run, soft: u32, package: u32, after: Answer) -> bool {
+/// The packages that may have been asked.
+fn may_be_asked(statements: &[Statement], run: Run) -> u32 {
+    named(statements, near(statements, run.tried)) | run.asked
+}
+
+/// Whether a solvable is exempt as it may be: not where its package was certainly asked or a version set names it, and
+/// surely where its package cannot have been asked.
+fn is_exempt_rightly(statements: &[Statement], run: Run, tried: Tried, newly: u32) -> bool {
+    if !tried.may_be_exempt {
+        return newly == 0;
+    }
+    if newly != 0 {
+        return (named(statements, run.answer.chosen) | run.asked) & tried.package == 0;
+    }
+    may_be_asked(statements, run) & tried.package != 0
+}
+
+/// Whether an accepted solvable led from one answer to a next one that may follow.
+fn is_accepted(statements: &[Statement], run: Run, tried: Tried, taken: u32, after: Answer) -> bool {
     let before = run.answer;
-    let newly = after.exempt & soft;
+    let newly = after.exempt & taken;
     if after.exempt != before.exempt | newly || !is_within(before.chosen, after.chosen) {
         return false;
     }
-    if newly != 0 && named(statements, before.chosen) & package != 0 {
-        return false;
-    }
-    if newly == 0 && named(statements, near(statements, run.tried)) & package == 0 {
+    if !is_exempt_rightly(statements, run, tried, newly) {
         return false;
     }
     if !is_valid(statements, after.chosen, after.exempt) {
         return false;
     }
-    needed(statements, after.chosen, run.accepted | soft) == after.chosen
+    needed(statements, after.chosen, run.accepted | taken) == after.chosen
 }
 
-/// Whether no valid set holds what was chosen and the solvable, with the exemptions of its turn. Where its package may have
-/// been asked or not, it is taken as asked.
-fn is_refused(statements: &[Statement], run: Run, soft: u32, package: u32) -> bool {
-    let before = run.answer;
-    if named(statements, near(statements, run.tried)) & package != 0 {
-        return !fits(statements, before.chosen | soft, before.exempt);
+/// Whether no valid set holds what was chosen and one of the options, with these exemptions.
+fn none_fits(statements: &[Statement], chosen: u32, options: u32, exempt: u32) -> bool {
+    for place in 0..8u32 {
+        let option = digit(place) & options;
+        if option != 0 && fits(statements, chosen | option, exempt) {
+            return false;
+        }
     }
-    !fits(statements, before.chosen | soft, before.exempt | soft)
+    true
 }
 
-/// What the turn of a solvable came to, after which there is this answer.
-fn judge_turn(statements: &[Statement], run: Run, soft: u32, package: u32, after: Answer) -> Turn {
+/// Whether no valid set holds what was chosen and what was tried, with the exemptions of its turn. Where its package may
+/// have been asked or not, it is taken as asked.
+fn is_refused(statements: &[Statement], run: Run, tried: Tried) -> bool {
     let before = run.answer;
-    let is_same = after.chosen == before.chosen && after.exempt == before.exempt;
-    if is_within(soft, before.chosen) {
-        return if is_same { Turn::Skipped } else { Turn::Wrong };
+    if !tried.may_be_exempt || may_be_asked(statements, run) & tried.package != 0 {
+        return none_fits(statements, before.chosen, tried.options, before.exempt);
     }
-    if !is_within(soft, after.chosen) {
-        let is_right = is_same && is_refused(statements, run, soft, package);
-        return if is_right { Turn::Refused } else { Turn::Wrong };
+    none_fits(statements, before.chosen, tried.options, before.exempt | tried.options)
+}
+
+/// What the turn of a version set came to: the newest version that fits is taken.
+fn judge_matching(statements: &[Statement], run: Run, tried: Tried, taken: u32) -> Turn {
+    let newer = tried.options & !taken & !taken.wrapping_sub(1);
+    if none_fits(statements, run.answer.chosen, newer, run.answer.exempt) {
+        Turn::Matched
+    } else {
+        Turn::Wrong
     }
-    if !is_accepted(statements, run, soft, package, after) {
+}
+
+/// What a turn came to that refused what it tried.
+fn judge_refused(statements: &[Statement], run: Run, tried: Tried) -> Turn {
+    if !is_refused(statements, run, tried) {
         return Turn::Wrong;
     }
-    if is_within(soft, after.exempt) {
+    if tried.may_be_exempt {
+        Turn::Refused
+    } else {
+        Turn::Unmatched
+    }
+}
+
+/// What a turn came to, after which there is this answer.
+fn judge_turn(statements: &[Statement], run: Run, tried: Tried, after: Answer) -> Turn {
+    let before = run.answer;
+    let is_same = after.chosen == before.chosen && after.exempt == before.exempt;
+    if tried.options & before.chosen != 0 {
+        return if is_same { Turn::Skipped } else { Turn::Wrong };
+    }
+    let taken = tried.options & after.chosen;
+    if taken == 0 {
+        return if is_same {
+            judge_refused(statements, run, tried)
+        } else {
+            Turn::Wrong
+        };
+    }
+    if !is_accepted(statements, run, tried, taken, after) {
+        return Turn::Wrong;
+    }
+    if !tried.may_be_exempt {
+        return judge_matching(statements, run, tried, taken);
+    }
+    if is_within(taken, after.exempt) {
         Turn::Exempt
     } else {
         Turn::Accepted
@@ -235,6 +302,8 @@ fn count(counts: &mut Counts, seed: u64, turn: Turn) {
         Turn::Accepted => counts.accepted = counts.accepted.wrapping_add(1),
         Turn::Exempt => counts.exempt = counts.exempt.wrapping_add(1),
         Turn::Refused => counts.refused = counts.refused.wrapping_add(1),
+        Turn::Matched => counts.matched = counts.matched.wrapping_add(1),
+        Turn::Unmatched => counts.unmatched = counts.unmatched.wrapping_add(1),
     }
 }
 
@@ -250,23 +319,43 @@ fn is_first(statements: &[Statement], answer: Option<Answer>) -> bool {
     }
 }
 
+/// What a soft requirement of a problem tries.
+fn tried_by(problem: &RandomProblem, soft: Soft) -> Tried {
+    let options = problem.options(soft);
+    match soft {
+        Soft::Solvable(place) => Tried {
+            options,
+            package: digit(problem.package(place)),
+            may_be_exempt: true,
+        },
+        Soft::Versions { package, .. } => Tried {
+            options,
+            package: digit(package),
+            may_be_exempt: false,
+        },
+    }
+}
+
 /// Gives a problem one more soft requirement, and judges its turn.
 fn take_turn(
     alloc: Global,
     problem: &mut RandomProblem,
-    soft: &mut Vec<SolvableId>,
+    soft: &mut Vec<Soft>,
     run: &mut Run,
 ) -> Result<Turn, Fail> {
-    let place = problem.soft_requirement();
-    soft.push(SolvableId(place))?;
+    let drawn = problem.soft_requirement();
+    soft.push(drawn)?;
     let Some(after) = solve(alloc, &problem.input, soft)? else {
         return Ok(Turn::Wrong);
     };
-    let package = digit(problem.package(place));
-    let turn = judge_turn(&problem.statements, *run, digit(place), package, after);
+    let tried = tried_by(problem, drawn);
+    let turn = judge_turn(&problem.statements, *run, tried, after);
+    if !tried.may_be_exempt && tried.options & run.answer.chosen == 0 {
+        run.asked |= tried.package;
+    }
+    run.accepted |= tried.options & after.chosen & !run.answer.chosen;
     run.answer = after;
-    run.tried |= digit(place);
-    run.accepted |= digit(place) & after.chosen;
+    run.tried |= tried.options;
     Ok(turn)
 }
 
@@ -283,6 +372,7 @@ fn take_turns(
         answer: first,
         tried: 0,
         accepted: 0,
+        asked: 0,
     };
     for _ in 0..4u32 {
         let turn = take_turn(alloc, problem, &mut soft, &mut run)?;
@@ -328,6 +418,8 @@ fn judge_all(alloc: Global) -> Result<Counts, Fail> {
         accepted: 0,
         exempt: 0,
         refused: 0,
+        matched: 0,
+        unmatched: 0,
     };
     for seed in 0..PROBLEMS {
         judge(alloc, seed, &mut counts)?;
@@ -340,6 +432,8 @@ fn refused_soft_requirements_fit_into_no_valid_set(rt: HostRuntime) -> Result<()
     let counts = judge_all(rt.alloc())?;
     assert_eq!(rt; counts.wrong, None);
     assert!(rt; 50 <= counts.unsolvable && counts.unsolvable <= 150);
-    assert!(rt; 100 <= counts.accepted && 200 <= counts.exempt && 500 <= counts.refused);
+    assert!(rt; 100 <= counts.accepted && 200 <= counts.exempt && 300 <= counts.refused);
+    assert!(rt; 50 <= counts.matched);
+    assert!(rt; 50 <= counts.unmatched);
     Ok(())
 }

@@ -3,19 +3,28 @@
 use super::super::Request;
 use super::solving::request;
 use crate::ids::SolvableId;
-use resolvo::{Problem, Solver};
+use resolvo::{Problem, SoftRequirement, Solver, VersionSetId};
 use std::alloc::Global;
 use std::test::Fail;
 
-fn has_soft(alloc: Global, input: &str, wanted: &[SolvableId]) -> Result<bool, Fail> {
+fn has_soft(
+    alloc: Global,
+    input: &str,
+    wanted: &[SoftRequirement<SolvableId>],
+) -> Result<bool, Fail> {
     let request = request(alloc, input)?;
     Ok(request.soft_requirements.as_slice() == wanted)
 }
 
 #[test]
 fn soft_requirements_keep_the_order_of_their_lines(rt: HostRuntime) -> Result<(), Fail> {
-    let input = "package a=1\npackage b=1\nsoft b=1\nsoft a=1\nsoft b=1\n";
-    let wanted = [SolvableId(1), SolvableId(0), SolvableId(1)];
+    let input = "package a=1\npackage b=1\nsoft b=1\nsoft a\nsoft a=1\nsoft b=1\n";
+    let wanted = [
+        SoftRequirement::Solvable(SolvableId(1)),
+        SoftRequirement::Matching(VersionSetId(0)),
+        SoftRequirement::Solvable(SolvableId(0)),
+        SoftRequirement::Solvable(SolvableId(1)),
+    ];
     assert!(rt; has_soft(rt.alloc(), input, &wanted)?);
     Ok(())
 }
@@ -24,7 +33,7 @@ fn exempts_in(alloc: Global, request: Request, wanted: &[SolvableId]) -> bool {
     let problem = Problem::new()
         .requirements(request.requirements)
         .constraints(request.constraints)
-        .soft_requirements(request.soft_requirements.into_iter());
+        .soft_list(request.soft_requirements);
     let mut solver = Solver::new(alloc, request.catalog);
     let outcome = solver.solve(problem);
     outcome.is_ok() & (solver.exempt_solvables() == wanted)
@@ -83,5 +92,15 @@ fn accepted_ones_of_packages_that_were_not_asked_are_exempt(rt: HostRuntime) -> 
     let soft = "soft b=2\nsoft c=1\nsoft e=1\nsoft locked=1\nsoft unknown-deps=1\n";
     let wanted = [SolvableId(5), SolvableId(6)];
     assert!(rt; exempt_behind(rt.alloc(), lines, soft, &wanted)?);
+    Ok(())
+}
+
+#[test]
+fn candidates_of_a_version_set_are_not_exempt(rt: HostRuntime) -> Result<(), Fail> {
+    let locked = "package a=1\npackage a=2\npackage a=3\nlock a=2\n";
+    assert!(rt; exempt_behind(rt.alloc(), locked, "soft a@1..4\n", &[])?);
+    let excluded = "package t=1\nexclude t=1 old\n";
+    assert!(rt; exempt_behind(rt.alloc(), excluded, "soft t\nsoft t=1\n", &[])?);
+    assert!(rt; exempt_behind(rt.alloc(), excluded, "soft t=1\nsoft t\n", &[SolvableId(0)])?);
     Ok(())
 }

@@ -2,8 +2,10 @@
 
 use super::super::{InputError, Request, read_request};
 use crate::catalog::Catalog;
+use super::random_problems::{RandomProblem, Soft};
 use crate::ids::SolvableId;
-use resolvo::{Problem, Solver, UnsolvableOrCancelled};
+use crate::words::parse_spec;
+use resolvo::{Problem, SoftRequirement, Solver, UnsolvableOrCancelled, VersionSetId};
 use std::alloc::Global;
 use std::test::Fail;
 
@@ -11,7 +13,7 @@ use std::test::Fail;
 #[derive(Clone, Copy)]
 pub struct Asked<'x> {
     pub input: &'x str,
-    pub soft: &'x [SolvableId],
+    pub soft: &'x [Soft],
     pub add: u64,
     pub decay: u64,
 }
@@ -71,17 +73,53 @@ pub fn request(alloc: Global, input: &str) -> Result<Request, Fail> {
     }
 }
 
+/// Soft requirements: first solvables, and then a list of any.
+#[derive(Drop)]
+struct SoftParts {
+    first: Vec<SolvableId>,
+    list: Vec<SoftRequirement<SolvableId>>,
+}
+
+impl SoftParts {
+    /// Adds one. Solvables before the first version set are not in the list.
+    fn add(&mut self, alloc: Global, request: &mut Request, soft: Soft) -> Result<(), Fail> {
+        match soft {
+            Soft::Solvable(place) => {
+                if self.list.is_empty() {
+                    self.first.push(SolvableId(place))?;
+                } else {
+                    let solvable = SoftRequirement::Solvable(SolvableId(place));
+                    self.list.push(solvable)?;
+                }
+            }
+            Soft::Versions { package, low, high } => {
+                let name = RandomProblem::name(package);
+                let spec = format!(in alloc; "{name}@{low}..{high}")?;
+                let version_set = version_set(request, &spec)?;
+                self.list.push(SoftRequirement::Matching(version_set))?;
+            }
+        }
+        Ok(())
+    }
+}
+
+fn version_set(request: &mut Request, spec: &str) -> Result<VersionSetId, Fail> {
+    let Some(spec) = parse_spec(spec.as_bytes()) else {
+        return Err(Fail::from("no spec"));
+    };
+    match request.version_set(spec) {
+        Ok(version_set) => Ok(version_set),
+        Err(_) => Err(Fail::from("refused")),
+    }
+}
+
 /// Solves what a request states, with these soft requirements and numbers of the scores.
-fn solve_request(
-    alloc: Global,
-    request: Request,
-    soft: Vec<SolvableId>,
-    asked: Asked<'_>,
-) -> Solved {
+fn solve_request(alloc: Global, request: Request, soft: SoftParts, asked: Asked<'_>) -> Solved {
     let problem = Problem::new()
         .requirements(request.requirements)
         .constraints(request.constraints)
-        .soft_requirements(soft.into_iter());
+        .soft_list(soft.list)
+        .soft_requirements(soft.first.into_iter());
     let solver = Solver::new(alloc, request.catalog);
     let mut solver = solver.with_activity_params(asked.add, asked.decay);
     let outcome = solver.solve(problem);
@@ -94,7 +132,13 @@ fn solve_request(
 }
 
 pub fn solve(alloc: Global, asked: Asked<'_>) -> Result<Solved, Fail> {
-    let request = request(alloc, asked.input)?;
-    let soft = Vec::from_slice(alloc, asked.soft)?;
-    Ok(solve_request(alloc, request, soft, asked))
+    let mut request = request(alloc, asked.input)?;
+    let mut parts = SoftParts {
+        first: Vec::new(alloc),
+        list: Vec::new(alloc),
+    };
+    for soft in asked.soft {
+        parts.add(alloc, &mut request, *soft)?;
+    }
+    Ok(solve_request(alloc, request, parts, asked))
 }
