@@ -225,7 +225,7 @@ module _ {N S : Type 0} (u : Universe N S) where
         tried_last more listed never t =
             let Chosen : List S → Type 0 = λ c. Contains c s in
             let one = accepted_one h.taken_now (chosen_of mid) (notes_of mid).exempt (notes_of mid).asked s more t.taken_now (chosen_of new) (notes_of new).exempt true t.turned refl (h.asked (u.name s) asked)
-                (λ k. never (record { shared = s; in_first = listed; in_second = subst Chosen before.1 k })) listed in
+            (λ k. never (record { shared = s; in_first = listed; in_second = subst Chosen before.1 k })) listed in
             let Taken : List S → List S → List S → Type 0 = λ x c e. IsOneTaken u root x c e more t.taken_now (chosen_of new) true in
             let WithTaken : List S → Type 0 = λ x. Taken x (chosen_of mid) (notes_of mid).exempt in
             let WithChosen : List S → Type 0 = λ c. Taken taken c (notes_of mid).exempt in

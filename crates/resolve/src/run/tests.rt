@@ -595,7 +595,14 @@ fn a_soft_version_set_takes_the_first_version_that_fits(rt: HostRuntime) {
     let input = "package a=1\npackage a=2\nrequires a=2 missing\nsoft a\n";
     expect_answer(&rt, rt.alloc(), input, "a=1\n");
     expect_answer(&rt, rt.alloc(), "soft nothing\n", "");
-    expect_run(&rt, rt.alloc(), "soft a b\n", "", "resolve: line 1: bad statement\n", 2);
+    expect_run(
+        &rt,
+        rt.alloc(),
+        "soft a b\n",
+        "",
+        "resolve: line 1: bad statement\n",
+        2,
+    );
 }
 
 #[test]

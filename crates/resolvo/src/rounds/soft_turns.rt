@@ -152,7 +152,10 @@ impl<N: Copy + Eq + Hash + Drop, S: Copy + Eq + Hash + Drop> Rounds<N, S> {
     }
 
     /// The turns of soft requirements that are solvables, in their order.
-    fn solvable_turns<D: DependencyProvider<NameId = N, SolvableId = S>, I: Iterator<Item = S> + Drop>(
+    fn solvable_turns<
+        D: DependencyProvider<NameId = N, SolvableId = S>,
+        I: Iterator<Item = S> + Drop,
+    >(
         &mut self,
         provider: &D,
         cache: &mut Cache<N, S>,

@@ -209,7 +209,13 @@ fn is_exempt_rightly(statements: &[Statement], run: Run, tried: Tried, newly: u3
 }
 
 /// Whether an accepted solvable led from one answer to a next one that may follow.
-fn is_accepted(statements: &[Statement], run: Run, tried: Tried, taken: u32, after: Answer) -> bool {
+fn is_accepted(
+    statements: &[Statement],
+    run: Run,
+    tried: Tried,
+    taken: u32,
+    after: Answer,
+) -> bool {
     let before = run.answer;
     let newly = after.exempt & taken;
     if after.exempt != before.exempt | newly || !is_within(before.chosen, after.chosen) {
@@ -242,7 +248,12 @@ fn is_refused(statements: &[Statement], run: Run, tried: Tried) -> bool {
     if !tried.may_be_exempt || may_be_asked(statements, run) & tried.package != 0 {
         return none_fits(statements, before.chosen, tried.options, before.exempt);
     }
-    none_fits(statements, before.chosen, tried.options, before.exempt | tried.options)
+    none_fits(
+        statements,
+        before.chosen,
+        tried.options,
+        before.exempt | tried.options,
+    )
 }
 
 /// What the turn of a version set came to: the newest version that fits is taken.

@@ -1,8 +1,8 @@
 //! A solver for the problem of an input. One function owns it, and the tests see what it leaves.
 
 use super::super::{InputError, Request, read_request};
-use crate::catalog::Catalog;
 use super::random_problems::{RandomProblem, Soft};
+use crate::catalog::Catalog;
 use crate::ids::SolvableId;
 use crate::words::parse_spec;
 use resolvo::{Problem, SoftRequirement, Solver, UnsolvableOrCancelled, VersionSetId};

@@ -52,7 +52,7 @@ returns-in-Some-clause-turned g c = λ root taken refused seeds packages seed b.
     let adds = registered_adds u s (notes_of old) (notes_in e) registered in
     let same = c.in_ok-load.ensures.same in
     let loaded = standing_loaded u root taken refused seeds packages (record old { encoding = e }) new (rounds_added u old e c.requires.rounds c.register.ensures.bounded adds).variables same c.in_ok-load.ensures.turn
-        (standing_registered u root taken refused seeds packages old e c.requires.rounds adds registered.exempt b s seed registered.only registered.asked) in
+    (standing_registered u root taken refused seeds packages old e c.requires.rounds adds registered.exempt b s seed registered.only registered.asked) in
     let Stands : Encoding g.row.N.Denot g.row.S.Denot → Type 0 = λ x. slice_get (notes_in x).origins c.in_ok-variable.variable ≡ Some (SolvableOrigin s) in
     let At : Trail → Type 0 = λ t. slot_of t c.in_ok-variable.variable ≡ Some c.in-Some.slot in
     turned_from u root taken refused seeds packages s old new new c.in-Some.slot.value (ap chosen_in same.chosen) (ap (λ x. (notes_in x).exempt) same.encoding ∙ registered.exempt) (ap (λ x. (notes_in x).asked) same.encoding ∙ registered.asked)
@@ -72,7 +72,7 @@ returns-in_ok-is_chosen-in-None-clause-turned g c = λ root taken refused seeds 
     let adds = registered_adds u s (notes_of old) (notes_in e) registered in
     let same = c.in_ok-load.ensures.same in
     let loaded = standing_loaded u root taken refused seeds packages (record old { encoding = e }) mid (rounds_added u old e c.requires.rounds c.register.ensures.bounded adds).variables same c.in_ok-load.ensures.turn
-        (standing_registered u root taken refused seeds packages old e c.requires.rounds adds registered.exempt b s seed registered.only registered.asked) in
+    (standing_registered u root taken refused seeds packages old e c.requires.rounds adds registered.exempt b s seed registered.only registered.asked) in
     let Seen : Encoding g.row.N.Denot g.row.S.Denot → Type 0 = λ x. Contains (notes_in x).seen s in
     turned_from u root taken refused seeds packages s old mid _ _ (ap chosen_in same.chosen) (ap (λ x. (notes_in x).exempt) same.encoding ∙ registered.exempt) (ap (λ x. (notes_in x).asked) same.encoding ∙ registered.asked)
     (c.in_ok-is_chosen-in-None.ensures.turned root taken refused seeds packages (subst Seen (sym same.encoding) registered.here) seed loaded)
