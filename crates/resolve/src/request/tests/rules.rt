@@ -284,3 +284,25 @@ fn a_union_that_overlaps_itself_lists_each_candidate_once(rt: HostRuntime) -> Re
     assert!(rt; has_rules(rt.alloc(), input, Wanted::BothExcluded)?);
     Ok(())
 }
+
+/// Whether so many rules are left of the conflict of an input where none can be left out, and no set obeys them.
+fn has_minimal(alloc: Global, input: &str, count: usize) -> Result<bool, Fail> {
+    let solved = solve(alloc, Asked::new(input))?;
+    match &solved.outcome {
+        Err(UnsolvableOrCancelled::Unsolvable(conflict)) => match conflict.minimal() {
+            Ok(minimal) => {
+                Ok(minimal.rules().len() == count && are_refuted(alloc, minimal.rules()))
+            }
+            Err(_) => Err(Fail::from("refused")),
+        },
+        _other => Err(Fail::from("no conflict")),
+    }
+}
+
+#[test]
+fn no_rule_of_a_minimal_conflict_can_be_left_out(rt: HostRuntime) -> Result<(), Fail> {
+    assert!(rt; has_minimal(rt.alloc(), CLASH, 8)?);
+    assert!(rt; has_minimal(rt.alloc(), CLASH_BEFORE_W, 8)?);
+    assert!(rt; has_minimal(rt.alloc(), "require x\nrequire y\n", 1)?);
+    Ok(())
+}
