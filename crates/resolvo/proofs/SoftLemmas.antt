@@ -742,7 +742,7 @@ module _ {N S : Type 0} where
     between_held root done b = record { first = b.first; promise = b.promise; taken = b.taken; refused = b.refused; run = b.run; standing = standing_held root b.taken b.refused (flat_map (options u) done) (flat_map (own_packages u) done) b.standing }
 
     pub turned_held : (root : Demands) (taken refused seeds : List S) (packages : List N) (s : S) (before : Rounds N S) (is_chosen : Bool) → HasTurned u root taken refused seeds packages s before old is_chosen → HasTurned u root taken refused seeds packages s before (record old { search = search }) is_chosen
-    turned_held root taken refused seeds packages s before is_chosen h = record { taken_now = h.taken_now; refused_now = h.refused_now; turned = h.turned; standing = standing_held root h.taken_now h.refused_now seeds packages h.standing; asked = h.asked }
+    turned_held root taken refused seeds packages s before on h = record { taken_now = h.taken_now; refused_now = h.refused_now; turned = h.turned; standing = standing_held root h.taken_now h.refused_now seeds packages h.standing; asked = h.asked }
 
 -- the variable that was assumed
 pub just_assumed : (old new : ClauseSearch) (v : ℕ) → Gains (trail_of old) (trail_of new) (record { variable = v; positive = true }) (level_of (trail_of old) + 1) Assumed → base_of new ≡ level_of (trail_of old) + 1 → held_of new ≡ length_of (trail_of new) → HasAssumed new v
