@@ -4,7 +4,7 @@ ghost use Rattle.std.specs.Prelude.{◌≡◌, ◌≢◌, ◌<◌, ◌≤◌, �
 ghost use Rattle.resolver_encoding.specs.Codes.{bit};
 
 /// How many binary digits the number has. 0 has none.
-pub(crate) fn digit_count(number: usize) -> u32
+pub fn digit_count(number: usize) -> u32
     ensures each { (i : ℕ) → i < result → 2 ^ i ≤ number }
     ensures every { (i : ℕ) → 2 ^ i ≤ number → i < result }
     ensures small { result ≤ 64 }
@@ -13,7 +13,7 @@ pub(crate) fn digit_count(number: usize) -> u32
 }
 
 /// Whether the number has this digit, the lowest one first.
-pub(crate) fn has_digit(number: usize, index: u32) -> bool
+pub fn has_digit(number: usize, index: u32) -> bool
     requires { index < 64 }
     ensures { result ≡ bit number index }
 {

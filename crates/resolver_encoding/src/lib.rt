@@ -17,6 +17,7 @@ mod progress;
 mod sources;
 
 pub use chosen::Chosen;
+pub use codes::{digit_count, has_digit};
 pub use encoding::Encoding;
 pub use explain::rules_of_clauses;
 pub use laws::{

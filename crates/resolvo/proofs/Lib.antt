@@ -27,3 +27,10 @@ pub mod FirstChoiceExamples
 pub mod ReadInTurnLemmas
 pub mod SameLemmas
 pub mod MinimalLemmas
+pub mod LineLemmas
+pub mod CompleteLemmas
+pub mod SoundLemmas
+pub mod DecideLemmas
+pub mod MarkedLemmas
+pub mod VerdictLemmas
+pub mod RuleClauseLemmas

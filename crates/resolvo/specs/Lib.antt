@@ -17,3 +17,7 @@ pub mod Derivations
 pub mod ClauseSearches
 pub mod RoundStates
 pub mod Minimal
+pub mod RuleClauses
+pub mod MarkedClauses
+pub mod NoPackages
+pub mod AddedLines

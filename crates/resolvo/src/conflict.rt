@@ -52,8 +52,8 @@ impl<N: Copy + Eq + Ord + Hash + Drop, S: Copy + Eq + Ord + Hash + Drop> Conflic
     /// those behind it. What is left stands in its order, and there may be a smaller conflict with other rules.
     ///
     /// This is so where no set obeys the rules, as of each conflict that `solve` answers. The error is
-    /// [`Exhausted::Memory`] alone. Each turn tries sets one after another, so the time may be exponential in the number of
-    /// rules: call it on small conflicts.
+    /// [`Exhausted::Memory`] alone. A turn takes at most one search over the clauses of the rules; none is needed for a rule
+    /// without which the last search already failed.
     pub fn minimal(&self) -> Result<Conflict<N, S>, Exhausted>
         requires names { IsIdentity N.eq }
         requires solvables { IsIdentity S.eq }

@@ -1,15 +1,26 @@
 //! Which rules of a list are left where each has its turn, and is left out where no set obeys the others.
 
+mod decision;
+mod no_packages;
+mod rule_clauses;
+mod rule_codes;
+
 ghost use Rattle.std.specs.Prelude.{[], IfErr, IfNone, IfOk, IfSome, OnOk, length, take, ◌+◌, ◌-◌, ◌<◌, ◌≡◌};
 ghost use Rattle.std.specs.List.{AllZip};
 ghost use Rattle.resolver_clause_store.specs.Laws.{IsIdentity};
 ghost use Rattle.resolver_clause_store.specs.Rules.{IsRefuted};
 ghost use Rattle.resolver_clause_store.specs.SameRules.{StatesTheSame};
+ghost use Rattle.resolvo.specs.MarkedClauses.{VerdictIs};
+ghost use Rattle.resolvo.specs.RuleClauses.{DecideRules};
 ghost use Rattle.resolvo.specs.Minimal.{IsRefutedPart, IsUnderway, LeavesInTurn, marked, others_of};
 
+use decision::{Verdict, decide};
 use resolver_clause_store::{Exhausted, Rule};
 use resolver_report::find;
+use rule_clauses::{RuleClauses, clauses_of};
 use std::alloc::{AllocError, Global};
+use std::hash::Hash;
+use std::mem::drop;
 
 /// Copies of the rules whose marks are true.
 pub fn copies_of<N: Copy + Drop, S: Copy + Drop>(
@@ -48,8 +59,46 @@ fn add_copy<N: Copy + Drop, S: Copy + Drop>(
     Ok(())
 }
 
-/// Marks of a part of these rules that no set obeys, or `None` where some set obeys those whose marks are true.
-fn refuted_part<N: Copy + Eq + Drop, S: Copy + Eq + Drop>(
+/// The clauses of the rules, or `None` where there are more propositions than ids.
+fn clauses_within<N: Copy + Eq + Hash + Drop, S: Copy + Eq + Hash + Drop>(
+    alloc: Global,
+    rules: &[Rule<N, S>],
+) -> Result<Option<RuleClauses>, Exhausted>
+    requires names { IsIdentity N.eq }
+    requires solvables { IsIdentity S.eq }
+    ensures form { IfOk result (λ answer. IfSome answer (λ form. DecideRules rules.now form.variables form.clauses.items)) }
+    ensures memory { IfErr result (λ e. e ≡ Exhausted.Memory) }
+{
+    match clauses_of(alloc, rules) {
+        Ok(form) => Ok(Some(form)),
+        Err(Exhausted::Ids) => Ok(None),
+        Err(Exhausted::Memory) => Err(Exhausted::Memory),
+    }
+}
+
+/// What the clauses of the rules, where there are any, decide of the marked ones.
+fn verdict_of<N, S>(
+    alloc: Global,
+    rules: &[Rule<N, S>],
+    form: &Option<RuleClauses>,
+    marks: &[bool],
+) -> Result<Verdict, Exhausted>
+    requires size { length marks.now ≡ length rules.now }
+    requires form { IfSome form.now (λ form. DecideRules rules.now form.variables form.clauses.items) }
+    ensures verdict { IfOk result (VerdictIs rules.now marks.now) }
+    ensures memory { IfErr result (λ e. e ≡ Exhausted.Memory) }
+{
+    match form {
+        Some(form) => {
+            let verdict = decide(alloc, rules, form, marks)?;
+            Ok(verdict)
+        }
+        None => Ok(Verdict::Undecided),
+    }
+}
+
+/// The same as `refuted_part` by the plain search, which may take exponential time.
+fn refuted_plainly<N: Copy + Eq + Drop, S: Copy + Eq + Drop>(
     alloc: Global,
     rules: &[Rule<N, S>],
     marks: &[bool],
@@ -67,6 +116,31 @@ fn refuted_part<N: Copy + Eq + Drop, S: Copy + Eq + Drop>(
         None => {
             let part = Vec::from_slice(alloc, marks)?;
             Ok(Some(part))
+        }
+    }
+}
+
+/// Marks of a part of these rules that no set obeys, or `None` where some set obeys those whose marks are true.
+fn refuted_part<N: Copy + Eq + Drop, S: Copy + Eq + Drop>(
+    alloc: Global,
+    rules: &[Rule<N, S>],
+    form: &Option<RuleClauses>,
+    marks: &[bool],
+) -> Result<Option<Vec<bool>>, Exhausted>
+    requires names { IsIdentity N.eq }
+    requires solvables { IsIdentity S.eq }
+    requires size { length marks.now ≡ length rules.now }
+    requires form { IfSome form.now (λ form. DecideRules rules.now form.variables form.clauses.items) }
+    ensures part { IfOk result (λ answer. IfSome answer (λ part. IsRefutedPart rules.now marks.now part.items)) }
+    ensures obeyed { IfOk result (λ answer. IfNone answer (IsRefuted (marked marks.now rules.now) → ⊥)) }
+    ensures memory { IfErr result (λ e. e ≡ Exhausted.Memory) }
+{
+    match verdict_of(alloc, rules, form, marks)? {
+        Verdict::Refuted(part) => Ok(Some(part)),
+        Verdict::Obeyed => Ok(None),
+        Verdict::Undecided => {
+            let answer = refuted_plainly(alloc, rules, marks)?;
+            Ok(answer)
         }
     }
 }
@@ -91,11 +165,13 @@ fn others(alloc: Global, kept: &[bool], count: usize) -> Result<Vec<bool>, Alloc
 fn take_turn<N: Copy + Eq + Drop, S: Copy + Eq + Drop>(
     alloc: Global,
     rules: &[Rule<N, S>],
+    form: &Option<RuleClauses>,
     kept: &mut Vec<bool>,
     core: &mut Vec<bool>,
 ) -> Result<(), Exhausted>
     requires names { IsIdentity N.eq }
     requires solvables { IsIdentity S.eq }
+    requires form { IfSome form.now (λ form. DecideRules rules.now form.variables form.clauses.items) }
     requires inside { length kept.old.items < length rules.now }
     requires underway { IsUnderway rules.now kept.old.items core.old.items }
     ensures underway { OnOk result (IsUnderway rules.now kept.new.items core.new.items) }
@@ -107,7 +183,7 @@ fn take_turn<N: Copy + Eq + Drop, S: Copy + Eq + Drop>(
         return Ok(());
     }
     let marks = others(alloc, kept, rules.len())?;
-    match refuted_part(alloc, rules, &marks)? {
+    match refuted_part(alloc, rules, form, &marks)? {
         Some(part) => {
             *core = part;
             kept.push(false)?;
@@ -124,10 +200,12 @@ fn take_turn<N: Copy + Eq + Drop, S: Copy + Eq + Drop>(
 fn take_turns<N: Copy + Eq + Drop, S: Copy + Eq + Drop>(
     alloc: Global,
     rules: &[Rule<N, S>],
+    form: &Option<RuleClauses>,
     first: Vec<bool>,
 ) -> Result<Vec<bool>, Exhausted>
     requires names { IsIdentity N.eq }
     requires solvables { IsIdentity S.eq }
+    requires form { IfSome form.now (λ form. DecideRules rules.now form.variables form.clauses.items) }
     requires underway { IsUnderway rules.now [] first.items }
     ensures left { IfOk result (λ kept. LeavesInTurn [] rules.now (marked kept.items rules.now)) }
     ensures size { IfOk result (λ kept. length kept.items ≡ length rules.now) }
@@ -136,14 +214,37 @@ fn take_turns<N: Copy + Eq + Drop, S: Copy + Eq + Drop>(
     let mut core = first;
     let mut kept = Vec::new(alloc);
     for _turn in 0..rules.len() {
-        take_turn(alloc, rules, &mut kept, &mut core)?;
+        take_turn(alloc, rules, form, &mut kept, &mut core)?;
     }
     Ok(kept)
 }
 
+/// Marks of the rules that are left where each has its turn, decided with the clauses of the rules.
+fn left_by<N: Copy + Eq + Drop, S: Copy + Eq + Drop>(
+    alloc: Global,
+    rules: &[Rule<N, S>],
+    form: &Option<RuleClauses>,
+) -> Result<Vec<bool>, Exhausted>
+    requires names { IsIdentity N.eq }
+    requires solvables { IsIdentity S.eq }
+    requires form { IfSome form.now (λ form. DecideRules rules.now form.variables form.clauses.items) }
+    ensures left { IfOk result (λ kept. LeavesInTurn [] rules.now (marked kept.items rules.now)) }
+    ensures size { IfOk result (λ kept. length kept.items ≡ length rules.now) }
+    ensures memory { IfErr result (λ e. e ≡ Exhausted.Memory) }
+{
+    let all = vec![in alloc; true; rules.len()]?;
+    match refuted_part(alloc, rules, form, &all)? {
+        Some(core) => {
+            let kept = take_turns(alloc, rules, form, core)?;
+            Ok(kept)
+        }
+        None => Ok(all),
+    }
+}
+
 /// Marks of the rules that are left where each has its turn, first to last, and is left out exactly if no set obeys those
 /// that were kept before it and those behind it.
-pub fn left_in_turn<N: Copy + Eq + Drop, S: Copy + Eq + Drop>(
+pub fn left_in_turn<N: Copy + Eq + Hash + Drop, S: Copy + Eq + Hash + Drop>(
     alloc: Global,
     rules: &[Rule<N, S>],
 ) -> Result<Vec<bool>, Exhausted>
@@ -153,12 +254,11 @@ pub fn left_in_turn<N: Copy + Eq + Drop, S: Copy + Eq + Drop>(
     ensures size { IfOk result (λ kept. length kept.items ≡ length rules.now) }
     ensures memory { IfErr result (λ e. e ≡ Exhausted.Memory) }
 {
-    let all = vec![in alloc; true; rules.len()]?;
-    match refuted_part(alloc, rules, &all)? {
-        Some(core) => {
-            let kept = take_turns(alloc, rules, core)?;
-            Ok(kept)
-        }
-        None => Ok(all),
-    }
+    let form = clauses_within(alloc, rules)?;
+    let kept = left_by(alloc, rules, &form);
+    drop(form);
+    Ok(kept?)
 }
+
+#[cfg(test)]
+mod tests;

@@ -5,7 +5,7 @@ use super::solving::{Asked, solve};
 use crate::ids::{NameId, SolvableId};
 use resolver_clause_store::StringId;
 use resolver_report::find;
-use resolvo::{By, Rule, UnsolvableOrCancelled};
+use resolvo::{By, Exhausted, Rule, UnsolvableOrCancelled};
 use std::alloc::Global;
 use std::fmt::Write;
 use std::test::Fail;
@@ -285,24 +285,119 @@ fn a_union_that_overlaps_itself_lists_each_candidate_once(rt: HostRuntime) -> Re
     Ok(())
 }
 
-/// Whether so many rules are left of the conflict of an input where none can be left out, and no set obeys them.
-fn has_minimal(alloc: Global, input: &str, count: usize) -> Result<bool, Fail> {
+/// How many rules of each kind there are.
+#[derive(Clone, Copy, PartialEq)]
+struct Kinds {
+    of_root: u32,
+    of_solvables: u32,
+    marks: u32,
+    others: u32,
+}
+
+fn kinds_of(rules: &[Rule<NameId, SolvableId>]) -> Kinds {
+    let mut kinds = Kinds {
+        of_root: 0,
+        of_solvables: 0,
+        marks: 0,
+        others: 0,
+    };
+    for rule in rules {
+        match rule {
+            Rule::Requires { by: By::Root, .. } => kinds.of_root += 1,
+            Rule::Requires { .. } => kinds.of_solvables += 1,
+            Rule::OnePerPackage { .. } => kinds.marks += 1,
+            _other => kinds.others += 1,
+        }
+    }
+    kinds
+}
+
+/// Whether the plain search finds a set that obeys the rules but this one.
+fn is_needed(
+    alloc: Global,
+    rules: &[Rule<NameId, SolvableId>],
+    place: usize,
+) -> Result<bool, Exhausted> {
+    let mut others = Vec::new(alloc);
+    for other in 0..rules.len() {
+        if other != place {
+            others.push(rules[other].clone()?)?;
+        }
+    }
+    Ok(find(alloc, &others)?.is_some())
+}
+
+/// Whether the plain search finds no set that obeys the rules, and finds one without any one of them.
+fn are_irreducible(
+    alloc: Global,
+    rules: &[Rule<NameId, SolvableId>],
+) -> Result<bool, Exhausted> {
+    for place in 0..rules.len() {
+        if !is_needed(alloc, rules, place)? {
+            return Ok(false);
+        }
+    }
+    Ok(are_refuted(alloc, rules))
+}
+
+/// How many rules of each kind are left of an input's conflict where none can be left out, if the plain search agrees.
+fn minimal_kinds(alloc: Global, input: &str) -> Result<Kinds, Fail> {
     let solved = solve(alloc, Asked::new(input))?;
-    match &solved.outcome {
-        Err(UnsolvableOrCancelled::Unsolvable(conflict)) => match conflict.minimal() {
-            Ok(minimal) => {
-                Ok(minimal.rules().len() == count && are_refuted(alloc, minimal.rules()))
-            }
-            Err(_) => Err(Fail::from("refused")),
-        },
-        _other => Err(Fail::from("no conflict")),
+    let Err(UnsolvableOrCancelled::Unsolvable(conflict)) = &solved.outcome else {
+        return Err(Fail::from("no conflict"));
+    };
+    let Ok(minimal) = conflict.minimal() else {
+        return Err(Fail::from("refused"));
+    };
+    match are_irreducible(alloc, minimal.rules()) {
+        Ok(true) => Ok(kinds_of(minimal.rules())),
+        Ok(false) => Err(Fail::from("a rule can be left out")),
+        Err(_) => Err(Fail::from("refused")),
     }
 }
 
 #[test]
+fn a_minimal_clash_has_eight_rules(rt: HostRuntime) -> Result<(), Fail> {
+    let eight = Kinds {
+        of_root: 2,
+        of_solvables: 4,
+        marks: 2,
+        others: 0,
+    };
+    assert!(rt; minimal_kinds(rt.alloc(), CLASH)? == eight);
+    assert!(rt; minimal_kinds(rt.alloc(), CLASH_BEFORE_W)? == eight);
+    Ok(())
+}
+
+#[test]
 fn no_rule_of_a_minimal_conflict_can_be_left_out(rt: HostRuntime) -> Result<(), Fail> {
-    assert!(rt; has_minimal(rt.alloc(), CLASH, 8)?);
-    assert!(rt; has_minimal(rt.alloc(), CLASH_BEFORE_W, 8)?);
-    assert!(rt; has_minimal(rt.alloc(), "require x\nrequire y\n", 1)?);
+    let inputs = [
+        ("require x\nrequire y\n", 1),
+        ("package a=1\nexclude a=1 it is bad\nrequire a\n", 2),
+        ("package a=1\nconstrains a=1 a@2..3\nrequire a@1\n", 2),
+        (
+            "package a=1\npackage a=2\nrequires a=1 x\nrequires a=2 x\nrequire a\n",
+            3,
+        ),
+        ("package a=1\npackage a=2\nlock a=1\nrequire a@2..3\n", 2),
+        (
+            "package a=1\npackage b=1\nrequires a=1 b\nrequire a\nconstrain b@2..3\n",
+            3,
+        ),
+        (
+            "package a=1\npackage b=1\nrequires a=1 b\nrequires b=1 a\nrequires b=1 missing\nrequire a\n",
+            3,
+        ),
+        (
+            "package p=1\npackage c=1\nrequires p=1 x if c\nrequire p\nrequire c\n",
+            3,
+        ),
+        (GATED, 7),
+    ];
+    for (input, count) in inputs {
+        let kinds = minimal_kinds(rt.alloc(), input)?;
+        let all = kinds.of_root + kinds.of_solvables + kinds.marks + kinds.others;
+        assert!(rt; all == count, "{input}");
+    }
     Ok(())
 }

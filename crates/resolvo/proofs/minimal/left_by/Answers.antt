@@ -3,7 +3,7 @@ use Rattle.resolver_clause_store.specs.Rules.{IsRefuted}
 use Rattle.resolver_clause_store.specs.declared.Rule.{Rule}
 use Rattle.resolvo.specs.Minimal.{LeavesInTurn, marked}
 use Rattle.resolvo.proofs.MinimalLemmas.{all_left, all_marked}
-use Rattle.resolvo.proofs.minimal.left_in_turn.Goals as goal
+use Rattle.resolvo.proofs.minimal.left_by.Goals as goal
 
 pub returns-in-None-clause-left : goal.returns-in-None-clause-left
 returns-in-None-clause-left g c =

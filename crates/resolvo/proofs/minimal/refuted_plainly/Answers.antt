@@ -4,7 +4,7 @@ use Rattle.resolver_clause_store.specs.declared.Rule.{Rule}
 use Rattle.resolvo.specs.Minimal.{marked}
 use Rattle.resolvo.proofs.MinimalLemmas.{whole_part}
 use Rattle.resolvo.proofs.SameLemmas.{IsRefuted-same, Obeys-same, same_flipped}
-use Rattle.resolvo.proofs.minimal.refuted_part.Goals as goal
+use Rattle.resolvo.proofs.minimal.refuted_plainly.Goals as goal
 
 pub returns-in-Some-clause-obeyed : goal.returns-in-Some-clause-obeyed
 returns-in-Some-clause-obeyed g c = λ refuted.

@@ -1,0 +1,9 @@
+use Rattle.std.proofs.Common.{take, [], ◌++◌, ◌<◌, ◌≡◌, ◌∷◌, All, Bool, IfOk, List, OnOk, length, ℕ, ◌+◌, ◌-◌, ◌*◌, ◌≤◌}
+use Rattle.resolvo.specs.MarkedClauses.{AreMarkedClauses, AreMarksOf, IsMarked}
+use Rattle.resolvo.specs.ClauseSearches.{numbers_of}
+use Rattle.resolvo.specs.declared.minimal.rule_clauses.RuleClause.{RuleClause}
+use Rattle.resolver_clause_store.specs.declared.RequirementClause.{RequirementClause}
+use Rattle.resolvo.proofs.minimal.decision.marked_clauses.Given as goal
+
+abbrev pub invariant-clauses : goal.invariant-clauses
+invariant-clauses l = AreMarkedClauses l.marks (take l.index l.clauses) l.marked.clauses.items l.marked.places.items (numbers_of l.marked.requirements.items)

@@ -1,0 +1,22 @@
+-- What building the clauses of rules adds at each step.
+use Rattle.std.specs.Prelude.{◌≡◌, ℕ, ◌≤◌, ◌^◌, ◌++◌, List, length}
+use Rattle.std.specs.List.{AllZip}
+use Rattle.resolver_clause_store.specs.Variables.{AreDistinct, Keeps}
+use Rattle.resolver_clause_store.specs.declared.Rule.{Rule}
+use Rattle.resolvo.specs.RuleClauses.{HasCode, IsClauseOf, Line}
+use Rattle.resolvo.specs.declared.minimal.rule_clauses.Proposition.{Proposition}
+use Rattle.resolvo.specs.declared.minimal.rule_clauses.RuleClause.{RuleClause}
+
+-- each place keeps its proposition, and behind the clauses stand those of the lines
+pub record Adds {N S : Type 0} (old new : List (Proposition N S)) (before after : List RuleClause) (lines : List (Line N S)) : Type 0 where
+  pub keeps : Keeps old new
+  pub added : List RuleClause
+  pub is : after ≡ before ++ added
+  pub are : AllZip (IsClauseOf new) added lines
+
+-- codes of the rules in so many bits, which tell the marked instances apart
+pub record AreCodesOf {N S : Type 0} (rules : List (Rule N S)) (codes : List ℕ) (width : ℕ) : Type 0 where
+  pub instances : List S
+  pub coded : AllZip (HasCode instances) rules codes
+  pub short : length instances ≤ 2 ^ width
+  pub apart : AreDistinct instances

@@ -1,0 +1,127 @@
+-- The clauses of a list of rules: values make them true just where a set obeys the rules. A variable stands for a proposition, and
+-- an atom is a proposition or its negation.
+use Rattle.std.specs.Prelude.{◌≡◌, ℕ, zero, suc, ◌<◌, ◌≤◌, ◌^◌, ◌++◌, ◌∷◌, [], Bool, true, false, Some, List, length, map, slice_get, All, Vec, ⊤}
+use Rattle.std.specs.List.{AllZip, slice_index_or}
+use Rattle.std.specs.declared.alloc.Global.{Global}
+use Rattle.resolver_clause_store.specs.Formula.{IsBelow, clause_true}
+use Rattle.resolver_clause_store.specs.Rules.{IsRefuted, Obeys}
+use Rattle.resolver_clause_store.specs.Variables.{AreDistinct}
+use Rattle.resolver_clause_store.specs.declared.By.{By}
+use Rattle.resolver_clause_store.specs.declared.By.TheVariants.{Root, Solvable}
+use Rattle.resolver_clause_store.specs.declared.Literal.{Literal}
+use Rattle.resolver_clause_store.specs.declared.Rule.{Rule}
+use Rattle.resolver_clause_store.specs.declared.Rule.TheVariants.{Requires, Constrains, Lock, Excluded, OnePerPackage}
+use Rattle.resolver_encoding.specs.Codes.{bit}
+use Rattle.resolvo.specs.Minimal.{marked}
+use Rattle.resolvo.specs.declared.minimal.rule_clauses.Atom.{Atom}
+use Rattle.resolvo.specs.declared.minimal.rule_clauses.Proposition.{Proposition}
+use Rattle.resolvo.specs.declared.minimal.rule_clauses.Proposition.TheVariants.{Member, Listed, Bit}
+use Rattle.resolvo.specs.declared.minimal.rule_clauses.RuleClause.{RuleClause}
+
+abbrev pub atom : {N S : Type 0} → Proposition N S → Bool → Atom N S
+atom p b = record { proposition = p; positive = b }
+
+-- a clause that the rule at a place gives, in propositions
+pub record Line (N S : Type 0) : Type 0 where
+  pub rule : ℕ
+  pub atoms : List (Atom N S)
+  pub asks : Bool
+
+-- a clause whose candidates are to be tried, and one of which that is not so
+abbrev pub asking : {N S : Type 0} → ℕ → List (Atom N S) → Line N S
+asking rule atoms = record { rule = rule; atoms = atoms; asks = true }
+
+abbrev pub plain : {N S : Type 0} → ℕ → List (Atom N S) → Line N S
+plain rule atoms = record { rule = rule; atoms = atoms; asks = false }
+
+-- who asks is not there; the root always is
+abbrev pub asker_atoms : {N S : Type 0} → By S → List (Atom N S)
+asker_atoms Root = []
+asker_atoms (Solvable s) = atom (Member s) false ∷ []
+
+-- of one of the first so many lists of the rule's condition no member is there
+abbrev pub list_atoms : {N S : Type 0} → ℕ → ℕ → List (Atom N S)
+list_atoms rule zero = []
+list_atoms rule (suc n) = list_atoms rule n ++ atom (Listed rule n) false ∷ []
+
+-- one of the candidates is there
+abbrev pub candidate_atoms : {N S : Type 0} → List S → List (Atom N S)
+candidate_atoms candidates = map (λ s. atom (Member s) true) candidates
+
+-- for each member of a list: where it is there, a member of the list is
+abbrev pub member_lines : {N S : Type 0} → ℕ → ℕ → List S → List (Line N S)
+member_lines rule list members = map (λ s. plain rule (atom (Member s) false ∷ atom (Listed rule list) true ∷ [])) members
+
+-- the same for the lists from this one on
+abbrev pub condition_lines : {N S : Type 0} → ℕ → ℕ → List (Vec S Global) → List (Line N S)
+condition_lines rule list [] = []
+condition_lines rule list (members ∷ rest) = member_lines rule list members.items ++ condition_lines rule (suc list) rest
+
+-- for each of so many bits: where the instance is there, the name's bit is that of the instance's code
+abbrev pub bit_lines : {N S : Type 0} → ℕ → N → S → ℕ → ℕ → List (Line N S)
+bit_lines rule name instance code zero = []
+bit_lines rule name instance code (suc n) = bit_lines rule name instance code n ++ plain rule (atom (Member instance) false ∷ atom (Bit name n) (bit code n) ∷ []) ∷ []
+
+-- the clauses of the rule at a place; of a mark, with the code of its instance in so many bits
+abbrev pub lines_of : {N S : Type 0} → ℕ → ℕ → ℕ → Rule N S → List (Line N S)
+lines_of width place code (Requires by requirement candidates when) =
+    asking place (asker_atoms by ++ (list_atoms place (length when.items) ++ candidate_atoms candidates.items)) ∷ condition_lines place 0 when.items
+lines_of width place code (Constrains by version_set candidate) = plain place (asker_atoms by ++ atom (Member candidate) false ∷ []) ∷ []
+lines_of width place code (Lock locked forbidden) = plain place (atom (Member forbidden) false ∷ []) ∷ []
+lines_of width place code (Excluded solvable reason) = plain place (atom (Member solvable) false ∷ []) ∷ []
+lines_of width place code (OnePerPackage name instance) = bit_lines place name instance code width
+
+-- the clauses of the rules from this place on, with their codes
+abbrev pub all_lines : {N S : Type 0} → ℕ → ℕ → List (Rule N S) → List ℕ → List (Line N S)
+all_lines width place [] codes = []
+all_lines width place (rule ∷ rules) [] = []
+all_lines width place (rule ∷ rules) (code ∷ codes) = lines_of width place code rule ++ all_lines width (suc place) rules codes
+
+-- the literal's variable stands for the atom's proposition, and both have one sign
+pub record IsLiteralOf {N S : Type 0} (propositions : List (Proposition N S)) (literal : Literal) (it : Atom N S) : Type 0 where
+  pub stands : slice_get propositions literal.variable ≡ Some it.proposition
+  pub sign : literal.positive ≡ it.positive
+
+-- the clause is the line, in variables
+pub record IsClauseOf {N S : Type 0} (propositions : List (Proposition N S)) (clause : RuleClause) (line : Line N S) : Type 0 where
+  pub rule : clause.rule ≡ line.rule
+  pub literals : AllZip (IsLiteralOf propositions) clause.literals.items line.atoms
+  pub asks : clause.asks ≡ line.asks
+
+-- a mark has the place of its instance as its code
+abbrev pub HasCode : {N S : Type 0} → List S → Rule N S → ℕ → Type 0
+HasCode instances (OnePerPackage name instance) code = slice_get instances code ≡ Some instance
+HasCode instances rule code = ⊤
+
+-- the clauses are those of the rules, with codes that tell the marked instances apart
+pub record AreClausesOf {N S : Type 0} (rules : List (Rule N S)) (propositions : List (Proposition N S)) (clauses : List RuleClause) : Type 0 where
+  pub width : ℕ
+  pub instances : List S
+  pub codes : List ℕ
+  pub coded : AllZip (HasCode instances) rules codes
+  pub short : length instances ≤ 2 ^ width
+  pub apart : AreDistinct instances
+  pub lines : AllZip (IsClauseOf propositions) clauses (all_lines width 0 rules codes)
+  pub distinct : AreDistinct propositions
+
+-- the values make each clause of a marked rule true
+abbrev pub MakesMarkedTrue : (ℕ → Bool) → List Bool → List RuleClause → Type 0
+MakesMarkedTrue values marks clauses = All (λ (clause : RuleClause). slice_index_or marks clause.rule false ≡ true → clause_true values clause.literals.items ≡ true) clauses
+
+-- one literal or two, of which the first is a negation
+abbrev pub IsGuarded : List Literal → Type 0
+IsGuarded [] = ⊥
+IsGuarded (first ∷ []) = first.positive ≡ false
+IsGuarded (first ∷ second ∷ []) = first.positive ≡ false
+IsGuarded (first ∷ second ∷ third ∷ rest) = ⊥
+
+-- what the clauses are there for, with any of the rules marked
+pub record DecideRules {N S : Type 0} (rules : List (Rule N S)) (variables : ℕ) (clauses : List RuleClause) : Type 0 where
+  -- where a set obeys the marked rules, some values make their clauses true
+  pub sound : (marks : List Bool) (set : List S) → length marks ≡ length rules → Obeys set (marked marks rules) → (values : ℕ → Bool) × MakesMarkedTrue values marks clauses
+  -- where some values make their clauses true, the marked rules are not refuted
+  pub complete : (marks : List Bool) (values : ℕ → Bool) → length marks ≡ length rules → MakesMarkedTrue values marks clauses → IsRefuted (marked marks rules) → ⊥
+  -- only a clause whose candidates are to be tried may have more than one literal that is no negation
+  pub guarded : All (λ (clause : RuleClause). clause.asks ≡ false → IsGuarded clause.literals.items) clauses
+  pub places : All (λ (clause : RuleClause). clause.rule < length rules) clauses
+  pub below : All (λ (clause : RuleClause). IsBelow variables clause.literals.items) clauses

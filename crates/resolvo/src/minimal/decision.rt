@@ -1,0 +1,189 @@
+//! Whether a set obeys the marked rules, decided by a search over their clauses.
+
+ghost use Rattle.std.specs.Prelude.{[], ◌++◌, ◌<◌, ◌≡◌, ◌∷◌, ℕ, All, Bool, IfErr, IfOk, List, OnOk, Vec, length};
+ghost use Rattle.std.specs.declared.alloc.Global.{Global};
+ghost use Rattle.resolver_clause_store.specs.Formula.{AreBelow};
+ghost use Rattle.resolver_clause_store.specs.TrailView.{variable_count};
+ghost use Rattle.resolver_clause_store.specs.declared.Literal.{Literal};
+ghost use Rattle.resolvo.specs.ClauseSearches.{IsConsistent, IsLoaded, IsRootTurn, numbers_of, trail_of};
+ghost use Rattle.resolvo.specs.MarkedClauses.{AreMarkedClauses, AreMarksOf, EndsWith, IsMarked, VerdictIs};
+ghost use Rattle.resolvo.specs.RuleClauses.{DecideRules};
+ghost use Rattle.resolvo.specs.declared.minimal.rule_clauses.RuleClause.{RuleClause};
+
+use super::no_packages::NoPackages;
+use super::rule_clauses::{RuleClause, RuleClauses};
+use crate::clause_search::{ClauseSearch, Outcome};
+use resolver_clause_store::{Activity, Exhausted, Interrupted, Literal, RequirementClause, Rule};
+use std::alloc::{AllocError, Global};
+use std::mem::drop;
+
+/// What is known of the marked rules.
+#[derive(Drop)]
+pub enum Verdict {
+    /// Some set obeys them.
+    Obeyed,
+    /// No set obeys those with these marks, and each of these is marked.
+    Refuted(Vec<bool>),
+    /// Nothing: the search ran out of ids.
+    Undecided,
+}
+
+/// The clauses of the marked rules, as a search takes them.
+#[derive(Drop)]
+pub struct MarkedClauses {
+    pub clauses: Vec<Vec<Literal>>,
+    /// The place of each clause's rule.
+    pub places: Vec<usize>,
+    /// The clauses whose candidates are to be tried.
+    pub requirements: Vec<RequirementClause>,
+}
+
+/// Adds the clause with this number to those whose candidates are to be tried.
+fn add_requirement(
+    alloc: Global,
+    requirements: &mut Vec<RequirementClause>,
+    number: usize,
+) -> Result<(), AllocError>
+    ensures { OnOk result (numbers_of requirements.new.items ≡ numbers_of requirements.old.items ++ number ∷ []) }
+{
+    requirements.push(RequirementClause {
+        number,
+        of_root: false,
+        ends: Vec::new(alloc),
+    })?;
+    Ok(())
+}
+
+/// Adds a clause of a marked rule.
+fn add_clause(marked: &mut MarkedClauses, clause: &RuleClause) -> Result<(), AllocError>
+    ensures { OnOk result ((marks : List Bool) (from : List RuleClause) → IsMarked marks clause.now → AreMarkedClauses marks from marked.old.clauses.items marked.old.places.items (numbers_of marked.old.requirements.items) → AreMarkedClauses marks (from ++ clause.now ∷ []) marked.new.clauses.items marked.new.places.items (numbers_of marked.new.requirements.items)) }
+{
+    let alloc = *marked.clauses.allocator();
+    let number = marked.clauses.len();
+    let copy = Vec::from_slice(alloc, &clause.literals)?;
+    marked.clauses.push(copy)?;
+    marked.places.push(clause.rule)?;
+    if !clause.asks {
+        return Ok(());
+    }
+    add_requirement(alloc, &mut marked.requirements, number)?;
+    Ok(())
+}
+
+/// Adds a clause, if its rule is marked.
+fn add_marked(
+    marked: &mut MarkedClauses,
+    clause: &RuleClause,
+    marks: &[bool],
+) -> Result<(), AllocError>
+    requires { clause.now.rule < length marks.now }
+    ensures { OnOk result ((from : List RuleClause) → AreMarkedClauses marks.now from marked.old.clauses.items marked.old.places.items (numbers_of marked.old.requirements.items) → AreMarkedClauses marks.now (from ++ clause.now ∷ []) marked.new.clauses.items marked.new.places.items (numbers_of marked.new.requirements.items)) }
+{
+    if !marks[clause.rule] {
+        return Ok(());
+    }
+    add_clause(marked, clause)?;
+    Ok(())
+}
+
+/// The clauses of the marked rules.
+pub fn marked_clauses(
+    alloc: Global,
+    clauses: &[RuleClause],
+    marks: &[bool],
+) -> Result<MarkedClauses, AllocError>
+    requires { All (λ (clause : RuleClause). clause.rule < length marks.now) clauses.now }
+    ensures { IfOk result (λ marked. AreMarkedClauses marks.now clauses.now marked.clauses.items marked.places.items (numbers_of marked.requirements.items)) }
+{
+    let mut marked = MarkedClauses {
+        clauses: Vec::new(alloc),
+        places: Vec::new(alloc),
+        requirements: Vec::new(alloc),
+    };
+    'clauses: for index in 0..clauses.len() {
+        add_marked(&mut marked, &clauses[index], marks)?;
+    }
+    Ok(marked)
+}
+
+/// Marks of the rules of the clauses with these numbers.
+pub fn marks_of(
+    alloc: Global,
+    count: usize,
+    places: &[usize],
+    numbers: &[usize],
+) -> Result<Vec<bool>, AllocError>
+    requires inside { All (λ number. number < length places.now) numbers.now }
+    requires below { All (λ place. place < count) places.now }
+    ensures { IfOk result (λ marks. AreMarksOf places.now numbers.now count marks.items) }
+{
+    let mut marks = vec![in alloc; false; count]?;
+    'numbers: for index in 0..numbers.len() {
+        marks[places[numbers[index]]] = true;
+    }
+    Ok(marks)
+}
+
+/// Searches to the end, or answers `Refused` where ids run out.
+fn search_on(alloc: Global, search: &mut ClauseSearch) -> Result<Outcome, Exhausted>
+    requires consistent { IsConsistent search.old }
+    requires root { IsRootTurn search.old }
+    ensures outcome { IfOk result (λ outcome. (given : List (Vec Literal Global)) (numbers : List ℕ) → IsLoaded given numbers search.old → EndsWith given numbers (trail_of search.new) outcome) }
+    ensures memory { IfErr result (λ e. e ≡ Exhausted.Memory) }
+{
+    match search.run(alloc, &NoPackages { alloc }, usize::MAX, usize::MAX) {
+        Ok(outcome) => Ok(outcome),
+        Err(Interrupted::Exhausted(Exhausted::Memory)) => Err(Exhausted::Memory),
+        Err(_) => Ok(Outcome::Refused),
+    }
+}
+
+/// What a new search over the clauses of the marked rules decides.
+fn decide_by<N, S>(
+    alloc: Global,
+    search: &mut ClauseSearch,
+    rules: &[Rule<N, S>],
+    form: &RuleClauses,
+    marks: &[bool],
+    marked: &MarkedClauses,
+) -> Result<Verdict, Exhausted>
+    requires consistent { IsConsistent search.old }
+    requires blank { IsLoaded [] [] search.old }
+    requires variables { variable_count (trail_of search.old) ≡ 0 }
+    requires root { IsRootTurn search.old }
+    requires size { length marks.now ≡ length rules.now }
+    requires form { DecideRules rules.now form.now.variables form.now.clauses.items }
+    requires marked { AreMarkedClauses marks.now form.now.clauses.items marked.now.clauses.items marked.now.places.items (numbers_of marked.now.requirements.items) }
+    ensures verdict { IfOk result (VerdictIs rules.now marks.now) }
+    ensures memory { IfErr result (λ e. e ≡ Exhausted.Memory) }
+{
+    search.load(form.variables, &marked.clauses, &marked.requirements, &[])?;
+    match search_on(alloc, search)? {
+        Outcome::Finished => Ok(Verdict::Obeyed),
+        Outcome::Contradiction(core) => {
+            let part = marks_of(alloc, rules.len(), &marked.places, &core)?;
+            Ok(Verdict::Refuted(part))
+        }
+        Outcome::Refused => Ok(Verdict::Undecided),
+    }
+}
+
+/// What a search decides of the marked rules.
+pub fn decide<N, S>(
+    alloc: Global,
+    rules: &[Rule<N, S>],
+    form: &RuleClauses,
+    marks: &[bool],
+) -> Result<Verdict, Exhausted>
+    requires size { length marks.now ≡ length rules.now }
+    requires form { DecideRules rules.now form.now.variables form.now.clauses.items }
+    ensures verdict { IfOk result (VerdictIs rules.now marks.now) }
+    ensures memory { IfErr result (λ e. e ≡ Exhausted.Memory) }
+{
+    let marked = marked_clauses(alloc, &form.clauses, marks)?;
+    let mut search = ClauseSearch::new(alloc, Activity::usual());
+    let verdict = decide_by(alloc, &mut search, rules, form, marks, &marked);
+    drop(search);
+    drop(marked);
+    Ok(verdict?)
+}

@@ -1,0 +1,503 @@
+//! The clauses that a list of rules gives.
+
+ghost use Rattle.std.specs.Prelude.{[], ◌∷◌, ◌++◌, ◌≡◌, ◌≤◌, IfOk, List, OnOk, Some, false, length, slice_get};
+ghost use Rattle.std.specs.List.{AllZip};
+ghost use Rattle.resolver_clause_store.specs.Laws.{IsIdentity};
+ghost use Rattle.resolver_clause_store.specs.Variables.{AreDistinct, Keeps};
+ghost use Rattle.resolver_clause_store.specs.declared.Rule.{Rule};
+ghost use Rattle.resolvo.specs.AddedLines.{Adds};
+ghost use Rattle.resolvo.specs.RuleClauses.{AreClausesOf, DecideRules, IsLiteralOf, all_lines, asker_atoms, asking, atom, bit_lines, candidate_atoms, condition_lines, lines_of, list_atoms, member_lines, plain};
+ghost use Rattle.resolvo.specs.declared.minimal.rule_clauses.Proposition.{Proposition};
+ghost use Rattle.resolvo.specs.declared.minimal.rule_clauses.Proposition.TheVariants.{Member};
+
+use crate::minimal::rule_codes::{codes_of, count_of, place_among};
+use indexmap::IndexSet;
+use resolver_clause_store::{By, Exhausted, Literal, Rule, Variable};
+use resolver_encoding::has_digit;
+use std::alloc::{AllocError, Global};
+use std::hash::Hash;
+
+/// What a variable stands for.
+#[derive(Clone, Copy, PartialEq, Eq, Hash)]
+pub enum Proposition<N, S> {
+    /// The solvable is in the set.
+    Member(S),
+    /// A member of this list of the rule's condition is in the set.
+    Listed { rule: usize, list: usize },
+    /// A bit of the code of that instance of the name which is in the set.
+    Bit { name: N, index: u32 },
+}
+
+/// A proposition, or its negation.
+#[derive(Clone, Copy)]
+pub struct Atom<N, S> {
+    pub proposition: Proposition<N, S>,
+    /// Whether it is the proposition itself.
+    pub positive: bool,
+}
+
+/// A clause that a rule gives.
+#[derive(Drop)]
+pub struct RuleClause {
+    /// The place of the rule.
+    pub rule: usize,
+    pub literals: Vec<Literal>,
+    /// Whether its candidates are to be tried, in their order.
+    pub asks: bool,
+}
+
+/// Clauses of rules decide whether a set obeys some of them.
+fn clauses_decide_rules<N: Eq, S: Eq>()
+    requires names { IsIdentity N.eq }
+    requires solvables { IsIdentity S.eq }
+    ensures { (rules : List (Rule N S)) (propositions : List (Proposition N S)) (clauses : List RuleClause) → AreClausesOf rules propositions clauses → DecideRules rules (length propositions) clauses }
+{}
+
+/// The clauses of a list of rules.
+#[derive(Drop)]
+pub struct RuleClauses {
+    /// How many variables there are.
+    pub variables: usize,
+    pub clauses: Vec<RuleClause>,
+}
+
+/// The variable that stands for a proposition: the one that does already, or a new one.
+fn intern<N: Copy + Eq + Hash + Drop, S: Copy + Eq + Hash + Drop>(
+    propositions: &mut IndexSet<Proposition<N, S>>,
+    proposition: Proposition<N, S>,
+) -> Result<Variable, Exhausted>
+    requires names { IsIdentity N.eq }
+    requires solvables { IsIdentity S.eq }
+    ensures keeps { OnOk result (Keeps propositions.old.keys propositions.new.keys) }
+    ensures here { IfOk result (λ v. slice_get propositions.new.keys v ≡ Some proposition) }
+{
+    let place = place_among(propositions, proposition)?;
+    if place > u32::MAX as usize {
+        return Err(Exhausted::Ids);
+    }
+    Ok(Variable::new(place as u32))
+}
+
+/// How many variables there are.
+fn variable_count<N: Copy + Eq + Hash + Drop, S: Copy + Eq + Hash + Drop>(
+    propositions: &IndexSet<Proposition<N, S>>,
+) -> usize
+    requires names { IsIdentity N.eq }
+    requires solvables { IsIdentity S.eq }
+    ensures len { result ≡ length propositions.now.keys }
+    ensures distinct { AreDistinct propositions.now.keys }
+{
+    count_of(propositions)
+}
+
+/// The literal of an atom.
+fn literal_of<N: Copy + Eq + Hash + Drop, S: Copy + Eq + Hash + Drop>(
+    propositions: &mut IndexSet<Proposition<N, S>>,
+    atom: Atom<N, S>,
+) -> Result<Literal, Exhausted>
+    requires names { IsIdentity N.eq }
+    requires solvables { IsIdentity S.eq }
+    ensures keeps { OnOk result (Keeps propositions.old.keys propositions.new.keys) }
+    ensures literal { IfOk result (λ made. IsLiteralOf propositions.new.keys made atom) }
+{
+    let variable = intern(propositions, atom.proposition)?;
+    Ok(Literal {
+        variable,
+        positive: atom.positive,
+    })
+}
+
+/// The literals of atoms.
+fn literals_of<N: Copy + Eq + Hash + Drop, S: Copy + Eq + Hash + Drop>(
+    alloc: Global,
+    propositions: &mut IndexSet<Proposition<N, S>>,
+    atoms: &[Atom<N, S>],
+) -> Result<Vec<Literal>, Exhausted>
+    requires names { IsIdentity N.eq }
+    requires solvables { IsIdentity S.eq }
+    ensures keeps { OnOk result (Keeps propositions.old.keys propositions.new.keys) }
+    ensures literals { IfOk result (λ made. AllZip (IsLiteralOf propositions.new.keys) made.items atoms.now) }
+{
+    let mut literals = Vec::new(alloc);
+    for atom in atoms {
+        literals.push(literal_of(propositions, *atom)?)?;
+    }
+    Ok(literals)
+}
+
+/// Puts the clause of these atoms behind the others, whose candidates are to be tried.
+fn add_asking<N: Copy + Eq + Hash + Drop, S: Copy + Eq + Hash + Drop>(
+    propositions: &mut IndexSet<Proposition<N, S>>,
+    clauses: &mut Vec<RuleClause>,
+    rule: usize,
+    atoms: &[Atom<N, S>],
+) -> Result<(), Exhausted>
+    requires names { IsIdentity N.eq }
+    requires solvables { IsIdentity S.eq }
+    ensures { OnOk result (Adds propositions.old.keys propositions.new.keys clauses.old.items clauses.new.items (asking rule atoms.now ∷ [])) }
+{
+    let literals = literals_of(*clauses.allocator(), propositions, atoms)?;
+    clauses.push(RuleClause {
+        rule,
+        literals,
+        asks: true,
+    })?;
+    Ok(())
+}
+
+/// Puts the clause of one atom behind the others.
+fn add_single<N: Copy + Eq + Hash + Drop, S: Copy + Eq + Hash + Drop>(
+    propositions: &mut IndexSet<Proposition<N, S>>,
+    clauses: &mut Vec<RuleClause>,
+    rule: usize,
+    atom: Atom<N, S>,
+) -> Result<(), Exhausted>
+    requires names { IsIdentity N.eq }
+    requires solvables { IsIdentity S.eq }
+    ensures { OnOk result (Adds propositions.old.keys propositions.new.keys clauses.old.items clauses.new.items (plain rule (atom ∷ []) ∷ [])) }
+{
+    let literal = literal_of(propositions, atom)?;
+    let literals = Vec::from_slice(*clauses.allocator(), &[literal])?;
+    clauses.push(RuleClause {
+        rule,
+        literals,
+        asks: false,
+    })?;
+    Ok(())
+}
+
+/// Puts the clause of two atoms behind the others.
+fn add_pair<N: Copy + Eq + Hash + Drop, S: Copy + Eq + Hash + Drop>(
+    propositions: &mut IndexSet<Proposition<N, S>>,
+    clauses: &mut Vec<RuleClause>,
+    rule: usize,
+    first: Atom<N, S>,
+    second: Atom<N, S>,
+) -> Result<(), Exhausted>
+    requires names { IsIdentity N.eq }
+    requires solvables { IsIdentity S.eq }
+    ensures { OnOk result (Adds propositions.old.keys propositions.new.keys clauses.old.items clauses.new.items (plain rule (first ∷ second ∷ []) ∷ [])) }
+{
+    let left = literal_of(propositions, first)?;
+    let right = literal_of(propositions, second)?;
+    let literals = Vec::from_slice(*clauses.allocator(), &[left, right])?;
+    clauses.push(RuleClause {
+        rule,
+        literals,
+        asks: false,
+    })?;
+    Ok(())
+}
+
+/// Puts the clauses of a list's members behind the others.
+fn add_members<N: Copy + Eq + Hash + Drop, S: Copy + Eq + Hash + Drop>(
+    propositions: &mut IndexSet<Proposition<N, S>>,
+    clauses: &mut Vec<RuleClause>,
+    rule: usize,
+    list: usize,
+    members: &[S],
+) -> Result<(), Exhausted>
+    requires names { IsIdentity N.eq }
+    requires solvables { IsIdentity S.eq }
+    ensures { OnOk result (Adds propositions.old.keys propositions.new.keys clauses.old.items clauses.new.items (member_lines rule list members.now)) }
+{
+    for member in members {
+        let absent = Atom {
+            proposition: Proposition::Member(*member),
+            positive: false,
+        };
+        let listed = Atom {
+            proposition: Proposition::Listed { rule, list },
+            positive: true,
+        };
+        add_pair(propositions, clauses, rule, absent, listed)?;
+    }
+    Ok(())
+}
+
+/// Puts the clauses of the lists of a condition behind the others.
+fn add_condition<N: Copy + Eq + Hash + Drop, S: Copy + Eq + Hash + Drop>(
+    propositions: &mut IndexSet<Proposition<N, S>>,
+    clauses: &mut Vec<RuleClause>,
+    rule: usize,
+    when: &[Vec<S>],
+) -> Result<(), Exhausted>
+    requires names { IsIdentity N.eq }
+    requires solvables { IsIdentity S.eq }
+    ensures { OnOk result (Adds propositions.old.keys propositions.new.keys clauses.old.items clauses.new.items (condition_lines rule 0 when.now)) }
+{
+    for list in 0..when.len() {
+        add_members(propositions, clauses, rule, list, &when[list])?;
+    }
+    Ok(())
+}
+
+/// Puts the clauses of a mark behind the others, one for each bit of the code of its instance.
+fn add_bits<N: Copy + Eq + Hash + Drop, S: Copy + Eq + Hash + Drop>(
+    propositions: &mut IndexSet<Proposition<N, S>>,
+    clauses: &mut Vec<RuleClause>,
+    rule: usize,
+    name: N,
+    instance: S,
+    code: usize,
+    width: u32,
+) -> Result<(), Exhausted>
+    requires names { IsIdentity N.eq }
+    requires solvables { IsIdentity S.eq }
+    requires width { width ≤ 64 }
+    ensures { OnOk result (Adds propositions.old.keys propositions.new.keys clauses.old.items clauses.new.items (bit_lines rule name instance code width)) }
+{
+    for index in 0..width {
+        let absent = Atom {
+            proposition: Proposition::Member(instance),
+            positive: false,
+        };
+        let bit = Atom {
+            proposition: Proposition::Bit { name, index },
+            positive: has_digit(code, index),
+        };
+        add_pair(propositions, clauses, rule, absent, bit)?;
+    }
+    Ok(())
+}
+
+/// Puts the atom behind the others which is true where who asks is not there.
+fn push_asker<N: Copy, S: Copy>(atoms: &mut Vec<Atom<N, S>>, by: By<S>) -> Result<(), AllocError>
+    ensures { OnOk result (atoms.new.items ≡ atoms.old.items ++ asker_atoms by) }
+{
+    match by {
+        By::Root => Ok(()),
+        By::Solvable(solvable) => {
+            atoms.push(Atom {
+                proposition: Proposition::Member(solvable),
+                positive: false,
+            })?;
+            Ok(())
+        }
+    }
+}
+
+/// Puts the atoms behind the others of which one is true where a list of the rule's condition has no member.
+fn push_lists<N: Copy, S: Copy>(
+    atoms: &mut Vec<Atom<N, S>>,
+    rule: usize,
+    count: usize,
+) -> Result<(), AllocError>
+    ensures { OnOk result (atoms.new.items ≡ atoms.old.items ++ list_atoms rule count) }
+{
+    for list in 0..count {
+        atoms.push(Atom {
+            proposition: Proposition::Listed { rule, list },
+            positive: false,
+        })?;
+    }
+    Ok(())
+}
+
+/// Puts the atoms of the candidates behind the others.
+fn push_candidates<N: Copy, S: Copy>(
+    atoms: &mut Vec<Atom<N, S>>,
+    candidates: &[S],
+) -> Result<(), AllocError>
+    ensures { OnOk result (atoms.new.items ≡ atoms.old.items ++ candidate_atoms candidates.now) }
+{
+    for candidate in candidates {
+        atoms.push(Atom {
+            proposition: Proposition::Member(*candidate),
+            positive: true,
+        })?;
+    }
+    Ok(())
+}
+
+/// The atoms of a requirement's clause: who asks is not there, a list of the condition has no member, or a candidate is
+/// there.
+fn asking_atoms<N: Copy, S: Copy>(
+    alloc: Global,
+    rule: usize,
+    by: By<S>,
+    count: usize,
+    candidates: &[S],
+) -> Result<Vec<Atom<N, S>>, AllocError>
+    ensures { IfOk result (λ made. made.items ≡ asker_atoms by ++ (list_atoms rule count ++ candidate_atoms candidates.now)) }
+{
+    let mut atoms = Vec::new(alloc);
+    push_asker(&mut atoms, by)?;
+    push_lists(&mut atoms, rule, count)?;
+    push_candidates(&mut atoms, candidates)?;
+    Ok(atoms)
+}
+
+/// Puts the clauses of a requirement behind the others.
+fn add_requirement<N: Copy + Eq + Hash + Drop, S: Copy + Eq + Hash + Drop>(
+    propositions: &mut IndexSet<Proposition<N, S>>,
+    clauses: &mut Vec<RuleClause>,
+    rule: usize,
+    by: By<S>,
+    candidates: &[S],
+    when: &[Vec<S>],
+) -> Result<(), Exhausted>
+    requires names { IsIdentity N.eq }
+    requires solvables { IsIdentity S.eq }
+    ensures { OnOk result (Adds propositions.old.keys propositions.new.keys clauses.old.items clauses.new.items (asking rule (asker_atoms by ++ (list_atoms rule (length when.now) ++ candidate_atoms candidates.now)) ∷ condition_lines rule 0 when.now)) }
+{
+    let atoms = asking_atoms(*clauses.allocator(), rule, by, when.len(), candidates)?;
+    add_asking(propositions, clauses, rule, &atoms)?;
+    add_condition(propositions, clauses, rule, when)?;
+    Ok(())
+}
+
+/// Puts the clause behind the others that who asks is not there, or the candidate is not.
+fn add_constraint<N: Copy + Eq + Hash + Drop, S: Copy + Eq + Hash + Drop>(
+    propositions: &mut IndexSet<Proposition<N, S>>,
+    clauses: &mut Vec<RuleClause>,
+    rule: usize,
+    by: By<S>,
+    candidate: S,
+) -> Result<(), Exhausted>
+    requires names { IsIdentity N.eq }
+    requires solvables { IsIdentity S.eq }
+    ensures { OnOk result (Adds propositions.old.keys propositions.new.keys clauses.old.items clauses.new.items (plain rule (asker_atoms by ++ atom (Member candidate) false ∷ []) ∷ [])) }
+{
+    let excluded = Atom {
+        proposition: Proposition::Member(candidate),
+        positive: false,
+    };
+    match by {
+        By::Root => {
+            add_single(propositions, clauses, rule, excluded)?;
+            Ok(())
+        }
+        By::Solvable(solvable) => {
+            let absent = Atom {
+                proposition: Proposition::Member(solvable),
+                positive: false,
+            };
+            add_pair(propositions, clauses, rule, absent, excluded)?;
+            Ok(())
+        }
+    }
+}
+
+/// Puts the clause behind the others that the solvable is not there.
+fn add_exclusion<N: Copy + Eq + Hash + Drop, S: Copy + Eq + Hash + Drop>(
+    propositions: &mut IndexSet<Proposition<N, S>>,
+    clauses: &mut Vec<RuleClause>,
+    rule: usize,
+    solvable: S,
+) -> Result<(), Exhausted>
+    requires names { IsIdentity N.eq }
+    requires solvables { IsIdentity S.eq }
+    ensures { OnOk result (Adds propositions.old.keys propositions.new.keys clauses.old.items clauses.new.items (plain rule (atom (Member solvable) false ∷ []) ∷ [])) }
+{
+    let absent = Atom {
+        proposition: Proposition::Member(solvable),
+        positive: false,
+    };
+    add_single(propositions, clauses, rule, absent)?;
+    Ok(())
+}
+
+/// Puts the clauses of a rule behind the others.
+fn add_rule<N: Copy + Eq + Hash + Drop, S: Copy + Eq + Hash + Drop>(
+    propositions: &mut IndexSet<Proposition<N, S>>,
+    clauses: &mut Vec<RuleClause>,
+    width: u32,
+    place: usize,
+    code: usize,
+    rule: &Rule<N, S>,
+) -> Result<(), Exhausted>
+    requires names { IsIdentity N.eq }
+    requires solvables { IsIdentity S.eq }
+    requires width { width ≤ 64 }
+    ensures { OnOk result (Adds propositions.old.keys propositions.new.keys clauses.old.items clauses.new.items (lines_of width place code rule.now)) }
+{
+    match rule {
+        Rule::Requires {
+            by,
+            candidates,
+            when,
+            ..
+        } => add_requirement(propositions, clauses, place, *by, candidates, when),
+        Rule::Constrains { by, candidate, .. } => add_constraint(
+            propositions,
+            clauses,
+            place,
+            *by,
+            *candidate,
+        ),
+        Rule::Lock { forbidden, .. } => add_exclusion(propositions, clauses, place, *forbidden),
+        Rule::Excluded { solvable, .. } => add_exclusion(propositions, clauses, place, *solvable),
+        Rule::OnePerPackage { name, instance } => add_bits(
+            propositions,
+            clauses,
+            place,
+            *name,
+            *instance,
+            code,
+            width,
+        ),
+    }
+}
+
+/// Puts the clauses of the rules behind the others.
+fn add_rules<N: Copy + Eq + Hash + Drop, S: Copy + Eq + Hash + Drop>(
+    propositions: &mut IndexSet<Proposition<N, S>>,
+    clauses: &mut Vec<RuleClause>,
+    width: u32,
+    codes: &[usize],
+    rules: &[Rule<N, S>],
+) -> Result<(), Exhausted>
+    requires names { IsIdentity N.eq }
+    requires solvables { IsIdentity S.eq }
+    requires width { width ≤ 64 }
+    requires size { length rules.now ≡ length codes.now }
+    ensures { OnOk result (Adds propositions.old.keys propositions.new.keys clauses.old.items clauses.new.items (all_lines width 0 rules.now codes.now)) }
+{
+    for place in 0..rules.len() {
+        add_rule(
+            propositions,
+            clauses,
+            width,
+            place,
+            codes[place],
+            &rules[place],
+        )?;
+    }
+    Ok(())
+}
+
+/// The clauses of the rules, over these propositions and further ones.
+fn clauses_over<N: Copy + Eq + Hash + Drop, S: Copy + Eq + Hash + Drop>(
+    alloc: Global,
+    propositions: &mut IndexSet<Proposition<N, S>>,
+    rules: &[Rule<N, S>],
+) -> Result<RuleClauses, Exhausted>
+    requires names { IsIdentity N.eq }
+    requires solvables { IsIdentity S.eq }
+    ensures { IfOk result (λ made. DecideRules rules.now made.variables made.clauses.items) }
+{
+    let codes = codes_of(alloc, rules)?;
+    let mut clauses = Vec::new(alloc);
+    add_rules(propositions, &mut clauses, codes.width, &codes.codes, rules)?;
+    let variables = variable_count(propositions);
+    clauses_decide_rules::<N, S>();
+    Ok(RuleClauses { variables, clauses })
+}
+
+/// The clauses of a list of rules, which decide whether a set obeys some of them.
+///
+/// `Ids` where there would be more variables than a `u32` can number.
+pub fn clauses_of<N: Copy + Eq + Hash + Drop, S: Copy + Eq + Hash + Drop>(
+    alloc: Global,
+    rules: &[Rule<N, S>],
+) -> Result<RuleClauses, Exhausted>
+    requires names { IsIdentity N.eq }
+    requires solvables { IsIdentity S.eq }
+    ensures { IfOk result (λ made. DecideRules rules.now made.variables made.clauses.items) }
+{
+    let mut propositions = IndexSet::new(alloc);
+    let made = clauses_over(alloc, &mut propositions, rules)?;
+    drop(propositions);
+    Ok(made)
+}

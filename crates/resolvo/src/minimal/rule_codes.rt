@@ -1,0 +1,104 @@
+//! Numbers that tell the instances apart which a list of rules marks.
+
+ghost use Rattle.std.specs.Prelude.{◌≡◌, ◌≤◌, IfOk, OnOk, Some, length, slice_get};
+ghost use Rattle.std.specs.List.{AllZip};
+ghost use Rattle.resolver_clause_store.specs.Laws.{IsIdentity};
+ghost use Rattle.resolver_clause_store.specs.Variables.{AreDistinct, Keeps};
+ghost use Rattle.resolvo.specs.AddedLines.{AreCodesOf};
+ghost use Rattle.resolvo.specs.RuleClauses.{HasCode};
+
+use indexmap::IndexSet;
+use resolver_clause_store::{Exhausted, Rule, append, place_of};
+use resolver_encoding::digit_count;
+use std::alloc::Global;
+use std::hash::Hash;
+
+/// The codes of a list of rules.
+#[derive(Drop)]
+pub(crate) struct Codes {
+    /// Of a mark, the code of its instance; of another rule, any number.
+    pub(crate) codes: Vec<usize>,
+    /// How many bits tell the codes of two instances apart.
+    pub(crate) width: u32,
+}
+
+/// Where a member stands, which is put behind the others if it is not there yet.
+pub(crate) fn place_among<T: Copy + Eq + Hash + Drop>(
+    set: &mut IndexSet<T>,
+    member: T,
+) -> Result<usize, Exhausted>
+    requires { IsIdentity T.eq }
+    ensures keeps { OnOk result (Keeps set.old.keys set.new.keys) }
+    ensures here { IfOk result (λ place. slice_get set.new.keys place ≡ Some member) }
+{
+    match place_of(set, &member) {
+        Some(place) => Ok(place),
+        None => {
+            let place = set.len();
+            append(set, member)?;
+            Ok(place)
+        }
+    }
+}
+
+/// How many members there are.
+pub(crate) fn count_of<T: Copy + Eq + Hash + Drop>(set: &IndexSet<T>) -> usize
+    requires { IsIdentity T.eq }
+    ensures len { result ≡ length set.now.keys }
+    ensures distinct { AreDistinct set.now.keys }
+{
+    set.len()
+}
+
+/// The code of a rule: of a mark, the place of its instance.
+fn code_of<N, S: Copy + Eq + Hash + Drop>(
+    instances: &mut IndexSet<S>,
+    rule: &Rule<N, S>,
+) -> Result<usize, Exhausted>
+    requires { IsIdentity S.eq }
+    ensures keeps { OnOk result (Keeps instances.old.keys instances.new.keys) }
+    ensures coded { IfOk result (λ code. HasCode instances.new.keys rule.now code) }
+{
+    match rule {
+        Rule::OnePerPackage { instance, .. } => {
+            let code = place_among(instances, *instance)?;
+            Ok(code)
+        }
+        Rule::Requires { .. } => Ok(0),
+        Rule::Constrains { .. } => Ok(0),
+        Rule::Lock { .. } => Ok(0),
+        Rule::Excluded { .. } => Ok(0),
+    }
+}
+
+/// The codes of the rules, with the instances that are marked.
+fn codes_among<N, S: Copy + Eq + Hash + Drop>(
+    alloc: Global,
+    instances: &mut IndexSet<S>,
+    rules: &[Rule<N, S>],
+) -> Result<Vec<usize>, Exhausted>
+    requires { IsIdentity S.eq }
+    ensures { IfOk result (λ codes. AllZip (HasCode instances.new.keys) rules.now codes.items) }
+{
+    let mut codes = Vec::new(alloc);
+    for rule in rules {
+        codes.push(code_of(instances, rule)?)?;
+    }
+    Ok(codes)
+}
+
+/// The codes of the rules.
+pub(crate) fn codes_of<N, S: Copy + Eq + Hash + Drop>(
+    alloc: Global,
+    rules: &[Rule<N, S>],
+) -> Result<Codes, Exhausted>
+    requires { IsIdentity S.eq }
+    ensures codes { IfOk result (λ made. AreCodesOf rules.now made.codes.items made.width) }
+    ensures small { IfOk result (λ made. made.width ≤ 64) }
+{
+    let mut instances = IndexSet::new(alloc);
+    let codes = codes_among(alloc, &mut instances, rules)?;
+    let width = digit_count(count_of(&instances));
+    drop(instances);
+    Ok(Codes { codes, width })
+}
