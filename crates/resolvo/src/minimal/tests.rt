@@ -177,7 +177,7 @@ fn draw_solvable(state: &mut u32) -> u32 {
 
 fn draw_list(alloc: Global, state: &mut u32, least: u32) -> Result<Vec<u32>, AllocError> {
     let mut list = Vec::new(alloc);
-    let count = least + draw(state) % 2;
+    let count = least.saturating_add(draw(state) % 2);
     for _ in 0..count {
         list.push(draw_solvable(state))?;
     }
@@ -294,26 +294,26 @@ fn try_rules(alloc: Global, rules: &[Rule<u32, u32>]) -> Result<Tried, Exhausted
     Ok(if right { Tried::Minimal } else { Tried::Wrong })
 }
 
-/// How many lists of random rules some set obeys, and of how many one rule after another could be left out.
+/// Of how many lists of random rules one rule after another can be left out, and of how many something is wrong.
 fn counts(alloc: Global) -> Result<(u32, u32), Exhausted> {
-    let mut obeyed = 0;
-    let mut minimal = 0;
+    let mut minimal: u32 = 0;
+    let mut wrong: u32 = 0;
     for seed in 0..700 {
         let rules = draw_rules(alloc, seed)?;
         match try_rules(alloc, &rules)? {
-            Tried::Obeyed => obeyed += 1,
-            Tried::Minimal => minimal += 1,
-            Tried::Wrong => (),
+            Tried::Obeyed => (),
+            Tried::Minimal => minimal = minimal.saturating_add(1),
+            Tried::Wrong => wrong = wrong.saturating_add(1),
         }
     }
-    Ok((obeyed, minimal))
+    Ok((minimal, wrong))
 }
 
 #[test]
 fn random_conflicts_become_irreducible(rt: HostRuntime) -> Result<(), Fail> {
     match counts(rt.alloc()) {
-        Ok((obeyed, minimal)) => {
-            assert!(rt; obeyed + minimal == 700);
+        Ok((minimal, wrong)) => {
+            assert!(rt; wrong == 0);
             assert!(rt; minimal >= 300);
         }
         Err(_) => return Err(Fail::from("refused")),

@@ -285,31 +285,44 @@ fn a_union_that_overlaps_itself_lists_each_candidate_once(rt: HostRuntime) -> Re
     Ok(())
 }
 
-/// How many rules of each kind there are.
+/// What a rule says.
 #[derive(Clone, Copy, PartialEq)]
-struct Kinds {
-    of_root: u32,
-    of_solvables: u32,
-    marks: u32,
-    others: u32,
+enum Kind {
+    RootRequires,
+    SolvableRequires,
+    IsMarked,
+    Forbids,
 }
 
-fn kinds_of(rules: &[Rule<NameId, SolvableId>]) -> Kinds {
-    let mut kinds = Kinds {
-        of_root: 0,
-        of_solvables: 0,
-        marks: 0,
-        others: 0,
-    };
-    for rule in rules {
-        match rule {
-            Rule::Requires { by: By::Root, .. } => kinds.of_root += 1,
-            Rule::Requires { .. } => kinds.of_solvables += 1,
-            Rule::OnePerPackage { .. } => kinds.marks += 1,
-            _other => kinds.others += 1,
-        }
+fn kind_of(rule: &Rule<NameId, SolvableId>) -> Kind {
+    match rule {
+        Rule::Requires { by: By::Root, .. } => Kind::RootRequires,
+        Rule::Requires { .. } => Kind::SolvableRequires,
+        Rule::OnePerPackage { .. } => Kind::IsMarked,
+        _other => Kind::Forbids,
     }
-    kinds
+}
+
+fn count_of(rules: &[Rule<NameId, SolvableId>], kind: Kind) -> usize {
+    rules.iter().filter(|rule| kind_of(rule) == kind).count()
+}
+
+/// How many rules there are, and how many of three kinds.
+#[derive(Clone, Copy, PartialEq)]
+struct Counts {
+    of_root: usize,
+    of_solvables: usize,
+    marks: usize,
+    all: usize,
+}
+
+fn counts_of(rules: &[Rule<NameId, SolvableId>]) -> Counts {
+    Counts {
+        of_root: count_of(rules, Kind::RootRequires),
+        of_solvables: count_of(rules, Kind::SolvableRequires),
+        marks: count_of(rules, Kind::IsMarked),
+        all: rules.len(),
+    }
 }
 
 /// Whether the plain search finds a set that obeys the rules but this one.
@@ -328,10 +341,7 @@ fn is_needed(
 }
 
 /// Whether the plain search finds no set that obeys the rules, and finds one without any one of them.
-fn are_irreducible(
-    alloc: Global,
-    rules: &[Rule<NameId, SolvableId>],
-) -> Result<bool, Exhausted> {
+fn are_irreducible(alloc: Global, rules: &[Rule<NameId, SolvableId>]) -> Result<bool, Exhausted> {
     for place in 0..rules.len() {
         if !is_needed(alloc, rules, place)? {
             return Ok(false);
@@ -340,8 +350,8 @@ fn are_irreducible(
     Ok(are_refuted(alloc, rules))
 }
 
-/// How many rules of each kind are left of an input's conflict where none can be left out, if the plain search agrees.
-fn minimal_kinds(alloc: Global, input: &str) -> Result<Kinds, Fail> {
+/// How many rules are left of an input's conflict where none can be left out, if the plain search agrees.
+fn minimal_counts(alloc: Global, input: &str) -> Result<Counts, Fail> {
     let solved = solve(alloc, Asked::new(input))?;
     let Err(UnsolvableOrCancelled::Unsolvable(conflict)) = &solved.outcome else {
         return Err(Fail::from("no conflict"));
@@ -350,7 +360,7 @@ fn minimal_kinds(alloc: Global, input: &str) -> Result<Kinds, Fail> {
         return Err(Fail::from("refused"));
     };
     match are_irreducible(alloc, minimal.rules()) {
-        Ok(true) => Ok(kinds_of(minimal.rules())),
+        Ok(true) => Ok(counts_of(minimal.rules())),
         Ok(false) => Err(Fail::from("a rule can be left out")),
         Err(_) => Err(Fail::from("refused")),
     }
@@ -358,14 +368,14 @@ fn minimal_kinds(alloc: Global, input: &str) -> Result<Kinds, Fail> {
 
 #[test]
 fn a_minimal_clash_has_eight_rules(rt: HostRuntime) -> Result<(), Fail> {
-    let eight = Kinds {
+    let eight = Counts {
         of_root: 2,
         of_solvables: 4,
         marks: 2,
-        others: 0,
+        all: 8,
     };
-    assert!(rt; minimal_kinds(rt.alloc(), CLASH)? == eight);
-    assert!(rt; minimal_kinds(rt.alloc(), CLASH_BEFORE_W)? == eight);
+    assert!(rt; minimal_counts(rt.alloc(), CLASH)? == eight);
+    assert!(rt; minimal_counts(rt.alloc(), CLASH_BEFORE_W)? == eight);
     Ok(())
 }
 
@@ -395,9 +405,8 @@ fn no_rule_of_a_minimal_conflict_can_be_left_out(rt: HostRuntime) -> Result<(), 
         (GATED, 7),
     ];
     for (input, count) in inputs {
-        let kinds = minimal_kinds(rt.alloc(), input)?;
-        let all = kinds.of_root + kinds.of_solvables + kinds.marks + kinds.others;
-        assert!(rt; all == count, "{input}");
+        let counts = minimal_counts(rt.alloc(), input)?;
+        assert!(rt; counts.all == count, "{input}");
     }
     Ok(())
 }
