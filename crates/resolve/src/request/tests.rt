@@ -1,6 +1,8 @@
 //! Requests as a solver sees them.
 
 mod counts;
+mod interfering;
+mod interruptions;
 mod random_problems;
 mod refused;
 mod rules;

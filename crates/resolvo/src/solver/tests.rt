@@ -83,8 +83,10 @@ enum Wanted<'x> {
 enum Step<'x> {
     /// Its provider is told which of the cancel checks to come stops the search.
     StopAt(u32),
-    /// It is told how many variables there may be.
+    /// It is told how many variables, clauses or learnt clauses there may be.
     Room(u16),
+    RoomForClauses(u16),
+    RoomForLearning(u16),
     /// It solves a problem, which ends with this.
     Solve(Asked<'x>, Wanted<'x>),
     /// It solves a problem, and then another one, for which this is chosen. The graph of the first one's conflict is
@@ -213,6 +215,22 @@ fn limit_variables(solver: &mut Solver<TestProvider>, limit: u16)
     solver.variable_limit = limit as usize;
 }
 
+/// Sets how many clauses there may be.
+fn limit_clauses(solver: &mut Solver<TestProvider>, limit: u16)
+    requires { IsSound (test_universe (provider_in solver.old).endless (provider_in solver.old).requirements.items (provider_in solver.old).constraints.items) solver.old }
+    ensures { IsSound (test_universe (provider_in solver.new).endless (provider_in solver.new).requirements.items (provider_in solver.new).constraints.items) solver.new }
+{
+    solver.clause_limit = limit as usize;
+}
+
+/// Sets how many learnt clauses there may be.
+fn limit_learning(solver: &mut Solver<TestProvider>, limit: u16)
+    requires { IsSound (test_universe (provider_in solver.old).endless (provider_in solver.old).requirements.items (provider_in solver.old).constraints.items) solver.old }
+    ensures { IsSound (test_universe (provider_in solver.new).endless (provider_in solver.new).requirements.items (provider_in solver.new).constraints.items) solver.new }
+{
+    solver.learnt_limit = limit as usize;
+}
+
 /// The conflict of a problem, where it has one.
 fn conflict_in(
     solver: &mut Solver<TestProvider>,
@@ -264,6 +282,14 @@ fn goes(solver: &mut Solver<TestProvider>, step: &Step<'_>) -> bool
         }
         Step::Room(variables) => {
             limit_variables(solver, *variables);
+            true
+        }
+        Step::RoomForClauses(clauses) => {
+            limit_clauses(solver, *clauses);
+            true
+        }
+        Step::RoomForLearning(learnt) => {
+            limit_learning(solver, *learnt);
             true
         }
         Step::Solve(asked, wanted) => solves(solver, asked, wanted),
@@ -418,6 +444,38 @@ fn variables_run_out_at_the_limit(rt: HostRuntime) -> Result<(), Fail> {
         Step::Solve(asked, Wanted::Counted(&[11, 24], 3, 0)),
     ];
     assert!(rt; goes_over(rt.alloc(), &[(11, always(24))], &[], &steps));
+    Ok(())
+}
+
+#[test]
+fn clauses_run_out_at_the_limit(rt: HostRuntime) -> Result<(), Fail> {
+    let asked = Asked::Required(&[always(11)]);
+    let steps = [
+        Step::RoomForClauses(2),
+        Step::Solve(asked, Wanted::Ids),
+        Step::RoomForClauses(3),
+        Step::Solve(asked, Wanted::Counted(&[11, 24], 3, 0)),
+    ];
+    assert!(rt; goes_over(rt.alloc(), &[(11, always(24))], &[], &steps));
+    Ok(())
+}
+
+#[test]
+fn learnt_clauses_run_out_at_the_limit(rt: HostRuntime) -> Result<(), Fail> {
+    let required = [
+        (11, always(31)),
+        (14, always(31)),
+        (21, always(34)),
+        (24, always(34)),
+    ];
+    let asked = Asked::Required(&[always(10), always(20)]);
+    let steps = [
+        Step::RoomForLearning(0),
+        Step::Solve(asked, Wanted::Ids),
+        Step::RoomForLearning(1000),
+        Step::Solve(asked, Wanted::Refuted),
+    ];
+    assert!(rt; goes_over(rt.alloc(), &required, &[], &steps));
     Ok(())
 }
 

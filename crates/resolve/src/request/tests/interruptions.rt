@@ -1,0 +1,165 @@
+//! Each check that may stop a search does, and each answer of a provider is refused, one after another.
+
+use super::interfering::{Interfering, Place};
+use super::solving::{request, set_of};
+use crate::catalog::Catalog;
+use crate::ids::SolvableId;
+use resolvo::{
+    ConditionalRequirement, EmptySolvables, Exhausted, Problem, SoftRequirement, Solver,
+    UnsolvableOrCancelled, VersionSetId,
+};
+use std::alloc::{AllocError, Global};
+use std::test::Fail;
+
+/// What a call ended with: the chosen set, how many rules the conflict has, the value, or what ran out.
+#[derive(Clone, Copy, PartialEq)]
+enum Ended {
+    Chosen(u32),
+    Unsolvable(usize),
+    Cancelled(u64),
+    Exhausted(Exhausted),
+}
+
+/// What two calls for the same problem ended with, one after the other, and what was exempt after the first one.
+#[derive(Clone, Copy)]
+struct Twice {
+    first: Ended,
+    exempt: u32,
+    second: Ended,
+}
+
+fn ending_of(
+    outcome: &Result<Vec<SolvableId>, UnsolvableOrCancelled<Interfering<Catalog>>>,
+) -> Ended {
+    match outcome {
+        Ok(chosen) => Ended::Chosen(set_of(chosen)),
+        Err(UnsolvableOrCancelled::Unsolvable(conflict)) => {
+            Ended::Unsolvable(conflict.rules().len())
+        }
+        Err(UnsolvableOrCancelled::Cancelled(value)) => Ended::Cancelled(*value),
+        Err(UnsolvableOrCancelled::Exhausted(e)) => Ended::Exhausted(*e),
+    }
+}
+
+type InputProblem = Problem<SolvableId, EmptySolvables<SolvableId>>;
+
+/// A problem with copies of these parts.
+fn problem_of(
+    alloc: Global,
+    requirements: &[ConditionalRequirement],
+    constraints: &[VersionSetId],
+    soft: &[SoftRequirement<SolvableId>],
+) -> Result<InputProblem, AllocError> {
+    let requirements = Vec::from_slice(alloc, requirements)?;
+    let constraints = Vec::from_slice(alloc, constraints)?;
+    let soft = Vec::from_slice(alloc, soft)?;
+    Ok(
+        Problem::new()
+            .requirements(requirements)
+            .constraints(constraints)
+            .soft_list(soft),
+    )
+}
+
+fn solve_both(
+    alloc: Global,
+    provider: Interfering<Catalog>,
+    first: InputProblem,
+    second: InputProblem,
+) -> Twice {
+    let mut solver = Solver::new(alloc, provider);
+    let outcome = solver.solve(first);
+    let first = ending_of(&outcome);
+    let exempt = set_of(solver.exempt_solvables());
+    let outcome = solver.solve(second);
+    let second = ending_of(&outcome);
+    Twice {
+        first,
+        exempt,
+        second,
+    }
+}
+
+/// Solves the problem of an input twice, with a provider that interferes at one place.
+fn solve_twice(alloc: Global, input: &str, place: Place) -> Result<Twice, Fail> {
+    let request = request(alloc, input)?;
+    let first = problem_of(
+        alloc,
+        &request.requirements,
+        &request.constraints,
+        &request.soft_requirements,
+    )?;
+    let second = problem_of(
+        alloc,
+        &request.requirements,
+        &request.constraints,
+        &request.soft_requirements,
+    )?;
+    let provider = Interfering::new(request.catalog, place);
+    Ok(solve_both(alloc, provider, first, second))
+}
+
+/// Stops the search at one check after another, up to the first one that it does not come to. Answers the number of that one.
+fn stop_at_each_check(alloc: Global, input: &str) -> Result<u64, Fail> {
+    let undisturbed = solve_twice(alloc, input, Place::Nowhere)?.first;
+    for check in 1..10_000 {
+        let twice = solve_twice(alloc, input, Place::Check(check))?;
+        if twice.first == undisturbed {
+            return Ok(check);
+        }
+        if twice.second != undisturbed {
+            return Err(Fail::from("another outcome after it"));
+        }
+        if twice.first != Ended::Cancelled(check) || twice.exempt != 0 {
+            return Err(Fail::from("not cancelled"));
+        }
+    }
+    Err(Fail::from("cancelled each time"))
+}
+
+/// Refuses one answer of the provider after another, up to the first one that is not asked for. Answers the number of that one.
+fn refuse_each_answer(alloc: Global, input: &str) -> Result<u64, Fail> {
+    let undisturbed = solve_twice(alloc, input, Place::Nowhere)?.first;
+    for answer in 1..10_000 {
+        let twice = solve_twice(alloc, input, Place::Answer(answer))?;
+        if twice.first == undisturbed {
+            return Ok(answer);
+        }
+        if twice.second != undisturbed {
+            return Err(Fail::from("another outcome after it"));
+        }
+        if twice.first != Ended::Exhausted(Exhausted::Memory) || twice.exempt != 0 {
+            return Err(Fail::from("not refused"));
+        }
+    }
+    Err(Fail::from("refused each time"))
+}
+
+/// One requirement, soft requirements of all kinds, a shared requirement, a clash, and a condition that does not hold and one
+/// that does.
+const INPUTS: [&str; 6] = [
+    "package asdf=1\npackage efgh=4\npackage dummy=6\nrequires asdf=1 efgh\nrequire asdf\n",
+    "package a=1\npackage b=1\npackage b=2\npackage c=1\npackage d=1\npackage e=1\npackage locked=1\npackage locked=2\npackage unknown-deps=1\nrequires a=1 b@0..10\nrequires e=1 d\nlock locked=2\nunknown unknown-deps=1 no data\nrequire a@0..10\nconstrain b@1..2\nconstrain c\nsoft b=2\nsoft c=1\nsoft e=1\nsoft locked=1\nsoft unknown-deps=1\n",
+    "package x=1\npackage y=1\npackage z=1\npackage z=2\npackage z=3\npackage z=4\npackage z=5\nrequires x=1 z\nrequires y=1 z\nrequires z=5 missing\nrequire x\nrequire y\n",
+    "package p=1\npackage p=2\npackage q=1\npackage q=2\npackage r=1\npackage r=2\nrequires p=1 r@1\nrequires p=2 r@1\nrequires q=1 r@2\nrequires q=2 r@2\nrequire p\nrequire q\n",
+    "package p=1\npackage c=1\npackage e=1\npackage x=1\nrequires p=1 x if c or e\nrequire p\n",
+    "package p=1\npackage c=1\npackage e=1\npackage x=1\nrequires p=1 x if c or e\nrequire p\nrequire c\n",
+];
+
+#[test]
+fn each_check_may_stop_the_search(rt: HostRuntime) -> Result<(), Fail> {
+    for input in INPUTS {
+        let first_unused = stop_at_each_check(rt.alloc(), input)?;
+        assert!(rt; first_unused > 2, "{input}");
+    }
+    Ok(())
+}
+
+#[test]
+fn each_answer_of_the_provider_may_be_refused(rt: HostRuntime) -> Result<(), Fail> {
+    for input in INPUTS {
+        let first_unused = refuse_each_answer(rt.alloc(), input)?;
+        assert!(rt; first_unused > 2, "{input}");
+    }
+    Ok(())
+}
