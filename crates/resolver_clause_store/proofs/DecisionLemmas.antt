@@ -75,28 +75,3 @@ passed-some trail clause count place passed inside all =
           ⊎_elim (λ f. absurd (none-some _ (sym there ∙ f))) (λ w. absurd (both_ways _ sign w.1)) (passed.undecided free.0 free.1 (omega (arith, free.2))))
           met;
     }
-
--- what is known after some requirements
-abbrev pub BestSo : Trail → List (Vec Literal Global) → List RequirementClause → ℕ → Option Choice → Type 0
-BestSo trail table requirements count best =
-    MatchOption best (All (λ (requirement : RequirementClause). IsMet trail (clause_at table requirement.number)) (take count requirements)) (IsChoice trail table requirements)
-
-pub best-next : (trail : Trail) (table : List (Vec Literal Global)) (requirements : List RequirementClause) (i : ℕ) (item : RequirementClause) (best next result : Option Choice) → i < length requirements → item ≡ get_or requirements i item → BestSo trail table requirements i best →
-    MatchOption next (IsMet trail (clause_at table item.number)) (IsChoiceOf trail table item) → (result ≡ best) ⊎ (result ≡ next) → (result ≡ None → (best ≡ None) × (next ≡ None)) → BestSo trail table requirements (i + 1) result
-best-next trail table requirements i item best next None within is so here either none =
-    let e = none refl in
-    let before : BestSo trail table requirements i None = subst (λ o. BestSo trail table requirements i o) e.0 so in
-    let met : MatchOption None (IsMet trail (clause_at table item.number)) (IsChoiceOf trail table item) = subst (λ o. MatchOption o (IsMet trail (clause_at table item.number)) (IsChoiceOf trail table item)) e.1 here in
-    All-more (λ (requirement : RequirementClause). IsMet trail (clause_at table requirement.number)) requirements i item within before (subst (λ (r : RequirementClause). IsMet trail (clause_at table r.number)) is met)
-best-next trail table requirements i item best next (Some choice) within is so here either none = ⊎_elim
-    (λ (old : Some choice ≡ best). subst (λ o. BestSo trail table requirements i o) (sym old) so)
-    (λ (new : Some choice ≡ next). record {
-      requirement = item;
-      listed = (i, within, sym is);
-      chosen = subst (λ o. MatchOption o (IsMet trail (clause_at table item.number)) (IsChoiceOf trail table item)) (sym new) here;
-    })
-    either
-
-pub best-none : (trail : Trail) (table : List (Vec Literal Global)) (requirements : List RequirementClause) (i : ℕ) (best : Option Choice) → length requirements ≤ i → BestSo trail table requirements i best → IfNone best (All (λ (requirement : RequirementClause). IsMet trail (clause_at table requirement.number)) requirements)
-best-none trail table requirements i None all so = All-done (λ (requirement : RequirementClause). IsMet trail (clause_at table requirement.number)) requirements i all so
-best-none trail table requirements i (Some choice) all so = tt

@@ -34,7 +34,7 @@ pub use data::{
     HintDependenciesAvailable, Interrupted, KnownDependencies, LogicalOperator, Requirement,
     SoftRequirement,
 };
-pub use decisions::{Choice, decide};
+pub use decisions::Choice;
 pub use ids::{ConditionId, StringId, VersionSetId, VersionSetUnionId};
 pub use index_sets::{append, is_among, place_of};
 pub use kinds::{ClauseKind, Origin};

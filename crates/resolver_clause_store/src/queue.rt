@@ -211,7 +211,7 @@ impl DecideQueue {
                 self.ranks.leave(self.active.as_slice(), place);
                 Ok(None)
             }
-            Standing::Open(first) => Ok(Some(choice_at(trail, literals, requirement, first, 0))),
+            Standing::Open(first) => Ok(Some(choice_at(trail, literals, requirement, first))),
         }
     }
 

@@ -366,7 +366,7 @@ impl Ranks {
                     Standing::Open(first) => {
                         let edition = self.entries[index].edition.wrapping_add(1);
                         self.entries[index].edition = edition;
-                        let choice = choice_at(trail, literals, &requirements[index], first, 0);
+                        let choice = choice_at(trail, literals, &requirements[index], first);
                         self.put(Rank {
                             is_later: !choice.of_root,
                             count: choice.count,

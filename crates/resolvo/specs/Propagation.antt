@@ -8,15 +8,11 @@ use Rattle.resolver_clause_store.specs.declared.Reason.TheVariants.{Decided, For
 use Rattle.resolver_clause_store.specs.declared.Trail.{Trail}
 use Rattle.resolver_clause_store.specs.Formula.{clause_at}
 use Rattle.resolver_clause_store.specs.Slots.{is_decided}
-use Rattle.resolver_clause_store.specs.TrailView.{slot_of, open_count, literal_value}
+use Rattle.resolver_clause_store.specs.TrailView.{slot_of, literal_value}
 use Rattle.resolver_clause_store.specs.Outcomes.{IsFalsified, IsSatisfied, IsForcing, IsChosen}
-use Rattle.resolver_clause_store.specs.Settled.{IsOpen, IsSettled, AllSettled}
+use Rattle.resolver_clause_store.specs.Settled.{IsOpen}
 use Rattle.resolvo.specs.declared.propagate.State.{State}
 use Rattle.resolvo.specs.declared.propagate.State.TheVariants.{Satisfied, Falsified, Unit, Open}
-use Rattle.resolvo.specs.declared.propagate.Effect.{Effect}
-use Rattle.resolvo.specs.declared.propagate.Effect.TheVariants.{Nothing, Assigned, Conflict}
-use Rattle.resolvo.specs.declared.propagate.Pass.{Pass}
-use Rattle.resolvo.specs.declared.propagate.Pass.TheVariants.{Quiet, Changed, Conflict as Fails}
 
 -- each literal but this one is false
 abbrev pub IsUnit : Trail → Literal → List Literal → Type 0
@@ -51,18 +47,6 @@ pub record Extends (old new : Trail) : Type 0 where
   pub kept : (variable : ℕ) (slot : Slot) → slot_of old variable ≡ Some slot → slot_of new variable ≡ Some slot
   pub only : (variable : ℕ) (slot : Slot) → slot_of new variable ≡ Some slot → (slot_of old variable ≡ Some slot) ⊎ (is_decided slot.reason ≡ false)
 
--- what a look at one clause did
-abbrev pub EffectIs : Trail → Trail → List Literal → Effect → Type 0
-EffectIs old new clause Nothing = (new ≡ old) × IsSettled new clause
-EffectIs old new clause Assigned = open_count new < open_count old
-EffectIs old new clause Conflict = (new ≡ old) × IsFalsified new clause
-
 -- the clause with this number is false
 abbrev pub IsConflict : Trail → List (Vec Literal Global) → ℕ → Type 0
 IsConflict trail table number = (number < length table) × IsFalsified trail (clause_at table number)
-
--- what a look at every clause did
-abbrev pub PassIs : Trail → Trail → List (Vec Literal Global) → Pass → Type 0
-PassIs old new table Quiet = AllSettled new table
-PassIs old new table Changed = open_count new < open_count old
-PassIs old new table (Fails number) = IsConflict new table number

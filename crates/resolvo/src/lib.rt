@@ -13,6 +13,8 @@ mod problem;
 mod propagate;
 mod propagator;
 mod rounds;
+#[cfg(test)]
+mod scanning;
 mod solver;
 #[cfg(test)]
 mod store_tests;

@@ -8,9 +8,9 @@ ghost use Rattle.resolvo.specs.ClauseSearches.{IsConsistent, base_of};
 mod random_clauses;
 
 use super::*;
-use crate::propagate::propagate as scan;
+use crate::scanning::{decide, propagate as scan};
 use crate::test_provider::TestProvider;
-use resolver_clause_store::{Reason, Slot, Variable, decide};
+use resolver_clause_store::{Reason, Slot, Variable};
 use std::cell::Cell;
 use std::test::Fail;
 
@@ -120,10 +120,7 @@ fn first_by_scanning(
     }
     match scan(&mut trail, table)? {
         Some(_) => Ok(None),
-        None => match decide(&trail, table, requirements, &[]) {
-            Some(choice) => Ok(Some((choice.number, choice.place))),
-            None => Ok(None),
-        },
+        None => Ok(decide(&trail, table, requirements)),
     }
 }
 

@@ -10,7 +10,7 @@ ghost use Rattle.resolvo.specs.Propagators.{IsPropagator};
 ghost use Rattle.resolvo.specs.declared.propagator.Propagator.{Propagator};
 
 use super::*;
-use crate::propagate::propagate as scan;
+use crate::scanning::propagate as scan;
 use resolver_clause_store::{Literal, Trail, Variable, clause};
 use std::alloc::{AllocError, Global};
 use std::test::Fail;
@@ -172,12 +172,10 @@ fn follow_both(
     requires below { AreBelow (variable_count trail.old) table.now }
     requires below_scanned { AreBelow (variable_count scanned.old) table.now }
     requires justified { IsJustified table.now trail.old }
-    requires justified_scanned { IsJustified table.now scanned.old }
     requires propagator { IsPropagator table.now trail.old propagator.old }
     ensures size { OnOk result (variable_count trail.new ≡ variable_count trail.old) }
     ensures size_scanned { OnOk result (variable_count scanned.new ≡ variable_count scanned.old) }
     ensures justified { OnOk result (IsJustified table.now trail.new) }
-    ensures justified_scanned { OnOk result (IsJustified table.now scanned.new) }
     ensures propagator { OnOk result (IsPropagator table.now trail.new propagator.new) }
 {
     let holds = follow(trail, table, propagator)?;
