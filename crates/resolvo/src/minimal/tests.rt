@@ -1,6 +1,6 @@
 //! Conflicts of which no rule can be left out: worked lists of rules, and random ones, tried by the plain search.
 
-ghost use Rattle.std.specs.Prelude.{◌≡◌, length};
+ghost use Rattle.std.specs.Prelude.{◌<◌, length};
 
 use super::{clauses_within, copies_of, left_by, verdict_of};
 use crate::conflict::Conflict;
@@ -243,7 +243,9 @@ fn draw_rules(alloc: Global, seed: u32) -> Result<Vec<Rule<u32, u32>>, AllocErro
 }
 
 /// Whether the plain search finds a set that obeys the rules but this one.
-fn is_needed(alloc: Global, rules: &[Rule<u32, u32>], place: usize) -> Result<bool, Exhausted> {
+fn is_needed(alloc: Global, rules: &[Rule<u32, u32>], place: usize) -> Result<bool, Exhausted>
+    requires { place < length rules.now }
+{
     let mut others = vec![in alloc; true; rules.len()]?;
     others[place] = false;
     let copies = copies_of(alloc, rules, &others)?;
