@@ -74,6 +74,8 @@ enum Wanted<'x> {
     Stopped,
     /// Ids run out.
     Ids,
+    /// The same, and there are so many clauses.
+    IdsBehind(usize),
     /// There is a conflict whose rules no set obeys, by trying all sets and by the plain search.
     Refuted,
 }
@@ -160,6 +162,13 @@ fn is_answer(outcome: &Outcome, wanted: &[u32]) -> bool {
     }
 }
 
+fn has_no_ids(outcome: &Outcome) -> bool {
+    matches!(
+        outcome,
+        Err(UnsolvableOrCancelled::Exhausted(Exhausted::Ids))
+    )
+}
+
 /// Whether the last problem ended with this.
 fn is_wanted(solver: &Solver<TestProvider>, outcome: &Outcome, wanted: &Wanted<'_>) -> bool {
     match wanted {
@@ -179,10 +188,8 @@ fn is_wanted(solver: &Solver<TestProvider>, outcome: &Outcome, wanted: &Wanted<'
                 & (solver.provider().log.get() == *asked)
         }
         Wanted::Stopped => matches!(outcome, Err(UnsolvableOrCancelled::Cancelled(7))),
-        Wanted::Ids => matches!(
-            outcome,
-            Err(UnsolvableOrCancelled::Exhausted(Exhausted::Ids))
-        ),
+        Wanted::Ids => has_no_ids(outcome),
+        Wanted::IdsBehind(clauses) => has_no_ids(outcome) & (solver.clause_count() == *clauses),
         Wanted::Refuted => is_explained(solver, outcome),
     }
 }
@@ -439,7 +446,7 @@ fn variables_run_out_at_the_limit(rt: HostRuntime) -> Result<(), Fail> {
     let asked = Asked::Required(&[always(11)]);
     let steps = [
         Step::Room(2),
-        Step::Solve(asked, Wanted::Ids),
+        Step::Solve(asked, Wanted::IdsBehind(2)),
         Step::Room(3),
         Step::Solve(asked, Wanted::Counted(&[11, 24], 3, 0)),
     ];
@@ -452,7 +459,7 @@ fn clauses_run_out_at_the_limit(rt: HostRuntime) -> Result<(), Fail> {
     let asked = Asked::Required(&[always(11)]);
     let steps = [
         Step::RoomForClauses(2),
-        Step::Solve(asked, Wanted::Ids),
+        Step::Solve(asked, Wanted::IdsBehind(2)),
         Step::RoomForClauses(3),
         Step::Solve(asked, Wanted::Counted(&[11, 24], 3, 0)),
     ];

@@ -20,11 +20,13 @@ enum Ended {
     Exhausted(Exhausted),
 }
 
-/// What two calls for the same problem ended with, one after the other, and what was exempt after the first one.
+/// What two calls for the same problem ended with, one after the other, and what was exempt and how many clauses there were after the
+/// first one.
 #[derive(Clone, Copy)]
 struct Twice {
     first: Ended,
     exempt: u32,
+    clauses: usize,
     second: Ended,
 }
 
@@ -71,11 +73,13 @@ fn solve_both(
     let outcome = solver.solve(first);
     let first = ending_of(&outcome);
     let exempt = set_of(solver.exempt_solvables());
+    let clauses = solver.clause_count();
     let outcome = solver.solve(second);
     let second = ending_of(&outcome);
     Twice {
         first,
         exempt,
+        clauses,
         second,
     }
 }
@@ -99,38 +103,49 @@ fn solve_twice(alloc: Global, input: &str, place: Place) -> Result<Twice, Fail> 
     Ok(solve_both(alloc, provider, first, second))
 }
 
-/// Stops the search at one check after another, up to the first one that it does not come to. Answers the number of that one.
+/// Stops the search at one check after another, up to the first one that it does not come to. Answers the number of that one. The later
+/// the check, the more clauses are counted.
 fn stop_at_each_check(alloc: Global, input: &str) -> Result<u64, Fail> {
-    let undisturbed = solve_twice(alloc, input, Place::Nowhere)?.first;
+    let undisturbed = solve_twice(alloc, input, Place::Nowhere)?;
+    let mut clauses = 0;
     for check in 1..10_000 {
         let twice = solve_twice(alloc, input, Place::Check(check))?;
-        if twice.first == undisturbed {
+        if twice.first == undisturbed.first {
             return Ok(check);
         }
-        if twice.second != undisturbed {
+        if twice.second != undisturbed.first {
             return Err(Fail::from("another outcome after it"));
         }
         if twice.first != Ended::Cancelled(check) || twice.exempt != 0 {
             return Err(Fail::from("not cancelled"));
         }
+        if twice.clauses < clauses || undisturbed.clauses < twice.clauses {
+            return Err(Fail::from("other clauses than those so far"));
+        }
+        clauses = twice.clauses;
     }
     Err(Fail::from("cancelled each time"))
 }
 
 /// Refuses one answer of the provider after another, up to the first one that is not asked for. Answers the number of that one.
 fn refuse_each_answer(alloc: Global, input: &str) -> Result<u64, Fail> {
-    let undisturbed = solve_twice(alloc, input, Place::Nowhere)?.first;
+    let undisturbed = solve_twice(alloc, input, Place::Nowhere)?;
+    let mut clauses = 0;
     for answer in 1..10_000 {
         let twice = solve_twice(alloc, input, Place::Answer(answer))?;
-        if twice.first == undisturbed {
+        if twice.first == undisturbed.first {
             return Ok(answer);
         }
-        if twice.second != undisturbed {
+        if twice.second != undisturbed.first {
             return Err(Fail::from("another outcome after it"));
         }
         if twice.first != Ended::Exhausted(Exhausted::Memory) || twice.exempt != 0 {
             return Err(Fail::from("not refused"));
         }
+        if twice.clauses < clauses || undisturbed.clauses < twice.clauses {
+            return Err(Fail::from("other clauses than those so far"));
+        }
+        clauses = twice.clauses;
     }
     Err(Fail::from("refused each time"))
 }
