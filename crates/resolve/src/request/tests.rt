@@ -1,10 +1,10 @@
 //! Requests as a solver sees them.
 
 mod counts;
+mod hinted;
 mod random_problems;
 mod refused;
 mod rules;
-mod scores;
 mod sets;
 mod soft;
 mod solving;
