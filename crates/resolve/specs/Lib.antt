@@ -5,6 +5,7 @@ pub mod Versions
 pub mod Sorting
 pub mod Catalogs
 pub mod CatalogLaws
+pub mod Hinting
 pub mod SortingLemmas
 pub mod Additions
 pub mod Lines

@@ -1,7 +1,9 @@
 //! Whole inputs, and what comes of them.
 
+mod decisions;
 mod examples;
 mod failing;
+mod without_scores;
 
 use super::{fault_text, run};
 use resolver_clause_store::Exhausted;

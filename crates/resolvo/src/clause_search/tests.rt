@@ -6,6 +6,7 @@ ghost use Rattle.resolver_clause_store.specs.declared.RequirementClause.{Require
 ghost use Rattle.resolvo.specs.ClauseSearches.{IsConsistent, base_of};
 
 mod random_clauses;
+mod scores;
 
 use super::*;
 use crate::scanning::{decide, propagate as scan};
@@ -136,12 +137,13 @@ fn provider_of_nothing(alloc: Global) -> TestProvider {
     }
 }
 
-/// Loads these clauses and requirements, and tells whether they could be loaded.
+/// Loads these clauses and requirements, with the packages of variables, and tells whether they could be loaded.
 fn load_given(
     search: &mut ClauseSearch,
     clauses: &[Vec<Literal>],
     requirements: &[RequirementClause],
     variables: usize,
+    owners: &[Option<usize>],
 ) -> bool
     requires { IsConsistent search.old }
     ensures { IsTrue result → IsConsistent search.new }
@@ -155,7 +157,7 @@ fn load_given(
     if variables < search.trail().variable_count() {
         return false;
     }
-    let loaded = search.load(variables, clauses, requirements, &[]);
+    let loaded = search.load(variables, clauses, requirements, owners);
     loaded.is_ok()
 }
 
@@ -170,7 +172,7 @@ fn load_all(
     ensures { IfOk result (λ loaded. IsTrue loaded → IsConsistent search.new) }
 {
     let requirements = all_required(alloc, clauses.len())?;
-    let loaded = load_given(search, clauses, requirements.as_slice(), variables);
+    let loaded = load_given(search, clauses, requirements.as_slice(), variables, &[]);
     Ok(loaded)
 }
 
@@ -394,7 +396,7 @@ fn first_by_searching(
 ) -> Decision
     requires { IsConsistent search.old }
 {
-    if !load_given(search, table, requirements, 16) {
+    if !load_given(search, table, requirements, 16, &[]) {
         return None;
     }
     if !finishes(alloc, search, provider) {

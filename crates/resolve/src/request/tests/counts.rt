@@ -8,13 +8,13 @@ use std::test::Fail;
 /// How many clauses and how many disjuncts that are put off the solver counts after the problem of an input, and the set
 /// that it chose, if it did.
 #[derive(Clone, Copy, Debug, PartialEq, Eq)]
-struct Counts {
-    clauses: usize,
-    deferred: usize,
-    chosen: Option<u32>,
+pub struct Counts {
+    pub clauses: usize,
+    pub deferred: usize,
+    pub chosen: Option<u32>,
 }
 
-fn counts_of(alloc: Global, input: &str) -> Result<Counts, Fail> {
+pub fn counts_of(alloc: Global, input: &str) -> Result<Counts, Fail> {
     let solved = solve(alloc, Asked::new(input))?;
     Ok(Counts {
         clauses: solved.clauses,
@@ -24,7 +24,7 @@ fn counts_of(alloc: Global, input: &str) -> Result<Counts, Fail> {
 }
 
 /// Counts of a problem that has an answer.
-fn answered(clauses: usize, deferred: usize, chosen: u32) -> Counts {
+pub fn answered(clauses: usize, deferred: usize, chosen: u32) -> Counts {
     Counts {
         clauses,
         deferred,

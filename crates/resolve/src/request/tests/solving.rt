@@ -9,24 +9,17 @@ use resolvo::{Problem, SoftRequirement, Solver, UnsolvableOrCancelled, VersionSe
 use std::alloc::Global;
 use std::test::Fail;
 
-/// An input, the soft requirements in place of its own, and the numbers of the scores.
+/// An input, and the soft requirements in place of its own.
 #[derive(Clone, Copy)]
 pub struct Asked<'x> {
     pub input: &'x str,
     pub soft: &'x [Soft],
-    pub add: u64,
-    pub decay: u64,
 }
 
 impl<'x> Asked<'x> {
-    /// Without soft requirements, and with the scores of a new solver.
+    /// Without soft requirements.
     pub fn new(input: &'x str) -> Asked<'x> {
-        Asked {
-            input,
-            soft: &[],
-            add: 1_000_000,
-            decay: 950_000,
-        }
+        Asked { input, soft: &[] }
     }
 }
 
@@ -113,15 +106,14 @@ fn version_set(request: &mut Request, spec: &str) -> Result<VersionSetId, Fail> 
     }
 }
 
-/// Solves what a request states, with these soft requirements and numbers of the scores.
-fn solve_request(alloc: Global, request: Request, soft: SoftParts, asked: Asked<'_>) -> Solved {
+/// Solves what a request states, with these soft requirements.
+fn solve_request(alloc: Global, request: Request, soft: SoftParts) -> Solved {
     let problem = Problem::new()
         .requirements(request.requirements)
         .constraints(request.constraints)
         .soft_list(soft.list)
         .soft_requirements(soft.first.into_iter());
-    let solver = Solver::new(alloc, request.catalog);
-    let mut solver = solver.with_activity_params(asked.add, asked.decay);
+    let mut solver = Solver::new(alloc, request.catalog);
     let outcome = solver.solve(problem);
     Solved {
         outcome,
@@ -140,5 +132,5 @@ pub fn solve(alloc: Global, asked: Asked<'_>) -> Result<Solved, Fail> {
     for soft in asked.soft {
         parts.add(alloc, &mut request, *soft)?;
     }
-    Ok(solve_request(alloc, request, parts, asked))
+    Ok(solve_request(alloc, request, parts))
 }

@@ -1,0 +1,332 @@
+//! Scores that grow with what a search learns, and the decisions that they lead to.
+
+ghost use Rattle.resolvo.specs.ClauseSearches.{IsConsistent};
+
+use super::{finishes, load_given, provider_of_nothing, requirement_of, slot_of};
+use crate::clause_search::ClauseSearch;
+use crate::test_provider::TestProvider;
+use resolver_clause_store::{Activity, Literal, RequirementClause, Scores, Variable};
+use std::alloc::{AllocError, Global};
+use std::test::Fail;
+
+/// A package whose requirement has three candidates.
+const WIDE: usize = 0;
+
+/// A package whose requirement has two candidates, and comes later.
+const NARROW: usize = 1;
+
+/// A package that nothing requires in the end.
+const OTHER: usize = 2;
+
+/// The packages whose candidates a learnt clause has, and how many such clauses are learnt, one after the other.
+type Learnt<'x> = (&'x [usize], usize);
+
+/// What a search over the clauses of two requirements has come to.
+#[derive(Clone, Copy, PartialEq, Eq)]
+struct Seen {
+    /// How many clauses it learnt, and how many of them have just one solvable of the first package.
+    learnt: usize,
+    with_one: usize,
+    /// The score of the first package by these clauses.
+    score: u64,
+    /// Whether the requirement with three candidates was decided before the one with two.
+    wide_first: bool,
+}
+
+/// Clauses, with their requirements, and the package of each variable.
+#[derive(Drop)]
+struct Given {
+    alloc: Global,
+    table: Vec<Vec<Literal>>,
+    requirements: Vec<RequirementClause>,
+    owners: Vec<Option<usize>>,
+    /// The number of the next variable.
+    next: u32,
+}
+
+impl Given {
+    fn new(alloc: Global) -> Given {
+        Given {
+            alloc,
+            table: Vec::new(alloc),
+            requirements: Vec::new(alloc),
+            owners: Vec::new(alloc),
+            next: 0,
+        }
+    }
+
+    /// A literal of a new variable, which stands for a solvable of this package, if one.
+    fn add_variable(&mut self, owner: Option<usize>) -> Result<Literal, AllocError> {
+        let variable = Variable::new(self.next);
+        self.owners.push(owner)?;
+        self.next = self.next.wrapping_add(1);
+        Ok(Literal {
+            variable,
+            positive: true,
+        })
+    }
+
+    fn add_clause(&mut self, literals: &[Literal], last: Literal) -> Result<(), AllocError> {
+        let mut clause = Vec::from_slice(self.alloc, literals)?;
+        clause.push(last)?;
+        self.table.push(clause)?;
+        Ok(())
+    }
+
+    /// Adds the clause of a requirement.
+    fn add_requirement(&mut self, clause: Vec<Literal>, of_root: bool) -> Result<(), AllocError> {
+        let number = self.table.len();
+        let requirement = requirement_of(self.alloc, number, of_root, &[clause.len()])?;
+        self.requirements.push(requirement)?;
+        self.table.push(clause)?;
+        Ok(())
+    }
+
+    /// Adds a requirement of a requirer for one of so many candidates of a package.
+    fn require(
+        &mut self,
+        requirer: Literal,
+        package: usize,
+        count: usize,
+    ) -> Result<(), AllocError> {
+        let mut clause = vec![in self.alloc; negated(requirer)]?;
+        for _ in 0..count {
+            clause.push(self.add_variable(Some(package))?)?;
+        }
+        self.add_requirement(clause, false)?;
+        Ok(())
+    }
+
+    /// Adds a requirement of the root, of which a candidate of a package is tried first. Answers that candidate.
+    fn require_one(&mut self, package: usize) -> Result<Literal, AllocError> {
+        let tried = self.add_variable(Some(package))?;
+        let left = self.add_variable(None)?;
+        let clause = vec![in self.alloc; tried, left]?;
+        self.add_requirement(clause, true)?;
+        Ok(tried)
+    }
+
+    /// Adds requirements of the root of which the candidates that are tried first, one of each package, contradict each
+    /// other. So a search learns the clause that not all of them are chosen.
+    fn add_clash(&mut self, packages: &[usize]) -> Result<(), AllocError> {
+        let mut tried = Vec::new(self.alloc);
+        for package in packages {
+            tried.push(negated(self.require_one(*package)?))?;
+        }
+        let both = self.add_variable(None)?;
+        self.add_clause(&tried, both)?;
+        self.add_clause(&tried, negated(both))?;
+        Ok(())
+    }
+
+    /// Adds what leads to so many learnt clauses.
+    fn add_clashes(&mut self, learnt: &Learnt<'_>) -> Result<(), AllocError> {
+        for _ in 0..learnt.1 {
+            self.add_clash(learnt.0)?;
+        }
+        Ok(())
+    }
+}
+
+fn negated(literal: Literal) -> Literal {
+    Literal {
+        variable: literal.variable,
+        positive: !literal.positive,
+    }
+}
+
+/// A solvable that is chosen, which requires the first package and the second one, and what leads to learnt clauses. The first
+/// candidates of the two packages are the literals 2 and 5.
+fn given_for(alloc: Global, learnt: &[Learnt<'_>]) -> Result<Given, AllocError> {
+    let mut given = Given::new(alloc);
+    let requirer = given.add_variable(None)?;
+    given.add_clause(&[], requirer)?;
+    given.require(requirer, WIDE, 3)?;
+    given.require(requirer, NARROW, 2)?;
+    for clauses in learnt {
+        given.add_clashes(clauses)?;
+    }
+    Ok(given)
+}
+
+/// The clauses behind the given ones.
+fn learnt_in(search: &ClauseSearch, count: usize) -> &[Vec<Literal>] {
+    if search.table.len() < count {
+        return &[];
+    }
+    &search.table[count..]
+}
+
+/// How many literals of a clause are of solvables of the first package.
+fn count_in(clause: &[Literal], owners: &[Option<usize>]) -> usize {
+    let mut count = 0usize;
+    for literal in clause {
+        if owners.get(literal.variable.index()) == Some(&Some(WIDE)) {
+            count = count.saturating_add(1);
+        }
+    }
+    count
+}
+
+/// How many clauses have just one solvable of the first package.
+fn clauses_with_one(clauses: &[Vec<Literal>], owners: &[Option<usize>]) -> usize {
+    let mut count = 0usize;
+    for clause in clauses {
+        if count_in(clause, owners) == 1 {
+            count = count.saturating_add(1);
+        }
+    }
+    count
+}
+
+/// The score of the first package by learnt clauses: each solvable of it in one adds to the score, which then fades.
+fn score_by(
+    alloc: Global,
+    activity: Activity,
+    clauses: &[Vec<Literal>],
+    owners: &[Option<usize>],
+) -> Result<u64, AllocError> {
+    let mut scores = Scores::new(alloc, activity);
+    let mut learnt = 0u64;
+    for clause in clauses {
+        for _ in 0..count_in(clause, owners) {
+            scores.add(WIDE, learnt)?;
+        }
+        learnt = learnt.saturating_add(1);
+    }
+    Ok(scores.read(WIDE, learnt))
+}
+
+/// Whether the first candidate of the first package was decided before that of the second one.
+fn is_wide_first(search: &ClauseSearch) -> bool {
+    match (slot_of(search, 2), slot_of(search, 5)) {
+        (Some(wide), Some(narrow)) => wide.value && narrow.value && wide.place < narrow.place,
+        _ => false,
+    }
+}
+
+/// What a search comes to, where it finds values.
+fn seen_in(
+    alloc: Global,
+    search: &mut ClauseSearch,
+    provider: &TestProvider,
+    given: &Given,
+    activity: Activity,
+) -> Result<Option<Seen>, AllocError>
+    requires { IsConsistent search.old }
+{
+    let variables = given.owners.len();
+    if !load_given(
+        search,
+        &given.table,
+        &given.requirements,
+        variables,
+        &given.owners,
+    ) {
+        return Ok(None);
+    }
+    if !finishes(alloc, search, provider) {
+        return Ok(None);
+    }
+    let learnt = learnt_in(search, given.table.len());
+    Ok(Some(Seen {
+        learnt: search.learnt_count(),
+        with_one: clauses_with_one(learnt, &given.owners),
+        score: score_by(alloc, activity, learnt, &given.owners)?,
+        wide_first: is_wide_first(search),
+    }))
+}
+
+/// What a new search comes to that learns clauses with candidates of these packages.
+///
+/// This alone owns a search.
+fn seen_after(
+    alloc: Global,
+    activity: Activity,
+    learnt: &[Learnt<'_>],
+) -> Result<Option<Seen>, AllocError> {
+    let given = given_for(alloc, learnt)?;
+    let provider = provider_of_nothing(alloc);
+    let mut search = ClauseSearch::new(alloc, activity);
+    let seen = seen_in(alloc, &mut search, &provider, &given, activity);
+    drop(search);
+    seen
+}
+
+/// Whether a new search decides the requirement with three candidates first.
+fn prefers_wide(
+    alloc: Global,
+    activity: Activity,
+    learnt: &[Learnt<'_>],
+) -> Result<Option<bool>, AllocError> {
+    match seen_after(alloc, activity, learnt)? {
+        Some(seen) => Ok(Some(seen.wide_first)),
+        None => Ok(None),
+    }
+}
+
+#[test]
+fn a_package_of_each_learnt_clause_has_a_score(rt: HostRuntime) -> Result<(), Fail> {
+    for (learnt, score) in [
+        (0, 0),
+        (1, 950000),
+        (2, 1852500),
+        (3, 2709875),
+        (4, 3524381),
+    ] {
+        let wanted = Seen {
+            learnt,
+            with_one: learnt,
+            score,
+            wide_first: 0 < learnt,
+        };
+        let seen = seen_after(rt.alloc(), Activity::usual(), &[(&[WIDE], learnt)])?;
+        assert!(rt; seen == Some(wanted), "after {learnt}");
+    }
+    Ok(())
+}
+
+#[test]
+fn scores_fade_with_each_learnt_clause(rt: HostRuntime) -> Result<(), Fail> {
+    let usual = Activity::usual();
+    let later: [Learnt<'_>; 2] = [(&[NARROW], 1), (&[WIDE], 1)];
+    assert!(rt; prefers_wide(rt.alloc(), usual, &later)? == Some(true));
+    for (others, wanted) in [(12, true), (13, false)] {
+        let learnt: [Learnt<'_>; 3] = [(&[WIDE], 2), (&[OTHER], others), (&[NARROW], 1)];
+        assert!(rt;
+            prefers_wide(rt.alloc(), usual, &learnt)? == Some(wanted),
+            "after {others} other clauses"
+        );
+    }
+    Ok(())
+}
+
+#[test]
+fn each_solvable_of_a_learnt_clause_counts(rt: HostRuntime) -> Result<(), Fail> {
+    let learnt: [Learnt<'_>; 1] = [(&[NARROW, WIDE, WIDE], 1)];
+    assert!(rt; prefers_wide(rt.alloc(), Activity::usual(), &learnt)? == Some(true));
+    Ok(())
+}
+
+#[test]
+fn products_saturate_before_they_are_divided(rt: HostRuntime) -> Result<(), Fail> {
+    let greatest = Activity {
+        add: u64::MAX,
+        decay: 950_000,
+    };
+    let wanted = Seen {
+        learnt: 1,
+        with_one: 1,
+        score: 18446744073709,
+        wide_first: true,
+    };
+    let seen = seen_after(rt.alloc(), greatest, &[(&[WIDE], 1)])?;
+    assert!(rt; seen == Some(wanted));
+    let half = Activity {
+        add: 1 << 63,
+        decay: 950_000,
+    };
+    let learnt: [Learnt<'_>; 1] = [(&[NARROW, WIDE, WIDE], 1)];
+    assert!(rt; prefers_wide(rt.alloc(), half, &learnt)? == Some(false));
+    Ok(())
+}
