@@ -366,6 +366,12 @@ fn minimal_counts(alloc: Global, input: &str) -> Result<Counts, Fail> {
     }
 }
 
+/// The same for a clash behind so many packages without part in it.
+fn minimal_counts_after(alloc: Global, packages: u32) -> Result<Counts, Fail> {
+    let input = clash_after(alloc, packages)?;
+    minimal_counts(alloc, &input)
+}
+
 #[test]
 fn a_minimal_clash_has_eight_rules(rt: HostRuntime) -> Result<(), Fail> {
     let eight = Counts {
@@ -376,6 +382,7 @@ fn a_minimal_clash_has_eight_rules(rt: HostRuntime) -> Result<(), Fail> {
     };
     assert!(rt; minimal_counts(rt.alloc(), CLASH)? == eight);
     assert!(rt; minimal_counts(rt.alloc(), CLASH_BEFORE_W)? == eight);
+    assert!(rt; minimal_counts_after(rt.alloc(), 200)? == eight);
     Ok(())
 }
 
@@ -400,6 +407,10 @@ fn no_rule_of_a_minimal_conflict_can_be_left_out(rt: HostRuntime) -> Result<(), 
         ),
         (
             "package p=1\npackage c=1\nrequires p=1 x if c\nrequire p\nrequire c\n",
+            3,
+        ),
+        (
+            "package a=1\npackage a=2\nexclude a=1 bad\nexclude a=2 bad\nrequire a@1..3 | a@2\n",
             3,
         ),
         (GATED, 7),
