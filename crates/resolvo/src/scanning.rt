@@ -41,7 +41,7 @@ fn look_at_all(trail: &mut Trail, table: &[Vec<Literal>]) -> Result<Effect, Allo
     ensures size { variable_count trail.new ≡ variable_count trail.old }
 {
     let mut effect = Effect::Nothing;
-    for number in 0..table.len() {
+    'clauses: for number in 0..table.len() {
         match look_at(trail, table, number)? {
             Effect::Nothing => (),
             Effect::Assigned => effect = Effect::Assigned,
@@ -56,7 +56,7 @@ pub fn propagate(trail: &mut Trail, table: &[Vec<Literal>]) -> Result<Option<usi
     requires below { AreBelow (variable_count trail.old) table.now }
     ensures size { variable_count trail.new ≡ variable_count trail.old }
 {
-    for _pass in 0..=trail.variable_count() {
+    'passes: for _ in 0..=trail.variable_count() {
         match look_at_all(trail, table)? {
             Effect::Nothing => return Ok(None),
             Effect::Assigned => (),

@@ -54,10 +54,18 @@ fn rule_of(alloc: Global, place: u32, stated: Stated<'_>) -> Result<Rule<u32, u3
     }
 }
 
+/// The number of a place.
+fn number_of(place: usize) -> u32 {
+    match u32::try_from(place) {
+        Ok(number) => number,
+        Err(_) => u32::MAX,
+    }
+}
+
 fn rules_of(alloc: Global, stated: &[Stated<'_>]) -> Result<Vec<Rule<u32, u32>>, AllocError> {
     let mut rules = Vec::new(alloc);
     for place in 0..stated.len() {
-        rules.push(rule_of(alloc, place as u32, stated[place])?)?;
+        rules.push(rule_of(alloc, number_of(place), stated[place])?)?;
     }
     Ok(rules)
 }
@@ -88,7 +96,7 @@ fn are_copies(rules: &[Rule<u32, u32>], stated: &[Stated<'_>], places: &[usize])
     }
     for index in 0..rules.len() {
         let place = places[index];
-        if place >= stated.len() || !is_copy(&rules[index], place as u32, stated[place]) {
+        if place >= stated.len() || !is_copy(&rules[index], number_of(place), stated[place]) {
             return false;
         }
     }
