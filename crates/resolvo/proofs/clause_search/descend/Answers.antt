@@ -20,7 +20,7 @@ rounds-init g c =
     let first = c.in_ok-number.ensures in
     record {
       propagator = first.propagator;
-      attached = rw c.in_default.is at first.attached;
+      attached = record { all = first.propagator.watched.attached; none = rw c.in_default.is at first.none };
       justified = first.step.justified;
       chosen = chosen-extends _ _ _ _ c.requires.chosen first.step.extends;
       size = first.step.size;

@@ -5,10 +5,10 @@ use Rattle.resolvo.proofs.clause_search.ClauseSearch.retract.Goals as goal
 pub returns-clause-consistent : goal.returns-clause-consistent
 returns-clause-consistent c =
     let turn = c.requires.consistent.turn in
-    consistent-cut c.args.self.now _ _ _ _ _ _ c.requires.consistent c.cut.ensures (omega (arith, turn.some c.requires.turn)) c.min-self.ensures c.level-self.ensures.top c.level-self.ensures.bound (c.in_ok-return_to.ensures _ _ _ (omega (arith, turn.some c.requires.turn, turn.inside)) c.begins_level-began.ensures c.cut.ensures c.requires.consistent.propagator) c.cut-2.ensures
+    consistent-cut c.args.self.now _ _ _ _ _ _ _ c.requires.consistent c.cut.ensures (omega (arith, turn.some c.requires.turn)) c.min-self.ensures c.level-self.ensures.top c.level-self.ensures.bound (c.in_ok-return_to.ensures.propagator _ _ _ (omega (arith, turn.some c.requires.turn, turn.inside)) c.begins_level-began.ensures c.cut.ensures c.requires.consistent.propagator) c.cut-2.ensures
 
 pub returns-clause-loaded : goal.returns-clause-loaded
-returns-clause-loaded c = λ given numbers loaded. loaded-turn c.args.self.now _ _ _ _ _ _ given numbers loaded
+returns-clause-loaded c = λ given numbers loaded. loaded-turn c.args.self.now _ _ _ _ _ _ _ given numbers loaded
 
 pub returns-clause-free : goal.returns-clause-free
 returns-clause-free c =
