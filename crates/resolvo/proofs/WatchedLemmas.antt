@@ -1,5 +1,5 @@
 -- Where each clause watches two literals of its own, each stands in two lists.
-use Rattle.std.proofs.Common.{◌≡◌, ℕ, ◌+◌, ◌<◌, ◌≤◌, ◌⊎◌, List, [], ◌∷◌, ◌++◌, length, Option, Some, None, arith, inl, inr, refl, sym, ap, ◌∙◌, subst, ⊎_elim, length-append}
+use Rattle.std.proofs.Common.{◌≡◌, ℕ, ◌+◌, ◌<◌, ◌≤◌, ◌⊎◌, List, [], ◌∷◌, ◌++◌, length, Option, Some, None, Result, Ok, Err, OnErr, arith, inl, inr, refl, sym, ap, ◌∙◌, subst, ⊎_elim, length-append}
 use Rattle.std.specs.Prelude.{Vec}
 use Rattle.std.specs.Option.{MatchOption}
 use Rattle.std.specs.declared.alloc.Global.{Global}
@@ -17,6 +17,11 @@ use Rattle.resolvo.specs.declared.propagator.Propagator.{Propagator}
 use Rattle.resolvo.specs.Attaching.{AreApart}
 use Rattle.resolvo.specs.Propagators.{IsConstant, IsPropagator, WatchesTwo, attached_of}
 use Rattle.resolvo.specs.WatchedClauses.{AreInLists, AreOwned, IsOwnPair, OwnsPair, StandsInTwo}
+
+-- what holds in any case holds where a call is refused
+pub refused-any : {A B : Type 0} (r : Result A B) (P : Type 0) → P → OnErr r P
+refused-any (Ok x) P holds = tt
+refused-any (Err e) P holds = holds
 
 -- what propagation keeps says so of each clause
 pub owned-of : (table : List (Vec Literal Global)) (trail : Trail) (it : Propagator) → IsPropagator table trail it → AreOwned table (pairs_of it.watches)

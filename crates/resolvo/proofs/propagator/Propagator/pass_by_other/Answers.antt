@@ -12,6 +12,3 @@ pass_by-requires-clause-stands c = stands-same _ _ _ _ _ c.set_blocker.ensures.s
 
 pub pass_by-requires-clause-satisfied : goal.pass_by-requires-clause-satisfied
 pass_by-requires-clause-satisfied c = makes-true c.args.table.now c.args.trail.now c.args.watcher.now.number c.args.watcher.now.other (own-other _ _ _ _ _ _ c.requires.visiting.propagator c.requires.pair) c.requires.satisfied
-
-pub returns-in_err-look-clause-refused : goal.returns-in_err-look-clause-refused
-returns-in_err-look-clause-refused c = c.in_err-look.ensures.refused
