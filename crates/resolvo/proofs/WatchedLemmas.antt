@@ -1,5 +1,5 @@
 -- Where each clause watches two literals of its own, each stands in two lists.
-use Rattle.std.proofs.Common.{◌≡◌, ℕ, ◌+◌, ◌<◌, ◌≤◌, ◌⊎◌, List, [], ◌∷◌, ◌++◌, length, Option, Some, None, Result, Ok, Err, OnErr, arith, inl, inr, refl, sym, ap, ◌∙◌, subst, ⊎_elim, length-append}
+use Rattle.std.proofs.Common.{◌≡◌, ℕ, ◌+◌, ◌<◌, ◌≤◌, ◌⊎◌, List, [], ◌∷◌, ◌++◌, length, Option, Some, None, Result, Ok, Err, OnErr, OnOk, arith, inl, inr, refl, sym, ap, ◌∙◌, subst, ⊎_elim, length-append}
 use Rattle.std.specs.Prelude.{Vec}
 use Rattle.std.specs.Option.{MatchOption}
 use Rattle.std.specs.declared.alloc.Global.{Global}
@@ -46,6 +46,10 @@ owned-of table trail it is = λ number inside one other apart.
 pub owned-same : (table : List (Vec Literal Global)) (old new : List WatchedPair) → new ≡ old → AreOwned table old → AreOwned table new
 owned-same table old new same owned = subst (λ (pairs : List WatchedPair). AreOwned table pairs) (sym same) owned
 
+pub owned-either : {A B : Type 0} (r : Result A B) (table : List (Vec Literal Global)) (trail : Trail) (it : Propagator) → OnOk r (IsPropagator table trail it) → OnErr r (AreOwned table (pairs_of it.watches)) → AreOwned table (pairs_of it.watches)
+owned-either (Ok x) table trail it is refused = owned-of table trail it is
+owned-either (Err e) table trail it is refused = refused
+
 -- more pairs
 pub owned-kept : (table : List (Vec Literal Global)) (old new : List WatchedPair) → length old ≡ length table → ((number : ℕ) → number < length old → pair_at new number ≡ pair_at old number) → AreOwned table old → AreOwned table new
 owned-kept table old new size kept owned = λ number inside. subst (λ (pair : WatchedPair). OwnsPair (clause_at table number) pair) (sym (kept number (omega (arith, inside, size)))) (owned number inside)
@@ -91,5 +95,11 @@ in_lists-same table trail it watches is same = ∣ in_lists table watches (owned
 pub in_lists-kept : (table : List (Vec Literal Global)) (trail : Trail) (it : Propagator) (watches : Watches) → IsPropagator table trail it → ((number : ℕ) → number < attached_of it → pair_at (pairs_of watches) number ≡ pair_at (pairs_of it.watches) number) → ∥ AreInLists table watches ∥₁
 in_lists-kept table trail it watches is kept = ∣ in_lists table watches (owned-kept table _ _ is.watched.attached kept (owned-of table trail it is)) ∣₁
 
-pub in_lists-added : (table : List (Vec Literal Global)) (clause : Vec Literal Global) (trail : Trail) (it : Propagator) (watches : Watches) → IsPropagator table trail it → ((number : ℕ) → number < attached_of it → pair_at (pairs_of watches) number ≡ pair_at (pairs_of it.watches) number) → OwnsPair clause.items (pair_at (pairs_of watches) (attached_of it)) → ∥ AreInLists (table ++ clause ∷ []) watches ∥₁
-in_lists-added table clause trail it watches is kept own = ∣ in_lists (table ++ clause ∷ []) watches (owned-added table clause _ _ is.watched.attached kept own (owned-of table trail it is)) ∣₁
+pub in_lists-added : (table : List (Vec Literal Global)) (clause : Vec Literal Global) (literals : List Literal) (trail : Trail) (it : Propagator) (watches : Watches) → clause.items ≡ literals → IsPropagator table trail it → ((number : ℕ) → number < attached_of it → pair_at (pairs_of watches) number ≡ pair_at (pairs_of it.watches) number) → OwnsPair literals (pair_at (pairs_of watches) (attached_of it)) → ∥ AreInLists (table ++ clause ∷ []) watches ∥₁
+in_lists-added table clause literals trail it watches same is kept own =
+    let here : OwnsPair clause.items (pair_at (pairs_of watches) (attached_of it)) = subst (λ (ls : List Literal). OwnsPair ls (pair_at (pairs_of watches) (attached_of it))) (sym same) own in
+    ∣ in_lists (table ++ clause ∷ []) watches (owned-added table clause _ _ is.watched.attached kept here (owned-of table trail it is)) ∣₁
+
+-- the same clauses, and the same watches
+pub in_lists-equal : (old new : List (Vec Literal Global)) (before after : Watches) → new ≡ old → after ≡ before → ∥ AreInLists old before ∥₁ → ∥ AreInLists new after ∥₁
+in_lists-equal old new before after table watches holds = subst (λ (clauses : List (Vec Literal Global)). ∥ AreInLists clauses after ∥₁) (sym table) (subst (λ (w : Watches). ∥ AreInLists old w ∥₁) (sym watches) holds)

@@ -12,6 +12,7 @@ use Rattle.resolvo.proofs.JustifiedLemmas.{justified-gains, extends-gains, chose
 use Rattle.resolvo.proofs.ClauseSearchLemmas.{asserted-free, asserted-unit, below-push, chosen-grows, chosen-undone, derived-push, false-below, grows-push, justified-grows, justified-undone}
 use Rattle.resolvo.proofs.LoadLemmas.{first-after, first-undone, loaded-learnt}
 use Rattle.resolvo.proofs.TurnLemmas.{below-asserted, forced-assumed, held-jumped, keeps-turn, none-gains, none-trans, none-undone, turn-jumped}
+use Rattle.resolvo.proofs.WatchedLemmas.{in_lists-added, in_lists-equal, in_lists-kept}
 use Rattle.resolvo.proofs.clause_search.ClauseSearch.jump_back.Goals as goal
 
 pub returns-clause-consistent : goal.returns-clause-consistent
@@ -84,3 +85,24 @@ attach-requires-clause-below c = rw c.deref-2.ensures.value (false-below c.args.
 
 pub attach-requires-clause-lists : goal.attach-requires-clause-lists
 attach-requires-clause-lists c = c.requires.consistent.propagator.lists
+
+pub invariant_of-self-in-Break-branch-2 : goal.invariant_of-self-in-Break-branch-2
+invariant_of-self-in-Break-branch-2 c = record { in_lists = in_lists-kept _ _ _ _ c.requires.consistent.propagator c.attach.ensures.kept }
+
+pub invariant_of-self-in-Break-branch-3 : goal.invariant_of-self-in-Break-branch-3
+invariant_of-self-in-Break-branch-3 c = record { in_lists = in_lists-equal _ _ _ _ c.in_err-push.ensures.items refl (in_lists-kept _ _ _ _ c.requires.consistent.propagator c.attach.ensures.kept) }
+
+pub invariant_of-self-in-Break-branch-4 : goal.invariant_of-self-in-Break-branch-4
+invariant_of-self-in-Break-branch-4 c =
+    let same : c.args.learnt.literals.items ≡ c.deref-2.result.now = search rules in
+    record { in_lists = in_lists-equal _ _ _ _ c.in_ok-push.ensures.items refl (in_lists-added _ c.args.learnt.literals _ _ _ _ same c.requires.consistent.propagator c.attach.ensures.kept c.in_ok-attach.ensures.own) }
+
+pub invariant_of-self-in-Break-branch-5 : goal.invariant_of-self-in-Break-branch-5
+invariant_of-self-in-Break-branch-5 c =
+    let same : c.args.learnt.literals.items ≡ c.deref-2.result.now = search rules in
+    record { in_lists = in_lists-equal _ _ _ _ c.in_ok-push.ensures.items c.cut.ensures.watches (in_lists-added _ c.args.learnt.literals _ _ _ _ same c.requires.consistent.propagator c.attach.ensures.kept c.in_ok-attach.ensures.own) }
+
+pub invariant_of-self-2 : goal.invariant_of-self-2
+invariant_of-self-2 c =
+    let same : c.args.learnt.literals.items ≡ c.deref-2.result.now = search rules in
+    record { in_lists = in_lists-equal _ _ _ _ c.in_ok-push.ensures.items c.cut.ensures.watches (in_lists-added _ c.args.learnt.literals _ _ _ _ same c.requires.consistent.propagator c.attach.ensures.kept c.in_ok-attach.ensures.own) }

@@ -1,6 +1,7 @@
 use Rattle.std.proofs.Common.{ap, arith, length, sym, ◌∙◌}
 use Rattle.resolvo.proofs.LoadLemmas.{consistent-grown, first-grown, loaded-trail}
 use Rattle.resolvo.proofs.TurnLemmas.{turn-grown, turn-trans}
+use Rattle.resolvo.proofs.WatchedLemmas.{in_lists-same}
 use Rattle.resolvo.proofs.clause_search.ClauseSearch.load.Goals as goal
 
 pub load_clauses-requires-clause-consistent : goal.load_clauses-requires-clause-consistent
@@ -32,3 +33,9 @@ returns-clause-set c = record { was = λ v slot at. sym (c.in_ok-grow.ensures.ok
 
 pub returns-clause-marked : goal.returns-clause-marked
 returns-clause-marked c = λ all. c.in_ok-load_requirements.ensures.same.marked (c.in_ok-load_clauses.ensures.same.marked (all ∙ sym (ap length c.in_ok-grow.ensures.ok.order)))
+
+pub invariant_of-self-in-Break-branch-2 : goal.invariant_of-self-in-Break-branch-2
+invariant_of-self-in-Break-branch-2 c = record { in_lists = in_lists-same _ _ _ _ c.requires.consistent.propagator c.grow-2.ensures.pairs }
+
+pub invariant_of-self-2 : goal.invariant_of-self-2
+invariant_of-self-2 c = record { in_lists = in_lists-same _ _ _ _ c.requires.consistent.propagator c.grow-2.ensures.pairs }

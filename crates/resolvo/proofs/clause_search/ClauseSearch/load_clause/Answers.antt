@@ -7,6 +7,7 @@ use Rattle.resolvo.specs.Propagators.{IsPropagator}
 use Rattle.resolvo.proofs.AttachingLemmas.{lower-undone}
 use Rattle.resolver_clause_store.proofs.QueueLemmas.{queued-left}
 use Rattle.resolvo.proofs.LoadLemmas.{consistent-given, loaded-clause, same-undone}
+use Rattle.resolvo.proofs.WatchedLemmas.{in_lists-added, in_lists-equal, in_lists-kept}
 use Rattle.resolvo.proofs.clause_search.ClauseSearch.load_clause.Goals as goal
 
 pub returns-clause-consistent : goal.returns-clause-consistent
@@ -40,3 +41,29 @@ attach-requires-clause-below c = c.requires.below
 
 pub attach-requires-clause-lists : goal.attach-requires-clause-lists
 attach-requires-clause-lists c = c.requires.consistent.propagator.lists
+
+pub invariant_of-self-in-Break-branch-2 : goal.invariant_of-self-in-Break-branch-2
+invariant_of-self-in-Break-branch-2 c = record { in_lists = in_lists-kept _ _ _ _ c.requires.consistent.propagator c.attach.ensures.kept }
+
+pub invariant_of-self-in-Break-branch-3 : goal.invariant_of-self-in-Break-branch-3
+invariant_of-self-in-Break-branch-3 c = record { in_lists = in_lists-equal _ _ _ _ c.in_err-push.ensures.items refl (in_lists-kept _ _ _ _ c.requires.consistent.propagator c.attach.ensures.kept) }
+
+pub invariant_of-self-in-Break-branch-4 : goal.invariant_of-self-in-Break-branch-4
+invariant_of-self-in-Break-branch-4 c =
+    let copied : c.in_ok-copy.copy.items ≡ c.args.literals.now = search rules in
+    record { in_lists = in_lists-equal _ _ _ _ c.in_ok-push.ensures.items refl (in_lists-added _ c.in_ok-copy.copy _ _ _ _ copied c.requires.consistent.propagator c.attach.ensures.kept c.in_ok-attach.ensures.own) }
+
+pub invariant_of-self-in-Break-branch-5 : goal.invariant_of-self-in-Break-branch-5
+invariant_of-self-in-Break-branch-5 c =
+    let copied : c.in_ok-copy.copy.items ≡ c.args.literals.now = search rules in
+    record { in_lists = in_lists-equal _ _ _ _ c.in_ok-push.ensures.items refl (in_lists-added _ c.in_ok-copy.copy _ _ _ _ copied c.requires.consistent.propagator c.attach.ensures.kept c.in_ok-attach.ensures.own) }
+
+pub invariant_of-self-in-Break-branch-6 : goal.invariant_of-self-in-Break-branch-6
+invariant_of-self-in-Break-branch-6 c =
+    let copied : c.in_ok-copy.copy.items ≡ c.args.literals.now = search rules in
+    record { in_lists = in_lists-equal _ _ _ _ c.in_ok-push.ensures.items c.cut.ensures.watches (in_lists-added _ c.in_ok-copy.copy _ _ _ _ copied c.requires.consistent.propagator c.attach.ensures.kept c.in_ok-attach.ensures.own) }
+
+pub invariant_of-self-2 : goal.invariant_of-self-2
+invariant_of-self-2 c =
+    let copied : c.in_ok-copy.copy.items ≡ c.args.literals.now = search rules in
+    record { in_lists = in_lists-equal _ _ _ _ c.in_ok-push.ensures.items c.cut.ensures.watches (in_lists-added _ c.in_ok-copy.copy _ _ _ _ copied c.requires.consistent.propagator c.attach.ensures.kept c.in_ok-attach.ensures.own) }

@@ -1,5 +1,8 @@
-use Rattle.std.proofs.Common.{arith}
+use Rattle.std.proofs.Common.{ap, arith}
 use Rattle.resolvo.proofs.TurnLemmas.{consistent-cut, cut-free, first-cut, loaded-turn}
+use Rattle.resolver_clause_store.specs.declared.Watches.{Watches}
+use Rattle.resolver_clause_store.specs.WatchesView.{pairs_of}
+use Rattle.resolvo.proofs.WatchedLemmas.{in_lists-same}
 use Rattle.resolvo.proofs.clause_search.ClauseSearch.retract.Goals as goal
 
 pub returns-clause-consistent : goal.returns-clause-consistent
@@ -29,3 +32,9 @@ pub begins_level-began-requires : goal.begins_level-began-requires
 begins_level-began-requires c =
     let turn = c.requires.consistent.turn in
     omega (arith, turn.some c.requires.turn, turn.inside)
+
+pub invariant_of-self : goal.invariant_of-self
+invariant_of-self c = record { in_lists = in_lists-same _ _ _ _ c.requires.consistent.propagator (ap (λ (w : Watches). pairs_of w) c.return_to.ensures.watches) }
+
+pub invariant_of-self-2 : goal.invariant_of-self-2
+invariant_of-self-2 c = record { in_lists = in_lists-same _ _ _ _ c.requires.consistent.propagator (ap (λ (w : Watches). pairs_of w) c.return_to.ensures.watches) }

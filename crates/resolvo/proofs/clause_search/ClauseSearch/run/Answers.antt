@@ -1,5 +1,6 @@
-use Rattle.resolvo.proofs.LoadLemmas.{finished_for, loaded-trail, problem-descended, problem-trans}
+use Rattle.resolvo.proofs.LoadLemmas.{finished_for, first-after, loaded-trail, problem-descended, problem-trans}
 use Rattle.resolvo.proofs.TurnLemmas.{consistent-descended, turn-trans}
+use Rattle.resolvo.proofs.WatchedLemmas.{in_lists, owned-either}
 use Rattle.resolvo.proofs.clause_search.ClauseSearch.run.Goals as goal
 
 pub returns-in-None-clause-outcome : goal.returns-in-None-clause-outcome
@@ -50,10 +51,14 @@ returns-in-Some-2-clause-loaded g c = λ given numbers before.
 
 pub returns-in-Some-2-clause-kept : goal.returns-in-Some-2-clause-kept
 returns-in-Some-2-clause-kept g c = λ base keeps.
-    let step = problem-descended _ c.conflicts.self c.descend.new.trail c.descend.new.propagator c.descend.new.queue _ c.conflicts.invariant.0 c.conflicts.invariant.1 c.in_ok-descend.ensures.size c.in_ok-descend.ensures.kept c.in_ok-descend.ensures.assumed in
-    c.in_ok-outcome-in-Some.ensures.same.kept base (step.kept base keeps)
+    c.in_ok-outcome-in-Some.ensures.same.kept base (first-after c.conflicts.self.trail c.descend.new.trail c.conflicts.self.kept c.in_ok-descend.ensures.kept base (c.conflicts.invariant.1.kept base keeps))
 
 pub conflicts-preserved : goal.conflicts-preserved
 conflicts-preserved g c =
     let step = c.in_ok-outcome-in-Some.ensures in
     (step.consistent, problem-trans _ _ _ (problem-descended _ c.conflicts.self c.descend.new.trail c.descend.new.propagator c.descend.new.queue _ c.conflicts.invariant.0 c.conflicts.invariant.1 c.in_ok-descend.ensures.size c.in_ok-descend.ensures.kept c.in_ok-descend.ensures.assumed) step.same)
+
+pub invariant_of-self : goal.invariant_of-self
+invariant_of-self g c =
+    let table = c.as_slice.ensures.value in
+    record { in_lists = ∣ in_lists _ _ (owned-either c.descend.result _ _ _ (rw table at c.descend.ensures.propagator) (rw table at c.descend.ensures.refused)) ∣₁ }
