@@ -17,11 +17,11 @@ use Rattle.resolver_clause_store.specs.declared.Slot.{Slot}
 use Rattle.resolver_clause_store.specs.declared.Trail.{Trail}
 use Rattle.resolver_clause_store.specs.Formula.{AreBelow, clause_at}
 use Rattle.resolver_clause_store.specs.Outcomes.{IsFalseBefore, IsSatisfied}
-use Rattle.resolver_clause_store.specs.TrailView.{Gains, IsCut, IsGrown, IsTop, IsUndone, KeepsPlaces, length_of, literal_value, slot_of, variable_at, variable_count}
+use Rattle.resolver_clause_store.specs.TrailView.{Gains, IsCut, IsGrown, IsUndone, KeepsPlaces, length_of, literal_value, slot_of}
 use Rattle.resolver_clause_store.proofs.FormulaLemmas.{clause_at-last, clause_at-past, clause_at-push}
-use Rattle.resolver_clause_store.proofs.KeptLemmas.{keeps_all, keeps_grown, keeps_places, keeps_undone, slot_at}
+use Rattle.resolver_clause_store.proofs.KeptLemmas.{keeps_all, keeps_places, keeps_undone}
 use Rattle.resolver_clause_store.proofs.PlaceLemmas.{place_cases, place_in, place_last, place_left}
-use Rattle.resolver_clause_store.proofs.TrailLemmas.{Keeps, keeps-gains, value-true}
+use Rattle.resolver_clause_store.proofs.TrailLemmas.{Keeps, value-true}
 use Rattle.resolvo.specs.declared.propagator.Late.{Late}
 use Rattle.resolvo.specs.declared.propagator.Propagator.{Propagator}
 use Rattle.resolver_clause_store.specs.declared.Watch.{Watch}

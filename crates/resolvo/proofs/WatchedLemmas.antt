@@ -1,5 +1,5 @@
 -- Where each clause watches two literals of its own, each stands in two lists.
-use Rattle.std.proofs.Common.{◌≡◌, ℕ, ◌+◌, ◌<◌, ◌≤◌, ◌⊎◌, List, [], ◌∷◌, ◌++◌, length, Option, Some, None, Result, Ok, Err, OnErr, OnOk, arith, inl, inr, refl, sym, ap, ◌∙◌, subst, ⊎_elim, length-append}
+use Rattle.std.proofs.Common.{◌≡◌, ℕ, ◌<◌, ◌≤◌, List, [], ◌∷◌, ◌++◌, length, Option, Some, None, Result, Ok, Err, OnErr, OnOk, arith, inl, inr, refl, sym, ap, ◌∙◌, subst, ⊎_elim, length-append}
 use Rattle.std.specs.Prelude.{Vec}
 use Rattle.std.specs.Option.{MatchOption}
 use Rattle.std.specs.declared.alloc.Global.{Global}
@@ -10,13 +10,13 @@ use Rattle.resolver_clause_store.specs.declared.Trail.{Trail}
 use Rattle.resolver_clause_store.specs.declared.WatchedPair.{WatchedPair}
 use Rattle.resolver_clause_store.specs.declared.Watches.{Watches}
 use Rattle.resolver_clause_store.specs.Formula.{clause_at}
-use Rattle.resolver_clause_store.specs.Watches.{entry_count, pair_at, pair_count, pair_from, stands_in, unwatched}
-use Rattle.resolver_clause_store.specs.WatchesView.{lists_of, pairs_of}
+use Rattle.resolver_clause_store.specs.Watches.{pair_at, pair_count, pair_from, stands_in, unwatched}
+use Rattle.resolver_clause_store.specs.WatchesView.{pairs_of}
 use Rattle.resolver_clause_store.proofs.FormulaLemmas.{clause_at-last, clause_at-push}
 use Rattle.resolvo.specs.declared.propagator.Propagator.{Propagator}
 use Rattle.resolvo.specs.Attaching.{AreApart}
 use Rattle.resolvo.specs.Propagators.{IsConstant, IsPropagator, WatchesTwo, attached_of}
-use Rattle.resolvo.specs.WatchedClauses.{AreInLists, AreOwned, IsOwnPair, OwnsPair, StandsInTwo}
+use Rattle.resolvo.specs.WatchedClauses.{AreInLists, AreOwned, OwnsPair}
 
 -- what holds in any case holds where a call is refused
 pub refused-any : {A B : Type 0} (r : Result A B) (P : Type 0) → P → OnErr r P

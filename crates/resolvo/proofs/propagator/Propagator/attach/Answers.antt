@@ -1,4 +1,4 @@
-use Rattle.std.proofs.Common.{rules, sym, ◌∙◌, ◌≡◌, List, subst}
+use Rattle.std.proofs.Common.{sym, List, subst}
 use Rattle.std.specs.Option.{MatchOption}
 use Rattle.resolver_clause_store.specs.declared.Literal.{Literal}
 use Rattle.resolvo.specs.Attaching.{AreApart}

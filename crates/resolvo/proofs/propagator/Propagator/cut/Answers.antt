@@ -1,7 +1,5 @@
-use Rattle.std.proofs.Common.{rules, ◌≡◌, min, ap, ◌∙◌}
+use Rattle.std.proofs.Common.{◌≡◌, min}
 use Rattle.resolver_clause_store.specs.TrailView.{length_of}
-use Rattle.resolvo.specs.Attaching.{Recalls}
-use Rattle.resolvo.specs.Propagators.{late_of, pending_of}
 use Rattle.resolvo.proofs.AttachingLemmas.{propagator-cut}
 use Rattle.resolvo.proofs.propagator.Propagator.cut.Goals as goal
 
