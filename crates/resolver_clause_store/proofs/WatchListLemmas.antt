@@ -486,3 +486,15 @@ module _ (old mid new : List (Vec Watch Global)) (before : List WatchedPair) (fr
   pub move-blockers : (table : List (Vec Literal Global)) (watch : Watch) → slice_get (list_at old (list_number from)) place ≡ Some watch → Contains (clause_at table watch.number) blocker → HasBlockers table old → HasBlockers table new
   move-blockers table watch is contains has =
       blockers-move table old mid new from to place read _ m.differ m.pushed m.taken at' (subst (λ n. Contains (clause_at table n) blocker) (sym (ap (λ (w : Watch). w.number) (found watch is))) contains) has
+
+-- the clauses that were there watch what they watched
+
+pub kept-same : (old new : List WatchedPair) → new ≡ old → (number : ℕ) → number < length old → pair_at new number ≡ pair_at old number
+kept-same old new same number inside = ap (λ (ps : List WatchedPair). pair_at ps number) same
+
+pub kept-push : (old new : List WatchedPair) (pair : WatchedPair) → new ≡ old ++ pair ∷ [] → (number : ℕ) → number < length old → pair_at new number ≡ pair_at old number
+kept-push old new pair is number inside = ap (λ (ps : List WatchedPair). pair_at ps number) is ∙ get_or-append old (pair ∷ []) unwatched number inside
+
+pub kept-set : (old middle new : List WatchedPair) (last : ℕ) (pair : WatchedPair) → last ≡ length old → new ≡ set middle last pair → ((number : ℕ) → number < length old → pair_at middle number ≡ pair_at old number) → (number : ℕ) → number < length old → pair_at new number ≡ pair_at old number
+kept-set old middle new last pair end is kept number inside =
+    ap (λ (ps : List WatchedPair). pair_at ps number) is ∙ get_or-set_other middle last number pair unwatched (λ (same : number ≡ last). omega (arith, same, end, inside)) ∙ kept number inside

@@ -195,6 +195,7 @@ impl Watches {
         requires gains { (list : ℕ) → pair_count pair list ≡ pair_count (pair_at (pairs_of self.old) number) list + same (list_number literal) list }
         ensures pairs { OnOk result (pairs_of self.new ≡ slice_set (pairs_of self.old) number pair) }
         ensures lists { OnOk result (PutsList (lists_of self.old) (lists_of self.new) (list_number literal) (list_at (lists_of self.old) (list_number literal) ++ record { number = number; blocker = blocker } ∷ [])) }
+        ensures kept { OnErr result (pairs_of self.new ≡ pairs_of self.old) }
     {
         let watch = Watch { number, blocker };
         push_at(&mut self.lists, list_number(literal), watch)?;
@@ -207,6 +208,7 @@ impl Watches {
         requires first { HasList self.old first }
         requires second { HasList self.old second }
         ensures pairs { OnOk result (pairs_of self.new ≡ pairs_of self.old ++ watched_pair first second ∷ []) }
+        ensures kept { (number : ℕ) → number < length (pairs_of self.old) → pair_at (pairs_of self.new) number ≡ pair_at (pairs_of self.old) number }
         ensures size { OnOk result (length (lists_of self.new) ≡ length (lists_of self.old)) }
         ensures blockers { OnOk result ((table : List (Vec Literal Global)) → Contains (clause_at table (length (pairs_of self.old))) first → Contains (clause_at table (length (pairs_of self.old))) second → HasBlockers table (lists_of self.old) → HasBlockers table (lists_of self.new)) }
     {
@@ -228,6 +230,7 @@ impl Watches {
     /// Adds a clause behind the others that watches nothing.
     fn add_none(&mut self) -> Result<(), AllocError>
         ensures pairs { OnOk result (pairs_of self.new ≡ pairs_of self.old ++ unwatched ∷ []) }
+        ensures kept { (number : ℕ) → number < length (pairs_of self.old) → pair_at (pairs_of self.new) number ≡ pair_at (pairs_of self.old) number }
         ensures lists { lists_of self.new ≡ lists_of self.old }
     {
         self.pairs.push(WatchedPair {
@@ -241,6 +244,7 @@ impl Watches {
     pub fn add(&mut self, pair: Option<(Literal, Literal)>) -> Result<(), AllocError>
         requires inside { (first second : Literal) → pair ≡ Some (first, second) → (list_number first < length (lists_of self.old)) × (list_number second < length (lists_of self.old)) }
         ensures pairs { OnOk result (pairs_of self.new ≡ pairs_of self.old ++ pair_from pair ∷ []) }
+        ensures kept { (number : ℕ) → number < length (pairs_of self.old) → pair_at (pairs_of self.new) number ≡ pair_at (pairs_of self.old) number }
         ensures size { OnOk result (length (lists_of self.new) ≡ length (lists_of self.old)) }
         ensures blockers { OnOk result ((table : List (Vec Literal Global)) → ((first second : Literal) → pair ≡ Some (first, second) → Contains (clause_at table (length (pairs_of self.old))) first × Contains (clause_at table (length (pairs_of self.old))) second) → HasBlockers table (lists_of self.old) → HasBlockers table (lists_of self.new)) }
     {
@@ -283,6 +287,7 @@ impl Watches {
         requires differ { from ≢ to }
         requires place { place < length (list_at (lists_of self.old) (list_number from)) }
         ensures moved { OnOk result ((watch : Watch) → slice_get (list_at (lists_of self.old) (list_number from)) place ≡ Some watch → MovesWatch (lists_of self.old) (lists_of self.new) (pairs_of self.old) (pairs_of self.new) from to place watch.number) }
+        ensures kept { OnErr result (pairs_of self.new ≡ pairs_of self.old) }
         ensures blockers { OnOk result ((table : List (Vec Literal Global)) (watch : Watch) → slice_get (list_at (lists_of self.old) (list_number from)) place ≡ Some watch → Contains (clause_at table watch.number) blocker → HasBlockers table (lists_of self.old) → HasBlockers table (lists_of self.new)) }
     {
         let number = self.watch_at(copied(&from), place).number;

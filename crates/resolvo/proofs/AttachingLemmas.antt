@@ -17,11 +17,11 @@ use Rattle.resolver_clause_store.specs.declared.Slot.{Slot}
 use Rattle.resolver_clause_store.specs.declared.Trail.{Trail}
 use Rattle.resolver_clause_store.specs.Formula.{AreBelow, clause_at}
 use Rattle.resolver_clause_store.specs.Outcomes.{IsFalseBefore, IsSatisfied}
-use Rattle.resolver_clause_store.specs.TrailView.{Gains, IsCut, IsGrown, IsTop, IsUndone, KeepsPlaces, length_of, literal_value, slot_of, variable_at, variable_count}
-use Rattle.resolver_clause_store.proofs.FormulaLemmas.{clause_at-past}
-use Rattle.resolver_clause_store.proofs.KeptLemmas.{keeps_all, keeps_grown, keeps_places, keeps_undone, slot_at}
+use Rattle.resolver_clause_store.specs.TrailView.{Gains, IsCut, IsGrown, IsUndone, KeepsPlaces, length_of, literal_value, slot_of}
+use Rattle.resolver_clause_store.proofs.FormulaLemmas.{clause_at-last, clause_at-past, clause_at-push}
+use Rattle.resolver_clause_store.proofs.KeptLemmas.{keeps_all, keeps_places, keeps_undone}
 use Rattle.resolver_clause_store.proofs.PlaceLemmas.{place_cases, place_in, place_last, place_left}
-use Rattle.resolver_clause_store.proofs.TrailLemmas.{Keeps, keeps-gains, value-true}
+use Rattle.resolver_clause_store.proofs.TrailLemmas.{Keeps, value-true}
 use Rattle.resolvo.specs.declared.propagator.Late.{Late}
 use Rattle.resolvo.specs.declared.propagator.Propagator.{Propagator}
 use Rattle.resolver_clause_store.specs.declared.Watch.{Watch}
@@ -96,32 +96,15 @@ module _ (old new : List (Vec Literal Global)) (longer : length old ≤ length n
     rising = are.rising;
   }
 
-  watched-longer : (lists : List (Vec Watch Global)) (pairs : List WatchedPair) → AreWatched old lists pairs → AreWatched new lists pairs
-  watched-longer lists pairs are = record {
-    attached = omega (arith, are.attached, longer);
-    own = λ number literal watching. subst (λ (c : List Literal). Contains c literal) (sym (same number (omega (arith, watching-inside pairs number literal watching, are.attached)))) (are.own number literal watching);
-    two = are.two;
-    constant = λ number inside is. subst (λ (c : List Literal). IsConstant c) (sym (same number (omega (arith, inside, are.attached)))) (are.constant number inside is);
-    blockers = λ list k d below.
-        let here = are.blockers list k d below in
-        subst (λ (c : List Literal). Contains c (get_or (list_at lists list) k d).blocker) (sym (same _ (within-contains old _ _ here))) here;
-  }
+  blockers-longer : (lists : List (Vec Watch Global)) → HasBlockers old lists → HasBlockers new lists
+  blockers-longer lists are = λ list k d below.
+      let here = are list k d below in
+      subst (λ (c : List Literal). Contains c (get_or (list_at lists list) k d).blocker) (sym (same _ (within-contains old _ _ here))) here
 
   covers-longer : (trail : Trail) (pairs : List WatchedPair) (late : List Late) (pending : List ℕ) (head : ℕ) → length pairs ≤ length old → Covers old trail pairs late pending head → Covers new trail pairs late pending head
   covers-longer trail pairs late pending head short covers = record {
     watched = λ number literal watching fails. subst (λ (c : List Literal). Any (IsTrueAt trail fails.slot.level) c ⊎ IsNoted late pending number) (sym (same number (omega (arith, watching-inside pairs number literal watching, short)))) (covers.watched number literal watching fails);
     constant = covers.constant;
-  }
-
-  pub propagator-longer : (trail : Trail) (p : Propagator) → IsPropagator old trail p → IsPropagator new trail p
-  propagator-longer trail p it = record {
-    lists = it.lists;
-    watched = watched-longer _ _ it.watched;
-    late = late-longer trail _ _ it.watched.attached it.inside it.late;
-    pending = it.pending;
-    inside = it.inside;
-    head = it.head;
-    covers = covers-longer trail _ _ _ _ it.watched.attached it.covers;
   }
 
 -- a trail that is cut
@@ -423,7 +406,7 @@ pair-constant : (clause : List Literal) (pair : Option (Literal × Literal)) →
 pair-constant clause None constant is = constant
 pair-constant clause (Some (first, second)) apart is = absurd (none-some first (ap (λ (p : WatchedPair). p.first) (sym is)))
 
-module _ (table : List (Vec Literal Global)) (pairs : List WatchedPair) (pair : Option (Literal × Literal)) (chosen : MatchOption pair (IsConstant (clause_at table (length pairs))) (λ two. AreApart (clause_at table (length pairs)) two.0 two.1)) where
+module _ (pairs : List WatchedPair) (pair : Option (Literal × Literal)) where
   abbrev longer : List WatchedPair
   longer = pairs ++ pair_from pair ∷ []
 
@@ -437,30 +420,8 @@ module _ (table : List (Vec Literal Global)) (pairs : List WatchedPair) (pair : 
       inr (end, subst Watching (pair-last pairs (pair_from pair) number (sym end)) watching))
       (cases_lt number (length pairs))
 
-  watched-push : (old new : List (Vec Watch Global)) → length pairs < length table → HasBlockers table new → AreWatched table old pairs → AreWatched table new longer
-  watched-push old new more blockers are = record {
-    attached = omega (arith, more, length-append pairs (pair_from pair ∷ []));
-    own = λ number literal watching. ⊎_elim
-        (λ (w : (number < length pairs) × IsWatching pairs number literal). are.own number literal w.1)
-        (λ (w : (number ≡ length pairs) × (((pair_from pair).first ≡ Some literal) ⊎ ((pair_from pair).second ≡ Some literal))). subst (λ (n : ℕ). Contains (clause_at table n) literal) (sym w.0) (pair-own _ pair chosen literal w.1))
-        (watching-cases number literal watching);
-    two = λ number inside. ⊎_elim
-        (λ (less : number < length pairs). subst (λ (p : WatchedPair). (p ≡ unwatched) ⊎ WatchesTwo p) (sym (pair-before pairs (pair_from pair) number less)) (are.two number less))
-        (λ (past : length pairs ≤ number).
-        let end : length pairs ≡ number = omega (arith, past, inside, length-append pairs (pair_from pair ∷ [])) in
-        subst (λ (p : WatchedPair). (p ≡ unwatched) ⊎ WatchesTwo p) (sym (pair-last pairs (pair_from pair) number end)) (pair-two _ pair chosen))
-        (cases_lt number (length pairs));
-    constant = λ number inside is. ⊎_elim
-        (λ (less : number < length pairs). are.constant number less (sym (pair-before pairs (pair_from pair) number less) ∙ is))
-        (λ (past : length pairs ≤ number).
-        let end : length pairs ≡ number = omega (arith, past, inside, length-append pairs (pair_from pair ∷ [])) in
-        subst (λ (n : ℕ). IsConstant (clause_at table n)) end (pair-constant _ pair chosen (sym (pair-last pairs (pair_from pair) number end) ∙ is)))
-        (cases_lt number (length pairs));
-    blockers = blockers;
-  }
-
-  covers-push : (trail : Trail) (late : List Late) (pending : List ℕ) (head : ℕ) → Covers table trail pairs late pending head → Covers table trail longer late (pending ++ length pairs ∷ []) head
-  covers-push trail late pending head covers =
+  covers-push : (table : List (Vec Literal Global)) (trail : Trail) (late : List Late) (pending : List ℕ) (head : ℕ) → Covers table trail pairs late pending head → Covers table trail longer late (pending ++ length pairs ∷ []) head
+  covers-push table trail late pending head covers =
       let grown : (number : ℕ) → IsNoted late pending number → IsNoted late (pending ++ length pairs ∷ []) number = λ number noted. ⊎_elim (λ (one : Any (λ (l : Late). l.number ≡ number) late). inl one) (λ (again : Contains pending number). inr (Contains-append_left pending (length pairs ∷ []) number again)) noted in
       let last : (number : ℕ) → number ≡ length pairs → IsNoted late (pending ++ length pairs ∷ []) number = λ number e.
       let Has : ℕ → Type 0 = λ n. Contains (pending ++ length pairs ∷ []) n in
@@ -479,17 +440,68 @@ module _ (table : List (Vec Literal Global)) (pairs : List WatchedPair) (pair : 
             (cases_lt number (length pairs));
       }
 
-pub attached-push : (table : List (Vec Literal Global)) (trail : Trail) (p : Propagator) (watches : Watches) (pending : Vec ℕ Global) (pair : Option (Literal × Literal)) → attached_of p < length table → pairs_of watches ≡ pairs_of p.watches ++ pair_from pair ∷ [] → length (lists_of watches) ≡ length (lists_of p.watches) → HasBlockers table (lists_of watches) → pending.items ≡ pending_of p ++ attached_of p ∷ [] → MatchOption pair (IsConstant (clause_at table (attached_of p))) (λ two. AreApart (clause_at table (attached_of p)) two.0 two.1) → IsPropagator table trail p → IsPropagator table trail (record p { watches = watches; pending = pending })
-attached-push table trail p watches pending pair more pairs lists blockers is chosen it =
-    let long : length (pairs_of watches) ≡ attached_of p + 1 = ap length pairs ∙ length-append (pairs_of p.watches) (pair_from pair ∷ []) in
+pub pair-has : (clause : List Literal) (pair : Option (Literal × Literal)) (first second : Literal) → pair ≡ Some (first, second) → MatchOption pair (IsConstant clause) (λ two. AreApart clause two.0 two.1) → Contains clause first × Contains clause second
+pair-has clause None first second e chosen = absurd (none-some (first, second) e)
+pair-has clause (Some (one, other)) first second e chosen =
+    let same : (one, other) ≡ (first, second) = same_Some (one, other) (first, second) e in
+    (subst (λ (l : Literal). Contains clause l) (ap (λ (two : Literal × Literal). two.0) same) chosen.has_first, subst (λ (l : Literal). Contains clause l) (ap (λ (two : Literal × Literal). two.1) same) chosen.has_second)
+
+-- a clause behind those of the table
+module _ (table : List (Vec Literal Global)) (clause : Vec Literal Global) (pairs : List WatchedPair) (size : length pairs ≡ length table) where
+  abbrev added : List (Vec Literal Global)
+  added = table ++ clause ∷ []
+
+  added-at : clause_at added (length pairs) ≡ clause.items
+  added-at = ap (λ (n : ℕ). clause_at added n) size ∙ clause_at-last table clause
+
+  added-before : (number : ℕ) → number < length pairs → clause_at added number ≡ clause_at table number
+  added-before number less = clause_at-push table clause number (omega (arith, less, size))
+
+  watched-added : (pair : Option (Literal × Literal)) (old new : List (Vec Watch Global)) → MatchOption pair (IsConstant clause.items) (λ two. AreApart clause.items two.0 two.1) → HasBlockers added new → AreWatched table old pairs → AreWatched added new (pairs ++ pair_from pair ∷ [])
+  watched-added pair old new chosen blockers are = record {
+    attached = length-append pairs (pair_from pair ∷ []) ∙ ap (λ (n : ℕ). n + 1) size ∙ sym (length-append table (clause ∷ []));
+    own = λ number literal watching. ⊎_elim
+        (λ (w : (number < length pairs) × IsWatching pairs number literal). subst (λ (c : List Literal). Contains c literal) (sym (added-before number w.0)) (are.own number literal w.1))
+        (λ (w : (number ≡ length pairs) × (((pair_from pair).first ≡ Some literal) ⊎ ((pair_from pair).second ≡ Some literal))). subst (λ (c : List Literal). Contains c literal) (sym (ap (λ (n : ℕ). clause_at added n) w.0 ∙ added-at)) (pair-own _ pair chosen literal w.1))
+        (watching-cases pairs pair number literal watching);
+    two = λ number inside. ⊎_elim
+        (λ (less : number < length pairs). subst (λ (p : WatchedPair). (p ≡ unwatched) ⊎ WatchesTwo p) (sym (pair-before pairs (pair_from pair) number less)) (are.two number less))
+        (λ (past : length pairs ≤ number).
+        let end : length pairs ≡ number = omega (arith, past, inside, length-append pairs (pair_from pair ∷ [])) in
+        subst (λ (p : WatchedPair). (p ≡ unwatched) ⊎ WatchesTwo p) (sym (pair-last pairs (pair_from pair) number end)) (pair-two _ pair chosen))
+        (cases_lt number (length pairs));
+    constant = λ number inside is. ⊎_elim
+        (λ (less : number < length pairs). subst (λ (c : List Literal). IsConstant c) (sym (added-before number less)) (are.constant number less (sym (pair-before pairs (pair_from pair) number less) ∙ is)))
+        (λ (past : length pairs ≤ number).
+        let end : length pairs ≡ number = omega (arith, past, inside, length-append pairs (pair_from pair ∷ [])) in
+        subst (λ (c : List Literal). IsConstant c) (sym (ap (λ (n : ℕ). clause_at added n) (sym end) ∙ added-at)) (pair-constant _ pair chosen (sym (pair-last pairs (pair_from pair) number end) ∙ is)))
+        (cases_lt number (length pairs));
+    blockers = blockers;
+  }
+
+pub attached-added : (table : List (Vec Literal Global)) (clause : Vec Literal Global) (trail : Trail) (p : Propagator) (watches : Watches) (pending : Vec ℕ Global) (pair : Option (Literal × Literal)) → pairs_of watches ≡ pairs_of p.watches ++ pair_from pair ∷ [] → length (lists_of watches) ≡ length (lists_of p.watches) →
+    (((first second : Literal) → pair ≡ Some (first, second) → Contains (clause_at (table ++ clause ∷ []) (attached_of p)) first × Contains (clause_at (table ++ clause ∷ []) (attached_of p)) second) → HasBlockers (table ++ clause ∷ []) (lists_of p.watches) → HasBlockers (table ++ clause ∷ []) (lists_of watches)) →
+    pending.items ≡ pending_of p ++ attached_of p ∷ [] → MatchOption pair (IsConstant clause.items) (λ two. AreApart clause.items two.0 two.1) → IsPropagator table trail p → IsPropagator (table ++ clause ∷ []) trail (record p { watches = watches; pending = pending })
+attached-added table clause trail p watches pending pair pairs lists blockers is chosen it =
+    let more = table ++ clause ∷ [] in
+    let before = pairs_of p.watches in
+    let size = it.watched.attached in
+    let longer : length table ≤ length more = simp length-append (omega arith) in
+    let same = clause_at-push table clause in
+    let long : length (pairs_of watches) ≡ attached_of p + 1 = ap length pairs ∙ length-append before (pair_from pair ∷ []) in
+    let here : (first second : Literal) → pair ≡ Some (first, second) → Contains (clause_at more (attached_of p)) first × Contains (clause_at more (attached_of p)) second = λ first second e.
+    subst (λ (c : List Literal). Contains c first × Contains c second) (sym (added-at table clause before size)) (pair-has clause.items pair first second e chosen)
+    in
+    let now = blockers here (blockers-longer table more longer same (lists_of p.watches) it.watched.blockers) in
+    let covers = covers-longer table more longer same trail before (late_of p) (pending_of p) (head_of p) (omega (arith, size)) it.covers in
     record {
       lists = lists ∙ it.lists;
-      watched = subst (λ (ps : List WatchedPair). AreWatched table (lists_of watches) ps) (sym pairs) (watched-push table (pairs_of p.watches) pair chosen (lists_of p.watches) (lists_of watches) more blockers it.watched);
-      late = it.late;
+      watched = subst (λ (ps : List WatchedPair). AreWatched more (lists_of watches) ps) (sym pairs) (watched-added table clause before size pair (lists_of p.watches) (lists_of watches) chosen now it.watched);
+      late = late-longer table more longer same trail (late_of p) (attached_of p) (omega (arith, size)) it.inside it.late;
       pending = subst (λ (ns : List ℕ). All (λ n. n < length (pairs_of watches)) ns) (sym is) (All-push (λ n. n < length (pairs_of watches)) (pending_of p) (attached_of p) (λ k d below. omega (arith, it.pending k d below, long)) (omega (arith, long)));
       inside = λ k d below. omega (arith, it.inside k d below, long);
       head = it.head;
-      covers = subst (λ (ns : List ℕ). Covers table trail (pairs_of watches) (late_of p) ns (head_of p)) (sym is) (subst (λ (ps : List WatchedPair). Covers table trail ps (late_of p) (pending_of p ++ attached_of p ∷ []) (head_of p)) (sym pairs) (covers-push table (pairs_of p.watches) pair chosen trail (late_of p) (pending_of p) (head_of p) it.covers));
+      covers = subst (λ (ns : List ℕ). Covers more trail (pairs_of watches) (late_of p) ns (head_of p)) (sym is) (subst (λ (ps : List WatchedPair). Covers more trail ps (late_of p) (pending_of p ++ attached_of p ∷ []) (head_of p)) (sym pairs) (covers-push before pair more trail (late_of p) (pending_of p) (head_of p) covers));
     }
 
 -- a clause whose literals are all one
@@ -552,9 +564,3 @@ forces-gains table old new literal level number justified gains free inside has 
   size = gains.size;
   open_less = omega (arith, gains.fewer_open);
 }
-
-pub pair-has : (clause : List Literal) (pair : Option (Literal × Literal)) (first second : Literal) → pair ≡ Some (first, second) → MatchOption pair (IsConstant clause) (λ two. AreApart clause two.0 two.1) → Contains clause first × Contains clause second
-pair-has clause None first second e chosen = absurd (none-some (first, second) e)
-pair-has clause (Some (one, other)) first second e chosen =
-    let same : (one, other) ≡ (first, second) = same_Some (one, other) (first, second) e in
-    (subst (λ (l : Literal). Contains clause l) (ap (λ (two : Literal × Literal). two.0) same) chosen.has_first, subst (λ (l : Literal). Contains clause l) (ap (λ (two : Literal × Literal). two.1) same) chosen.has_second)

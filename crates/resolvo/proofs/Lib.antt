@@ -4,6 +4,7 @@ pub mod JustifiedLemmas
 pub mod PropagatorLemmas
 pub mod VisitLemmas
 pub mod AttachingLemmas
+pub mod WatchedLemmas
 pub mod ReturningLemmas
 pub mod SourceLemmas
 pub mod MarkLemmas

@@ -22,11 +22,12 @@ use Rattle.resolver_clause_store.proofs.TrailLemmas.{Keeps, forcing-kept}
 use Rattle.resolvo.specs.declared.contradiction.Source.{Source}
 use Rattle.resolvo.specs.declared.contradiction.Source.TheVariants.{Given}
 use Rattle.resolvo.specs.declared.clause_search.ClauseSearch.{ClauseSearch}
-use Rattle.resolvo.specs.ClauseSearches.{AreLoaded, AssumesNone, IsConsistent, IsLoaded, IsSameProblem, IsSameSearch, KeepsFirst, numbers_of, place_of}
+use Rattle.resolvo.specs.ClauseSearches.{AreLoaded, IsConsistent, IsLoaded, IsSameProblem, IsSameSearch, KeepsFirst, numbers_of, place_of}
 use Rattle.resolvo.specs.Derivations.{IsDerived, given_at, number_of}
 use Rattle.resolvo.specs.Propagators.{IsPropagator}
 use Rattle.resolvo.specs.declared.propagator.Propagator.{Propagator}
-use Rattle.resolvo.specs.Propagation.{AreChosen, Extends, IsJustified}
+use Rattle.resolvo.specs.Propagation.{AreChosen, AssumesNone, Extends, IsJustified}
+use Rattle.resolvo.specs.WatchedClauses.{AreInLists}
 use Rattle.resolver_clause_store.specs.Settled.{AllSettled}
 use Rattle.resolvo.proofs.ClauseSearchLemmas.{below-push, chosen-grows, chosen-undone, derived-push, grows-push, implied, justified-grows, justified-undone}
 use Rattle.resolvo.proofs.JustifiedLemmas.{chosen-extends, why}
@@ -262,22 +263,20 @@ loaded-requirement old new given numbers requirement number inside here table so
 }
 
 -- a search in which a requirement stands behind the others
-pub consistent-requirement : (old new : ClauseSearch) (requirement : RequirementClause) → IsConsistent old → requirement.number < length old.table.items → new ≡ record old { requirements = new.requirements; queue = new.queue } → new.requirements.items ≡ old.requirements.items ++ requirement ∷ [] → IsQueued new.queue old.trail old.table.items (old.requirements.items ++ requirement ∷ []) → IsConsistent new
-consistent-requirement old new requirement it inside same requirements queued =
-    let here : IsConsistent (record old { requirements = new.requirements; queue = new.queue }) = record {
-      below = it.below;
-      derived = it.derived;
-      justified = it.justified;
-      chosen = rw requirements (chosen-listed old.table.items old.requirements.items requirement old.trail it.chosen);
-      inside = rw requirements (All-push (λ (r : RequirementClause). r.number < length old.table.items) old.requirements.items requirement it.inside inside);
-      places = it.places;
-      count = it.count;
-      kept = it.kept;
-      propagator = it.propagator;
-      turn = it.turn;
-      queued = rw requirements queued;
-    } in
-    subst (λ s. IsConsistent s) (sym same) here
+pub consistent-requirement : (old : ClauseSearch) (wanted : Vec RequirementClause Global) (queue : DecideQueue) (in_lists : ∥ AreInLists old.table.items old.propagator.watches ∥₁) (requirement : RequirementClause) → IsConsistent old → requirement.number < length old.table.items → wanted.items ≡ old.requirements.items ++ requirement ∷ [] → IsQueued queue old.trail old.table.items (old.requirements.items ++ requirement ∷ []) → IsConsistent (record old { requirements = wanted; queue = queue; in_lists = in_lists })
+consistent-requirement old wanted queue in_lists requirement it inside is queued = record {
+  below = it.below;
+  derived = it.derived;
+  justified = it.justified;
+  chosen = rw is (chosen-listed old.table.items old.requirements.items requirement old.trail it.chosen);
+  inside = rw is (All-push (λ (r : RequirementClause). r.number < length old.table.items) old.requirements.items requirement it.inside inside);
+  places = it.places;
+  count = it.count;
+  kept = it.kept;
+  propagator = it.propagator;
+  turn = it.turn;
+  queued = rw is queued;
+}
 
 pub same-none : (it : ClauseSearch) → IsSameSearch it it
 same-none it = record { set = record { was = λ v s at. at }; marked = λ all. all; variables = refl; learnt = refl; kept = λ base k. k; turn = keeps-none it }
@@ -301,6 +300,18 @@ clauses-next old new clauses literals numbers n within here step loaded =
     let w = clause-next clauses n within in
     let Loaded : List (Vec Literal Global) → Type 0 = λ cs. IsLoaded cs numbers new in
     subst Loaded (sym w.1) (step (take n clauses) numbers w.0 (w.2 ∙ sym here) loaded)
+
+-- what propagation keeps while one clause after another is attached
+pub propagator-next : (clauses : List (Vec Literal Global)) (literals : List Literal) (trail : Trail) (old new : Propagator) (n : ℕ) → n < length clauses → literals ≡ clause_at clauses n → ((table : List (Vec Literal Global)) (clause : Vec Literal Global) → clause.items ≡ literals → IsPropagator table trail old → IsPropagator (table ++ clause ∷ []) trail new) → IsPropagator (take n clauses) trail old → IsPropagator (take (n + 1) clauses) trail new
+propagator-next clauses literals trail old new n within here step it =
+    let w = clause-next clauses n within in
+    let Keeps : List (Vec Literal Global) → Type 0 = λ cs. IsPropagator cs trail new in
+    subst Keeps (sym w.1) (step (take n clauses) w.0 (w.2 ∙ sym here) it)
+
+pub propagator-end : (clauses : List (Vec Literal Global)) (trail : Trail) (it : Propagator) (n : ℕ) → length clauses ≤ n → IsPropagator (take n clauses) trail it → IsPropagator clauses trail it
+propagator-end clauses trail it n end all =
+    let Keeps : List (Vec Literal Global) → Type 0 = λ cs. IsPropagator cs trail it in
+    subst Keeps (take_all n clauses end) all
 
 pub clauses-end : (it : ClauseSearch) (clauses : List (Vec Literal Global)) (numbers : List ℕ) (n : ℕ) → length clauses ≤ n → IsLoaded (take n clauses) numbers it → IsLoaded clauses numbers it
 clauses-end it clauses numbers n end loaded =
@@ -328,8 +339,8 @@ requirements-end it given requirements n end loaded =
     subst Loaded (take_all n (numbers_of requirements) (omega (arith, end, length-map requirements (λ (r : RequirementClause). r.number)))) loaded
 
 -- more variables without a value
-pub consistent-grown : (it : ClauseSearch) (trail : Trail) (propagator : Propagator) (queue : DecideQueue) (variables : ℕ) → IsConsistent it → variable_count it.trail ≤ variables → IsGrown it.trail trail variables → IsPropagator it.table.items trail propagator → StaysQueued it.queue queue → IsConsistent (record it { trail = trail; propagator = propagator; queue = queue })
-consistent-grown it trail propagator queue variables holds room grown propagates stays = record {
+pub consistent-grown : (it : ClauseSearch) (trail : Trail) (propagator : Propagator) (queue : DecideQueue) (variables : ℕ) (in_lists : ∥ AreInLists it.table.items propagator.watches ∥₁) → IsConsistent it → variable_count it.trail ≤ variables → IsGrown it.trail trail variables → IsPropagator it.table.items trail propagator → StaysQueued it.queue queue → IsConsistent (record it { trail = trail; propagator = propagator; queue = queue; in_lists = in_lists })
+consistent-grown it trail propagator queue variables in_lists holds room grown propagates stays = record {
   below = λ n k d b. omega (arith, holds.below n k d b, grown.size, room);
   derived = holds.derived;
   justified = justified-grown it.table.items it.trail trail variables grown holds.justified;
@@ -344,19 +355,19 @@ consistent-grown it trail propagator queue variables holds room grown propagates
 }
 
 -- what is loaded does not depend on the trail, or on what propagation keeps
-pub loaded-trail : (it : ClauseSearch) (trail : Trail) (propagator : Propagator) (queue : DecideQueue) (given : List (Vec Literal Global)) (numbers : List ℕ) → IsLoaded given numbers it → IsLoaded given numbers (record it { trail = trail; propagator = propagator; queue = queue })
-loaded-trail it trail propagator queue given numbers loaded = record { clauses = loaded.clauses; requirements = loaded.requirements; inside = loaded.inside }
+pub loaded-trail : (it : ClauseSearch) (trail : Trail) (propagator : Propagator) (queue : DecideQueue) (in_lists : ∥ AreInLists it.table.items propagator.watches ∥₁) (given : List (Vec Literal Global)) (numbers : List ℕ) → IsLoaded given numbers it → IsLoaded given numbers (record it { trail = trail; propagator = propagator; queue = queue; in_lists = in_lists })
+loaded-trail it trail propagator queue in_lists given numbers loaded = record { clauses = loaded.clauses; requirements = loaded.requirements; inside = loaded.inside }
 
 pub first-grown : (old new : Trail) (count variables : ℕ) → IsGrown old new variables → KeepsFirst old count new count
 first-grown old new count variables grown = first-after old new count (keeps_grown old new variables grown)
 
 -- a step of a run
-pub problem-descended : (a b : ClauseSearch) (trail : Trail) (propagator : Propagator) (queue : DecideQueue) → IsConsistent b → IsSameProblem a b → variable_count trail ≡ variable_count b.trail → KeepsPlaces b.trail trail (length_of b.trail) → AssumesNone b.trail trail → IsSameProblem a (record b { trail = trail; propagator = propagator; queue = queue })
-problem-descended a b trail propagator queue it same size keeps assumed = record {
-  loaded = λ given numbers loaded. loaded-trail b trail propagator queue given numbers (same.loaded given numbers loaded);
+pub problem-descended : (a b : ClauseSearch) (trail : Trail) (propagator : Propagator) (queue : DecideQueue) (in_lists : ∥ AreInLists b.table.items propagator.watches ∥₁) → IsConsistent b → IsSameProblem a b → variable_count trail ≡ variable_count b.trail → KeepsPlaces b.trail trail (length_of b.trail) → AssumesNone b.trail trail → IsSameProblem a (record b { trail = trail; propagator = propagator; queue = queue; in_lists = in_lists })
+problem-descended a b trail propagator queue in_lists it same size keeps assumed = record {
+  loaded = λ given numbers loaded. loaded-trail b trail propagator queue in_lists given numbers (same.loaded given numbers loaded);
   variables = size ∙ same.variables;
   kept = λ base k. first-after b.trail trail b.kept keeps base (same.kept base k);
-  turn = turn-trans a b (record b { trail = trail; propagator = propagator; queue = queue }) same.turn (turn-descended b trail propagator queue it assumed keeps);
+  turn = turn-trans a b (record b { trail = trail; propagator = propagator; queue = queue; in_lists = in_lists }) same.turn (turn-descended b trail propagator queue in_lists it assumed keeps);
 }
 
 pub problem-trans : (a b c : ClauseSearch) → IsSameProblem a b → IsSameProblem b c → IsSameProblem a c

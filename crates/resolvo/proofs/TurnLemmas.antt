@@ -21,11 +21,12 @@ use Rattle.resolver_clause_store.proofs.TrailLemmas.{Keeps, gains-cases, keeps-g
 use Rattle.resolvo.specs.declared.analyze.Learnt.{Learnt}
 use Rattle.resolvo.specs.declared.clause_search.ClauseSearch.{ClauseSearch}
 use Rattle.resolvo.specs.declared.contradiction.Source.{Source}
-use Rattle.resolvo.specs.ClauseSearches.{AssumesNone, IsConsistent, IsLoaded, IsRefused, IsRootTurn, IsTurn, KeepsFirst, KeepsTurn}
+use Rattle.resolvo.specs.ClauseSearches.{IsConsistent, IsLoaded, IsRefused, IsRootTurn, IsTurn, KeepsFirst, KeepsTurn}
 use Rattle.resolvo.specs.Derivations.{AreGiven, IsDerived}
 use Rattle.resolvo.specs.Propagators.{IsPropagator}
 use Rattle.resolvo.specs.declared.propagator.Propagator.{Propagator}
-use Rattle.resolvo.specs.Propagation.{AreChosen, Extends, IsJustified}
+use Rattle.resolvo.specs.Propagation.{AreChosen, AssumesNone, Extends, IsJustified}
+use Rattle.resolvo.specs.WatchedClauses.{AreInLists}
 use Rattle.resolvo.specs.Resolvents.{IsAsserting, IsFalseAt, IsLearnt, level_in}
 use Rattle.resolvo.proofs.PropagatorLemmas.{propagator-gains}
 use Rattle.resolvo.proofs.ClauseSearchLemmas.{implied}
@@ -163,8 +164,8 @@ chosen-assumes table requirements old new literal level chosen gains free = reco
       (gains-cases old new literal level _ gains v s at);
 }
 
-pub consistent-assumed : (it : ClauseSearch) (trail : Trail) (literal : Literal) (level base held : ℕ) → IsConsistent it → Gains it.trail trail literal level Assumed → slot_of it.trail literal.variable ≡ None → it.kept ≡ length_of it.trail → IsTop trail base → base ≤ length_of trail → held ≡ length_of trail → IsConsistent (record it { trail = trail; base = base; held = held })
-consistent-assumed it trail literal level base held holds gains free marked top bound whole = record {
+pub consistent-assumed : (it : ClauseSearch) (trail : Trail) (literal : Literal) (level base held : ℕ) (in_lists : ∥ AreInLists it.table.items it.propagator.watches ∥₁) → IsConsistent it → Gains it.trail trail literal level Assumed → slot_of it.trail literal.variable ≡ None → it.kept ≡ length_of it.trail → IsTop trail base → base ≤ length_of trail → held ≡ length_of trail → IsConsistent (record it { trail = trail; base = base; held = held; in_lists = in_lists })
+consistent-assumed it trail literal level base held in_lists holds gains free marked top bound whole = record {
   below = λ n k d b. omega (arith, holds.below n k d b, gains.size);
   derived = holds.derived;
   justified = justified-decides it.table.items it.trail trail literal level Assumed assumed-forced holds.justified gains free;
@@ -178,8 +179,8 @@ consistent-assumed it trail literal level base held holds gains free marked top 
   queued = queued-longer it.queue it.trail trail it.table.items it.requirements.items (keeps_all it.trail trail (keeps-gains it.trail trail literal level _ gains free)) holds.queued;
 }
 
-pub consistent-marked : (it : ClauseSearch) (kept : ℕ) → kept ≡ length_of it.trail → IsConsistent it → IsConsistent (record it { kept = kept })
-consistent-marked it kept whole holds = record {
+pub consistent-marked : (it : ClauseSearch) (kept : ℕ) (in_lists : ∥ AreInLists it.table.items it.propagator.watches ∥₁) → kept ≡ length_of it.trail → IsConsistent it → IsConsistent (record it { kept = kept; in_lists = in_lists })
+consistent-marked it kept in_lists whole holds = record {
   below = holds.below;
   derived = holds.derived;
   justified = holds.justified;
@@ -193,8 +194,8 @@ consistent-marked it kept whole holds = record {
   queued = holds.queued;
 }
 
-pub consistent-held : (it : ClauseSearch) (base held : ℕ) → it.kept ≡ length_of it.trail → IsTop it.trail base → base ≤ length_of it.trail → held ≡ length_of it.trail → IsConsistent it → IsConsistent (record it { base = base; held = held })
-consistent-held it base held marked top bound whole holds = record {
+pub consistent-held : (it : ClauseSearch) (base held : ℕ) (in_lists : ∥ AreInLists it.table.items it.propagator.watches ∥₁) → it.kept ≡ length_of it.trail → IsTop it.trail base → base ≤ length_of it.trail → held ≡ length_of it.trail → IsConsistent it → IsConsistent (record it { base = base; held = held; in_lists = in_lists })
+consistent-held it base held in_lists marked top bound whole holds = record {
   below = holds.below;
   derived = holds.derived;
   justified = holds.justified;
@@ -239,10 +240,10 @@ chosen-cut table requirements old new count chosen cut = record {
       };
 }
 
-pub consistent-cut : (it : ClauseSearch) (trail : Trail) (propagator : Propagator) (queue : DecideQueue) (count kept base : ℕ) → IsConsistent it → IsCut it.trail trail count → count + 1 ≡ it.held → kept ≡ min it.kept count → IsTop trail base → base ≤ length_of trail → IsPropagator it.table.items trail propagator →
+pub consistent-cut : (it : ClauseSearch) (trail : Trail) (propagator : Propagator) (queue : DecideQueue) (count kept base : ℕ) (in_lists : ∥ AreInLists it.table.items propagator.watches ∥₁) → IsConsistent it → IsCut it.trail trail count → count + 1 ≡ it.held → kept ≡ min it.kept count → IsTop trail base → base ≤ length_of trail → IsPropagator it.table.items trail propagator →
     ((before after : Trail) (clauses : List (Vec Literal Global)) (wanted : List RequirementClause) → KeepsPlaces before after (min it.queue.kept count) → IsQueued it.queue before clauses wanted → IsQueued queue after clauses wanted) →
-    IsConsistent (record it { trail = trail; propagator = propagator; queue = queue; kept = kept; base = base; held = count })
-consistent-cut it trail propagator queue count kept base holds cut last is top bound propagates noted = record {
+    IsConsistent (record it { trail = trail; propagator = propagator; queue = queue; kept = kept; base = base; held = count; in_lists = in_lists })
+consistent-cut it trail propagator queue count kept base in_lists holds cut last is top bound propagates noted = record {
   below = λ n k d b. omega (arith, holds.below n k d b, cut.size);
   derived = holds.derived;
   justified = justified-cut it.table.items it.trail trail count holds.justified cut;
@@ -268,18 +269,18 @@ first-cut old new kept count left cut within is =
     subst Left (sym is) (λ base k. keeps_trans base old new kept count k (keeps_places old new count within (λ v s at below. cut.kept v s at below)))
 
 -- what is loaded does not depend on the turn
-pub loaded-turn : (it : ClauseSearch) (trail : Trail) (propagator : Propagator) (queue : DecideQueue) (kept base held : ℕ) (given : List (Vec Literal Global)) (numbers : List ℕ) → IsLoaded given numbers it → IsLoaded given numbers (record it { trail = trail; propagator = propagator; queue = queue; kept = kept; base = base; held = held })
-loaded-turn it trail propagator queue kept base held given numbers loaded = record { clauses = loaded.clauses; requirements = loaded.requirements; inside = loaded.inside }
+pub loaded-turn : (it : ClauseSearch) (trail : Trail) (propagator : Propagator) (queue : DecideQueue) (kept base held : ℕ) (in_lists : ∥ AreInLists it.table.items propagator.watches ∥₁) (given : List (Vec Literal Global)) (numbers : List ℕ) → IsLoaded given numbers it → IsLoaded given numbers (record it { trail = trail; propagator = propagator; queue = queue; kept = kept; base = base; held = held; in_lists = in_lists })
+loaded-turn it trail propagator queue kept base held in_lists given numbers loaded = record { clauses = loaded.clauses; requirements = loaded.requirements; inside = loaded.inside }
 
 -- more variables, and a descent
-pub turn-grown : (it : ClauseSearch) (trail : Trail) (propagator : Propagator) (queue : DecideQueue) (variables : ℕ) → IsConsistent it → IsGrown it.trail trail variables → KeepsTurn it (record it { trail = trail; propagator = propagator; queue = queue })
-turn-grown it trail propagator queue variables holds grown = keeps-turn it (record it { trail = trail; propagator = propagator; queue = queue }) refl refl (none-grown it.trail trail variables grown) (keeps-fewer it.trail trail (length_of it.trail) it.held (keeps_grown it.trail trail variables grown) holds.turn.inside)
+pub turn-grown : (it : ClauseSearch) (trail : Trail) (propagator : Propagator) (queue : DecideQueue) (variables : ℕ) (in_lists : ∥ AreInLists it.table.items propagator.watches ∥₁) → IsConsistent it → IsGrown it.trail trail variables → KeepsTurn it (record it { trail = trail; propagator = propagator; queue = queue; in_lists = in_lists })
+turn-grown it trail propagator queue variables in_lists holds grown = keeps-turn it (record it { trail = trail; propagator = propagator; queue = queue; in_lists = in_lists }) refl refl (none-grown it.trail trail variables grown) (keeps-fewer it.trail trail (length_of it.trail) it.held (keeps_grown it.trail trail variables grown) holds.turn.inside)
 
-pub turn-descended : (it : ClauseSearch) (trail : Trail) (propagator : Propagator) (queue : DecideQueue) → IsConsistent it → AssumesNone it.trail trail → KeepsPlaces it.trail trail (length_of it.trail) → KeepsTurn it (record it { trail = trail; propagator = propagator; queue = queue })
-turn-descended it trail propagator queue holds assumed keeps = keeps-turn it (record it { trail = trail; propagator = propagator; queue = queue }) refl refl assumed (keeps-fewer it.trail trail (length_of it.trail) it.held keeps holds.turn.inside)
+pub turn-descended : (it : ClauseSearch) (trail : Trail) (propagator : Propagator) (queue : DecideQueue) (in_lists : ∥ AreInLists it.table.items propagator.watches ∥₁) → IsConsistent it → AssumesNone it.trail trail → KeepsPlaces it.trail trail (length_of it.trail) → KeepsTurn it (record it { trail = trail; propagator = propagator; queue = queue; in_lists = in_lists })
+turn-descended it trail propagator queue in_lists holds assumed keeps = keeps-turn it (record it { trail = trail; propagator = propagator; queue = queue; in_lists = in_lists }) refl refl assumed (keeps-fewer it.trail trail (length_of it.trail) it.held keeps holds.turn.inside)
 
-pub consistent-descended : (it : ClauseSearch) (trail : Trail) (propagator : Propagator) (queue : DecideQueue) → IsConsistent it → variable_count trail ≡ variable_count it.trail → IsJustified it.table.items trail → AreChosen it.table.items it.requirements.items trail → KeepsPlaces it.trail trail (length_of it.trail) → IsPropagator it.table.items trail propagator → IsQueued queue trail it.table.items it.requirements.items → IsConsistent (record it { trail = trail; propagator = propagator; queue = queue })
-consistent-descended it trail propagator queue holds size justified chosen keeps propagates queued = record {
+pub consistent-descended : (it : ClauseSearch) (trail : Trail) (propagator : Propagator) (queue : DecideQueue) (in_lists : ∥ AreInLists it.table.items propagator.watches ∥₁) → IsConsistent it → variable_count trail ≡ variable_count it.trail → IsJustified it.table.items trail → AreChosen it.table.items it.requirements.items trail → KeepsPlaces it.trail trail (length_of it.trail) → IsPropagator it.table.items trail propagator → IsQueued queue trail it.table.items it.requirements.items → IsConsistent (record it { trail = trail; propagator = propagator; queue = queue; in_lists = in_lists })
+consistent-descended it trail propagator queue in_lists holds size justified chosen keeps propagates queued = record {
   below = λ n k d b. omega (arith, holds.below n k d b, size);
   derived = holds.derived;
   justified = justified;

@@ -13,7 +13,7 @@ use Rattle.resolvo.specs.declared.clause_search.ClauseSearch.{ClauseSearch}
 use Rattle.resolvo.specs.declared.clause_search.Outcome.{Outcome}
 use Rattle.resolvo.specs.declared.clause_search.Outcome.TheVariants.{Finished, Contradiction, Refused}
 use Rattle.resolvo.specs.declared.contradiction.Source.{Source}
-use Rattle.resolvo.specs.Propagation.{AreChosen, IsJustified}
+use Rattle.resolvo.specs.Propagation.{AreChosen, AssumesNone, IsJustified}
 use Rattle.resolvo.specs.Propagators.{IsPropagator}
 use Rattle.resolvo.specs.Derivations.{AreGiven, IsDerived, given_at}
 use Rattle.resolvo.specs.Resolvents.{IsFalseAt}
@@ -98,10 +98,6 @@ KeepsFirst old count new left = (base : Trail) → KeepsPlaces base old count �
 -- so many first places of the trail are still as they were when it was last marked
 abbrev pub KeepsMark : ClauseSearch → ClauseSearch → Type 0
 KeepsMark old new = KeepsFirst (trail_of old) (kept_of old) (trail_of new) (kept_of new)
-
--- no variable was assumed since
-pub record AssumesNone (old new : Trail) : Type 0 where
-  pub was : (variable : ℕ) (slot : Slot) → slot_of new variable ≡ Some slot → slot.reason ≡ Assumed → slot_of old variable ≡ Some slot
 
 -- the turn is the same, and what is held of the trail stays
 pub record KeepsTurn (old new : ClauseSearch) : Type 0 where

@@ -12,6 +12,7 @@ pub mod Propagators
 pub mod Visits
 pub mod Attaching
 pub mod Returning
+pub mod WatchedClauses
 pub mod Resolvents
 pub mod Derivations
 pub mod ClauseSearches

@@ -27,7 +27,7 @@ late_of it = it.late.items
 abbrev pub pending_of : Propagator → List ℕ
 pending_of it = it.pending.items
 
--- how many first clauses of the table are attached
+-- how many clauses are attached
 abbrev pub attached_of : Propagator → ℕ
 attached_of it = length (pairs_of it.watches)
 
@@ -56,9 +56,10 @@ pub record WatchesTwo (pair : WatchedPair) : Type 0 where
   pub is : pair ≡ watched_pair first second
   pub differ : first ≢ second
 
--- The literals that a clause watches are two different ones of its own. One that watches none has no two different ones.
+-- All clauses of the table are attached. The literals that one watches are two different ones of its own; one that watches none
+-- has no two different ones.
 pub record AreWatched (table : List (Vec Literal Global)) (lists : List (Vec Watch Global)) (pairs : List WatchedPair) : Type 0 where
-  pub attached : length pairs ≤ length table
+  pub attached : length pairs ≡ length table
   pub own : (number : ℕ) (literal : Literal) → IsWatching pairs number literal → Contains (clause_at table number) literal
   pub two : (number : ℕ) → number < length pairs → (pair_at pairs number ≡ unwatched) ⊎ WatchesTwo (pair_at pairs number)
   pub constant : (number : ℕ) → number < length pairs → pair_at pairs number ≡ unwatched → IsConstant (clause_at table number)

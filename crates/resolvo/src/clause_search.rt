@@ -1,6 +1,6 @@
 //! A search over clauses: it decides and propagates, learns from conflicts and jumps back.
 
-ghost use Rattle.std.specs.Prelude.{◌<◌, ◌≡◌, ◌≤◌, ◌+◌, ◌++◌, ◌∷◌, ◌⊎◌, ◌-◌, [], ℕ, All, IfErr, IfNone, IfOk, IfSome, List, None, OnOk, Vec, length, max};
+ghost use Rattle.std.specs.Prelude.{◌<◌, ◌≡◌, ◌≤◌, ◌+◌, ◌++◌, ◌∷◌, ◌⊎◌, ◌-◌, [], ℕ, All, IfErr, IfNone, IfOk, IfSome, List, None, OnErr, OnOk, Vec, length, max};
 ghost use Rattle.std.specs.declared.alloc.Global.{Global};
 ghost use Rattle.resolver_clause_store.specs.Formula.{AreBelow, IsBelow, clause_at};
 ghost use Rattle.resolver_clause_store.specs.Interruptions.{IsInterruption};
@@ -12,18 +12,19 @@ ghost use Rattle.resolver_clause_store.specs.declared.Reason.TheVariants.{Assume
 ghost use Rattle.resolver_clause_store.specs.declared.RequirementClause.{RequirementClause};
 ghost use Rattle.resolver_encoding.specs.Refusals.{IsStop};
 ghost use Rattle.resolver_clause_store.specs.Decisions.{IsChoice, IsFirst};
-ghost use Rattle.resolvo.specs.Propagation.{AreChosen, IsConflict, IsJustified};
+ghost use Rattle.resolvo.specs.Propagation.{AreChosen, AssumesNone, IsConflict, IsJustified};
 ghost use Rattle.resolver_clause_store.specs.Settled.{AllSettled};
+ghost use Rattle.resolver_clause_store.specs.WatchesView.{pairs_of};
 ghost use Rattle.resolvo.specs.Propagators.{IsPropagator};
 ghost use Rattle.resolvo.specs.declared.propagator.Propagator.{Propagator};
-ghost use Rattle.resolvo.specs.ClauseSearches.{AssumesNone};
+ghost use Rattle.resolvo.specs.WatchedClauses.{AreInLists, AreOwned};
 ghost use Rattle.resolver_clause_store.specs.Queues.{IsQueued};
 ghost use Rattle.resolvo.specs.Resolvents.{IsLearnt, level_in};
 
 use crate::analyze::{BlankMarks, Learnt, Lesson, analyze, asserted_level};
 use crate::contradiction::{Source, core};
 use crate::propagate::{State, examine};
-use crate::propagator::{Propagator, attach_all, begins_level, propagate};
+use crate::propagator::{Propagator, begins_level, propagate, settle_all};
 use resolver_clause_store::{
     Activity, Choice, DecideQueue, DependencyProvider, Exhausted, Interrupted, Literal,
     RequirementClause, Trail, check_cancel, clause,
@@ -45,7 +46,8 @@ pub enum Outcome {
 /// A search over clauses that come as they are read.
 ///
 /// Given clauses and learnt ones stand in one table, in the order in which they came. The clauses of requirements are known
-/// by their places in it.
+/// by their places in it. Each clause that has two different literals watches two of them, and stands in their lists, once in
+/// each, and in no other list.
 #[derive(Drop)]
 pub struct ClauseSearch {
     trail: Trail,
@@ -66,6 +68,7 @@ pub struct ClauseSearch {
     marks: BlankMarks,
     /// The requirements that may be left to decide.
     queue: DecideQueue,
+    ghost in_lists: { ∥ AreInLists table.items propagator.watches ∥₁ },
 }
 
 /// Takes a choice: a level begins with its candidate.
@@ -108,6 +111,7 @@ pub fn descend<D: DependencyProvider>(
     ensures settled { IfOk result (λ answer. IfNone answer (AllSettled trail.new table.now)) }
     ensures met { IfOk result (λ answer. IfNone answer (All (λ (requirement : RequirementClause). IsMet trail.new (clause_at table.now requirement.number)) requirements.now)) }
     ensures propagator { OnOk result (IsPropagator table.now trail.new propagator.new) }
+    ensures refused { OnErr result (AreOwned table.now (pairs_of propagator.new.watches)) }
     ensures justified { OnOk result (IsJustified table.now trail.new) }
     ensures chosen { OnOk result (AreChosen table.now requirements.now trail.new) }
     ensures size { OnOk result (variable_count trail.new ≡ variable_count trail.old) }
@@ -117,7 +121,7 @@ pub fn descend<D: DependencyProvider>(
     ensures refusal { IfErr result (IsInterruption (D.may_cancel provider.now)) }
 {
     check_cancel(provider)?;
-    if let Some(number) = attach_all(trail, table, propagator)? {
+    if let Some(number) = settle_all(trail, table, propagator)? {
         return Ok(Some(number));
     }
     'rounds: loop {
@@ -295,6 +299,7 @@ impl ClauseSearch {
         let place = self.table.len();
         let level = level_for(&self.trail, literals, self.base);
         let copy = literals.to_vec(*self.table.allocator())?;
+        self.propagator.attach(&self.trail, literals)?;
         self.table.push(copy)?;
         self.sources.push(Source::Given(number))?;
         self.places.push(place)?;
@@ -410,6 +415,7 @@ impl ClauseSearch {
         } = learnt;
         let number = self.table.len();
         self.queue.learn(&literals)?;
+        self.propagator.attach(&self.trail, &literals)?;
         self.table.push(literals)?;
         self.sources.push(Source::Learnt(causes))?;
         self.learnt += 1;

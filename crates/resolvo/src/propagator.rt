@@ -4,7 +4,7 @@ mod attaching;
 mod returning;
 mod visiting;
 
-pub use attaching::attach_all;
+pub use attaching::settle_all;
 use resolver_clause_store::Watches;
 pub use returning::begins_level;
 pub use visiting::propagate;

@@ -10,8 +10,9 @@ ghost use Rattle.resolver_clause_store.specs.declared.Trail.{Trail};
 ghost use Rattle.resolvo.specs.Attaching.{AreAlike, AreApart, EndsWith, Forces, IsAlike, IsHigh, IsHighPair, IsLower, IsNotBefore, IsOther, Recalls};
 ghost use Rattle.resolvo.specs.Propagation.{Extends, IsConflict, IsJustified};
 ghost use Rattle.resolver_clause_store.specs.Settled.{IsOpen};
-ghost use Rattle.resolvo.specs.Propagators.{IsAttached, IsConstant, IsPropagator, attached_of, late_of, pending_of};
-ghost use Rattle.resolver_clause_store.specs.Watches.{IsWatching};
+ghost use Rattle.resolvo.specs.Propagators.{IsConstant, IsPropagator, attached_of, late_of, pending_of};
+ghost use Rattle.resolvo.specs.WatchedClauses.{OwnsPair};
+ghost use Rattle.resolver_clause_store.specs.Watches.{IsWatching, pair_at};
 ghost use Rattle.resolver_clause_store.specs.WatchesView.{lists_of, pairs_of};
 
 use super::{Late, Propagator};
@@ -35,7 +36,8 @@ impl Propagator {
     /// Makes room for the literals of new variables, up to this many variables.
     pub fn grow(&mut self, variables: usize) -> Result<(), AllocError>
         requires { length (lists_of self.old.watches) ≤ 2 * variables }
-        ensures { OnOk result ((table : List (Vec Literal Global)) (old new : Trail) → IsGrown old new variables → IsPropagator table old self.old → IsPropagator table new self.new) }
+        ensures propagator { OnOk result ((table : List (Vec Literal Global)) (old new : Trail) → IsGrown old new variables → IsPropagator table old self.old → IsPropagator table new self.new) }
+        ensures pairs { pairs_of self.new.watches ≡ pairs_of self.old.watches }
     {
         self.watches.grow(*self.late.allocator(), variables)?;
         Ok(())
@@ -44,7 +46,7 @@ impl Propagator {
     /// Clauses that were noted with more first places of the trail than these have to be looked at again.
     fn recall(&mut self, length: usize) -> Result<(), AllocError>
         ensures recalled { OnOk result (Recalls (late_of self.old) (late_of self.new) (pending_of self.old) (pending_of self.new) length) }
-        ensures watches { OnOk result (self.new.watches ≡ self.old.watches) }
+        ensures watches { self.new.watches ≡ self.old.watches }
         ensures head { OnOk result (self.new.head ≡ self.old.head) }
     {
         'late: while let Some(late) = self.late.last() {
@@ -59,7 +61,8 @@ impl Propagator {
 
     /// Follows a trail of which whole levels were taken away.
     pub fn cut(&mut self, trail: &Trail) -> Result<(), AllocError>
-        ensures { OnOk result ((table : List (Vec Literal Global)) (before : Trail) → IsLower before trail.now → IsPropagator table before self.old → IsPropagator table trail.now self.new) }
+        ensures propagator { OnOk result ((table : List (Vec Literal Global)) (before : Trail) → IsLower before trail.now → IsPropagator table before self.old → IsPropagator table trail.now self.new) }
+        ensures watches { self.new.watches ≡ self.old.watches }
     {
         self.recall(trail.len())?;
         self.head = self.head.min(trail.len());
@@ -68,7 +71,8 @@ impl Propagator {
 
     /// Follows a trail of which the first places are left: all of it is to be propagated again.
     pub fn forget(&mut self, trail: &Trail) -> Result<(), AllocError>
-        ensures { OnOk result ((table : List (Vec Literal Global)) (before : Trail) (count : ℕ) → count ≤ length_of before → IsCut before trail.now count → IsPropagator table before self.old → IsPropagator table trail.now self.new) }
+        ensures propagator { OnOk result ((table : List (Vec Literal Global)) (before : Trail) (count : ℕ) → count ≤ length_of before → IsCut before trail.now count → IsPropagator table before self.old → IsPropagator table trail.now self.new) }
+        ensures watches { self.new.watches ≡ self.old.watches }
     {
         self.recall(trail.len())?;
         self.head = 0;
@@ -83,7 +87,7 @@ impl Propagator {
         requires inside { number < attached_of self.old }
         requires below { (literal : Literal) → IsWatching (pairs_of self.old.watches) number literal → literal.variable < variable_count trail.now }
         ensures propagator { OnOk result ((table : List (Vec Literal Global)) → IsSatisfied trail.now (clause_at table number) → IsPropagator table trail.now self.old → IsPropagator table trail.now self.new) }
-        ensures watches { OnOk result (self.new.watches ≡ self.old.watches) }
+        ensures watches { self.new.watches ≡ self.old.watches }
         ensures fewer { OnOk result (length (pending_of self.new) + 1 ≡ length (pending_of self.old)) }
     {
         let pair = self.watches.pair(number);
@@ -115,16 +119,16 @@ impl Propagator {
         self.head = self.head.min(first).min(second);
     }
 
-    /// Attaches the next clause of the table, which has to be looked at then.
-    fn attach(&mut self, trail: &Trail, table: &[Vec<Literal>]) -> Result<(), AllocError>
-        requires more { attached_of self.old < length table.now }
-        requires below { AreBelow (variable_count trail.now) table.now }
+    /// Attaches a clause, which comes behind those of the table. It has to be looked at then.
+    pub fn attach(&mut self, trail: &Trail, literals: &[Literal]) -> Result<(), AllocError>
+        requires below { IsBelow (variable_count trail.now) literals.now }
         requires lists { length (lists_of self.old.watches) ≡ 2 * variable_count trail.now }
-        ensures propagator { OnOk result (IsPropagator table.now trail.now self.old → IsPropagator table.now trail.now self.new) }
-        ensures attached { OnOk result (attached_of self.new ≡ attached_of self.old + 1) }
+        ensures propagator { OnOk result ((table : List (Vec Literal Global)) (clause : Vec Literal Global) → clause.items ≡ literals.now → IsPropagator table trail.now self.old → IsPropagator (table ++ clause ∷ []) trail.now self.new) }
+        ensures kept { (number : ℕ) → number < attached_of self.old → pair_at (pairs_of self.new.watches) number ≡ pair_at (pairs_of self.old.watches) number }
+        ensures own { OnOk result (OwnsPair literals.now (pair_at (pairs_of self.new.watches) (attached_of self.old))) }
     {
         let number = self.watches.len();
-        self.watches.add(pair_of(trail, clause(table, number)))?;
+        self.watches.add(pair_of(trail, literals))?;
         self.pending.push(number)?;
         Ok(())
     }
@@ -255,7 +259,7 @@ fn settle(
     requires last { EndsWith (pending_of propagator.old) number }
     ensures answer { IfOk result (λ holds. MatchBool holds (length (pending_of propagator.new) + 1 ≡ length (pending_of propagator.old)) (IsConflict trail.new table.now number)) }
     ensures propagator { OnOk result (IsPropagator table.now trail.new propagator.new) }
-    ensures watches { OnOk result (propagator.new.watches ≡ propagator.old.watches) }
+    ensures watches { propagator.new.watches ≡ propagator.old.watches }
     ensures step { OnOk result (Forces table.now trail.old trail.new) }
 {
     match examine(trail, clause(table, number)) {
@@ -276,8 +280,8 @@ fn settle(
     }
 }
 
-/// Looks at the clauses that have to be looked at again, until one is false, whose number is answered.
-fn settle_all(
+/// Looks at the clauses that have to be looked at, until one is false, whose number is answered.
+pub fn settle_all(
     trail: &mut Trail,
     table: &[Vec<Literal>],
     propagator: &mut Propagator,
@@ -288,39 +292,12 @@ fn settle_all(
     ensures conflict { IfOk result (λ answer. IfSome answer (IsConflict trail.new table.now)) }
     ensures none { IfOk result (λ answer. IfNone answer (pending_of propagator.new ≡ [])) }
     ensures propagator { OnOk result (IsPropagator table.now trail.new propagator.new) }
-    ensures watches { OnOk result (propagator.new.watches ≡ propagator.old.watches) }
+    ensures watches { propagator.new.watches ≡ propagator.old.watches }
     ensures step { OnOk result (Forces table.now trail.old trail.new) }
 {
     'pending: while let Some(number) = propagator.pending.last() {
         let number = *number;
         if !settle(trail, table, propagator, number)? {
-            return Ok(Some(number));
-        }
-    }
-    Ok(None)
-}
-
-/// Attaches the clauses that are not attached yet, and looks at those that have to be looked at again, until one is false,
-/// whose number is answered.
-pub fn attach_all(
-    trail: &mut Trail,
-    table: &[Vec<Literal>],
-    propagator: &mut Propagator,
-) -> Result<Option<usize>, AllocError>
-    requires below { AreBelow (variable_count trail.old) table.now }
-    requires justified { IsJustified table.now trail.old }
-    requires propagator { IsPropagator table.now trail.old propagator.old }
-    ensures conflict { IfOk result (λ answer. IfSome answer (IsConflict trail.new table.now)) }
-    ensures attached { IfOk result (λ answer. IfNone answer (IsAttached table.now propagator.new)) }
-    ensures propagator { OnOk result (IsPropagator table.now trail.new propagator.new) }
-    ensures step { OnOk result (Forces table.now trail.old trail.new) }
-{
-    if let Some(number) = settle_all(trail, table, propagator)? {
-        return Ok(Some(number));
-    }
-    'clauses: while propagator.watches.len() < table.len() {
-        propagator.attach(trail, table)?;
-        if let Some(number) = settle_all(trail, table, propagator)? {
             return Ok(Some(number));
         }
     }

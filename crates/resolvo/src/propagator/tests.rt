@@ -75,14 +75,15 @@ fn random(alloc: Global, start: u64) -> Result<Vec<Vec<Literal>>, AllocError> {
     Ok(clauses)
 }
 
-/// A propagator that attaches no clause yet.
+/// A propagator that has attached all clauses.
 fn begin(
     alloc: Global,
     trail: &mut Trail,
     table: &[Vec<Literal>],
     variables: usize,
 ) -> Result<Propagator, AllocError>
-    requires { variable_count trail.old ≡ 0 }
+    requires empty { variable_count trail.old ≡ 0 }
+    requires below { AreBelow variables table.now }
     ensures size { OnOk result (variable_count trail.new ≡ variables) }
     ensures propagator { IfOk result (λ propagator. IsPropagator table.now trail.new propagator) }
     ensures justified { OnOk result (IsJustified table.now trail.new) }
@@ -90,10 +91,13 @@ fn begin(
     let mut propagator = Propagator::empty(alloc);
     trail.grow(variables)?;
     propagator.grow(variables)?;
+    'clauses: for number in 0..table.len() {
+        propagator.attach(trail, clause(table, number))?;
+    }
     Ok(propagator)
 }
 
-/// Attaches all clauses and sets what follows. Tells whether no clause is false.
+/// Sets what follows. Tells whether no clause is false.
 fn follow(
     trail: &mut Trail,
     table: &[Vec<Literal>],
@@ -106,7 +110,7 @@ fn follow(
     ensures justified { OnOk result (IsJustified table.now trail.new) }
     ensures propagator { OnOk result (IsPropagator table.now trail.new propagator.new) }
 {
-    if attach_all(trail, table, propagator)?.is_some() {
+    if settle_all(trail, table, propagator)?.is_some() {
         return Ok(false);
     }
     Ok(propagate(trail, table, propagator)?.is_none())

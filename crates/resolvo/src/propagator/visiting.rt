@@ -1,6 +1,6 @@
 //! The clauses that watch a literal which has become false.
 
-ghost use Rattle.std.specs.Prelude.{◌≡◌, ◌≢◌, ◌+◌, ◌<◌, ◌≤◌, ◌++◌, ◌∷◌, [], true, IfNone, IfOk, IfSome, MatchOption, OnOk, Some, if◌then◌else◌, length};
+ghost use Rattle.std.specs.Prelude.{◌≡◌, ◌≢◌, ◌+◌, ◌<◌, ◌≤◌, ◌++◌, ◌∷◌, [], true, IfNone, IfOk, IfSome, MatchOption, OnErr, OnOk, Some, if◌then◌else◌, length};
 ghost use Rattle.resolver_clause_store.specs.Formula.{AreBelow, IsBelow, clause_at};
 ghost use Rattle.resolver_clause_store.specs.Outcomes.{IsSatisfied};
 ghost use Rattle.resolver_clause_store.specs.TrailView.{length_of, literal_value, open_count, variable_count};
@@ -9,7 +9,9 @@ ghost use Rattle.resolvo.specs.Propagation.{Extends, IsConflict, IsJustified, Is
 ghost use Rattle.resolver_clause_store.specs.Settled.{AllSettled};
 ghost use Rattle.resolvo.specs.Propagators.{IsAttached, IsPropagator};
 ghost use Rattle.resolvo.specs.Visits.{FailsAt, IsPaired, IsVisiting, LookIs, Replaces, StandsAt};
+ghost use Rattle.resolvo.specs.WatchedClauses.{AreOwned};
 ghost use Rattle.resolver_clause_store.specs.Watches.{IsPair};
+ghost use Rattle.resolver_clause_store.specs.WatchesView.{pairs_of};
 
 use super::{Late, Propagator};
 use resolver_clause_store::{Literal, Trail, WatchedPair, clause};
@@ -75,7 +77,6 @@ fn replacement(trail: &Trail, clause: &[Literal], other: &Literal) -> Option<Lit
 impl Propagator {
     ghost use Rattle.resolvo.specs.Propagators.{attached_of, head_of, late_of};
     ghost use Rattle.resolvo.specs.Visits.{watchers_of};
-    ghost use Rattle.resolver_clause_store.specs.WatchesView.{pairs_of};
 
     /// The literal that is false at the head.
     fn false_literal(&self, trail: &Trail) -> FalseLiteral
@@ -137,7 +138,8 @@ impl Propagator {
         requires stands { StandsAt (watchers_of self.old falsified.now.literal) place number }
         requires inside { number < attached_of self.old }
         requires satisfied { IsSatisfied trail.now (clause_at table.now number) }
-        ensures { IfOk result (LookIs table.now trail.now self.old self.new falsified.now place) }
+        ensures look { IfOk result (LookIs table.now trail.now self.old self.new falsified.now place) }
+        ensures refused { OnErr result (AreOwned table.now (pairs_of self.new.watches)) }
     {
         self.note(trail, number, falsified)?;
         Ok(Look::Next(place + 1))
@@ -156,7 +158,8 @@ impl Propagator {
         requires inside { watcher.now.number < attached_of self.old }
         requires pair { IsPaired (pairs_of self.old.watches) watcher.now.number falsified.now.literal watcher.now.other }
         requires satisfied { literal_value trail.now watcher.now.other ≡ Some true }
-        ensures { IfOk result (LookIs table.now trail.now self.old self.new falsified.now watcher.now.place) }
+        ensures look { IfOk result (LookIs table.now trail.now self.old self.new falsified.now watcher.now.place) }
+        ensures refused { OnErr result (AreOwned table.now (pairs_of self.new.watches)) }
     {
         self.watches
             .set_blocker(falsified.literal, watcher.place, watcher.other);
@@ -180,6 +183,7 @@ impl Propagator {
         requires unit { IsUnit trail.old watcher.now.other (clause_at table.now watcher.now.number) }
         requires not_true { literal_value trail.old watcher.now.other ≢ Some true }
         ensures look { IfOk result (LookIs table.now trail.new self.old self.new falsified.now watcher.now.place) }
+        ensures refused { OnErr result (AreOwned table.now (pairs_of self.new.watches)) }
         ensures justified { IsJustified table.now trail.new }
         ensures extends { Extends trail.old trail.new }
         ensures size { variable_count trail.new ≡ variable_count trail.old }
@@ -211,6 +215,7 @@ impl Propagator {
         requires pair { IsPaired (pairs_of self.old.watches) watcher.now.number falsified.now.literal watcher.now.other }
         requires not_true { literal_value trail.old watcher.now.other ≢ Some true }
         ensures look { IfOk result (LookIs table.now trail.new self.old self.new falsified.now watcher.now.place) }
+        ensures refused { OnErr result (AreOwned table.now (pairs_of self.new.watches)) }
         ensures justified { IsJustified table.now trail.new }
         ensures extends { Extends trail.old trail.new }
         ensures size { variable_count trail.new ≡ variable_count trail.old }
@@ -242,6 +247,7 @@ impl Propagator {
         requires justified { IsJustified table.now trail.old }
         requires place { place < length (watchers_of self.old falsified.now.literal) }
         ensures look { IfOk result (LookIs table.now trail.new self.old self.new falsified.now place) }
+        ensures refused { OnErr result (AreOwned table.now (pairs_of self.new.watches)) }
         ensures justified { IsJustified table.now trail.new }
         ensures extends { Extends trail.old trail.new }
         ensures size { variable_count trail.new ≡ variable_count trail.old }
@@ -282,6 +288,7 @@ impl Propagator {
         ensures head { IfOk result (λ answer. IfNone answer (head_of self.new ≡ head_of self.old + 1)) }
         ensures propagator { OnOk result (IsPropagator table.now trail.new self.new) }
         ensures attached { OnOk result (IsAttached table.now self.new) }
+        ensures refused { OnErr result (AreOwned table.now (pairs_of self.new.watches)) }
         ensures justified { IsJustified table.now trail.new }
         ensures extends { Extends trail.old trail.new }
         ensures size { variable_count trail.new ≡ variable_count trail.old }
@@ -315,6 +322,7 @@ pub fn propagate(
     ensures settled { IfOk result (λ answer. IfNone answer (AllSettled trail.new table.now)) }
     ensures propagator { OnOk result (IsPropagator table.now trail.new propagator.new) }
     ensures attached { OnOk result (IsAttached table.now propagator.new) }
+    ensures refused { OnErr result (AreOwned table.now (pairs_of propagator.new.watches)) }
     ensures justified { IsJustified table.now trail.new }
     ensures extends { Extends trail.old trail.new }
     ensures size { variable_count trail.new ≡ variable_count trail.old }

@@ -1,9 +1,12 @@
-use Rattle.std.proofs.Common.{◌∙◌}
+use Rattle.std.proofs.Common.{ap, ◌∙◌}
 use Rattle.resolver_clause_store.proofs.KeptLemmas.{keeps_all}
 use Rattle.resolvo.proofs.JustifiedLemmas.{chosen-extends}
 use Rattle.resolver_clause_store.proofs.QueueLemmas.{queued-longer}
 use Rattle.resolvo.proofs.LoadLemmas.{keeps_extended, keeps_more}
 use Rattle.resolvo.proofs.TurnLemmas.{none-extends, none-trans}
+use Rattle.resolver_clause_store.specs.declared.Watches.{Watches}
+use Rattle.resolver_clause_store.specs.WatchesView.{pairs_of}
+use Rattle.resolvo.proofs.WatchedLemmas.{owned-of, owned-same, refused-any}
 use Rattle.resolvo.proofs.clause_search.descend.Goals as goal
 
 pub returns-in-Some-clause-chosen : goal.returns-in-Some-clause-chosen
@@ -20,7 +23,7 @@ rounds-init g c =
     let first = c.in_ok-number.ensures in
     record {
       propagator = first.propagator;
-      attached = rw c.in_default.is at first.attached;
+      attached = record { all = first.propagator.watched.attached; none = rw c.in_default.is at first.none };
       justified = first.step.justified;
       chosen = chosen-extends _ _ _ _ c.requires.chosen first.step.extends;
       size = first.step.size;
@@ -69,3 +72,18 @@ rounds-preserved g c =
       queued = queued-longer _ _ _ _ _ took.kept c.in_ok-choice.ensures.queued;
       assumed = none-trans _ _ _ (none-trans _ _ _ c.rounds.invariant.assumed (none-extends _ _ c.propagate.ensures.extends)) took.assumed;
     }
+
+pub returns-in_err-check_cancel-clause-refused : goal.returns-in_err-check_cancel-clause-refused
+returns-in_err-check_cancel-clause-refused g c = refused-any _ _ (owned-of _ _ _ c.requires.propagator)
+
+pub returns-in_err-number-clause-refused : goal.returns-in_err-number-clause-refused
+returns-in_err-number-clause-refused g c = refused-any _ _ (owned-same _ _ _ (ap (λ (w : Watches). pairs_of w) c.settle_all.ensures.watches) (owned-of _ _ _ c.requires.propagator))
+
+pub returns-in_err-choice-clause-refused : goal.returns-in_err-choice-clause-refused
+returns-in_err-choice-clause-refused g c = refused-any _ _ (owned-of _ _ _ c.in_ok-number-2.ensures.propagator)
+
+pub returns-in_err-take-in-Some-3-clause-refused : goal.returns-in_err-take-in-Some-3-clause-refused
+returns-in_err-take-in-Some-3-clause-refused g c = refused-any _ _ (owned-of _ _ _ c.in_ok-number-2.ensures.propagator)
+
+pub returns-in_err-check_cancel-2-clause-refused : goal.returns-in_err-check_cancel-2-clause-refused
+returns-in_err-check_cancel-2-clause-refused g c = refused-any _ _ (owned-of _ _ _ c.in_ok-number-2.ensures.propagator)

@@ -1,9 +1,8 @@
 use Rattle.std.proofs.Common.{◌≡◌}
 use Rattle.resolver_clause_store.specs.TrailView.{KeepsPlaces, length_of, open_count, variable_count}
-use Rattle.resolvo.specs.ClauseSearches.{AssumesNone}
 use Rattle.resolvo.specs.Propagators.{IsAttached, IsPropagator}
 use Rattle.resolver_clause_store.specs.Queues.{IsQueued}
-use Rattle.resolvo.specs.Propagation.{IsJustified, AreChosen}
+use Rattle.resolvo.specs.Propagation.{AreChosen, AssumesNone, IsJustified}
 use Rattle.resolvo.proofs.clause_search.descend.Given as goal
 
 abbrev pub invariant-rounds : goal.invariant-rounds

@@ -1,10 +1,10 @@
-use Rattle.std.proofs.Common.{rules, ◌≡◌, List, length, refl, subst, sym}
+use Rattle.std.proofs.Common.{rules, ◌≡◌, ◌∙◌, List, length, refl, subst, sym}
 use Rattle.std.specs.Prelude.{Vec}
 use Rattle.std.specs.declared.alloc.Global.{Global}
 use Rattle.resolver_clause_store.specs.declared.watches.Watch.{Watch}
 use Rattle.resolver_clause_store.specs.Watches.{HasBlockers, watched_pair}
 use Rattle.resolver_clause_store.specs.WatchesView.{pairs_of}
-use Rattle.resolver_clause_store.proofs.WatchListLemmas.{added-inside, blockers-push, contains-same, gains-first, gains-second, pairs-two}
+use Rattle.resolver_clause_store.proofs.WatchListLemmas.{added-inside, blockers-push, contains-same, gains-first, gains-second, kept-push, kept-set, pairs-two}
 use Rattle.resolver_clause_store.proofs.watches.Watches.add_two.Goals as goal
 
 pub attach-requires-clause-gains : goal.attach-requires-clause-gains
@@ -28,3 +28,19 @@ returns-clause-blockers c = λ table has-first has-second has.
     let start : HasBlockers table c.add_none.new.self.lists.items = subst (λ (ls : List (Vec Watch Global)). HasBlockers table ls) (sym c.add_none.ensures.lists) has in
     blockers-push table _ _ _ _ c.in_ok-attach-2.ensures.lists (contains-same table _ _ _ _ last refl has-first)
     (blockers-push table _ _ _ _ c.in_ok-attach.ensures.lists (contains-same table _ _ _ _ last c.copied-3.ensures has-second) start)
+
+pub returns-in_err-add_none-clause-kept : goal.returns-in_err-add_none-clause-kept
+returns-in_err-add_none-clause-kept c = c.add_none.ensures.kept
+
+pub returns-in_err-attach-clause-kept : goal.returns-in_err-attach-clause-kept
+returns-in_err-attach-clause-kept c = kept-push _ _ _ (c.in_err-attach.ensures.kept ∙ c.in_ok-add_none.ensures.pairs)
+
+pub returns-in_err-attach-2-clause-kept : goal.returns-in_err-attach-2-clause-kept
+returns-in_err-attach-2-clause-kept c =
+    let last : c.len-number.result ≡ length (pairs_of c.args.self.now) = search rules in
+    kept-set _ _ _ _ _ last (c.in_err-attach-2.ensures.kept ∙ c.in_ok-attach.ensures.pairs) c.add_none.ensures.kept
+
+pub returns-clause-kept : goal.returns-clause-kept
+returns-clause-kept c =
+    let last : c.len-number.result ≡ length (pairs_of c.args.self.now) = search rules in
+    kept-set _ _ _ _ _ last c.in_ok-attach-2.ensures.pairs (kept-set _ _ _ _ _ last c.in_ok-attach.ensures.pairs c.add_none.ensures.kept)

@@ -6,12 +6,13 @@ use Rattle.resolver_clause_store.proofs.KeptLemmas.{keeps_all, keeps_undone}
 use Rattle.resolver_clause_store.proofs.QueueLemmas.{queued-grown, queued-left, queued-longer}
 use Rattle.resolver_clause_store.proofs.TrailLemmas.{keeps-gains}
 use Rattle.resolvo.specs.declared.contradiction.Source.TheVariants.{Learnt}
-use Rattle.resolvo.proofs.AttachingLemmas.{lower-undone, propagator-longer}
+use Rattle.resolvo.proofs.AttachingLemmas.{lower-undone}
 use Rattle.resolvo.proofs.PropagatorLemmas.{propagator-gains}
 use Rattle.resolvo.proofs.JustifiedLemmas.{justified-gains, extends-gains, chosen-extends}
 use Rattle.resolvo.proofs.ClauseSearchLemmas.{asserted-free, asserted-unit, below-push, chosen-grows, chosen-undone, derived-push, false-below, grows-push, justified-grows, justified-undone}
 use Rattle.resolvo.proofs.LoadLemmas.{first-after, first-undone, loaded-learnt}
 use Rattle.resolvo.proofs.TurnLemmas.{below-asserted, forced-assumed, held-jumped, keeps-turn, none-gains, none-trans, none-undone, turn-jumped}
+use Rattle.resolvo.proofs.WatchedLemmas.{in_lists-added, in_lists-equal, in_lists-kept}
 use Rattle.resolvo.proofs.clause_search.ClauseSearch.jump_back.Goals as goal
 
 pub returns-clause-consistent : goal.returns-clause-consistent
@@ -42,7 +43,7 @@ returns-clause-consistent c =
       places = rw items (λ k d b. omega (arith, it.places k d b, long));
       count = rw items (omega (arith, it.count, long));
       kept = omega (arith, c.min-self.ensures, c.len-left.ensures, c.in_ok-force.ensures.ok.count);
-      propagator = rw items (propagator-gains longer _ _ _ _ _ _ c.in_ok-force.ensures.ok free (c.in_ok-cut.ensures longer _ (lower-undone _ _ _ c.undo_until.ensures) (propagator-longer table longer grows.longer grows.same _ _ it.propagator)));
+      propagator = rw items (propagator-gains longer _ _ _ _ _ _ c.in_ok-force.ensures.ok free (c.in_ok-cut.ensures.propagator longer _ (lower-undone _ _ _ c.undo_until.ensures) (c.in_ok-attach.ensures.propagator table c.args.learnt.literals (search rules) it.propagator)));
       queued = rw items (queued-grown c.cut-2.new.self c.force.new.self table longer c.args.self.now.requirements.items it.inside grows.same (queued-longer c.cut-2.new.self middle c.force.new.self table c.args.self.now.requirements.items (keeps_all middle c.force.new.self (keeps-gains _ _ _ _ _ c.in_ok-force.ensures.ok free)) left));
       turn = turn-jumped _ c.undo_until.new.self _ _ _ _ _ _ it.turn c.undo_until.ensures (omega (arith, c.max-back.ensures)) (keeps-gains _ _ _ _ _ c.in_ok-force.ensures.ok free) (c.min-self.ensures ∙ ap (min c.args.self.now.kept) c.len-left.ensures);
     }
@@ -78,3 +79,30 @@ returns-clause-stored c = rw c.in_ok-push.ensures.items (clause_at-last c.args.s
 
 pub force-requires-clause-free : goal.force-requires-clause-free
 force-requires-clause-free c = asserted-free _ _ _ _ _ _ c.requires.learnt.asserting (below-asserted _ _ _ c.max-back.result _ _ c.requires.learnt.asserting c.requires.above c.max-back.ensures) c.undo_until.ensures
+
+pub attach-requires-clause-below : goal.attach-requires-clause-below
+attach-requires-clause-below c = rw c.deref-2.ensures.value (false-below c.args.self.now.trail _ c.requires.learnt.falsified)
+
+pub attach-requires-clause-lists : goal.attach-requires-clause-lists
+attach-requires-clause-lists c = c.requires.consistent.propagator.lists
+
+pub invariant_of-self-in-Break-branch-2 : goal.invariant_of-self-in-Break-branch-2
+invariant_of-self-in-Break-branch-2 c = record { in_lists = in_lists-kept _ _ _ _ c.requires.consistent.propagator c.attach.ensures.kept }
+
+pub invariant_of-self-in-Break-branch-3 : goal.invariant_of-self-in-Break-branch-3
+invariant_of-self-in-Break-branch-3 c = record { in_lists = in_lists-equal _ _ _ _ c.in_err-push.ensures.items refl (in_lists-kept _ _ _ _ c.requires.consistent.propagator c.attach.ensures.kept) }
+
+pub invariant_of-self-in-Break-branch-4 : goal.invariant_of-self-in-Break-branch-4
+invariant_of-self-in-Break-branch-4 c =
+    let same : c.args.learnt.literals.items ≡ c.deref-2.result.now = search rules in
+    record { in_lists = in_lists-equal _ _ _ _ c.in_ok-push.ensures.items refl (in_lists-added _ c.args.learnt.literals _ _ _ _ same c.requires.consistent.propagator c.attach.ensures.kept c.in_ok-attach.ensures.own) }
+
+pub invariant_of-self-in-Break-branch-5 : goal.invariant_of-self-in-Break-branch-5
+invariant_of-self-in-Break-branch-5 c =
+    let same : c.args.learnt.literals.items ≡ c.deref-2.result.now = search rules in
+    record { in_lists = in_lists-equal _ _ _ _ c.in_ok-push.ensures.items c.cut.ensures.watches (in_lists-added _ c.args.learnt.literals _ _ _ _ same c.requires.consistent.propagator c.attach.ensures.kept c.in_ok-attach.ensures.own) }
+
+pub invariant_of-self-2 : goal.invariant_of-self-2
+invariant_of-self-2 c =
+    let same : c.args.learnt.literals.items ≡ c.deref-2.result.now = search rules in
+    record { in_lists = in_lists-equal _ _ _ _ c.in_ok-push.ensures.items c.cut.ensures.watches (in_lists-added _ c.args.learnt.literals _ _ _ _ same c.requires.consistent.propagator c.attach.ensures.kept c.in_ok-attach.ensures.own) }

@@ -3,6 +3,7 @@ use Rattle.std.proofs.Common.{arith, sym}
 use Rattle.resolver_clause_store.proofs.TrailLemmas.{value-none}
 use Rattle.resolvo.proofs.JustifiedLemmas.{justified-gains, justified-same}
 use Rattle.resolvo.proofs.VisitLemmas.{below-contains, forces, own-other}
+use Rattle.resolvo.proofs.WatchedLemmas.{owned-of, refused-any}
 use Rattle.resolvo.proofs.propagator.Propagator.force_other.Goals as goal
 
 pub value-requires : goal.value-requires
@@ -37,3 +38,6 @@ returns-in_ok-look-in-None-clause-look c = grind (arith, common_steps)
 
 pub returns-in_ok-look-in-None-clause-open : goal.returns-in_ok-look-in-None-clause-open
 returns-in_ok-look-in-None-clause-open c = grind (arith, common_steps)
+
+pub returns-in_err-force-in-None-clause-refused : goal.returns-in_err-force-in-None-clause-refused
+returns-in_err-force-in-None-clause-refused c = refused-any _ _ (owned-of _ _ _ c.requires.visiting.propagator)

@@ -1,7 +1,7 @@
 use Rattle.resolvo.proofs.AttachingLemmas.{propagator-forgot}
 use Rattle.resolvo.proofs.propagator.Propagator.forget.Goals as goal
 
-pub returns : goal.returns
-returns c = λ table before count within cut it.
+pub returns-clause-propagator : goal.returns-clause-propagator
+returns-clause-propagator c = λ table before count within cut it.
     let recalled = rw c.len.ensures at c.in_ok-recall.ensures.recalled in
-    rw c.in_ok-recall.ensures.watches (propagator-forgot table before c.args.trail.now count c.args.self.now _ _ recalled within cut it)
+    rw c.recall.ensures.watches (propagator-forgot table before c.args.trail.now count c.args.self.now _ _ recalled within cut it)

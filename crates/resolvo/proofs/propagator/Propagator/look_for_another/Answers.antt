@@ -1,6 +1,7 @@
 use Rattle.std.proofs.Common.{arith}
 use Rattle.std.proofs.lemmas.Grind.{common_steps}
 use Rattle.resolvo.proofs.VisitLemmas.{moves-stands, own-other, stands-own}
+use Rattle.resolvo.proofs.WatchedLemmas.{owned-of, owned-same, refused-any}
 use Rattle.resolvo.proofs.propagator.Propagator.look_for_another.Goals as goal
 
 pub returns-in_ok-move_watch-in-Some-clause-look :
@@ -32,3 +33,6 @@ returns-in_ok-move_watch-in-Some-clause-justified c = grind (arith, common_steps
 
 pub returns-in_ok-move_watch-in-Some-clause-open : goal.returns-in_ok-move_watch-in-Some-clause-open
 returns-in_ok-move_watch-in-Some-clause-open c = grind (arith, common_steps)
+
+pub returns-in_err-move_watch-in-Some-clause-refused : goal.returns-in_err-move_watch-in-Some-clause-refused
+returns-in_err-move_watch-in-Some-clause-refused c = refused-any _ _ (owned-same _ _ _ c.in_err-move_watch-in-Some.ensures.kept (owned-of _ _ _ c.requires.visiting.propagator))

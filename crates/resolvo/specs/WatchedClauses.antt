@@ -1,0 +1,34 @@
+-- Each clause that a search stores stands in the lists of the two literals that it watches.
+use Rattle.std.specs.Prelude.{◌≡◌, ℕ, ◌+◌, ◌<◌, List, length, Vec}
+use Rattle.std.specs.declared.alloc.Global.{Global}
+use Rattle.resolver_clause_store.specs.declared.Literal.{Literal}
+use Rattle.resolver_clause_store.specs.declared.WatchedPair.{WatchedPair}
+use Rattle.resolver_clause_store.specs.declared.Watches.{Watches}
+use Rattle.resolver_clause_store.specs.Formula.{clause_at}
+use Rattle.resolver_clause_store.specs.Watches.{entry_count, list_number, pair_at, same, watched_pair}
+use Rattle.resolver_clause_store.specs.WatchesView.{lists_of, pairs_of}
+use Rattle.resolvo.specs.Attaching.{AreApart}
+
+-- the pair has two different literals of the clause
+pub record IsOwnPair (clause : List Literal) (pair : WatchedPair) : Type 0 where
+  pub first : Literal
+  pub second : Literal
+  pub is : pair ≡ watched_pair first second
+  pub apart : AreApart clause first second
+
+-- where the clause has two different literals, the pair has two of them
+abbrev pub OwnsPair : List Literal → WatchedPair → Type 0
+OwnsPair clause pair = (one other : Literal) → AreApart clause one other → IsOwnPair clause pair
+
+-- so it is for each clause of the table
+abbrev pub AreOwned : List (Vec Literal Global) → List WatchedPair → Type 0
+AreOwned table pairs = (number : ℕ) → number < length table → OwnsPair (clause_at table number) (pair_at pairs number)
+
+-- The clause watches two different literals of its own. It stands in their lists, once in each, and in no other list.
+pub record StandsInTwo (clause : List Literal) (watches : Watches) (number : ℕ) : Type 0 where
+  pub pair : IsOwnPair clause (pair_at (pairs_of watches) number)
+  pub once : (list : ℕ) → entry_count (lists_of watches) list number ≡ same (list_number pair.first) list + same (list_number pair.second) list
+
+-- each clause of the table that has two different literals does so
+abbrev pub AreInLists : List (Vec Literal Global) → Watches → Type 0
+AreInLists table watches = (number : ℕ) → number < length table → (one other : Literal) → AreApart (clause_at table number) one other → StandsInTwo (clause_at table number) watches number
