@@ -11,6 +11,7 @@ pub mod ShapeLemmas
 pub mod AlikeLemmas
 pub mod OrderedLemmas
 pub mod KeyLemmas
+pub mod ItemLemmas
 pub mod EdgePlaceLemmas
 pub mod SimplifyLemmas
 pub mod PlaceLemmas

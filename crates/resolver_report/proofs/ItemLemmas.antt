@@ -1,0 +1,28 @@
+-- The items of a run of an iterator that went on to its end.
+use Rattle.std.proofs.Common.{◌≡◌, ◌∙◌, List, Option, length, map-id, refl, subst, sym, true}
+use Rattle.std.specs.Prelude.{IsPermutation}
+use Rattle.std.specs.Iterator.Runs.{Run}
+use Rattle.std.specs.List.Sorted.{IsSorted}
+use Rattle.std.specs.Vec.Iter.{into_iter_items, into_iter_len, into_iter_steps}
+use Rattle.std.specs.declared.cmp.Ordering.{Ordering}
+use Rattle.std.specs.declared.vec.IntoIter.{IntoIter}
+use Rattle.std.proofs.lemmas.Iterator.{YieldsList}
+use Rattle.std.proofs.lemmas.Iterator.Adapters.{YieldsList-from_vec}
+use Rattle.itertools.proofs.AdaptorLemmas.{items_from_whole_run}
+use Rattle.resolver_report.specs.declared.parts.Side.{Side}
+use Rattle.resolver_report.specs.Keys.{IsInOrder}
+
+-- they are the list that the iterator yields
+pub items_of_run : {S A : Type 0} {steps : S → Option A → S → Type 0} {s : S} (p : Run steps) → p.from ≡ s → p.whole ≡ true → {all : List A} → YieldsList steps (λ x. x) s all → p.items ≡ all
+items_of_run p at whole road = sym (map-id p.items) ∙ items_from_whole_run road p at whole
+
+-- those of a vector
+pub items_of_vec : {X Z : Type 0} {s : IntoIter X Z} → into_iter_len s ≡ length (into_iter_items s) → (p : Run (into_iter_steps {X = X} {Z = Z})) → p.from ≡ s → p.whole ≡ true → p.items ≡ into_iter_items s
+items_of_vec {s = s} len p at whole = items_of_run p at whole (YieldsList-from_vec {s = s} (into_iter_items s) refl len)
+
+-- sides that were sorted and then collected stand in order
+pub sides_in_order : (cmp : Side → Side → Ordering) (given sorted sides collected : List Side) → given ≡ sides → collected ≡ sorted → IsPermutation given sorted → IsSorted cmp sorted → IsInOrder cmp sides collected
+sides_in_order cmp given sorted sides collected same kept moved up = record {
+  permutes = subst (λ xs. IsPermutation xs collected) same (subst (λ xs. IsPermutation given xs) (sym kept) moved);
+  sorted = subst (λ xs. IsSorted cmp xs) (sym kept) up;
+}
