@@ -12,6 +12,7 @@ pub mod AlikeLemmas
 pub mod OrderedLemmas
 pub mod KeyLemmas
 pub mod ItemLemmas
+pub mod OnceLemmas
 pub mod EdgePlaceLemmas
 pub mod SimplifyLemmas
 pub mod PlaceLemmas
