@@ -11,4 +11,4 @@ returns-clause-versions c =
     let sorted = c.in_ok-versions.ensures.sorted in
     let collected = c.in_ok-collect_vec.ensures.runs in
     let given : sorted.0.items ≡ map (version_at c.args.self.now.packages.versions.keys) c.args.solvables.now = search rules in
-    collected.3 ∙ items_of_vec c.in_ok-versions.ensures.len collected.0 collected.1 collected.2 ∙ sorted_by-numbers _ _ sorted.3.0 sorted.3.1 ∙ ap (sorted_by nat_cmp) given
+    collected.3 ∙ items_of_vec collected.0 collected.1 collected.2 ∙ sorted_by-numbers _ _ sorted.3.0 sorted.3.1 ∙ ap (sorted_by nat_cmp) given
