@@ -6,3 +6,4 @@ pub mod NumberLemmas
 pub mod ConditionLemmas
 pub mod WordLemmas
 pub mod TableLemmas
+pub mod VersionLemmas

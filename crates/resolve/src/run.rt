@@ -13,6 +13,7 @@ ghost use Rattle.resolve.specs.declared.request.Request.{Request};
 use crate::catalog::Catalog;
 use crate::ids::{NameId, SolvableId};
 use crate::request::{InputError, Request, read_request};
+use itertools::Itertools;
 use resolver_clause_store::Exhausted;
 use resolvo::{Conflict, Problem, Solver, UnsolvableOrCancelled};
 use std::alloc::{AllocError, AllocFailed, Global};
@@ -272,14 +273,10 @@ fn conflict_text(
 
 /// The chosen solvables, by the bytes of the names and then by version.
 fn answer_text(alloc: Global, catalog: &Catalog, chosen: &[SolvableId]) -> Result<String, Fault> {
-    let mut labels = Vec::new(alloc);
-    for solvable in chosen {
-        labels.push(catalog.label(*solvable))?;
-    }
-    labels.sort_unstable();
+    let labels = chosen.iter().map(|solvable| catalog.label(*solvable));
     let mut text = String::new(alloc);
-    for (name, version) in &labels {
-        write_label(&mut text, name, *version)?;
+    for (name, version) in labels.sorted_unstable(alloc)? {
+        write_label(&mut text, name, version)?;
     }
     Ok(text)
 }

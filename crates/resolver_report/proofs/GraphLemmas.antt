@@ -1,9 +1,10 @@
 -- What a loop over rules adds, and first mentions.
-use Rattle.std.proofs.Common.{◌≡◌, ◌≢◌, ℕ, suc, ◌+◌, ◌<◌, Bool, true, false, cond, not, ◌||◌, List, [], ◌∷◌, ◌++◌, length, reverse, refl, sym, ◌∙◌, ap, arith, append_assoc, get_or, take, rules, All}
+use Rattle.std.proofs.Common.{◌≡◌, ◌≢◌, ℕ, suc, ◌+◌, ◌<◌, Bool, true, false, cond, not, ◌||◌, List, [], ◌∷◌, ◌++◌, length, map, reverse, refl, subst, sym, ◌∙◌, ap, arith, append_assoc, rules, All, Bor}
 use Rattle.std.specs.Prelude.{filter}
 use Rattle.std.specs.List.{list_any, position_or_len}
-use Rattle.std.proofs.lemmas.List.{reverse-append, append-nil, take_more}
+use Rattle.std.proofs.lemmas.List.{reverse-append, append-nil, map-append}
 use Rattle.std.proofs.lemmas.Bool.{true≢false, false≢true}
+use Rattle.itertools.specs.Consumer.{firsts_from}
 use Rattle.resolver_clause_store.specs.Laws.{IsIdentity}
 use Rattle.resolver_clause_store.specs.Lists.{without_repeats, HasNoRepeats}
 use Rattle.std.proofs.lemmas.List.Elements.{All-weaker, filter_passes}
@@ -108,14 +109,34 @@ module _ {X : Type 0} (same : X → X → Bool) (identity : IsIdentity same) whe
       (All-weaker (λ y. not (same y x) ≡ true) (λ y. x ≢ y) (λ y p e. apart_of x y e p) (others x (without_repeats same xs)) passed)
       (AllPairs-filter ◌≢◌ (λ y. not (same y x)) (without_repeats same xs) (without_repeats_once xs))
 
-  take_next : (xs : List X) (i : ℕ) (x : X) → i < length xs → x ≡ get_or xs i x → take (i + 1) xs ≡ take i xs ++ x ∷ []
-  take_next xs i x h e = take_more xs i x h ∙ ap (λ z. take i xs ++ z ∷ []) (sym e)
+  -- What equals nothing before it, where an iterator lends the elements and tests them by eq.
+  module _ {eq : Bor X → Bor X → Bool} (agree : (a b : Bor X) → eq a b ≡ same a.now b.now) where
+    abbrev read : List (Bor X) → List X
+    read rs = map (λ r. r.now) rs
 
-  more_first : (xs found : List X) (i : ℕ) (x : X) → i < length xs → x ≡ get_or xs i x → found ≡ without_repeats same (take i xs) → without_repeats same (take (i + 1) xs) ≡ unless_had (has found x) found x
-  more_first xs found i x h e are = rw (take_next xs i x h e, are) (without_repeats-push (take i xs) x)
+    any_read : (x : Bor X) (ys : List (Bor X)) → list_any (λ y. eq y x) ys ≡ has (read ys) x.now
+    any_read x [] = refl
+    any_read x (y ∷ ys) = λ i. agree y x i || any_read x ys i
 
-  pub next_first : (xs found : List X) (i : ℕ) (x : X) → i < length xs → x ≡ get_or xs i x → found ≡ without_repeats same (take i xs) → unless_had (has found x) found x ≡ without_repeats same (take (i + 1) xs)
-  next_first xs found i x h e are = sym (more_first xs found i x h e are)
+    next_first : (b : Bool) (found : List X) (x : Bor X) (later : List (Bor X)) → found ++ read (cond b [] (x ∷ []) ++ later) ≡ unless_had b found x.now ++ read later
+    next_first true found x later = refl
+    next_first false found x later = sym (append_assoc found (x.now ∷ []) (read later))
+
+    firsts_after : (earlier rest : List (Bor X)) → without_repeats same (read earlier) ++ read (firsts_from eq earlier rest) ≡ without_repeats same (read (earlier ++ rest))
+    firsts_after earlier [] = append-nil (without_repeats same (read earlier)) ∙ ap (λ rs. without_repeats same (read rs)) (sym (append-nil earlier))
+    firsts_after earlier (x ∷ rest) =
+        let found : List X = without_repeats same (read earlier) in
+        let later : List (Bor X) = firsts_from eq (earlier ++ x ∷ []) rest in
+        let told : list_any (λ y. eq y x) earlier ≡ has found x.now = any_read x earlier ∙ sym (has-without_repeats (read earlier) x.now) in
+        let pushed : unless_had (has found x.now) found x.now ≡ without_repeats same (read (earlier ++ x ∷ [])) = sym (without_repeats-push (read earlier) x.now) ∙ ap (without_repeats same) (sym (map-append (λ r. r.now) earlier (x ∷ []))) in
+        next_first (list_any (λ y. eq y x) earlier) found x later ∙ ap (λ b. unless_had b found x.now ++ read later) told ∙ ap (λ xs. xs ++ read later) pushed
+        ∙ firsts_after (earlier ++ x ∷ []) rest ∙ ap (λ rs. without_repeats same (read rs)) (append_assoc earlier (x ∷ []) rest)
+
+    pub firsts_without_repeats : (rs : List (Bor X)) → read (firsts_from eq [] rs) ≡ without_repeats same (read rs)
+    firsts_without_repeats rs = firsts_after [] rs
+
+    pub clones_equal : (a b : Bor X) → b ≡ a → eq a b ≡ true
+    clones_equal a b e = agree a b ∙ subst (λ r. same a.now r.now ≡ true) (sym e) (identity.itself a.now)
 
 pub same_node_is_identity : {S : Type 0} (same : S → S → Bool) → IsIdentity same → IsIdentity (same_node same)
 same_node_is_identity {S} same identity = record { alone = alone; itself = itself }

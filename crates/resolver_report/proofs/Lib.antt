@@ -11,6 +11,8 @@ pub mod ShapeLemmas
 pub mod AlikeLemmas
 pub mod OrderedLemmas
 pub mod KeyLemmas
+pub mod ItemLemmas
+pub mod OnceLemmas
 pub mod EdgePlaceLemmas
 pub mod SimplifyLemmas
 pub mod PlaceLemmas

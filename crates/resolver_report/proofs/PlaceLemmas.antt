@@ -1,5 +1,5 @@
 -- A map of places, one node earlier.
-use Rattle.std.proofs.Common.{◌≡◌, ℕ, ◌+◌, ◌-◌, ◌<◌, ◌≤◌, Bool, true, false, cond, not, ◌||◌, List, [], ◌∷◌, ◌++◌, length, sym, ◌∙◌, ap, arith, get_or, take, append_assoc}
+use Rattle.std.proofs.Common.{◌≡◌, ℕ, ◌+◌, ◌-◌, ◌<◌, ◌≤◌, Bool, true, false, cond, not, List, [], ◌∷◌, ◌++◌, length, sym, ◌∙◌, ap, arith, get_or, take, append_assoc}
 use Rattle.std.specs.Prelude.{Option, Some}
 use Rattle.std.specs.Option.{unwrap_or}
 use Rattle.std.specs.HashMap.{get, get_by}
@@ -8,10 +8,7 @@ use Rattle.std.proofs.lemmas.List.{append-nil, take_more, length-take, take_all}
 use Rattle.resolver_report.specs.declared.parts.ConflictNode.{ConflictNode}
 use Rattle.resolver_report.specs.Same.{same_node}
 use Rattle.resolver_report.specs.Graphs.{place_in}
-use Rattle.std.specs.HashSet.{contains, contains_by}
-use Rattle.std.specs.List.{list_any}
-use Rattle.std.proofs.lemmas.List.Folds.{list_any-append}
-use Rattle.resolver_report.specs.Places.{Places, HasPlaces, HasPlacesFrom, Seen, HasSeen, is_there}
+use Rattle.resolver_report.specs.Places.{Places, HasPlaces, HasPlacesFrom}
 
 -- tests that agree find the same
 pub found_alike : {X : Type 0} (test other : X → Bool) (entries : List (X × ℕ)) → ((x : X) → test x ≡ other x) → lookup test entries ≡ lookup other entries
@@ -63,30 +60,3 @@ module _ {S : Type 0} (same : S → S → Bool) (nodes : List (ConflictNode S)) 
 
       places : (n : ConflictNode S) → unwrap_or (get (same_node same) new n) (length nodes) ≡ length (take (length first - 1) first) + place_in same (node ∷ h.rest) n
       places n = ap (λ o. unwrap_or o (length nodes)) (read n) ∙ by_test (same_node same node n) (get (same_node same) old n) (place_in same h.rest n) (h.places n)
-
-one_more : (a b : Bool) → cond b true a ≡ (a || (b || false))
-one_more true true = λ i. true
-one_more true false = λ i. true
-one_more false true = λ i. true
-one_more false false = λ i. false
-
-module _ {S : Type 0} (same : S → S → Bool) (found : List (ConflictNode S)) where
-  -- tests that agree tell the same of a set
-  seen_alike : (test other : ConflictNode S → Bool) (s : Seen S) → ((x : ConflictNode S) → test x ≡ other x) → contains_by test s ≡ contains_by other s
-  seen_alike test other s agree = ap (λ t. contains_by t s) (λ i x. agree x i)
-
-  pub seen_there : (s : Seen S) (n : ConflictNode S) (test : ConflictNode S → Bool) (b : Bool) → b ≡ contains_by test s → ((x : ConflictNode S) → test x ≡ same_node same n x) → HasSeen same found s → is_there same found n ≡ b
-  seen_there s n test b e agree h = sym (e ∙ seen_alike test (same_node same n) s agree ∙ h n)
-
-  pub seen_none : (s : Seen S) → s.keys ≡ [] → found ≡ [] → HasSeen same found s
-  seen_none s empty none = λ n. ap (λ ks. list_any (same_node same n) ks) empty ∙ sym (ap (λ xs. is_there same xs n) none)
-
-  pub seen_next : (node : ConflictNode S) (eq : ConflictNode S → ConflictNode S → Bool) (old new : Seen S) → ((n : ConflictNode S) → contains eq new n ≡ cond (eq node n) true (contains eq old n))
-      → ((x y : ConflictNode S) → eq x y ≡ same_node same x y) → HasSeen same found old → HasSeen same (found ++ node ∷ []) new
-  seen_next node eq old new updates agree h = next
-    where
-      next : (n : ConflictNode S) → contains (same_node same) new n ≡ is_there same (found ++ node ∷ []) n
-      next n =
-          let now : contains (same_node same) new n ≡ contains eq new n = sym (seen_alike (eq n) (same_node same n) new (agree n)) in
-          let before : contains eq old n ≡ is_there same found n = seen_alike (eq n) (same_node same n) old (agree n) ∙ h n in
-          now ∙ updates n ∙ (λ i. cond (agree node n i) true (before i)) ∙ one_more (is_there same found n) (same_node same node n) ∙ sym (list_any-append (λ m. same_node same m n) found (node ∷ []))

@@ -10,6 +10,7 @@ use crate::graph::{ConflictGraph, Graph};
 use crate::links::{all_links, all_mentions, first_of_each};
 use crate::parts::{ConflictNode, Edge, Link, NodeId};
 use crate::places::{place, places_of};
+use itertools::Itertools;
 use resolver_clause_store::{Exhausted, Rule};
 use std::alloc::Global;
 use std::collections::HashMap;
@@ -53,11 +54,8 @@ fn edges_of<S: Copy + Eq + Hash + Drop>(
     ensures memory { IfErr result (λ e. e ≡ Exhausted.Memory) }
 {
     let places = places_of(alloc, nodes)?;
-    let mut edges = Vec::new(alloc);
-    for link in links {
-        edges.push(edge_of(nodes, &places, link))?;
-    }
-    Ok(edges)
+    let edges = links.iter().map(|link| edge_of(nodes, &places, link));
+    Ok(edges.collect_vec(alloc)?)
 }
 
 /// The graph of a list of rules.

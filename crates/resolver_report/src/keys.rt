@@ -4,10 +4,11 @@ ghost use Rattle.std.specs.Prelude.{◌≡◌, ◌<◌, IfOk, IfErr, length, str
 ghost use Rattle.std.specs.Option.{option_map};
 ghost use Rattle.resolver_report.specs.Shapes.{as_solvable, required as required_by};
 ghost use Rattle.resolver_report.specs.Merging.{key_of, keys, sides_in as sides_in_by, sides_out as sides_out_by};
-ghost use Rattle.resolver_report.specs.Keys.{AreKeysOf, IsKeyOf};
+ghost use Rattle.resolver_report.specs.Keys.{AreKeysOf, IsInOrder, IsKeyOf};
 
 use crate::graph::Graph;
 use crate::parts::{ConflictEdge, ConflictNode, NodeId, Side};
+use itertools::Itertools;
 use resolver_clause_store::{Exhausted, Interner, Requirement};
 use std::alloc::Global;
 
@@ -29,36 +30,30 @@ fn required<S>(weight: &ConflictEdge<S>) -> Option<Requirement>
     }
 }
 
-/// What the edges to a node say.
+/// What the edges to a node say, in order.
 fn sides_in<S: Drop>(alloc: Global, graph: &Graph<S>, n: NodeId) -> Result<Vec<Side>, Exhausted>
     requires { n.0 < length graph.now.nodes }
-    ensures value { IfOk result (λ v. v.items ≡ sides_in_by graph.now n.0) }
+    ensures value { IfOk result (λ v. IsInOrder ⟦<Side as Ord>⟧.cmp (sides_in_by graph.now n.0) v.items) }
     ensures memory { IfErr result (λ e. e ≡ Exhausted.Memory) }
 {
-    let mut sides = Vec::new(alloc);
-    for edge in graph.incoming(n) {
-        sides.push(Side {
-            required: required(&edge.weight),
-            other: edge.source,
-        })?;
-    }
-    Ok(sides)
+    let sides = graph.incoming(n).map(|edge| Side {
+        required: required(&edge.weight),
+        other: edge.source,
+    });
+    Ok(sides.sorted(alloc)?.collect_vec(alloc)?)
 }
 
-/// What the edges from a node say.
+/// What the edges from a node say, in order.
 fn sides_out<S: Drop>(alloc: Global, graph: &Graph<S>, n: NodeId) -> Result<Vec<Side>, Exhausted>
     requires { n.0 < length graph.now.nodes }
-    ensures value { IfOk result (λ v. v.items ≡ sides_out_by graph.now n.0) }
+    ensures value { IfOk result (λ v. IsInOrder ⟦<Side as Ord>⟧.cmp (sides_out_by graph.now n.0) v.items) }
     ensures memory { IfErr result (λ e. e ≡ Exhausted.Memory) }
 {
-    let mut sides = Vec::new(alloc);
-    for edge in graph.outgoing(n) {
-        sides.push(Side {
-            required: required(&edge.weight),
-            other: edge.target,
-        })?;
-    }
-    Ok(sides)
+    let sides = graph.outgoing(n).map(|edge| Side {
+        required: required(&edge.weight),
+        other: edge.target,
+    });
+    Ok(sides.sorted(alloc)?.collect_vec(alloc)?)
 }
 
 /// The name text of a solvable's node.
@@ -96,14 +91,10 @@ fn key_at<I: Interner>(
     let Some(name) = name_at(alloc, interner, &graph.nodes()[n.0])? else {
         return Ok(None);
     };
-    let mut sides_in = sides_in(alloc, graph, n)?;
-    sides_in.sort()?;
-    let mut sides_out = sides_out(alloc, graph, n)?;
-    sides_out.sort()?;
     Ok(Some(NodeKey {
         name,
-        sides_in,
-        sides_out,
+        sides_in: sides_in(alloc, graph, n)?,
+        sides_out: sides_out(alloc, graph, n)?,
     }))
 }
 

@@ -7,13 +7,13 @@ ghost use Rattle.resolver_report.specs.Graphs.{links, mark_links, mentioned, men
 ghost use Rattle.std.specs.HashMap.{get};
 ghost use Rattle.std.specs.Option.{option_copied};
 ghost use Rattle.resolver_report.specs.LastMarks.{links_marked, marked_after};
-ghost use Rattle.resolver_report.specs.Places.{HasSeen, with_first};
 ghost use Rattle.resolver_report.specs.Same.{same_node};
 
 use crate::parts::{ConflictCause, ConflictEdge, ConflictNode, Link};
+use itertools::Itertools;
 use resolver_clause_store::{By, Exhausted, Requirement, Rule};
 use std::alloc::Global;
-use std::collections::{HashMap, HashSet};
+use std::collections::HashMap;
 use std::hash::Hash;
 
 /// The node of who asks.
@@ -244,25 +244,6 @@ pub fn all_mentions<N, S: Copy + Drop>(
     Ok(found)
 }
 
-/// Adds a node, unless it is there.
-fn add_first<S: Copy + Eq + Hash + Drop>(
-    found: &mut Vec<ConflictNode<S>>,
-    seen: &mut HashSet<ConflictNode<S>>,
-    node: &ConflictNode<S>,
-) -> Result<(), Exhausted>
-    requires { HasSeen S.eq found.old.items seen.old }
-    ensures found { OnOk result (found.new.items ≡ with_first S.eq found.old.items node.now) }
-    ensures seen { OnOk result (HasSeen S.eq found.new.items seen.new) }
-    ensures memory { IfErr result (λ e. e ≡ Exhausted.Memory) }
-{
-    if seen.contains(node) {
-        return Ok(());
-    }
-    seen.insert(*node)?;
-    found.push(*node)?;
-    Ok(())
-}
-
 /// Each node once, by its first place.
 pub fn first_of_each<S: Copy + Eq + Hash + Drop>(
     alloc: Global,
@@ -272,10 +253,6 @@ pub fn first_of_each<S: Copy + Eq + Hash + Drop>(
     ensures value { IfOk result (λ v. v.items ≡ without_repeats (same_node S.eq) nodes.now) }
     ensures memory { IfErr result (λ e. e ≡ Exhausted.Memory) }
 {
-    let mut found = Vec::new(alloc);
-    let mut seen = HashSet::new(alloc);
-    for node in nodes {
-        add_first(&mut found, &mut seen, node)?;
-    }
-    Ok(found)
+    let found = nodes.iter().unique(alloc)?;
+    Ok(found.copied().collect_vec(alloc)?)
 }

@@ -15,6 +15,7 @@ use crate::runs::outgoing;
 use crate::story::node_stories;
 use crate::texts::write_conflicts;
 use crate::tree::{Story, tell_edges, write_end};
+use itertools::Itertools;
 use resolver_clause_store::{Exhausted, Interner};
 use std::alloc::Global;
 use std::fmt;
@@ -29,13 +30,11 @@ fn edges_by_mark<S: Copy + Drop>(
     ensures value { IfOk result (λ v. v.items ≡ filter (has_mark marks.now wanted) edges.now) }
     ensures memory { IfErr result (λ e. e ≡ Exhausted.Memory) }
 {
-    let mut found = Vec::new(alloc);
-    for edge in edges {
-        if is_marked(marks, edge.target) == wanted {
-            found.push(*edge)?;
-        }
-    }
-    Ok(found)
+    let found = edges
+        .iter()
+        .copied()
+        .filter(|edge| is_marked(marks, edge.target) == wanted);
+    Ok(found.collect_vec(alloc)?)
 }
 
 /// What a message of the graph is written from.

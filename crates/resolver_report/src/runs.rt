@@ -9,6 +9,7 @@ ghost use Rattle.resolver_report.specs.Shapes.{outgoing as outgoing_in};
 
 use crate::graph::Graph;
 use crate::parts::{ConflictCause, ConflictEdge, Edge, NodeId};
+use itertools::Itertools;
 use resolver_clause_store::{Exhausted, Requirement};
 use std::alloc::Global;
 
@@ -29,11 +30,7 @@ pub fn outgoing<S: Copy + Drop>(
     ensures value { IfOk result (λ v. v.items ≡ outgoing_in graph.now.edges n.0) }
     ensures memory { IfErr result (λ e. e ≡ Exhausted.Memory) }
 {
-    let mut edges = Vec::new(alloc);
-    for edge in graph.outgoing(n) {
-        edges.push(*edge)?;
-    }
-    Ok(edges)
+    Ok(graph.outgoing(n).copied().collect_vec(alloc)?)
 }
 
 /// Whether two requirements are the same.

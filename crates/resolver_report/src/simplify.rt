@@ -10,6 +10,7 @@ use crate::classes::{class_at, classes_of};
 use crate::graph::{ConflictGraph, Graph};
 use crate::keys::keys_of;
 use crate::parts::ConflictNode;
+use itertools::Itertools;
 use resolver_clause_store::{Exhausted, Interner};
 use std::alloc::Global;
 use std::collections::HashMap;
@@ -42,13 +43,8 @@ fn solvables_at<S: Copy + Drop>(
     ensures value { IfOk result (λ v. v.items ≡ solvables_at_places graph.now nodes.now) }
     ensures memory { IfErr result (λ e. e ≡ Exhausted.Memory) }
 {
-    let mut found = Vec::new(alloc);
-    for n in nodes {
-        if let Some(solvable) = solvable_at(graph, *n) {
-            found.push(solvable)?;
-        }
-    }
-    Ok(found)
+    let found = nodes.iter().filter_map(|n| solvable_at(graph, *n));
+    Ok(found.collect_vec(alloc)?)
 }
 
 /// The group to which the solvable of a node is mapped, if it is.

@@ -15,6 +15,7 @@ use crate::marks::{is_marked, is_place, some_marked};
 use crate::parts::{ConflictNode, Edge, NodeId};
 use crate::runs::{EdgeRun, outgoing, runs_of};
 use crate::verdict::{Verdict, verdict_of};
+use itertools::Itertools;
 use resolver_clause_store::{Exhausted, Requirement};
 use std::alloc::Global;
 use std::collections::HashSet;
@@ -120,13 +121,11 @@ fn candidate_targets<S>(
     ensures value { IfOk result (λ v. v.items ≡ filter (λ n. is_candidate_in (shape_of findings.now.graph.now) (groups_in findings.now) findings.now.installable.items is_viable n.0) targets.now) }
     ensures memory { IfErr result (λ e. e ≡ Exhausted.Memory) }
 {
-    let mut found = Vec::new(alloc);
-    for n in targets {
-        if is_candidate(findings, is_viable, *n) {
-            found.push(*n)?;
-        }
-    }
-    Ok(found)
+    let found = targets
+        .iter()
+        .copied()
+        .filter(|n| is_candidate(findings, is_viable, *n));
+    Ok(found.collect_vec(alloc)?)
 }
 
 /// Whether a run is one edge to the unresolved node.

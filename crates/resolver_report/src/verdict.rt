@@ -1,12 +1,13 @@
 //! What is said of a candidate.
 
-ghost use Rattle.std.specs.Prelude.{◌≡◌, ◌++◌, ◌∷◌, IfOk, IfErr, OnOk, slice_get};
+ghost use Rattle.std.specs.Prelude.{◌≡◌, IfOk, IfErr, slice_get};
 ghost use Rattle.resolver_report.specs.Causes.{constraint as constraint_in};
 ghost use Rattle.resolver_report.specs.Messages.{constraints as constraints_in, once_each as each_once, reasons, verdict_of as verdict_by_edges};
 ghost use Rattle.resolver_report.specs.Verdicts.{verdict_view};
 
 use crate::parts::{ConflictCause, ConflictEdge, Edge, NodeId};
 use crate::runs::{has_second_instance, is_exclusion};
+use itertools::Itertools;
 use resolver_clause_store::{Exhausted, VersionSetId};
 use std::alloc::Global;
 
@@ -47,55 +48,16 @@ fn constraint<S>(weight: &ConflictEdge<S>) -> Option<VersionSetId>
     }
 }
 
-/// The version sets of the edges that constrain something.
+/// The version sets of the edges that constrain something, of equal neighbours the first alone.
 fn constraints<S: Copy + Drop>(
     alloc: Global,
     edges: &[Edge<S>],
 ) -> Result<Vec<VersionSetId>, Exhausted>
-    ensures value { IfOk result (λ v. v.items ≡ constraints_in edges.now) }
+    ensures value { IfOk result (λ v. v.items ≡ each_once (constraints_in edges.now)) }
     ensures memory { IfErr result (λ e. e ≡ Exhausted.Memory) }
 {
-    let mut found = Vec::new(alloc);
-    for edge in edges {
-        if let Some(version_set) = constraint(&edge.weight) {
-            found.push(version_set)?;
-        }
-    }
-    Ok(found)
-}
-
-/// Adds a version set, unless the next one equals it.
-fn add_unless_next(
-    found: &mut Vec<VersionSetId>,
-    version_set: VersionSetId,
-    next: &[VersionSetId],
-) -> Result<(), Exhausted>
-    ensures ok { OnOk result (found.new.items ++ each_once next.now ≡ found.old.items ++ each_once (version_set ∷ next.now)) }
-    ensures memory { IfErr result (λ e. e ≡ Exhausted.Memory) }
-{
-    let [second, ..] = next else {
-        found.push(version_set)?;
-        return Ok(());
-    };
-    if version_set.0 == second.0 {
-        return Ok(());
-    }
-    found.push(version_set)?;
-    Ok(())
-}
-
-/// Of equal neighbours the first alone.
-fn once_each(alloc: Global, version_sets: &[VersionSetId]) -> Result<Vec<VersionSetId>, Exhausted>
-    ensures value { IfOk result (λ v. v.items ≡ each_once version_sets.now) }
-    ensures memory { IfErr result (λ e. e ≡ Exhausted.Memory) }
-{
-    let mut found = Vec::new(alloc);
-    let mut rest = version_sets;
-    while let [first, next @ ..] = rest {
-        add_unless_next(&mut found, *first, next)?;
-        rest = next;
-    }
-    Ok(found)
+    let named = edges.iter().filter_map(|edge| constraint(&edge.weight));
+    Ok(named.dedup().collect_vec(alloc)?)
 }
 
 /// What the edges from a candidate, newest first, say of it.
@@ -112,8 +74,7 @@ pub fn verdict_of<S: Copy + Drop>(alloc: Global, edges: &[Edge<S>]) -> Result<Ve
     if has_second_instance(edges) {
         return Ok(Verdict::Second);
     }
-    let named = constraints(alloc, edges)?;
-    let version_sets = once_each(alloc, &named)?;
+    let version_sets = constraints(alloc, edges)?;
     let [_, ..] = version_sets.as_slice() else {
         return Ok(Verdict::Requires);
     };

@@ -5,6 +5,7 @@ ghost use Rattle.std.specs.Prelude.{◌≡◌, ◌++◌, if◌then◌else◌, If
 use super::Catalog;
 use super::texts::{range_text, versions_text};
 use crate::ids::{NameId, Range, SolvableId, VersionSet};
+use itertools::Itertools;
 use resolver_clause_store::{
     Candidates, Condition, ConditionId, Dependencies, DependencyProvider, Exhausted,
     HintDependenciesAvailable, Interner, KnownDependencies, StringId, VersionSetId,
@@ -33,12 +34,11 @@ impl Catalog {
         ensures versions { IfOk result (λ versions. versions.items ≡ rising_versions self.now.packages.versions.keys solvables.now) }
         ensures memory { IfErr result (λ e. e ≡ Exhausted.Memory) }
     {
-        let mut versions = Vec::new(self.alloc);
-        for solvable in solvables {
-            versions.push(self.packages.version(*solvable))?;
-        }
-        versions.sort_unstable();
-        Ok(versions)
+        let versions = solvables
+            .iter()
+            .map(|solvable| self.packages.version(*solvable))
+            .sorted_unstable(self.alloc)?;
+        Ok(versions.collect_vec(self.alloc)?)
     }
 
     /// The name of the first, and all versions.

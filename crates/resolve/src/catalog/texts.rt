@@ -5,6 +5,7 @@ ghost use Rattle.resolve.specs.Ranges.{range_text};
 ghost use Rattle.resolve.specs.Versions.{versions_text};
 
 use crate::ids::Range;
+use itertools::Itertools;
 use resolver_clause_store::Exhausted;
 use std::alloc::Global;
 
@@ -25,15 +26,5 @@ pub fn versions_text(alloc: Global, versions: &[u32]) -> Result<String, Exhauste
     ensures text { IfOk result (λ text. string_bytes text ≡ versions_text versions.now) }
     ensures memory { IfErr result (λ e. e ≡ Exhausted.Memory) }
 {
-    let mut text = String::new(alloc);
-    let Some((first, others)) = versions.split_first() else {
-        return Ok(text);
-    };
-    let written = format!(in alloc; "{first}")?;
-    text.push_str(written.as_str())?;
-    for version in others {
-        let more = format!(in alloc; " | {version}")?;
-        text.push_str(more.as_str())?;
-    }
-    Ok(text)
+    Ok(versions.iter().copied().join(alloc, " | ")?)
 }

@@ -1,8 +1,11 @@
-use Rattle.std.proofs.Common.{◌∙◌, arith}
+use Rattle.std.proofs.Common.{◌∙◌, rules}
+use Rattle.std.proofs.lemmas.Iterator.{YieldsList-from_map, YieldsList-from_slice}
+use Rattle.std.proofs.lemmas.Iterator.Consumers.{YieldsList-at}
 use Rattle.resolver_report.specs.Graphs.{edge_in}
-use Rattle.resolver_report.proofs.ListLemmas.{mapped_next}
+use Rattle.resolver_report.proofs.ItemLemmas.{items_of_run}
 use Rattle.resolver_report.proofs.build.edges_of.Goals as goal
 
-pub loop-link-preserved : goal.loop-link-preserved
-loop-link-preserved g c =
-    c.in_ok-push.ensures.items ∙ mapped_next (edge_in g.S.PartialEq.eq c.args.nodes.now) c.args.links.now c.loop-link.edges.items c.loop-link.link-index c.link-item.result c.edge_of.result c.loop-link.invariant (omega arith) c.link-item.is c.edge_of.ensures
+pub returns-clause-value : goal.returns-clause-value
+returns-clause-value g c =
+    let run = c.in_ok-collect_vec.ensures.runs in
+    run.3 ∙ items_of_run run.0 run.1 run.2 (YieldsList-from_map _ (edge_in g.S.PartialEq.eq c.args.nodes.now) (YieldsList-at c.map-edges.ensures.source (YieldsList-from_slice c.args.links.now (search rules))) c.map-edges.ensures.closure (λ x r q k. search rules))

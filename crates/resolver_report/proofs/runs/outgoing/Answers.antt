@@ -1,18 +1,11 @@
-use Rattle.std.proofs.Common.{arith}
-use Rattle.std.proofs.lemmas.Grind.{common_steps}
+use Rattle.std.proofs.Common.{◌∙◌}
+use Rattle.std.specs.Iterator.{YieldsFirstRef}
+use Rattle.std.proofs.lemmas.Iterator.Consumers.{YieldsList-at, YieldsList-from_copied, YieldsList-from_first}
+use Rattle.resolver_report.specs.Edges.{outgoing_left}
+use Rattle.resolver_report.proofs.ItemLemmas.{items_of_run}
 use Rattle.resolver_report.proofs.runs.outgoing.Goals as goal
 
-pub loop-edge-preserved : goal.loop-edge-preserved
-loop-edge-preserved g c = grind (arith, common_steps)
-
-pub returns-clause-memory : goal.returns-clause-memory
-returns-clause-memory g c = grind (arith, common_steps)
-
 pub returns-clause-value : goal.returns-clause-value
-returns-clause-value g c = grind (arith, common_steps)
-
-pub returns-in_err-push-clause-memory : goal.returns-in_err-push-clause-memory
-returns-in_err-push-clause-memory g c = grind (arith, common_steps)
-
-pub returns-in_err-push-clause-value : goal.returns-in_err-push-clause-value
-returns-in_err-push-clause-value g c = grind (arith, common_steps)
+returns-clause-value g c =
+    let run = c.in_ok-collect_vec.ensures.runs in
+    run.3 ∙ items_of_run run.0 run.1 run.2 (YieldsList-from_copied {steps = YieldsFirstRef outgoing_left} (YieldsList-at c.copied.ensures.source (YieldsList-from_first (λ e. e.now) outgoing_left _ c.outgoing.ensures)))

@@ -1,6 +1,6 @@
-use Rattle.std.proofs.Common.{◌≡◌, arith, ap, ◌∙◌, nat_cmp}
+use Rattle.std.proofs.Common.{◌≡◌, rules, ap, ◌∙◌, nat_cmp}
 use Rattle.std.specs.Prelude.{map}
-use Rattle.std.proofs.lemmas.Grind.{common_steps}
+use Rattle.resolver_report.proofs.ItemLemmas.{items_of_vec}
 use Rattle.resolve.specs.Packages.{version_at}
 use Rattle.resolve.specs.Sorting.{sorted_by}
 use Rattle.resolve.specs.SortingLemmas.{sorted_by-numbers}
@@ -8,5 +8,7 @@ use Rattle.resolve.proofs.catalog.Catalog.rising_versions.Goals as goal
 
 pub returns-clause-versions : goal.returns-clause-versions
 returns-clause-versions c =
-    let all : c.loop-solvable.versions.items ≡ map (version_at c.args.self.now.packages.versions.keys) c.args.solvables.now = grind (arith, common_steps, c.loop-solvable.invariant) in
-    sorted_by-numbers _ _ c.sort_unstable.ensures.permutation c.sort_unstable.ensures.sorted ∙ ap (sorted_by nat_cmp) all
+    let sorted = c.in_ok-versions.ensures.sorted in
+    let collected = c.in_ok-collect_vec.ensures.runs in
+    let given : sorted.0.items ≡ map (version_at c.args.self.now.packages.versions.keys) c.args.solvables.now = search rules in
+    collected.3 ∙ items_of_vec collected.0 collected.1 collected.2 ∙ sorted_by-numbers _ _ sorted.3.0 sorted.3.1 ∙ ap (sorted_by nat_cmp) given
