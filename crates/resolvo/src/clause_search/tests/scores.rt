@@ -55,15 +55,12 @@ impl Given {
         }
     }
 
-    /// A literal of a new variable, which stands for a solvable of this package, if one.
-    fn add_variable(&mut self, owner: Option<usize>) -> Result<Literal, AllocError> {
-        let variable = Variable::new(self.next);
+    /// The number of a new variable, which stands for a solvable of this package, if one.
+    fn add_variable(&mut self, owner: Option<usize>) -> Result<u32, AllocError> {
+        let number = self.next;
         self.owners.push(owner)?;
-        self.next = self.next.wrapping_add(1);
-        Ok(Literal {
-            variable,
-            positive: true,
-        })
+        self.next = number.wrapping_add(1);
+        Ok(number)
     }
 
     fn add_clause(&mut self, literals: &[Literal], last: Literal) -> Result<(), AllocError> {
@@ -83,25 +80,21 @@ impl Given {
     }
 
     /// Adds a requirement of a requirer for one of so many candidates of a package.
-    fn require(
-        &mut self,
-        requirer: Literal,
-        package: usize,
-        count: usize,
-    ) -> Result<(), AllocError> {
-        let mut clause = vec![in self.alloc; negated(requirer)]?;
+    fn require(&mut self, requirer: u32, package: usize, count: usize) -> Result<(), AllocError> {
+        let mut clause = vec![in self.alloc; is_false(requirer)]?;
         for _ in 0..count {
-            clause.push(self.add_variable(Some(package))?)?;
+            clause.push(is_true(self.add_variable(Some(package))?))?;
         }
         self.add_requirement(clause, false)?;
         Ok(())
     }
 
     /// Adds a requirement of the root, of which a candidate of a package is tried first. Answers that candidate.
-    fn require_one(&mut self, package: usize) -> Result<Literal, AllocError> {
+    fn require_one(&mut self, package: usize) -> Result<u32, AllocError> {
         let tried = self.add_variable(Some(package))?;
         let left = self.add_variable(None)?;
-        let clause = vec![in self.alloc; tried, left]?;
+        let mut clause = vec![in self.alloc; is_true(tried)]?;
+        clause.push(is_true(left))?;
         self.add_requirement(clause, true)?;
         Ok(tried)
     }
@@ -111,11 +104,11 @@ impl Given {
     fn add_clash(&mut self, packages: &[usize]) -> Result<(), AllocError> {
         let mut tried = Vec::new(self.alloc);
         for package in packages {
-            tried.push(negated(self.require_one(*package)?))?;
+            tried.push(is_false(self.require_one(*package)?))?;
         }
         let both = self.add_variable(None)?;
-        self.add_clause(&tried, both)?;
-        self.add_clause(&tried, negated(both))?;
+        self.add_clause(&tried, is_true(both))?;
+        self.add_clause(&tried, is_false(both))?;
         Ok(())
     }
 
@@ -128,10 +121,17 @@ impl Given {
     }
 }
 
-fn negated(literal: Literal) -> Literal {
+fn is_true(number: u32) -> Literal {
     Literal {
-        variable: literal.variable,
-        positive: !literal.positive,
+        variable: Variable::new(number),
+        positive: true,
+    }
+}
+
+fn is_false(number: u32) -> Literal {
+    Literal {
+        variable: Variable::new(number),
+        positive: false,
     }
 }
 
@@ -140,7 +140,7 @@ fn negated(literal: Literal) -> Literal {
 fn given_for(alloc: Global, learnt: &[Learnt<'_>]) -> Result<Given, AllocError> {
     let mut given = Given::new(alloc);
     let requirer = given.add_variable(None)?;
-    given.add_clause(&[], requirer)?;
+    given.add_clause(&[], is_true(requirer))?;
     given.require(requirer, WIDE, 3)?;
     given.require(requirer, NARROW, 2)?;
     for clauses in learnt {
