@@ -150,26 +150,30 @@ fn rules_that_repeat_or_are_needless_are_left_out(rt: HostRuntime) -> Result<(),
     Ok(())
 }
 
+/// Rules of each kind but a mark, of which the last is needless.
+const CONDITIONAL: [Stated<'static>; 6] = [
+    Stated::Requires(By::Root, &[21, 22], &[]),
+    Stated::Requires(By::Root, &[31], &[]),
+    Stated::Lock(41),
+    Stated::Requires(By::Root, &[41], &[&[31, 32], &[22]]),
+    Stated::Constrains(By::Solvable(31), 21),
+    Stated::Constrains(By::Root, 51),
+];
+
+/// Marks of one package, of which two are needed.
+const MARKED: [Stated<'static>; 6] = [
+    Stated::OnePerPackage(1, 11),
+    Stated::OnePerPackage(2, 12),
+    Stated::Requires(By::Root, &[11], &[]),
+    Stated::OnePerPackage(1, 12),
+    Stated::Requires(By::Solvable(11), &[12], &[]),
+    Stated::OnePerPackage(1, 13),
+];
+
 #[test]
 fn each_kind_of_rule_can_be_needed(rt: HostRuntime) -> Result<(), Fail> {
-    let conditional = [
-        Stated::Requires(By::Root, &[21, 22], &[]),
-        Stated::Requires(By::Root, &[31], &[]),
-        Stated::Lock(41),
-        Stated::Requires(By::Root, &[41], &[&[31, 32], &[22]]),
-        Stated::Constrains(By::Solvable(31), 21),
-        Stated::Constrains(By::Root, 51),
-    ];
-    let marked = [
-        Stated::OnePerPackage(1, 11),
-        Stated::OnePerPackage(2, 12),
-        Stated::Requires(By::Root, &[11], &[]),
-        Stated::OnePerPackage(1, 12),
-        Stated::Requires(By::Solvable(11), &[12], &[]),
-        Stated::OnePerPackage(1, 13),
-    ];
-    assert!(rt; leaves(rt.alloc(), &conditional, &[0, 1, 2, 3, 4])?);
-    assert!(rt; leaves(rt.alloc(), &marked, &[0, 2, 3, 4])?);
+    assert!(rt; leaves(rt.alloc(), &CONDITIONAL, &[0, 1, 2, 3, 4])?);
+    assert!(rt; leaves(rt.alloc(), &MARKED, &[0, 2, 3, 4])?);
     Ok(())
 }
 
