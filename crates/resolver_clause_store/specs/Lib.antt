@@ -24,6 +24,6 @@ pub mod WatchesView
 pub mod Decisions
 pub mod Queues
 pub mod Scores
+pub mod Statements
 pub mod Rules
 pub mod TrueRules
-pub mod SameRules

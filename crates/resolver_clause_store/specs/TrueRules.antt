@@ -1,17 +1,15 @@
--- Which rules are true of a provider and a problem.
-use Rattle.std.specs.Prelude.{◌≡◌, ◌≢◌, ◌⊎◌, List, [], Option, Some, None, Contains, Vec}
-use Rattle.std.proofs.Common.{Global}
+-- Which statements and rules are true of a provider and a problem.
+use Rattle.std.specs.Prelude.{◌≡◌, ◌≢◌, ◌⊎◌, List, [], Option, Some, None, Contains}
 use Rattle.resolver_clause_store.specs.Universe.{Universe, Demands, unknown}
 use Rattle.resolver_clause_store.specs.Candidates.{others, requirement_candidates}
 use Rattle.resolver_clause_store.specs.Conditions.{ConditionHolds}
 use Rattle.resolver_clause_store.specs.Valid.{demands_of}
 use Rattle.resolver_clause_store.specs.declared.ids.ConditionId.{ConditionId}
 use Rattle.resolver_clause_store.specs.declared.data.ConditionalRequirement.{ConditionalRequirement}
-use Rattle.resolver_clause_store.specs.Rules.{AllMeet}
+use Rattle.resolver_clause_store.specs.Statements.{Statement, requires, constrains, lock, excluded, one_per_package, statement_of, AllMeet}
 use Rattle.resolver_clause_store.specs.declared.data.By.{By}
 use Rattle.resolver_clause_store.specs.declared.data.By.TheVariants.{Root, Solvable}
 use Rattle.resolver_clause_store.specs.declared.rules.Rule.{Rule}
-use Rattle.resolver_clause_store.specs.declared.rules.Rule.TheVariants.{Requires, Constrains, Lock, Excluded, OnePerPackage}
 
 -- what the root or a solvable asks for
 abbrev pub demands_by : {N S : Type 0} → Universe N S → Demands → By S → Demands
@@ -19,15 +17,19 @@ demands_by u root Root = root
 demands_by u root (Solvable s) = demands_of (u.needs s)
 
 -- in each set that meets the lists the condition holds; without a condition there are none
-abbrev pub Implies : {N S : Type 0} → Universe N S → List (Vec S Global) → Option ConditionId → Type 0
+abbrev pub Implies : {N S : Type 0} → Universe N S → List (List S) → Option ConditionId → Type 0
 Implies u when None = when ≡ []
 Implies {N} {S} u when (Some c) = (set : List S) → AllMeet set when → ConditionHolds u (Contains set) c
 
+-- the statement says what the provider and the problem say
+abbrev pub IsTrueStatement : {N S : Type 0} → Universe N S → Demands → Statement N S → Type 0
+IsTrueStatement u root (requires by requirement candidates when) =
+    (r : ConditionalRequirement) × Contains (demands_by u root by).requirements r × (r.requirement ≡ requirement) × (candidates ≡ requirement_candidates u requirement) × Implies u when r.condition
+IsTrueStatement u root (constrains by version_set candidate) = Contains (demands_by u root by).constraints version_set × Contains (others u version_set) candidate
+IsTrueStatement u root (lock locked forbidden) = ((u.package_named (u.name forbidden)).locked ≡ Some locked) × Contains (u.package_named (u.name forbidden)).listed forbidden × (forbidden ≢ locked)
+IsTrueStatement u root (excluded solvable reason) = Contains (u.package_named (u.name solvable)).excluded (solvable, reason) ⊎ (u.needs solvable ≡ unknown reason)
+IsTrueStatement u root (one_per_package name instance) = u.name instance ≡ name
+
 -- the rule says what the provider and the problem say
 abbrev pub IsTrueRule : {N S : Type 0} → Universe N S → Demands → Rule N S → Type 0
-IsTrueRule u root (Requires by requirement candidates when) =
-    (r : ConditionalRequirement) × Contains (demands_by u root by).requirements r × (r.requirement ≡ requirement) × (candidates.items ≡ requirement_candidates u requirement) × Implies u when.items r.condition
-IsTrueRule u root (Constrains by version_set candidate) = Contains (demands_by u root by).constraints version_set × Contains (others u version_set) candidate
-IsTrueRule u root (Lock locked forbidden) = ((u.package_named (u.name forbidden)).locked ≡ Some locked) × Contains (u.package_named (u.name forbidden)).listed forbidden × (forbidden ≢ locked)
-IsTrueRule u root (Excluded solvable reason) = Contains (u.package_named (u.name solvable)).excluded (solvable, reason) ⊎ (u.needs solvable ≡ unknown reason)
-IsTrueRule u root (OnePerPackage name instance) = u.name instance ≡ name
+IsTrueRule u root rule = IsTrueStatement u root (statement_of rule)

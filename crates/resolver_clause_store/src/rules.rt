@@ -1,7 +1,7 @@
 //! What a conflict says of sets of solvables.
 
 ghost use Rattle.std.specs.Prelude.{◌≡◌, IfErr, IfOk};
-ghost use Rattle.resolver_clause_store.specs.SameRules.{StatesTheSame, lists_of};
+ghost use Rattle.resolver_clause_store.specs.Statements.{StatesTheSame, lists_of};
 
 use crate::data::{By, Exhausted, Requirement};
 use crate::ids::{StringId, VersionSetId};

@@ -12,14 +12,13 @@ use Rattle.resolver_clause_store.specs.Valid.{demands_of}
 use Rattle.resolver_clause_store.specs.declared.ConditionId.{ConditionId}
 use Rattle.resolver_clause_store.specs.declared.Rule.{Rule}
 use Rattle.resolver_clause_store.specs.declared.Rule.TheVariants.{Requires as RuleRequires, Constrains as RuleConstrains, Lock as RuleLock, Excluded as RuleExcluded, OnePerPackage}
-use Rattle.resolver_clause_store.specs.Rules as report
-use Rattle.resolver_clause_store.specs.TrueRules as true_rules
-use Rattle.resolver_clause_store.specs.TrueRules.{IsTrueRule}
+use Rattle.resolver_clause_store.specs.Statements.{Statement, AllMeet, statement_of}
+use Rattle.resolver_clause_store.specs.Rules.{IsRefuted}
+use Rattle.resolver_clause_store.specs.TrueRules.{IsTrueRule, Implies, IsTrueStatement}
 use Rattle.resolver_clause_store.specs.declared.Origin.{Origin}
 use Rattle.resolver_clause_store.specs.declared.Origin.TheVariants.{Bit, Gate, ConstraintHelper}
 use Rattle.resolver_clause_store.specs.declared.ClauseKind.{ClauseKind}
 use Rattle.resolver_clause_store.specs.declared.ClauseKind.TheVariants.{InstallRoot, Requires, Constrains, ConstrainsParent, HasBit, Lock, Excluded}
-use Rattle.resolver_encoding.specs.Statements.{Statement, AllMeet, Implies, IsTrueStatement, statement_of}
 use Rattle.resolver_encoding.specs.Atoms.{is_on, Defines, IsStated, states_requires, states_constrains, states_gated, states_helped, states_coded, states_bit, states_lock, states_excluded}
 use Rattle.resolver_encoding.specs.Truth.{follows, AreCodes, IsTrueClause, is_plain, AreListed, AreStated}
 use Rattle.resolver_encoding.specs.Core.{implied_in, IsExplained, IsContradictory}
@@ -28,7 +27,6 @@ use Rattle.std.specs.Prelude.{slice_index_or}
 use Rattle.std.proofs.lemmas.Option.{slice_get-get_or}
 use Rattle.resolver_clause_store.specs.Formula.{MakesTrue}
 use Rattle.resolver_clause_store.specs.declared.Literal.{Literal}
-use Rattle.resolver_clause_store.specs.Rules.{IsRefuted}
 use Rattle.resolver_encoding.specs.Values.{AreEncoded, kinds_at}
 use Rattle.resolver_encoding.proofs.Lists.{list_any-witness, Contains-map}
 use Rattle.resolver_encoding.proofs.Sound.{is_plain-parts, rules_obey}
@@ -56,24 +54,6 @@ module _ {N S : Type 0} (u : Universe N S) (codes : N → ℕ → S → Bool) (a
   stated_true st (states_lock s t inside) = truth (Lock s t) inside
   stated_true st (states_excluded s reason inside) = truth (Excluded s reason) inside
 
-meet_items : {S : Type 0} (set : List S) (when : List (Vec S Global)) → report.AllMeet set when → AllMeet set (map (λ (list : Vec S Global). list.items) when)
-meet_items {S} set when meets = All-map (λ xs. Meets xs set) (λ (list : Vec S Global). list.items) when meets
-
-no_items : {S : Type 0} (when : List (Vec S Global)) → map (λ (list : Vec S Global). list.items) when ≡ [] → when ≡ []
-no_items [] e = refl
-no_items (x ∷ xs) e = absurd cc
-
-implied_items : {N S : Type 0} (u : Universe N S) (when : List (Vec S Global)) (o : Option ConditionId) → Implies u (map (λ (list : Vec S Global). list.items) when) o → true_rules.Implies u when o
-implied_items u when None e = no_items when e
-implied_items u when (Some c) h = λ set meets. h set (meet_items set when meets)
-
-pub true_rule : {N S : Type 0} (u : Universe N S) (root : Demands) (rule : Rule N S) → IsTrueStatement u root (statement_of rule) → IsTrueRule u root rule
-true_rule u root (RuleRequires by r candidates when) h = (h.0, h.1, h.2, h.3, implied_items u when.items h.0.condition h.4)
-true_rule u root (RuleConstrains by v s) h = h
-true_rule u root (RuleLock s t) h = h
-true_rule u root (RuleExcluded s reason) h = h
-true_rule u root (OnePerPackage n s) h = h
-
 -- clauses that no values make true at the level of origins refute the rules that they state
 pub contradictory_refutes : {N S : Type 0} (u : Universe N S) (implies : Origin N S → S → Bool) (kinds : List (ClauseKind N S)) (rules : List (Rule N S)) → HasLawfulSolvables u → Defines u implies kinds → AreListed u implies kinds rules → IsContradictory u kinds → IsRefuted rules
 contradictory_refutes u implies kinds rules lawful defines listed h = λ set obeys. h.none (is_on u implies set) (satisfied u implies lawful.same_solvable set kinds defines (rules_obey u implies kinds rules set obeys listed))
@@ -98,8 +78,8 @@ module _ {N S : Type 0} (u : Universe N S) (same_name : N → N → Bool) (codes
     refuted = contradictory_refutes u (implied_in u same_name core) core rules ids (defines_core u same_name names ids.same_solvable codes root core are_true) listed none;
     each_true = λ k d below.
         let rule = get_or rules k d in
-        true_rule u root rule (stated_true u codes are_codes root ids.same_solvable core are_true (implied_in u same_name core) (implied-follows u same_name names ids.same_solvable codes root core are_true)
-        (statement_of rule) (stated rule (Contains-get_or rules k d below)));
+        stated_true u codes are_codes root ids.same_solvable core are_true (implied_in u same_name core) (implied-follows u same_name names ids.same_solvable codes root core are_true)
+        (statement_of rule) (stated rule (Contains-get_or rules k d below));
   }
 
 -- the clauses of a core are true

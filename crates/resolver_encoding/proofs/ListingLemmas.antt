@@ -5,7 +5,7 @@ use Rattle.std.proofs.lemmas.List.Elements.{Contains-append_left, Contains-push,
 use Rattle.resolver_clause_store.specs.declared.Rule.{Rule}
 use Rattle.resolver_clause_store.specs.declared.Rule.TheVariants.{OnePerPackage}
 use Rattle.resolver_encoding.specs.Listing.{AddsRules, AreRulesOf, HasMarks, SomeOf}
-use Rattle.resolver_encoding.specs.Statements.{Statement, one_per_package, statement_of}
+use Rattle.resolver_clause_store.specs.Statements.{Statement, one_per_package, statement_of}
 use Rattle.resolver_encoding.specs.declared.listing.Listing.{Listing}
 use Rattle.resolver_encoding.specs.declared.listing.Mark.{Mark}
 use Rattle.resolver_encoding.proofs.Lists.{none_in}

@@ -31,7 +31,7 @@ use Rattle.resolver_encoding.specs.Atoms.{Atom, atom, atoms_of, is_on, is_satisf
 use Rattle.resolver_encoding.specs.Encodings.{Notes}
 use Rattle.resolver_encoding.specs.ReadState.{AreSeeds}
 use Rattle.resolver_encoding.specs.SoFar.{IsReadSoFar}
-use Rattle.resolver_encoding.specs.Statements.{AllMeet}
+use Rattle.resolver_clause_store.specs.Statements.{AllMeet}
 use Rattle.resolver_encoding.specs.TrailAtoms.{IsEntailed, IsFirstOpen, IsBecause, needed, needed_gate, seeded, left_out, forced, IsTrail, begun, went_on, IsChosen}
 use Rattle.resolver_encoding.specs.Trails.{AreAssumed, atoms_before, solvables_before}
 use Rattle.resolver_encoding.specs.Truth.{AreCodes, HasLawfulSolvables, is_plain, follows, IsTrueClause, Spares}

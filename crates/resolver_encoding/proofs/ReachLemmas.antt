@@ -23,7 +23,7 @@ use Rattle.resolver_clause_store.specs.declared.Requirement.{Requirement}
 use Rattle.resolver_clause_store.specs.declared.VersionSetId.{VersionSetId}
 use Rattle.resolver_clause_store.proofs.NearLemmas.{IsNamed-within, IsNear-closed, IsNear-more, OptionalConditionHolds-within}
 use Rattle.resolver_clause_store.proofs.PlaceLemmas.{place_of_member}
-use Rattle.resolver_clause_store.specs.Rules.{IsPresent}
+use Rattle.resolver_clause_store.specs.Statements.{IsPresent, AllMeet}
 use Rattle.resolver_clause_store.specs.TrueRules.{demands_by}
 use Rattle.resolver_encoding.specs.Atoms.{Atom, atom, atoms_of, origin_by}
 use Rattle.resolver_encoding.specs.Called.{Call, IsDemanded, IsNamedBy, IsSeeing, IsWantedBy, to_ask, to_see}
@@ -31,7 +31,6 @@ use Rattle.resolver_encoding.specs.Encodings.{HasUsualHelper, IsAskStep, IsEncod
 use Rattle.resolver_encoding.specs.Reach.{AreNear}
 use Rattle.resolver_encoding.specs.ReadState.{Deferred}
 use Rattle.resolver_encoding.specs.SoFar.{IsBare, IsFiring, IsHalfRead, IsReadSoFar, IsReadingOf}
-use Rattle.resolver_encoding.specs.Statements.{AllMeet}
 use Rattle.resolver_encoding.specs.Trails.{origin_at}
 use Rattle.resolver_encoding.proofs.Lists.{Contains-map_back, cons_cases, none_in}
 use Rattle.resolver_encoding.proofs.RequirementLemmas.{active_where}

@@ -14,15 +14,14 @@ use Rattle.resolver_clause_store.specs.declared.Requirement.{Requirement}
 use Rattle.resolver_clause_store.specs.declared.ConditionalRequirement.{ConditionalRequirement}
 use Rattle.resolver_clause_store.specs.declared.By.{By}
 use Rattle.resolver_clause_store.specs.declared.By.TheVariants.{Root as ByRoot, Solvable as BySolvable}
-use Rattle.resolver_clause_store.specs.Rules.{IsPresent}
+use Rattle.resolver_clause_store.specs.Statements.{IsPresent, AllMeet}
+use Rattle.resolver_clause_store.specs.TrueRules.{demands_by}
 use Rattle.resolver_clause_store.specs.declared.Origin.{Origin}
 use Rattle.resolver_clause_store.specs.declared.Origin.TheVariants.{Solvable, Gate}
 use Rattle.resolver_clause_store.specs.declared.ClauseKind.{ClauseKind}
 use Rattle.resolver_clause_store.specs.declared.ClauseKind.TheVariants.{Requires, AnyOf}
 use Rattle.resolver_clause_store.specs.Conditions.{IsActive, OptionalConditionHolds}
 use Rattle.resolver_clause_store.specs.declared.ConditionId.{ConditionId}
-use Rattle.resolver_clause_store.specs.TrueRules.{demands_by}
-use Rattle.resolver_encoding.specs.Statements.{AllMeet}
 use Rattle.resolver_encoding.specs.Atoms.{Atom, atom, atoms_of, is_on, is_satisfied}
 use Rattle.resolver_encoding.specs.Truth.{AreCodes, is_plain, follows, IsTrueClause, Spares}
 use Rattle.resolver_encoding.specs.Read.{IsSettled, IsClosedPart}

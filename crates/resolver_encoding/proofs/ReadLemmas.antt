@@ -24,7 +24,7 @@ use Rattle.resolver_clause_store.specs.declared.Origin.{Origin}
 use Rattle.resolver_clause_store.specs.declared.Origin.TheVariants.{Root, Solvable, Bit, Gate, ConstraintHelper, ConditionHelper}
 use Rattle.resolver_clause_store.specs.declared.Requirement.{Requirement}
 use Rattle.resolver_clause_store.specs.declared.VersionSetId.{VersionSetId}
-use Rattle.resolver_clause_store.specs.Rules.{IsPresent}
+use Rattle.resolver_clause_store.specs.Statements.{IsPresent}
 use Rattle.resolver_clause_store.specs.TrueRules.{demands_by}
 use Rattle.resolver_encoding.specs.Atoms.{atom}
 use Rattle.resolver_encoding.specs.Encodings.{AsksForCandidates, AreDemandsRead, AreNeedsRead, Extends, HasUsualHelper, IsConstraintRead, IsEncoding, IsLeft, IsUnread, Notes}

@@ -18,10 +18,9 @@ use Rattle.resolver_clause_store.specs.declared.Requirement.TheVariants.{Single,
 use Rattle.resolver_clause_store.specs.declared.VersionSetId.{VersionSetId}
 use Rattle.resolver_clause_store.specs.declared.By.{By}
 use Rattle.resolver_clause_store.specs.declared.By.TheVariants.{Root as ByRoot, Solvable as BySolvable}
-use Rattle.resolver_clause_store.specs.Rules.{IsPresent}
+use Rattle.resolver_clause_store.specs.Statements.{IsPresent, AllMeet}
 use Rattle.resolver_clause_store.specs.TrueRules.{demands_by}
 use Rattle.resolver_clause_store.specs.declared.ClauseKind.{ClauseKind}
-use Rattle.resolver_encoding.specs.Statements.{AllMeet}
 use Rattle.resolver_encoding.specs.Read.{IsMade, made_direct, made_gated}
 use Rattle.resolver_encoding.specs.ReadState.{Deferred, HasClause, has_direct, has_gate, IsRead, AreSeeds, NoneFires}
 use Rattle.resolver_encoding.specs.TrailAtoms.{CoversReached}

@@ -22,7 +22,8 @@ use Rattle.resolver_encoding.specs.Called.{Call, IsCalledBy, IsCalledByEach, IsN
 use Rattle.resolver_encoding.specs.Encodings.{AreDisjuncts, AsksFor, AsksWithin, IsAskStep, IsConstraintRead, IsDisjunctRead, IsEncodingOf, IsLeft, IsReadStep, IsStep, Notes}
 use Rattle.resolver_encoding.specs.Read.{IsForbidden, forbidden_helped}
 use Rattle.resolver_encoding.specs.ReadState.{Deferred, HasClause, has_gate, IsReadRequirement}
-use Rattle.resolver_encoding.specs.Statements.{AllMeet, Implies}
+use Rattle.resolver_clause_store.specs.Statements.{AllMeet}
+use Rattle.resolver_clause_store.specs.TrueRules.{Implies}
 use Rattle.resolver_encoding.specs.Truth.{follows, is_plain}
 use Rattle.resolver_encoding.proofs.EncodingLemmas.{IsAskStep-weaker, IsEncodingOf-step, IsReadStep-of}
 use Rattle.resolver_encoding.proofs.ReadLemmas.{HasClause-within}

@@ -12,12 +12,11 @@ use Rattle.resolver_clause_store.specs.Candidates.{matching, requirement_candida
 use Rattle.resolver_clause_store.specs.declared.VersionSetId.{VersionSetId}
 use Rattle.resolver_clause_store.specs.declared.By.{By}
 use Rattle.resolver_clause_store.specs.declared.By.TheVariants.{Root as ByRoot, Solvable as BySolvable}
-use Rattle.resolver_clause_store.specs.Rules.{IsPresent}
+use Rattle.resolver_clause_store.specs.Statements.{IsPresent, AllMeet, ObeysAll}
 use Rattle.resolver_clause_store.specs.declared.Origin.{Origin}
 use Rattle.resolver_clause_store.specs.declared.Origin.TheVariants.{Root, Solvable, Bit, Gate, ConstraintHelper, ConditionHelper}
 use Rattle.resolver_clause_store.specs.declared.ClauseKind.{ClauseKind}
 use Rattle.resolver_clause_store.specs.declared.ClauseKind.TheVariants.{InstallRoot, Requires, AnyOf, Constrains, GateRequires, ConstrainsExcluded, ConstrainsParent, HasBit, Lock, Excluded}
-use Rattle.resolver_encoding.specs.Statements.{AllMeet, ObeysAll}
 use Rattle.resolver_encoding.specs.Atoms.{Atom, atom, origin_by, atoms_of, has, is_on, IsHelper, is_satisfied, IsStated, states_requires, states_constrains, states_gated, states_helped, states_coded, states_bit, states_lock, states_excluded, Defines}
 use Rattle.resolver_encoding.proofs.Lists.{In, first, later, on_left, on_right, mapped, list_any-contains, list_any-none, list_any-witness, true_if, beq-false}
 

@@ -19,14 +19,13 @@ use Rattle.resolver_clause_store.specs.declared.Origin.TheVariants.{Solvable}
 use Rattle.resolver_clause_store.specs.declared.Requirement.{Requirement}
 use Rattle.resolver_clause_store.specs.declared.VersionSetId.{VersionSetId}
 use Rattle.resolver_clause_store.proofs.PlaceLemmas.{Keeps-same, Keeps-trans, place_in, place_left, place_of_member}
-use Rattle.resolver_clause_store.specs.Rules.{IsPresent}
+use Rattle.resolver_clause_store.specs.Statements.{IsPresent, AllMeet}
 use Rattle.resolver_clause_store.specs.TrueRules.{demands_by}
 use Rattle.resolver_encoding.specs.Called.{AreAsked, IsCalledFor, IsDemanded, IsNamedIn, to_ask}
 use Rattle.resolver_encoding.specs.Encodings.{AreDemandsRead, AreNeedsRead, Extends, IsConstraintRead, IsEncoding, IsLeft, IsReadStep, IsUnmet, Notes}
 use Rattle.resolver_encoding.specs.Groups.{IsNamed}
 use Rattle.resolver_encoding.specs.ReadState.{Deferred, HasClause, IsReadRequirement, NoneFires}
 use Rattle.resolver_encoding.specs.SoFar.{HasFired, HasRead, IsBare, IsFiring, IsHalfRead, IsMoreOrSame, IsProgress, IsQuietUnder, IsReadMore, IsReadSoFar, IsReadingOf, left_count, progress_by}
-use Rattle.resolver_encoding.specs.Statements.{AllMeet}
 use Rattle.resolver_encoding.specs.Truth.{HasLawfulSolvables}
 use Rattle.resolver_encoding.proofs.EncodingLemmas.{Extends-same, Extends-trans, Extends-within, IsWithin-same, IsWithin-trans}
 use Rattle.resolver_encoding.proofs.Lists.{here, none_in, there}

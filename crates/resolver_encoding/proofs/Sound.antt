@@ -20,13 +20,12 @@ use Rattle.resolver_clause_store.specs.declared.By.{By}
 use Rattle.resolver_clause_store.specs.declared.By.TheVariants.{Root as ByRoot, Solvable as BySolvable}
 use Rattle.resolver_clause_store.specs.declared.Rule.{Rule}
 use Rattle.resolver_clause_store.specs.declared.Rule.TheVariants.{Requires as RuleRequires, Constrains as RuleConstrains, Lock as RuleLock, Excluded as RuleExcluded, OnePerPackage}
-use Rattle.resolver_clause_store.specs.Rules as report
-use Rattle.resolver_clause_store.specs.Rules.{IsPresent, Obeys}
-use Rattle.resolver_clause_store.specs.TrueRules.{demands_by}
+use Rattle.resolver_clause_store.specs.Statements.{IsPresent, Statement, one_per_package, AllMeet, ObeysAlone, ObeysAll, statement_of}
+use Rattle.resolver_clause_store.specs.Rules.{Obeys}
+use Rattle.resolver_clause_store.specs.TrueRules.{demands_by, Implies}
 use Rattle.resolver_clause_store.specs.declared.Origin.{Origin}
 use Rattle.resolver_clause_store.specs.declared.ClauseKind.{ClauseKind}
 use Rattle.resolver_clause_store.specs.declared.ClauseKind.TheVariants.{Requires, AnyOf, Constrains, ConstrainsExcluded, ConstrainsParent, HasBit, Lock, Excluded}
-use Rattle.resolver_encoding.specs.Statements.{Statement, one_per_package, AllMeet, ObeysAlone, ObeysAll, Implies, statement_of}
 use Rattle.resolver_encoding.specs.Atoms.{IsStated, states_requires, states_constrains, states_gated, states_helped, states_coded, states_bit, states_lock, states_excluded, Defines}
 use Rattle.resolver_encoding.proofs.Lists.{Contains-map, list_any-contains, list_any-witness}
 use Rattle.resolver_encoding.specs.Truth.{same_requirement, is_plain, AreCodes, follows, IsTrueClause, Spares, AreListed}
@@ -133,14 +132,6 @@ module _ {N S : Type 0} (u : Universe N S) (root : Demands) (kinds : List (Claus
     }
 
 module _ {N S : Type 0} (u : Universe N S) (implies : Origin N S → S → Bool) (kinds : List (ClauseKind N S)) (rules : List (Rule N S)) (set : List S) (obeys : Obeys set rules) where
-  obeys_rule : (rule : Rule N S) → report.ObeysAlone set rule → ObeysAlone set (statement_of rule)
-  obeys_rule (RuleRequires by requirement candidates when) h = λ here meets. h here (λ k d below.
-      All-contains (λ xs. Meets xs set) (map (λ (list : Vec S Global). list.items) when.items) _ meets (Contains-map (λ (list : Vec S Global). list.items) when.items _ (Contains-get_or when.items k d below)))
-  obeys_rule (RuleConstrains by v s) h = h
-  obeys_rule (RuleLock s t) h = h
-  obeys_rule (RuleExcluded s reason) h = h
-  obeys_rule (OnePerPackage n s) h = tt
-
   is_mark : (rule : Rule N S) (n : N) (s : S) → statement_of rule ≡ one_per_package n s → rule ≡ OnePerPackage n s
   is_mark (RuleRequires by requirement candidates when) n s e = absurd cc
   is_mark (RuleConstrains by v t) n s e = absurd cc
@@ -154,7 +145,7 @@ module _ {N S : Type 0} (u : Universe N S) (implies : Origin N S → S → Bool)
     each = λ st stated.
         let w = listed st stated in
         let Obeyed : Statement N S → Type 0 = λ it. ObeysAlone set it in
-        subst Obeyed w.2 (obeys_rule w.0 (obeys.each w.0 w.1));
+        subst Obeyed w.2 (obeys.each w.0 w.1);
     one_each = λ n s t first second.
         let w = listed (one_per_package n s) first in
         let v = listed (one_per_package n t) second in

@@ -17,7 +17,7 @@ use Rattle.resolver_encoding.specs.Encodings.{IsEncoding, Notes}
 use Rattle.resolver_encoding.specs.Listing.{AreRulesOf, MarksBit, SomeOf, States}
 use Rattle.resolver_encoding.specs.Sources.{AreSources}
 use Rattle.resolver_encoding.specs.declared.sources.Sources.{Sources}
-use Rattle.resolver_encoding.specs.Statements.{Statement, statement_of}
+use Rattle.resolver_clause_store.specs.Statements.{Statement, statement_of}
 use Rattle.resolver_encoding.specs.Truth.{AreCodes, AreListed, AreStated, IsTrueClause, HasLawfulSolvables}
 use Rattle.resolver_encoding.specs.Values.{AreEncoded, kinds_at}
 use Rattle.resolver_encoding.proofs.CoreLemmas.{implied-any, implied-bit, implied-excluded, implied-gate, implied-helper}

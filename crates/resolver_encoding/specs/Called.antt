@@ -7,7 +7,7 @@ use Rattle.resolver_clause_store.specs.declared.By.{By}
 use Rattle.resolver_clause_store.specs.declared.ConditionalRequirement.{ConditionalRequirement}
 use Rattle.resolver_clause_store.specs.declared.Requirement.{Requirement}
 use Rattle.resolver_clause_store.specs.declared.VersionSetId.{VersionSetId}
-use Rattle.resolver_clause_store.specs.Rules.{IsPresent}
+use Rattle.resolver_clause_store.specs.Statements.{IsPresent}
 use Rattle.resolver_clause_store.specs.TrueRules.{demands_by}
 
 -- what is to be done: a package is to be asked, or a candidate to be registered

@@ -19,14 +19,14 @@ use Rattle.resolver_clause_store.specs.declared.Origin.TheVariants.{Root, Solvab
 use Rattle.resolver_clause_store.specs.declared.Requirement.{Requirement}
 use Rattle.resolver_clause_store.specs.declared.StringId.{StringId}
 use Rattle.resolver_clause_store.specs.declared.VersionSetId.{VersionSetId}
-use Rattle.resolver_clause_store.specs.TrueRules.{demands_by}
+use Rattle.resolver_clause_store.specs.Statements.{AllMeet}
+use Rattle.resolver_clause_store.specs.TrueRules.{demands_by, Implies}
 use Rattle.resolver_encoding.specs.Atoms.{Atom}
 use Rattle.resolver_encoding.specs.Called.{Call, to_ask, to_see}
 use Rattle.resolver_encoding.specs.Groups.{AreGroups, IsAt, IsNamed}
 use Rattle.resolver_encoding.specs.Codes.{bit}
 use Rattle.resolver_encoding.specs.Read.{IsForbidden}
 use Rattle.resolver_encoding.specs.ReadState.{Deferred, HasClause, IsReadRequirement}
-use Rattle.resolver_encoding.specs.Statements.{AllMeet, Implies}
 use Rattle.resolver_encoding.specs.Truth.{AreCodes, AreDue, IsTrueClause}
 use Rattle.resolver_encoding.specs.Values.{AreEncoded, IsAtom}
 use Rattle.resolver_encoding.specs.declared.groups.Groups.{Groups}

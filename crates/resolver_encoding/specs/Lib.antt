@@ -1,4 +1,3 @@
-pub mod Statements
 pub mod Atoms
 pub mod Truth
 pub mod Values

@@ -10,12 +10,11 @@ use Rattle.resolver_clause_store.specs.declared.VersionSetId.{VersionSetId}
 use Rattle.resolver_clause_store.specs.declared.StringId.{StringId}
 use Rattle.resolver_clause_store.specs.declared.By.{By}
 use Rattle.resolver_clause_store.specs.declared.By.TheVariants.{Solvable as BySolvable}
-use Rattle.resolver_clause_store.specs.Rules.{IsPresent}
+use Rattle.resolver_clause_store.specs.Statements.{IsPresent, AllMeet}
 use Rattle.resolver_clause_store.specs.TrueRules.{demands_by}
 use Rattle.resolver_clause_store.specs.declared.Origin.TheVariants.{Gate, ConditionHelper}
 use Rattle.resolver_clause_store.specs.declared.ClauseKind.{ClauseKind}
 use Rattle.resolver_clause_store.specs.declared.ClauseKind.TheVariants.{InstallRoot, Requires, AnyOf, GateRequires, Lock, Excluded}
-use Rattle.resolver_encoding.specs.Statements.{AllMeet}
 use Rattle.resolver_encoding.specs.Read.{IsForbidden, AreApart}
 
 -- a disjunct of a requirement's condition that has not held yet

@@ -9,14 +9,13 @@ use Rattle.resolver_clause_store.specs.Variables.{Keeps}
 use Rattle.resolver_clause_store.specs.declared.VersionSetId.{VersionSetId}
 use Rattle.resolver_clause_store.specs.declared.By.TheVariants.{Root as ByRoot}
 use Rattle.resolver_clause_store.specs.declared.Origin.TheVariants.{Solvable}
-use Rattle.resolver_clause_store.specs.Rules.{IsPresent}
+use Rattle.resolver_clause_store.specs.Statements.{IsPresent, AllMeet}
 use Rattle.resolver_encoding.specs.Called.{Call, IsDemanded, IsWantedBy}
 use Rattle.resolver_encoding.specs.Encodings.{AreDemandsRead, AreNeedsRead, Extends, IsEncoding, IsFollowed, IsLeft, Notes}
 use Rattle.resolver_encoding.specs.Groups.{AreGroups, IsNamed}
 use Rattle.resolver_encoding.specs.Hints.{IsListedFrom}
 use Rattle.resolver_encoding.specs.Reach.{AreNear}
 use Rattle.resolver_encoding.specs.ReadState.{Deferred, HasClause, NoneFires}
-use Rattle.resolver_encoding.specs.Statements.{AllMeet}
 use Rattle.resolver_encoding.specs.declared.groups.Groups.{Groups}
 use Rattle.resolver_encoding.specs.declared.progress.Progress.{Progress}
 use Rattle.resolver_encoding.specs.declared.progress.Progress.TheVariants.{Nothing, Fired, Read}

@@ -9,12 +9,12 @@ use Rattle.resolver_clause_store.specs.declared.Requirement.{Requirement}
 use Rattle.resolver_clause_store.specs.declared.Requirement.TheVariants.{Single, Union}
 use Rattle.resolver_clause_store.specs.declared.ConditionalRequirement.{ConditionalRequirement}
 use Rattle.resolver_clause_store.specs.declared.Rule.{Rule}
-use Rattle.resolver_clause_store.specs.TrueRules.{demands_by}
+use Rattle.resolver_clause_store.specs.Statements.{Statement, statement_of}
+use Rattle.resolver_clause_store.specs.TrueRules.{demands_by, Implies}
 use Rattle.resolver_clause_store.specs.declared.Origin.{Origin}
 use Rattle.resolver_clause_store.specs.declared.Origin.TheVariants.{Root, Solvable, Bit, Gate, ConstraintHelper, ConditionHelper}
 use Rattle.resolver_clause_store.specs.declared.ClauseKind.{ClauseKind}
 use Rattle.resolver_clause_store.specs.declared.ClauseKind.TheVariants.{InstallRoot, Requires, AnyOf, Constrains, GateRequires, ConstrainsExcluded, ConstrainsParent, HasBit, Lock, Excluded}
-use Rattle.resolver_encoding.specs.Statements.{Statement, statement_of, Implies}
 use Rattle.resolver_encoding.specs.Atoms.{has, IsHelper, IsStated}
 
 -- conditions are well-founded, and solvables that compare equal are one

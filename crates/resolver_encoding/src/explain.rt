@@ -9,7 +9,7 @@ ghost use Rattle.resolver_clause_store.specs.declared.By.TheVariants.{Solvable a
 ghost use Rattle.resolver_encoding.specs.Core.{implied_in};
 ghost use Rattle.resolver_encoding.specs.Listing.{AddsRules, Asks, HasMarks, Marks, MarksBit, SomeOf, States};
 ghost use Rattle.resolver_encoding.specs.Sources.{HasGroups};
-ghost use Rattle.resolver_encoding.specs.Statements.{constrains, requires};
+ghost use Rattle.resolver_clause_store.specs.Statements.{constrains, requires};
 ghost use Rattle.resolver_encoding.specs.Truth.{AreListed, AreStated};
 ghost use Rattle.resolver_encoding.specs.Values.{kinds_at};
 

@@ -2,7 +2,7 @@
 
 ghost use Rattle.std.specs.Prelude.{◌≡◌, [], Contains, IfErr, OnOk, map};
 ghost use Rattle.resolver_clause_store.specs.Laws.{IsIdentity};
-ghost use Rattle.resolver_encoding.specs.Statements.{constrains, excluded, lock, one_per_package, requires};
+ghost use Rattle.resolver_clause_store.specs.Statements.{constrains, excluded, lock, one_per_package, requires};
 
 use indexmap::IndexSet;
 use resolver_clause_store::{

@@ -6,7 +6,7 @@ ghost use Rattle.resolver_clause_store.specs.Candidates.{matching};
 ghost use Rattle.resolver_clause_store.specs.Interruptions.{IsInterruption};
 ghost use Rattle.resolver_clause_store.specs.Laws.{IsIdentity};
 ghost use Rattle.resolver_clause_store.specs.Lists.{Meets};
-ghost use Rattle.resolver_encoding.specs.Statements.{AllMeet};
+ghost use Rattle.resolver_clause_store.specs.Statements.{AllMeet};
 
 use indexmap::IndexSet;
 use resolver_clause_store::{

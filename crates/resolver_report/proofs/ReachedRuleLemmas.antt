@@ -8,7 +8,8 @@ use Rattle.resolver_clause_store.specs.declared.Requirement.{Requirement}
 use Rattle.resolver_clause_store.specs.declared.Rule.{Rule}
 use Rattle.resolver_clause_store.specs.declared.Rule.TheVariants.{Requires, Constrains, Lock, Excluded, OnePerPackage}
 use Rattle.resolver_report.specs.ReachedRules.{IsReachedBy, by_root, by_reached, IsAskerReached, IsKept, LeavesKept}
-use Rattle.resolver_clause_store.specs.Rules.{IsPresent, IsRefuted, ObeysAlone, Obeys}
+use Rattle.resolver_clause_store.specs.Statements.{lists_of, statement_of, IsPresent, ObeysAlone}
+use Rattle.resolver_clause_store.specs.Rules.{IsRefuted, Obeys}
 use Rattle.resolver_report.proofs.SearchLemmas.{AllMeet-within}
 
 -- each element of a list that was cut is in one of the parts
@@ -81,9 +82,9 @@ module _ {N S : Type 0} (rules kept : List (Rule N S)) (left : LeavesKept rules 
   candidate_reached Root requirement candidates when s here listed inside = by_root listed inside
   candidate_reached (Solvable t) requirement candidates when s here listed inside = by_reached (is.reached t here) listed inside
 
-  part_obeys : (rule : Rule N S) → Contains rules rule → ObeysAlone part rule
+  part_obeys : (rule : Rule N S) → Contains rules rule → ObeysAlone part (statement_of rule)
   part_obeys (Requires by requirement candidates when) listed = λ here meet.
-      let met : Meets candidates.items set = obeys.each (Requires by requirement candidates when) (Contains-kept rules kept left (Requires by requirement candidates when) listed (asker_reached by here)) (asker_present by here) (AllMeet-within when.items part set is.within meet) in
+      let met : Meets candidates.items set = obeys.each (Requires by requirement candidates when) (Contains-kept rules kept left (Requires by requirement candidates when) listed (asker_reached by here)) (asker_present by here) (AllMeet-within (lists_of when.items) part set is.within meet) in
       record { shared = met.shared; in_first = met.in_first; in_second = is.all met.shared met.in_second (candidate_reached by requirement candidates when met.shared here listed met.in_first) }
   part_obeys (Constrains by version_set candidate) listed = λ here inside.
       obeys.each (Constrains by version_set candidate) (Contains-kept rules kept left (Constrains by version_set candidate) listed (asker_reached by here, is.reached candidate inside)) (asker_present by here) (is.within candidate inside)

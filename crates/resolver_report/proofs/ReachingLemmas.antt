@@ -21,7 +21,7 @@ use Rattle.resolver_report.specs.Asked.{asked_in, root_asked_in}
 use Rattle.resolver_report.specs.Listed.{items_if}
 use Rattle.resolver_report.specs.ReachedRules.{IsReachedBy, by_root, by_reached, IsAskerReached, IsKept, LeavesJust}
 use Rattle.resolver_report.specs.Reaching.{IsAbout, IsReachedSet}
-use Rattle.resolver_clause_store.specs.Rules.{IsPresent}
+use Rattle.resolver_clause_store.specs.Statements.{IsPresent}
 use Rattle.resolver_clause_store.proofs.PlaceLemmas.{slice_get-append_left}
 use Rattle.resolver_report.proofs.AskedLemmas.{gathered, gathered_from, cases_lt_suc}
 use Rattle.resolver_report.specs.Searching.{all_candidates, candidates_in, count_outside}

@@ -1,5 +1,5 @@
 -- Why the plain search is right, and why it ends.
-use Rattle.std.proofs.Common.{◌≡◌, ◌≢◌, ℕ, zero, suc, ◌<◌, ◌≤◌, Bool, true, false, cond, ◌||◌, List, [], ◌∷◌, ◌++◌, refl, sym, ◌∙◌, subst, inl, inr, arith, Contains, All, Vec, Global}
+use Rattle.std.proofs.Common.{◌≡◌, ◌≢◌, ℕ, zero, suc, ◌<◌, ◌≤◌, Bool, true, false, cond, ◌||◌, List, [], ◌∷◌, ◌++◌, refl, sym, ◌∙◌, subst, inl, inr, arith, Contains, All}
 use Rattle.std.specs.List.{list_any}
 use Rattle.std.proofs.lemmas.List.Elements.{All-contains, All-weaker, All-from_get_or, Contains-append_left, Contains-append_right, Contains-push, Contains-push_cases}
 use Rattle.std.proofs.lemmas.List.{get_or_default}
@@ -11,7 +11,8 @@ use Rattle.resolver_clause_store.specs.declared.By.{By}
 use Rattle.resolver_clause_store.specs.declared.By.TheVariants.{Root, Solvable}
 use Rattle.resolver_clause_store.specs.declared.Rule.{Rule}
 use Rattle.resolver_clause_store.specs.declared.Rule.TheVariants.{Requires, Constrains, Lock, Excluded, OnePerPackage}
-use Rattle.resolver_clause_store.specs.Rules.{AllMeet, AllNeeded, IsNeeded, by_root, by_needed, IsPresent, ObeysAlone, Obeys}
+use Rattle.resolver_clause_store.specs.Statements.{lists_of, statement_of, AllMeet, IsPresent, ObeysAlone}
+use Rattle.resolver_clause_store.specs.Rules.{AllNeeded, IsNeeded, by_root, by_needed, Obeys}
 use Rattle.resolver_report.specs.Searching.{all_candidates, candidates_in, count_outside}
 use Rattle.resolver_report.specs.Plain.{BreaksSome, Clashes, HasTwo, IsAllowed, IsAloneMarked, IsForbidden, IsMet, IsOpen, IsRefutedFrom, IsUnmet, MarksNoOther, MarksOther}
 
@@ -24,11 +25,11 @@ IsPresent-within (Solvable s) set larger within here = within s here
 Meets-within : {S : Type 0} (list set larger : List S) → IsWithin set larger → Meets list set → Meets list larger
 Meets-within list set larger within met = record { shared = met.shared; in_first = met.in_first; in_second = within met.shared met.in_second }
 
-pub AllMeet-within : {S : Type 0} (lists : List (Vec S Global)) (set larger : List S) → IsWithin set larger → AllMeet set lists → AllMeet larger lists
-AllMeet-within lists set larger within all = All-weaker (λ list. Meets list.items set) (λ list. Meets list.items larger) (λ list met. Meets-within list.items set larger within met) lists all
+pub AllMeet-within : {S : Type 0} (lists : List (List S)) (set larger : List S) → IsWithin set larger → AllMeet set lists → AllMeet larger lists
+AllMeet-within lists set larger within all = All-weaker (λ list. Meets list set) (λ list. Meets list larger) (λ list met. Meets-within list set larger within met) lists all
 
 -- what is forbidden stays forbidden in a larger set
-forbidden_stays : {N S : Type 0} (rule : Rule N S) (set larger : List S) → IsForbidden set rule → IsWithin set larger → ObeysAlone larger rule → ⊥
+forbidden_stays : {N S : Type 0} (rule : Rule N S) (set larger : List S) → IsForbidden set rule → IsWithin set larger → ObeysAlone larger (statement_of rule) → ⊥
 forbidden_stays (Requires by requirement candidates when) set larger h within obeys = absurd h
 forbidden_stays (Constrains by version_set candidate) set larger (here, inside) within obeys = obeys (IsPresent-within by set larger within here) (within candidate inside)
 forbidden_stays (Lock locked forbidden) set larger h within obeys = obeys (within forbidden h)
@@ -61,7 +62,7 @@ pub HasTwo-refuted : {N S : Type 0} (set : List S) (rules : List (Rule N S)) →
 HasTwo-refuted set rules h = clash_refuted h.rule set rules h.listed h.clash
 
 -- nothing is forbidden, nobody stands twice, nothing is open
-obeys_alone : {N S : Type 0} (rule : Rule N S) (set : List S) → IsAllowed set rule → IsMet set rule → ObeysAlone set rule
+obeys_alone : {N S : Type 0} (rule : Rule N S) (set : List S) → IsAllowed set rule → IsMet set rule → ObeysAlone set (statement_of rule)
 obeys_alone (Requires by requirement candidates when) set allowed met = met
 obeys_alone (Constrains by version_set candidate) set allowed met = allowed
 obeys_alone (Lock locked forbidden) set allowed met = allowed
@@ -83,7 +84,7 @@ IsWithin-push {S} set larger s within inside x h =
 -- each candidate fails, so the set does
 unmet_refuted : {N S : Type 0} (rule : Rule N S) (set wanted : List S) (rules : List (Rule N S)) → IsUnmet set wanted rule → All (λ s. IsRefutedFrom (set ++ s ∷ []) rules) wanted → Contains rules rule → IsRefutedFrom set rules
 unmet_refuted {N} {S} (Requires by requirement candidates when) set wanted rules (here, meet, none, are) refuted listed larger within obeys =
-    let met : Meets candidates.items larger = obeys.each (Requires by requirement candidates when) listed (IsPresent-within by set larger within here) (AllMeet-within when.items set larger within meet) in
+    let met : Meets candidates.items larger = obeys.each (Requires by requirement candidates when) listed (IsPresent-within by set larger within here) (AllMeet-within (lists_of when.items) set larger within meet) in
     let AllRefuted : List S → Type 0 = λ list. All (λ s. IsRefutedFrom (set ++ s ∷ []) rules) list in
     All-contains (λ s. IsRefutedFrom (set ++ s ∷ []) rules) candidates.items met.shared (subst AllRefuted are refuted) met.in_first larger (IsWithin-push set larger met.shared within met.in_second) obeys
 unmet_refuted (Constrains by version_set candidate) set wanted rules h refuted listed larger within obeys = absurd h
@@ -161,21 +162,21 @@ count_outside-falls same rules set wanted s identity h is =
 
 -- Why each member is there by need, once.
 
-AllMeet-push : {S : Type 0} (lists : List (Vec S Global)) (set : List S) (s : S) → AllMeet set lists → AllMeet (set ++ s ∷ []) lists
+AllMeet-push : {S : Type 0} (lists : List (List S)) (set : List S) (s : S) → AllMeet set lists → AllMeet (set ++ s ∷ []) lists
 AllMeet-push lists set s all = AllMeet-within lists set (set ++ s ∷ []) (λ x h. Contains-append_left set (s ∷ []) x h) all
 
 IsNeeded-push : {N S : Type 0} (rules : List (Rule N S)) (set : List S) (more s : S) → IsNeeded rules set s → IsNeeded rules (set ++ more ∷ []) s
-IsNeeded-push rules set more s (by_root {when = when} listed meet is here) = by_root listed (AllMeet-push when.items set more meet) is (Contains-append_left set (more ∷ []) s here)
-IsNeeded-push rules set more s (by_needed {t = t} {when = when} needed listed meet is here) = by_needed (IsNeeded-push rules set more t needed) listed (AllMeet-push when.items set more meet) is (Contains-append_left set (more ∷ []) s here)
+IsNeeded-push rules set more s (by_root {when = when} listed meet is here) = by_root listed (AllMeet-push (lists_of when.items) set more meet) is (Contains-append_left set (more ∷ []) s here)
+IsNeeded-push rules set more s (by_needed {t = t} {when = when} needed listed meet is here) = by_needed (IsNeeded-push rules set more t needed) listed (AllMeet-push (lists_of when.items) set more meet) is (Contains-append_left set (more ∷ []) s here)
 
 -- a candidate of an open requirement is needed
 unmet_needed : {N S : Type 0} (rule : Rule N S) (rules : List (Rule N S)) (set wanted : List S) (s : S) → AllNeeded rules set → Contains rules rule → IsUnmet set wanted rule → Contains wanted s → IsNeeded rules (set ++ s ∷ []) s
 unmet_needed {N} {S} (Requires Root requirement candidates when) rules set wanted s all listed (here, meet, none, are) is =
     let Has : List S → Type 0 = λ list. Contains list s in
-    by_root listed (AllMeet-push when.items set s meet) (subst Has are is) (Contains-push set s)
+    by_root listed (AllMeet-push (lists_of when.items) set s meet) (subst Has are is) (Contains-push set s)
 unmet_needed {N} {S} (Requires (Solvable t) requirement candidates when) rules set wanted s all listed (here, meet, none, are) is =
     let Has : List S → Type 0 = λ list. Contains list s in
-    by_needed (IsNeeded-push rules set s t (all t here)) listed (AllMeet-push when.items set s meet) (subst Has are is) (Contains-push set s)
+    by_needed (IsNeeded-push rules set s t (all t here)) listed (AllMeet-push (lists_of when.items) set s meet) (subst Has are is) (Contains-push set s)
 unmet_needed (Constrains by version_set candidate) rules set wanted s all listed h is = absurd h
 unmet_needed (Lock locked forbidden) rules set wanted s all listed h is = absurd h
 unmet_needed (Excluded solvable reason) rules set wanted s all listed h is = absurd h

@@ -1,5 +1,5 @@
 -- A valid set obeys every true rule.
-use Rattle.std.proofs.Common.{◌≡◌, List, [], sym, ◌∙◌, ap, subst, inl, inr, Contains, All, arith, Vec, Global}
+use Rattle.std.proofs.Common.{◌≡◌, List, [], sym, ◌∙◌, ap, subst, inl, inr, Contains, All, arith}
 use Rattle.std.specs.Prelude.{Option, Some, None}
 use Rattle.std.proofs.lemmas.List.Elements.{All-contains}
 use Rattle.resolver_clause_store.specs.Lists.{Meets}
@@ -15,7 +15,8 @@ use Rattle.resolver_clause_store.specs.declared.By.{By}
 use Rattle.resolver_clause_store.specs.declared.By.TheVariants.{Root, Solvable}
 use Rattle.resolver_clause_store.specs.declared.Rule.{Rule}
 use Rattle.resolver_clause_store.specs.declared.Rule.TheVariants.{Requires, Constrains, Lock, Excluded, OnePerPackage}
-use Rattle.resolver_clause_store.specs.Rules.{AllMeet, IsPresent, ObeysAlone, Obeys}
+use Rattle.resolver_clause_store.specs.Statements.{statement_of, AllMeet, IsPresent, ObeysAlone}
+use Rattle.resolver_clause_store.specs.Rules.{Obeys}
 use Rattle.resolver_clause_store.specs.TrueRules.{demands_by, Implies, IsTrueRule}
 
 requires_by : {N S : Type 0} (u : Universe N S) (root : Demands) (set : List S) (by : By S) (r : ConditionalRequirement) → IsPresent by set → Contains (demands_by u root by).requirements r → valid.Requires u root (Contains set) r
@@ -26,7 +27,7 @@ constrains_by : {N S : Type 0} (u : Universe N S) (root : Demands) (set : List S
 constrains_by u root set Root v here asked = inl asked
 constrains_by u root set (Solvable s) v here asked = inr (s, here, asked)
 
-active_by : {N S : Type 0} (u : Universe N S) (set : List S) (when : List (Vec S Global)) (c : Option ConditionId) → Implies u when c → AllMeet set when → OptionalConditionHolds u (Contains set) c
+active_by : {N S : Type 0} (u : Universe N S) (set : List S) (when : List (List S)) (c : Option ConditionId) → Implies u when c → AllMeet set when → OptionalConditionHolds u (Contains set) c
 active_by u set when None implied meets = tt
 active_by u set when (Some c) implied meets = implied set meets
 
@@ -36,7 +37,7 @@ none_in s h = absurd (omega (arith, h.1))
 not_unknown : (needs : Needs) (reason : _) → IsKnown needs → needs ≡ unknown reason → ⊥
 not_unknown needs reason known e = subst IsKnown e known
 
-obeys_alone : {N S : Type 0} (u : Universe N S) (root : Demands) (set : List S) → IsValid u root set [] → (rule : Rule N S) → IsTrueRule u root rule → ObeysAlone set rule
+obeys_alone : {N S : Type 0} (u : Universe N S) (root : Demands) (set : List S) → IsValid u root set [] → (rule : Rule N S) → IsTrueRule u root rule → ObeysAlone set (statement_of rule)
 obeys_alone {N} {S} u root set ok (Requires by requirement candidates when) (r, asked, same, are, implied) = λ here meets.
     let met = ok.required r (requires_by u root set by r here asked) (active_by u set _ r.condition implied meets) in
     let HasMember : List S → Type 0 = λ xs. Meets xs set in

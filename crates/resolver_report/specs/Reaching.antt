@@ -3,7 +3,7 @@ use Rattle.std.specs.Prelude.{List, Contains}
 use Rattle.resolver_clause_store.specs.declared.Rule.{Rule}
 use Rattle.resolver_clause_store.specs.declared.Rule.TheVariants.{Requires, Constrains, Lock, Excluded, OnePerPackage}
 use Rattle.resolver_report.specs.ReachedRules.{IsReachedBy}
-use Rattle.resolver_clause_store.specs.Rules.{IsPresent}
+use Rattle.resolver_clause_store.specs.Statements.{IsPresent}
 
 -- the set has just what the rules reach
 pub record IsReachedSet {N S : Type 0} (rules : List (Rule N S)) (set : List S) : Type 0 where

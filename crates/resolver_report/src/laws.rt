@@ -8,8 +8,8 @@ ghost use Rattle.resolver_report.specs.Graphs.{graph_of};
 ghost use Rattle.resolver_report.specs.ReachedPlaces.{AreNodesReached};
 ghost use Rattle.resolver_report.specs.ReachedRules.{IsKept, LeavesKept};
 ghost use Rattle.resolver_clause_store.specs.Rules.{IsRefuted, Obeys};
-ghost use Rattle.resolver_report.specs.TrueEdges.{AreEdgesTrue};
 ghost use Rattle.resolver_clause_store.specs.TrueRules.{IsTrueRule};
+ghost use Rattle.resolver_report.specs.TrueEdges.{AreEdgesTrue};
 ghost use Rattle.resolver_clause_store.specs.declared.Rule.{Rule};
 
 /// A set that is an answer with nothing exempt obeys every list of true rules.

@@ -3,7 +3,8 @@
 ghost use Rattle.std.specs.Prelude.{Any, ◌≡◌, IfErr, IfOk, MatchOption, ◌∷◌, ◌++◌, [], IfNone, IfSome, IsTrue, IsFalse, MatchBool, Contains, All};
 ghost use Rattle.resolver_clause_store.specs.Laws.{IsIdentity};
 ghost use Rattle.resolver_clause_store.specs.Lists.{HasNoRepeats};
-ghost use Rattle.resolver_clause_store.specs.Rules.{AllMeet, AllNeeded, IsPresent, IsRefuted, Obeys};
+ghost use Rattle.resolver_clause_store.specs.Statements.{AllMeet, IsPresent, lists_of};
+ghost use Rattle.resolver_clause_store.specs.Rules.{AllNeeded, IsRefuted, Obeys};
 ghost use Rattle.resolver_report.specs.Plain.{BreaksSome, Clashes, HasTwo, IsAllowed, IsAloneMarked, IsForbidden, IsMet, IsOpen, IsUnmet, MarksNoOther, MarksOther};
 ghost use Rattle.resolver_report.specs.Searching.{IsChosen, IsSearching, IsStep, Shows, search_work, untried_view, work_of_choice};
 
@@ -37,7 +38,7 @@ fn is_forbidden<N, S: Eq>(rule: &Rule<N, S>, set: &[S]) -> bool
 /// Whether each list has a member in the set.
 fn all_meet<S: Eq>(lists: &[Vec<S>], set: &[S]) -> bool
     requires { IsIdentity S.eq }
-    ensures { MatchBool result (AllMeet set.now lists.now) (AllMeet set.now lists.now → ⊥) }
+    ensures { MatchBool result (AllMeet set.now (lists_of lists.now)) (AllMeet set.now (lists_of lists.now) → ⊥) }
 {
     for list in lists {
         if !meets(list, set) {

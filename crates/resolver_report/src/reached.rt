@@ -7,7 +7,8 @@ ghost use Rattle.resolver_clause_store.specs.Laws.{IsIdentity};
 ghost use Rattle.resolver_report.specs.ReachedRules.{IsKept, LeavesJust, LeavesKept};
 ghost use Rattle.resolver_report.specs.Listed.{items_at};
 ghost use Rattle.resolver_report.specs.Reaching.{IsAbout, IsReachedSet};
-ghost use Rattle.resolver_clause_store.specs.Rules.{IsPresent, IsRefuted};
+ghost use Rattle.resolver_clause_store.specs.Statements.{IsPresent};
+ghost use Rattle.resolver_clause_store.specs.Rules.{IsRefuted};
 
 use crate::askers::{Asked, asked_of};
 use indexmap::IndexSet;

@@ -8,7 +8,8 @@ use Rattle.std.proofs.lemmas.List.Elements.{All-contains}
 use Rattle.resolver_clause_store.proofs.FormulaLemmas.{beq-true}
 use Rattle.resolver_clause_store.specs.Formula.{clause_true, literal_true}
 use Rattle.resolver_clause_store.specs.Lists.{Meets}
-use Rattle.resolver_clause_store.specs.Rules.{IsPresent, AllMeet, ObeysAlone, Obeys}
+use Rattle.resolver_clause_store.specs.Statements.{lists_of, statement_of, IsPresent, AllMeet, ObeysAlone}
+use Rattle.resolver_clause_store.specs.Rules.{Obeys}
 use Rattle.resolver_clause_store.specs.Variables.{AreDistinct}
 use Rattle.resolver_clause_store.specs.declared.By.{By}
 use Rattle.resolver_clause_store.specs.declared.By.TheVariants.{Root, Solvable}
@@ -16,6 +17,7 @@ use Rattle.resolver_clause_store.specs.declared.Literal.{Literal}
 use Rattle.resolver_clause_store.specs.declared.Rule.{Rule}
 use Rattle.resolver_clause_store.specs.declared.Rule.TheVariants.{Requires, Constrains, Lock, Excluded, OnePerPackage}
 use Rattle.resolver_encoding.proofs.CodeLemmas.{digit_apart, pow_under}
+use Rattle.resolver_encoding.proofs.Lists.{Contains-map}
 use Rattle.resolvo.proofs.LineLemmas.{here, there, none_in, Contains-at, some_at, kept_here, kept_there, kept_cases, in_marked, zip_at, zip_right, bit_line, bit_line_in, member_line, member_line_in, line_in, rule_of_line}
 use Rattle.resolver_encoding.specs.Codes.{bit}
 use Rattle.resolvo.specs.Minimal.{marked}
@@ -147,10 +149,10 @@ module _ {N S : Type 0} (propositions : List (Proposition N S)) (values : ℕ �
     AreTrue width place code rule = (line : Line N S) → Contains (lines_of width place code rule) line → Some_of line.atoms
 
     -- a list with a member has its variable true
-    list_met : (place j : ℕ) (lists : List (Vec S Global)) → ((line : Line N S) → Contains (condition_lines place 0 lists) line → Some_of line.atoms) → AllMeet chosen lists → j < length lists → Is (Listed place j) false → ⊥
+    list_met : (place j : ℕ) (lists : List (Vec S Global)) → ((line : Line N S) → Contains (condition_lines place 0 lists) line → Some_of line.atoms) → AllMeet chosen (lists_of lists) → j < length lists → Is (Listed place j) false → ⊥
     list_met place j lists are_true meet below out =
         let at = some_at lists j below in
-        let met : Meets at.0.items chosen = All-contains (λ (list : Vec S Global). Meets list.items chosen) lists at.0 meet (Contains-at lists j at.0 at.1) in
+        let met : Meets at.0.items chosen = All-contains (λ xs. Meets xs chosen) (lists_of lists) at.0.items meet (Contains-map (λ (list : Vec S Global). list.items) lists at.0 (Contains-at lists j at.0 at.1)) in
         ⊎_elim
         (λ (absent : Is (Member met.shared) false). not_left_out met.shared met.in_second absent)
         (λ (rest : Some_of (atom (Listed place j) true ∷ [])). ⊎_elim
@@ -159,7 +161,7 @@ module _ {N S : Type 0} (propositions : List (Proposition N S)) (values : ℕ �
         rest)
         (are_true (member_line place j met.shared) (member_line_in place 0 lists j j at.0 met.shared (omega arith) at.1 met.in_first))
 
-    alone : (width place code : ℕ) (rule : Rule N S) → AreTrue width place code rule → ObeysAlone chosen rule
+    alone : (width place code : ℕ) (rule : Rule N S) → AreTrue width place code rule → ObeysAlone chosen (statement_of rule)
     alone width place code (Requires by requirement candidates when) are_true = λ present meet.
         let first : Line N S = asking place (asker_atoms by ++ (list_atoms place (length when.items) ++ candidate_atoms candidates.items)) in
         ⊎_elim

@@ -1,84 +1,24 @@
 -- What rules that state the same have in common.
-use Rattle.std.proofs.Common.{◌≡◌, ℕ, zero, suc, ◌<◌, List, [], ◌∷◌, ◌++◌, length, get_or, take, drop, arith, refl, sym, ap, ◌∙◌, subst, Contains, All, Vec, Global, Option, Some, None}
-use Rattle.std.specs.Prelude.{map, remove}
+use Rattle.std.proofs.Common.{◌≡◌, ℕ, zero, suc, ◌<◌, List, [], ◌∷◌, ◌++◌, length, get_or, take, drop, arith, refl, sym, subst, Contains, All}
+use Rattle.std.specs.Prelude.{remove}
 use Rattle.std.specs.List.{AllZip}
-use Rattle.std.proofs.lemmas.List.Elements.{All-map, All-cons, All-contains, All-head, All-tail, All-nil, Contains-append_right, Contains-get_or, length_all_zip}
-use Rattle.resolver_clause_store.specs.Lists.{Meets}
+use Rattle.std.proofs.lemmas.List.Elements.{All-contains, Contains-append_right, Contains-get_or, length_all_zip}
 use Rattle.resolver_clause_store.specs.Universe.{Universe, Demands}
-use Rattle.resolver_clause_store.specs.Candidates.{others, requirement_candidates}
-use Rattle.resolver_clause_store.specs.Conditions.{ConditionHolds}
-use Rattle.resolver_clause_store.specs.Rules.{IsPresent, AllMeet, ObeysAlone, Obeys, IsRefuted, IsIrreducible}
-use Rattle.resolver_clause_store.specs.TrueRules.{Implies, IsTrueRule, demands_by}
-use Rattle.resolver_clause_store.specs.SameRules.{StatesTheSame, lists_of}
-use Rattle.resolver_clause_store.specs.declared.By.{By}
-use Rattle.resolver_clause_store.specs.declared.ConditionId.{ConditionId}
-use Rattle.resolver_clause_store.specs.declared.StringId.{StringId}
-use Rattle.resolver_clause_store.specs.declared.VersionSetId.{VersionSetId}
+use Rattle.resolver_clause_store.specs.Statements.{ObeysAlone, StatesTheSame, one_per_package, statement_of}
+use Rattle.resolver_clause_store.specs.Rules.{Obeys, IsRefuted, IsIrreducible}
+use Rattle.resolver_clause_store.specs.TrueRules.{IsTrueRule, IsTrueStatement}
 use Rattle.resolver_clause_store.specs.declared.Rule.{Rule}
 use Rattle.resolver_clause_store.specs.declared.Rule.TheVariants.{Requires, Constrains, Lock, Excluded, OnePerPackage}
 
 pub StatesTheSame-flip : {N S : Type 0} (rule other : Rule N S) → StatesTheSame rule other → StatesTheSame other rule
-StatesTheSame-flip (Requires by requirement candidates when) (Requires by' requirement' candidates' when') (a, b, c, d) = (sym a, sym b, sym c, sym d)
-StatesTheSame-flip (Constrains by version_set candidate) (Constrains by' version_set' candidate') (a, b, c) = (sym a, sym b, sym c)
-StatesTheSame-flip (Lock locked forbidden) (Lock locked' forbidden') (a, b) = (sym a, sym b)
-StatesTheSame-flip (Excluded solvable reason) (Excluded solvable' reason') (a, b) = (sym a, sym b)
-StatesTheSame-flip (OnePerPackage name instance) (OnePerPackage name' instance') (a, b) = (sym a, sym b)
-StatesTheSame-flip rule other h = absurd h
+StatesTheSame-flip rule other same = sym same
 
--- the lists of vectors, all at once
-to_lists : {S : Type 0} (set : List S) (lists : List (Vec S Global)) → AllMeet set lists → All (λ xs. Meets xs set) (lists_of lists)
-to_lists set lists all = All-map (λ xs. Meets xs set) (λ (list : Vec _ Global). list.items) lists all
-
-from_lists : {S : Type 0} (set : List S) (lists : List (Vec S Global)) → All (λ xs. Meets xs set) (lists_of lists) → AllMeet set lists
-from_lists {S} set [] all = All-nil (λ (list : Vec S Global). Meets list.items set)
-from_lists {S} set (list ∷ lists) all =
-    All-cons (λ (l : Vec S Global). Meets l.items set) list lists (All-head (λ xs. Meets xs set) list.items (lists_of lists) all) (from_lists set lists (All-tail (λ xs. Meets xs set) list.items (lists_of lists) all))
-
-pub AllMeet-same : {S : Type 0} (set : List S) (lists others : List (Vec S Global)) → lists_of lists ≡ lists_of others → AllMeet set lists → AllMeet set others
-AllMeet-same {S} set lists others same all = let P : List (List S) → Type 0 = λ ls. All (λ xs. Meets xs set) ls in from_lists set others (subst P same (to_lists set lists all))
-
-IsPresent-same : {S : Type 0} (by other : By S) (set : List S) → by ≡ other → IsPresent by set → IsPresent other set
-IsPresent-same {S} by other set same here = let P : By S → Type 0 = λ b. IsPresent b set in subst P same here
-
-pub ObeysAlone-same : {N S : Type 0} (set : List S) (rule other : Rule N S) → StatesTheSame rule other → ObeysAlone set rule → ObeysAlone set other
-ObeysAlone-same {N} {S} set (Requires by requirement candidates when) (Requires by' requirement' candidates' when') (a, b, c, d) h = λ here all.
-    let P : List S → Type 0 = λ xs. Meets xs set in
-    subst P c (h (IsPresent-same by' by set (sym a) here) (AllMeet-same set when'.items when.items (sym d) all))
-ObeysAlone-same {N} {S} set (Constrains by version_set candidate) (Constrains by' version_set' candidate') (a, b, c) h = λ here inside. h (IsPresent-same by' by set (sym a) here) (subst (Contains set) (sym c) inside)
-ObeysAlone-same set (Lock locked forbidden) (Lock locked' forbidden') (a, b) h = λ inside. h (subst (Contains set) (sym b) inside)
-ObeysAlone-same set (Excluded solvable reason) (Excluded solvable' reason') (a, b) h = λ inside. h (subst (Contains set) (sym a) inside)
-ObeysAlone-same set (OnePerPackage name instance) (OnePerPackage name' instance') (a, b) h = tt
-ObeysAlone-same set rule other same h = absurd same
-
-none_of : {S : Type 0} (lists others : List (Vec S Global)) → lists_of lists ≡ lists_of others → lists ≡ [] → others ≡ []
-none_of lists [] same none = refl
-none_of {S} lists (x ∷ xs) same none = let e : lists_of {S = S} [] ≡ lists_of (x ∷ xs) = ap lists_of (sym none) ∙ same in absurd cc
-
-Implies-same : {N S : Type 0} (u : Universe N S) (lists others : List (Vec S Global)) (condition : Option ConditionId) → lists_of lists ≡ lists_of others → Implies u lists condition → Implies u others condition
-Implies-same u lists others None same h = none_of lists others same h
-Implies-same u lists others (Some c) same h = λ set all. h set (AllMeet-same set others lists (sym same) all)
+pub ObeysAlone-same : {N S : Type 0} (set : List S) (rule other : Rule N S) → StatesTheSame rule other → ObeysAlone set (statement_of rule) → ObeysAlone set (statement_of other)
+ObeysAlone-same set rule other same h = subst (ObeysAlone set) same h
 
 -- what states the same is true of the same
 pub IsTrueRule-same : {N S : Type 0} (u : Universe N S) (root : Demands) (rule other : Rule N S) → StatesTheSame rule other → IsTrueRule u root rule → IsTrueRule u root other
-IsTrueRule-same {N} {S} u root (Requires by requirement candidates when) (Requires by' requirement' candidates' when') (a, b, c, d) (r, listed, is, all, implied) =
-    let Listed : By S → Type 0 = λ who. Contains (demands_by u root who).requirements r in
-    (r, subst Listed a listed, is ∙ b, sym c ∙ (all ∙ ap (requirement_candidates u) b), Implies-same u when.items when'.items r.condition d implied)
-IsTrueRule-same {N} {S} u root (Constrains by version_set candidate) (Constrains by' version_set' candidate') (a, b, c) (stated, ruled) =
-    let Stated : By S → VersionSetId → Type 0 = λ who v. Contains (demands_by u root who).constraints v in
-    let Ruled : VersionSetId → S → Type 0 = λ v s. Contains (others u v) s in
-    let at : Stated by' version_set = subst (λ who. Stated who version_set) a stated in
-    let among : Ruled version_set candidate' = subst (Ruled version_set) c ruled in
-    (subst (Stated by') b at, subst (λ v. Ruled v candidate') b among)
-IsTrueRule-same {N} {S} u root (Lock locked forbidden) (Lock locked' forbidden') (a, b) h =
-    let P : S → S → Type 0 = λ l f. IsTrueRule u root (Lock l f) in
-    let first : P locked' forbidden = subst (λ l. P l forbidden) a h in
-    subst (P locked') b first
-IsTrueRule-same {N} {S} u root (Excluded solvable reason) (Excluded solvable' reason') (a, b) h =
-    let P : S → StringId → Type 0 = λ s t. IsTrueRule u root (Excluded s t) in
-    let first : P solvable' reason = subst (λ s. P s reason) a h in
-    subst (P solvable') b first
-IsTrueRule-same {N} {S} u root (OnePerPackage name instance) (OnePerPackage name' instance') (a, b) h = ap u.name (sym b) ∙ (h ∙ a)
-IsTrueRule-same u root rule other same h = absurd same
+IsTrueRule-same u root rule other same h = subst (IsTrueStatement u root) same h
 
 -- an element stands in a longer list
 further : {X : Type 0} (y : X) (ys : List X) (x : X) → Contains ys x → Contains (y ∷ ys) x
@@ -120,13 +60,17 @@ zip_drop R (suc n) (x ∷ xs) (y ∷ ys) (here, rest) = zip_drop R n xs ys rest
 pub zip_remove : {X : Type 0} (R : X → X → Type 0) (xs ys : List X) (k : ℕ) → AllZip R xs ys → AllZip R (remove xs k) (remove ys k)
 zip_remove R xs ys k h = zip_append R (take k xs) (take k ys) (drop (suc k) xs) (drop (suc k) ys) (zip_take R k xs ys h) (zip_drop R (suc k) xs ys h)
 
+-- the rule that states a mark is that mark
+is_mark : {N S : Type 0} (rule : Rule N S) (name : N) (instance : S) → one_per_package name instance ≡ statement_of rule → OnePerPackage name instance ≡ rule
+is_mark (Requires by requirement candidates when) name instance e = absurd cc
+is_mark (Constrains by version_set candidate) name instance e = absurd cc
+is_mark (Lock locked forbidden) name instance e = absurd cc
+is_mark (Excluded solvable reason) name instance e = absurd cc
+is_mark (OnePerPackage name' instance') name instance e = cc
+
 -- the mark that states the same is the same one
 marked_too : {N S : Type 0} (rules : List (Rule N S)) (name : N) (instance : S) (other : Rule N S) → StatesTheSame (OnePerPackage name instance) other → Contains rules other → Contains rules (OnePerPackage name instance)
-marked_too {N} {S} rules name instance (OnePerPackage name' instance') (a, b) inside =
-    let At : N → S → Type 0 = λ n s. Contains rules (OnePerPackage n s) in
-    let first : At name instance' = subst (λ n. At n instance') (sym a) inside in
-    subst (At name) (sym b) first
-marked_too rules name instance other same inside = absurd same
+marked_too {N} {S} rules name instance other same inside = let Has : Rule N S → Type 0 = λ rule. Contains rules rule in subst Has (sym (is_mark other name instance same)) inside
 
 pub Obeys-same : {N S : Type 0} (rules others : List (Rule N S)) → AllZip StatesTheSame rules others → (set : List S) → Obeys set others → Obeys set rules
 Obeys-same {N} {S} rules others same set obeys = record {

@@ -5,13 +5,15 @@ use Rattle.std.specs.Bool.{beq}
 use Rattle.std.specs.List.{AllZip, list_any}
 use Rattle.std.specs.Option.{option_map_or}
 use Rattle.std.proofs.lemmas.Bool.{and_from, and_parts, both_ways, cases_Bool, cases_lt, false≢true, or_cases, or_left, or_parts, or_right, true_from_ne_false}
+use Rattle.std.proofs.lemmas.List.Elements.{All-map}
 use Rattle.std.proofs.lemmas.List.Folds.{Any-from_list_any, list_any_at}
 use Rattle.std.proofs.lemmas.Map.Views.{Contains-from_any}
 use Rattle.std.proofs.lemmas.Option.{none-some, same_Some, slice_get-get_or}
 use Rattle.resolver_clause_store.specs.Formula.{clause_true, literal_true}
 use Rattle.resolver_clause_store.specs.Laws.{IsIdentity}
 use Rattle.resolver_clause_store.specs.Lists.{Meets}
-use Rattle.resolver_clause_store.specs.Rules.{IsPresent, AllMeet, ObeysAlone, Obeys}
+use Rattle.resolver_clause_store.specs.Statements.{lists_of, statement_of, IsPresent, AllMeet, ObeysAlone}
+use Rattle.resolver_clause_store.specs.Rules.{Obeys}
 use Rattle.resolver_clause_store.specs.declared.By.{By}
 use Rattle.resolver_clause_store.specs.declared.By.TheVariants.{Root, Solvable}
 use Rattle.resolver_clause_store.specs.declared.Literal.{Literal}
@@ -196,15 +198,15 @@ module _ {N S : Type 0} (names : N → N → Bool) (solvables : S → S → Bool
   passes o = option_map_or (λ (one : Vec S Global). list_any has one.items) o false
 
   -- lists whose variables are true have members in the set
-  lists_meet : (lists : List (Vec S Global)) → ((j : ℕ) → j < length lists → passes (slice_get lists j) ≡ true) → AllMeet set lists
-  lists_meet lists on = λ k d below.
+  lists_meet : (lists : List (Vec S Global)) → ((j : ℕ) → j < length lists → passes (slice_get lists j) ≡ true) → AllMeet set (lists_of lists)
+  lists_meet lists on = All-map (λ xs. Meets xs set) (λ (list : Vec S Global). list.items) lists (λ k d below.
       let one : Vec S Global = get_or lists k d in
       let is : passes (slice_get lists k) ≡ list_any has one.items = ap passes (slice_get-get_or lists k d below) in
       let w = any_from has one.items (sym is ∙ on k below) in
-      record { shared = w.0; in_first = w.1; in_second = in_set w.0 w.2 }
+      record { shared = w.0; in_first = w.1; in_second = in_set w.0 w.2 })
 
   module _ (place code : ℕ) (mark : slice_index_or marks place false ≡ true) where
-    obeyed : (rule : Rule N S) → slice_get rules place ≡ Some rule → ObeysAlone set rule
+    obeyed : (rule : Rule N S) → slice_get rules place ≡ Some rule → ObeysAlone set (statement_of rule)
     obeyed rule at = obeys.each rule (marked_in marks rules place rule mark at)
 
     -- no line of a marked rule is false
@@ -214,7 +216,7 @@ module _ {N S : Type 0} (names : N → N → Bool) (solvables : S → S → Bool
         (λ (none : Contains [] line). none_in line none)
         (cons_cases only [] line inside)
 
-    asking_line : (by : By S) (candidates : Vec S Global) (lists : List (Vec S Global)) → ((j : ℕ) → value (Listed place j) ≡ passes (slice_get lists j)) → (IsPresent by set → AllMeet set lists → Meets candidates.items set) → None_true (asker_atoms by ++ (list_atoms place (length lists) ++ candidate_atoms candidates.items)) → ⊥
+    asking_line : (by : By S) (candidates : Vec S Global) (lists : List (Vec S Global)) → ((j : ℕ) → value (Listed place j) ≡ passes (slice_get lists j)) → (IsPresent by set → AllMeet set (lists_of lists) → Meets candidates.items set) → None_true (asker_atoms by ++ (list_atoms place (length lists) ++ candidate_atoms candidates.items)) → ⊥
     asking_line by candidates lists is alone wrong =
         let first = false_parts value (asker_atoms by) (list_atoms place (length lists) ++ candidate_atoms candidates.items) wrong in
         let second = false_parts value (list_atoms place (length lists)) (candidate_atoms candidates.items) first.1 in

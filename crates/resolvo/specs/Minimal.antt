@@ -2,8 +2,8 @@
 use Rattle.std.specs.Prelude.{◌≡◌, ℕ, ◌<◌, ◌⊎◌, ◌++◌, ◌∷◌, [], Bool, true, false, cond, List, length, drop, replicate}
 use Rattle.std.specs.List.{AllZip, slice_index_or}
 use Rattle.resolver_clause_store.specs.Lists.{IsCut}
+use Rattle.resolver_clause_store.specs.Statements.{StatesTheSame}
 use Rattle.resolver_clause_store.specs.Rules.{IsRefuted}
-use Rattle.resolver_clause_store.specs.SameRules.{StatesTheSame}
 use Rattle.resolver_clause_store.specs.declared.Rule.{Rule}
 
 -- What is left in the end of rules that have their turns one after another. Before the first of these, `kept` was left of

@@ -1,5 +1,5 @@
 use Rattle.std.proofs.Common.{◌≡◌, take}
-use Rattle.resolver_clause_store.specs.SameRules.{lists_of}
+use Rattle.resolver_clause_store.specs.Statements.{lists_of}
 use Rattle.resolver_clause_store.proofs.rules.copy_lists.Given as goal
 
 abbrev pub invariant-loop-list : goal.invariant-loop-list

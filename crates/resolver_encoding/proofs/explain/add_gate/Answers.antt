@@ -1,7 +1,7 @@
 use Rattle.std.proofs.Common.{◌≡◌, ◌∙◌, [], List, subst}
 use Rattle.resolver_clause_store.specs.declared.By.TheVariants.{Solvable as BySolvable}
 use Rattle.resolver_encoding.specs.Listing.{AddsRules, SomeOf}
-use Rattle.resolver_encoding.specs.Statements.{requires}
+use Rattle.resolver_clause_store.specs.Statements.{requires}
 use Rattle.resolver_encoding.proofs.explain.add_gate.Goals as goal
 
 pub returns-clause-added : goal.returns-clause-added

@@ -1,7 +1,7 @@
 use Rattle.std.proofs.Common.{◌≡◌, List, subst, map}
 use Rattle.resolver_clause_store.specs.Candidates.{requirement_candidates}
 use Rattle.resolver_encoding.specs.Listing.{AddsRules}
-use Rattle.resolver_encoding.specs.Statements.{requires}
+use Rattle.resolver_clause_store.specs.Statements.{requires}
 use Rattle.resolver_encoding.proofs.explain.add_requirement.Goals as goal
 
 pub returns-clause-added : goal.returns-clause-added

@@ -6,7 +6,7 @@ use Rattle.resolver_clause_store.specs.declared.VersionSetId.{VersionSetId}
 use Rattle.resolver_clause_store.specs.declared.By.TheVariants.{Solvable as BySolvable}
 use Rattle.resolver_encoding.specs.Groups.{IsNamed}
 use Rattle.resolver_encoding.specs.Listing.{AddsRules, Asks, SomeOf}
-use Rattle.resolver_encoding.specs.Statements.{constrains, requires}
+use Rattle.resolver_clause_store.specs.Statements.{constrains, requires}
 use Rattle.resolver_encoding.proofs.ListingLemmas.{added_same}
 use Rattle.resolver_encoding.proofs.explain.add_rules.Goals as goal
 

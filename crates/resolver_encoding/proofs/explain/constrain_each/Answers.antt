@@ -1,5 +1,5 @@
 use Rattle.std.proofs.Common.{◌≡◌, arith}
-use Rattle.resolver_encoding.specs.Statements.{constrains}
+use Rattle.resolver_clause_store.specs.Statements.{constrains}
 use Rattle.resolver_encoding.proofs.ListingLemmas.{added_done, added_item}
 use Rattle.resolver_encoding.proofs.explain.constrain_each.Goals as goal
 

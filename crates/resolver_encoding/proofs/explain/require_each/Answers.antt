@@ -1,7 +1,7 @@
 use Rattle.std.proofs.Common.{◌≡◌, [], List, arith, ap, subst, map}
 use Rattle.resolver_clause_store.specs.declared.By.TheVariants.{Solvable as BySolvable}
 use Rattle.resolver_encoding.specs.Listing.{AddsRules}
-use Rattle.resolver_encoding.specs.Statements.{requires}
+use Rattle.resolver_clause_store.specs.Statements.{requires}
 use Rattle.resolver_encoding.proofs.ListingLemmas.{added_done, added_item}
 use Rattle.resolver_encoding.proofs.explain.require_each.Goals as goal
 

@@ -1,7 +1,7 @@
 use Rattle.std.proofs.Common.{◌≡◌, [], take}
 use Rattle.resolver_clause_store.specs.declared.By.TheVariants.{Solvable as BySolvable}
 use Rattle.resolver_encoding.specs.Listing.{AddsRules, SomeOf}
-use Rattle.resolver_encoding.specs.Statements.{requires}
+use Rattle.resolver_clause_store.specs.Statements.{requires}
 use Rattle.resolver_encoding.proofs.explain.require_each.Given as goal
 
 abbrev pub invariant-loop-requirer : goal.invariant-loop-requirer

@@ -1,6 +1,6 @@
 use Rattle.std.proofs.Common.{take}
 use Rattle.std.specs.List.{AllZip}
-use Rattle.resolver_clause_store.specs.SameRules.{StatesTheSame}
+use Rattle.resolver_clause_store.specs.Statements.{StatesTheSame}
 use Rattle.resolvo.specs.Minimal.{marked}
 use Rattle.resolvo.proofs.minimal.copies_of.Given as goal
 

@@ -3,7 +3,7 @@ use Rattle.std.specs.Prelude.{map}
 use Rattle.resolver_clause_store.specs.Candidates.{matching}
 use Rattle.resolver_encoding.specs.Called.{IsCalledBy, IsWantedBy}
 use Rattle.resolver_encoding.specs.Encodings.{AsksFor, IsTrueUnder, IsUnmet}
-use Rattle.resolver_encoding.specs.Statements.{Implies}
+use Rattle.resolver_clause_store.specs.TrueRules.{Implies}
 use Rattle.resolver_encoding.proofs.EncodingLemmas.{IsAskStep-weaker, IsReadStep-of}
 use Rattle.resolver_encoding.proofs.FiringLemmas.{IsReadStep-deferral, deferral_left}
 use Rattle.resolver_encoding.proofs.RequirementLemmas.{active_where, disjunct_implies, fails_if, holds_if}
