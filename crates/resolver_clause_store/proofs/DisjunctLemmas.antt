@@ -26,7 +26,7 @@ pub Contains-none : {X : Type 0} (x : X) → Contains [] x → ⊥
 Contains-none x h = absurd (omega (arith, h.1))
 
 -- members of a mapped list
-Contains-map : {X Y : Type 0} (f : X → Y) (xs : List X) (x : X) → Contains xs x → Contains (map f xs) (f x)
+pub Contains-map : {X Y : Type 0} (f : X → Y) (xs : List X) (x : X) → Contains xs x → Contains (map f xs) (f x)
 Contains-map f [] x h = absurd (Contains-none x h)
 Contains-map f (y ∷ ys) x h = ⊎_elim
     (λ e. (0, omega arith, ap f e))

@@ -1,10 +1,11 @@
 -- Why the plain search is right, and why it ends.
-use Rattle.std.proofs.Common.{◌≡◌, ◌≢◌, ℕ, zero, suc, ◌<◌, ◌≤◌, Bool, true, false, cond, ◌||◌, List, [], ◌∷◌, ◌++◌, refl, sym, ◌∙◌, subst, inl, inr, arith, Contains, All}
+use Rattle.std.proofs.Common.{◌≡◌, ◌≢◌, ℕ, zero, suc, ◌<◌, ◌≤◌, Bool, true, false, cond, ◌||◌, List, [], ◌∷◌, ◌++◌, refl, sym, ◌∙◌, subst, inl, inr, arith, Contains, All, Vec, Global}
 use Rattle.std.specs.List.{list_any}
 use Rattle.std.proofs.lemmas.List.Elements.{All-contains, All-weaker, All-from_get_or, Contains-append_left, Contains-append_right, Contains-push, Contains-push_cases}
 use Rattle.std.proofs.lemmas.List.{get_or_default}
 use Rattle.std.proofs.lemmas.List.Quantifiers.{all_pairs_push}
 use Rattle.std.proofs.lemmas.List.Folds.{list_any-append, list_any_none}
+use Rattle.resolver_clause_store.proofs.DisjunctLemmas.{Contains-map}
 use Rattle.resolver_clause_store.specs.Laws.{IsIdentity}
 use Rattle.resolver_clause_store.specs.Lists.{HasNoRepeats, Meets, IsWithin}
 use Rattle.resolver_clause_store.specs.declared.By.{By}
@@ -27,6 +28,10 @@ Meets-within list set larger within met = record { shared = met.shared; in_first
 
 pub AllMeet-within : {S : Type 0} (lists : List (List S)) (set larger : List S) → IsWithin set larger → AllMeet set lists → AllMeet larger lists
 AllMeet-within lists set larger within all = All-weaker (λ list. Meets list set) (λ list. Meets list larger) (λ list met. Meets-within list set larger within met) lists all
+
+-- a list without a member in the set
+pub AllMeet-none : {S : Type 0} (lists : List (Vec S Global)) (set : List S) (list : Vec S Global) → Contains lists list → (Meets list.items set → ⊥) → AllMeet set (lists_of lists) → ⊥
+AllMeet-none lists set list inside none all = none (All-contains (λ xs. Meets xs set) (lists_of lists) list.items all (Contains-map (λ (one : Vec _ Global). one.items) lists list inside))
 
 -- what is forbidden stays forbidden in a larger set
 forbidden_stays : {N S : Type 0} (rule : Rule N S) (set larger : List S) → IsForbidden set rule → IsWithin set larger → ObeysAlone larger (statement_of rule) → ⊥
