@@ -30,14 +30,16 @@ pub version_written : (xs : List ConditionStep) (spec : Spec) (operators : ℕ) 
 version_written xs spec operators true w e = depth_push xs (operators + 0) (Version spec) e ∙ ap Some (omega arith)
 version_written xs spec operators false w e = cc
 
-joined_push : (xs : List ConditionStep) (n m : ℕ) (step : ConditionStep) → ((parts : ℕ) → stepped step parts ≡ joined parts) → depth_of xs ≡ Some n → n ≡ m + 2 → depth_of (xs ++ step ∷ []) ≡ Some (m + 1)
+joined_push : (xs : List ConditionStep) (n m : ℕ) (step : ConditionStep) → ((parts : ℕ) → stepped step parts ≡ joined parts) → depth_of xs ≡ Some n →
+    n ≡ m + 2 → depth_of (xs ++ step ∷ []) ≡ Some (m + 1)
 joined_push xs n m step joins e two = depth_push xs n step e ∙ (joins n ∙ joined_two n m two)
 
 -- an `and` that waits is written out: so many other operators wait, inside and outside
 pub and_written : (xs : List ConditionStep) (inside outside : ℕ) (waits wants : Bool) → waits ≡ true → wants ≡ false
     → depth_of xs ≡ Some ((inside + cond waits 1 0) + outside + cond wants 0 1)
     → depth_of (xs ++ And ∷ []) ≡ Some ((inside + 0) + outside + cond wants 0 1)
-and_written xs inside outside true false a w e = joined_push xs ((inside + 1) + outside + 1) (inside + outside) And (λ n. refl) e (omega arith) ∙ ap Some (omega arith)
+and_written xs inside outside true false a w e = joined_push xs ((inside + 1) + outside + 1) (inside + outside) And (λ n. refl) e (omega arith) ∙
+    ap Some (omega arith)
 and_written xs inside outside true true a w e = cc
 and_written xs inside outside false wants a w e = cc
 
@@ -45,7 +47,8 @@ and_written xs inside outside false wants a w e = cc
 pub or_written : (xs : List ConditionStep) (inside outside : ℕ) (waits wants : Bool) → waits ≡ true → wants ≡ false
     → depth_of xs ≡ Some ((cond waits 1 0 + inside) + outside + cond wants 0 1)
     → depth_of (xs ++ Or ∷ []) ≡ Some ((0 + inside) + outside + cond wants 0 1)
-or_written xs inside outside true false a w e = joined_push xs ((1 + inside) + outside + 1) (inside + outside) Or (λ n. refl) e (omega arith) ∙ ap Some (omega arith)
+or_written xs inside outside true false a w e = joined_push xs ((1 + inside) + outside + 1) (inside + outside) Or (λ n. refl) e (omega arith) ∙
+    ap Some (omega arith)
 or_written xs inside outside true true a w e = cc
 or_written xs inside outside false wants a w e = cc
 
@@ -57,4 +60,5 @@ pub steps_or : (xs : List ConditionStep) → All IsStep xs → All IsStep (xs ++
 steps_or xs h = All-push IsStep xs Or h (λ spec e. cc)
 
 pub steps_version : (xs : List ConditionStep) (spec : Spec) → All IsStep xs → IsBounded spec.versions → All IsStep (xs ++ Version spec ∷ [])
-steps_version xs spec h bounded = All-push IsStep xs (Version spec) h (λ other e. subst (λ s. IsBounded s.versions) (let same : spec ≡ other = cc in same) bounded)
+steps_version xs spec h bounded =
+    All-push IsStep xs (Version spec) h (λ other e. subst (λ s. IsBounded s.versions) (let same : spec ≡ other = cc in same) bounded)

@@ -1,5 +1,6 @@
 -- What `insert_full` leaves of a set in insertion order, seen through a view of its elements.
-use Rattle.std.proofs.Common.{◌≡◌, ℕ, zero, suc, ◌+◌, ◌<◌, ◌≤◌, length, ◌⊎◌, inl, inr, ⊎_elim, Bool, true, false, cond, List, [], ◌∷◌, ◌++◌, refl, arith, sym, ◌∙◌, subst, ap, Some, None}
+use Rattle.std.proofs.Common.{◌≡◌, ℕ, zero, suc, ◌+◌, ◌<◌, ◌≤◌, length, ◌⊎◌, inl, inr, ⊎_elim, Bool, true, false, cond, List, [], ◌∷◌, ◌++◌, refl, arith, sym}
+use Rattle.std.proofs.Common.{◌∙◌, subst, ap, Some, None}
 use Rattle.std.specs.Prelude.{Contains, Option, Result, Ok, Err, IfErr, IfNone, IfSome, slice_get, map, get_or, nat_lt}
 use Rattle.std.specs.Result.{IsErrAnd}
 use Rattle.std.proofs.lemmas.List.{length-map, length_push}
@@ -42,12 +43,15 @@ all-at P (x ∷ xs) h (suc j) b e = all-at P xs h.1 j b e
 clash : (b : Bool) → b ≡ true → b ≡ false → ⊥
 clash b e f = cc
 
-alone-at : {T X : Type 0} (v : T → X) (eq : T → T → Bool) (same : (a b : T) → Decides (eq a b) (v a ≡ v b)) (xs : List T) → IsDistinct eq xs → (i j : ℕ) (a b : T) → slice_get xs i ≡ Some a → slice_get xs j ≡ Some b → v a ≡ v b → i ≡ j
+alone-at : {T X : Type 0} (v : T → X) (eq : T → T → Bool) (same : (a b : T) → Decides (eq a b) (v a ≡ v b)) (xs : List T) → IsDistinct eq xs →
+    (i j : ℕ) (a b : T) → slice_get xs i ≡ Some a → slice_get xs j ≡ Some b → v a ≡ v b → i ≡ j
 unfolding IsDistinct
 alone-at v eq same [] d i j a b at bt e = absurd cc
 alone-at v eq same (x ∷ xs) d zero zero a b at bt e = refl
-alone-at v eq same (x ∷ xs) d zero (suc j) a b at bt e = absurd (clash (eq x b) ((same x b).1 (ap v (same_Some x a at) ∙ e)) (all-at (λ y. eq x y ≡ false) xs d.0 j b bt))
-alone-at v eq same (x ∷ xs) d (suc i) zero a b at bt e = absurd (clash (eq x a) ((same x a).1 (ap v (same_Some x b bt) ∙ sym e)) (all-at (λ y. eq x y ≡ false) xs d.0 i a at))
+alone-at v eq same (x ∷ xs) d zero (suc j) a b at bt e =
+    absurd (clash (eq x b) ((same x b).1 (ap v (same_Some x a at) ∙ e)) (all-at (λ y. eq x y ≡ false) xs d.0 j b bt))
+alone-at v eq same (x ∷ xs) d (suc i) zero a b at bt e =
+    absurd (clash (eq x a) ((same x a).1 (ap v (same_Some x b bt) ∙ sym e)) (all-at (λ y. eq x y ≡ false) xs d.0 i a at))
 alone-at v eq same (x ∷ xs) d (suc i) (suc j) a b at bt e = ap suc (alone-at v eq same xs d.1 i j a b at bt e)
 
 unmapped : {T X : Type 0} (v : T → X) (o : Option T) (y : X) → option_map v o ≡ Some y → (a : T) × (o ≡ Some a) × (v a ≡ y)
@@ -58,18 +62,26 @@ map-push : {T X : Type 0} (v : T → X) (xs : List T) (t : T) → map v (xs ++ t
 map-push v [] t = refl
 map-push v (x ∷ xs) t = ap (λ ys. v x ∷ ys) (map-push v xs t)
 
-kept-at : {T X : Type 0} (v : T → X) (b : Bool) (old new : List T) (t : T) → new ≡ cond b old (old ++ t ∷ []) → (k : ℕ) (y : X) → slice_get (map v old) k ≡ Some y → slice_get (map v new) k ≡ Some y
+kept-at : {T X : Type 0} (v : T → X) (b : Bool) (old new : List T) (t : T) → new ≡ cond b old (old ++ t ∷ []) → (k : ℕ) (y : X) →
+    slice_get (map v old) k ≡ Some y → slice_get (map v new) k ≡ Some y
 kept-at v true old new t e k y at = ap (λ xs. slice_get (map v xs) k) e ∙ at
-kept-at v false old new t e k y at = ap (λ xs. slice_get (map v xs) k) e ∙ (ap (λ ys. slice_get ys k) (map-push v old t) ∙ (slice_get-push (map v old) (v t) k (slice_get_within (map v old) k y at) ∙ at))
+kept-at v false old new t e k y at = ap (λ xs. slice_get (map v xs) k) e ∙
+    (ap (λ ys. slice_get ys k) (map-push v old t) ∙ (slice_get-push (map v old) (v t) k (slice_get_within (map v old) k y at) ∙ at))
 
-only-at : {T X : Type 0} (v : T → X) (b : Bool) (old new : List T) (t : T) → new ≡ cond b old (old ++ t ∷ []) → (k : ℕ) (y : X) → slice_get (map v new) k ≡ Some y → (slice_get (map v old) k ≡ Some y) ⊎ (v t ≡ y)
+only-at : {T X : Type 0} (v : T → X) (b : Bool) (old new : List T) (t : T) → new ≡ cond b old (old ++ t ∷ []) → (k : ℕ) (y : X) →
+    slice_get (map v new) k ≡ Some y → (slice_get (map v old) k ≡ Some y) ⊎ (v t ≡ y)
 only-at v true old new t e k y at = inl (sym (ap (λ xs. slice_get (map v xs) k) e) ∙ at)
-only-at v false old new t e k y at = ⊎_elim (λ l. inl l) (λ r. inr r.1) (slice_get-push_cases (map v old) (v t) k y (sym (ap (λ ys. slice_get ys k) (map-push v old t)) ∙ (sym (ap (λ xs. slice_get (map v xs) k) e) ∙ at)))
+only-at v false old new t e k y at =
+    ⊎_elim (λ l. inl l) (λ r. inr r.1)
+    (slice_get-push_cases (map v old) (v t) k y (sym (ap (λ ys. slice_get ys k) (map-push v old t)) ∙ (sym (ap (λ xs. slice_get (map v xs) k) e) ∙ at)))
 
-pub interned : {T X : Type 0} (v : T → X) (eq : T → T → Bool) (same : (a b : T) → Decides (eq a b) (v a ≡ v b)) (old new : List T) (t : T) (place : ℕ) → new ≡ cond (list_any (eq t) old) old (old ++ t ∷ []) → (k : T) × (slice_get new place ≡ Some k) × (eq t k ≡ true) → IsDistinct eq new → IsInterned (map v old) (map v new) (v t) place
+pub interned : {T X : Type 0} (v : T → X) (eq : T → T → Bool) (same : (a b : T) → Decides (eq a b) (v a ≡ v b)) (old new : List T) (t : T) (place : ℕ) →
+    new ≡ cond (list_any (eq t) old) old (old ++ t ∷ []) → (k : T) × (slice_get new place ≡ Some k) × (eq t k ≡ true) → IsDistinct eq new →
+    IsInterned (map v old) (map v new) (v t) place
 interned {T} {X} v eq same old new t place e at d = record {
   stored = slice_get-map v new place ∙ (ap (option_map v) at.1 ∙ ap (λ (x : X). Some x) (sym ((same t at.0).0 at.2)));
-  alone = λ k here. let found = unmapped v (slice_get new k) (v t) (sym (slice_get-map v new k) ∙ here) in alone-at v eq same new d k place found.0 at.0 found.1 at.1 (found.2 ∙ (same t at.0).0 at.2);
+  alone = λ k here. let found = unmapped v (slice_get new k) (v t) (sym (slice_get-map v new k) ∙ here) in
+      alone-at v eq same new d k place found.0 at.0 found.1 at.1 (found.2 ∙ (same t at.0).0 at.2);
   kept = kept-at v (list_any (eq t) old) old new t e;
   only = only-at v (list_any (eq t) old) old new t e;
 }
@@ -84,7 +96,11 @@ pub string_eq-Decides : (a b : String Global) → Decides (string_eq a b) (strin
 string_eq-Decides a b = slice_eq-Decides Decides-eqb (string_bytes a) (string_bytes b) (string_eq a b) refl
 
 version_set_ids-Decides : (a b : VersionSetId) → Decides (a.0 == b.0) (a ≡ b)
-version_set_ids-Decides a b = (λ e. ap (λ (k : ℕ). let v : VersionSetId = record { 0 = k } in v) (eqb-true a.0 b.0 e), λ e. eq-eqb a.0 b.0 (ap (λ (v : VersionSetId). v.0) e))
+version_set_ids-Decides a b = (
+  λ e.
+      ap (λ (k : ℕ). let v : VersionSetId = record { 0 = k } in v) (eqb-true a.0 b.0 e),
+  λ e. eq-eqb a.0 b.0 (ap (λ (v : VersionSetId). v.0) e),
+)
 
 pub unions-Decides : (a b : Vec VersionSetId Global) → Decides (pointwise (λ (u v : VersionSetId). u.0 == v.0) a.items b.items) (a.items ≡ b.items)
 unions-Decides a b = slice_eq-Decides version_set_ids-Decides a.items b.items (pointwise (λ (u v : VersionSetId). u.0 == v.0) a.items b.items) refl
@@ -97,7 +113,9 @@ both-and : (p q : Bool) → p ≡ true → q ≡ true → (p && q) ≡ true
 both-and true q e f = f
 both-and false q e f = absurd cc
 
-version_sets-by_range : (n m : NameId) (r s : Range) → Decides (eq-value.it (record { name = n; range = r }) (record { name = m; range = s })) (◌≡◌ {A = VersionSet} (record { name = n; range = r }) (record { name = m; range = s }))
+version_sets-by_range : (n m : NameId) (r s : Range) →
+    Decides (eq-value.it (record { name = n; range = r }) (record { name = m; range = s }))
+    (◌≡◌ {A = VersionSet} (record { name = n; range = r }) (record { name = m; range = s }))
 version_sets-by_range n m All All = (
   λ e. ap (λ (k : ℕ). let v : VersionSet = record { name = record { 0 = k }; range = All } in v) (eqb-true n.0 m.0 (both-of (n.0 == m.0) true e).0),
   λ e. both-and (n.0 == m.0) true (eq-eqb n.0 m.0 (ap (λ (v : VersionSet). v.name.0) e)) refl,
@@ -121,7 +139,8 @@ version_sets-by_range n m (Within l h) (Within l' h') = (
       let ranges : Within l h ≡ Within l' h' = ap (λ (v : VersionSet). v.range) e in
       let low : l ≡ l' = cc in
       let high : h ≡ h' = cc in
-      both-and (n.0 == m.0) ((l == l') && (h == h')) (eq-eqb n.0 m.0 (ap (λ (v : VersionSet). v.name.0) e)) (both-and (l == l') (h == h') (eq-eqb l l' low) (eq-eqb h h' high)),
+      both-and (n.0 == m.0) ((l == l') && (h == h')) (eq-eqb n.0 m.0 (ap (λ (v : VersionSet). v.name.0) e))
+      (both-and (l == l') (h == h') (eq-eqb l l' low) (eq-eqb h h' high)),
 )
 
 pub version_sets-Decides : (a b : VersionSet) → Decides (eq-value.it a b) (a ≡ b)
@@ -131,14 +150,16 @@ map-itself : {X : Type 0} (xs : List X) → map (λ x. x) xs ≡ xs
 map-itself [] = refl
 map-itself (x ∷ xs) = ap (λ ys. x ∷ ys) (map-itself xs)
 
-pub IsInterned-itself : {X : Type 0} (old new : List X) (x : X) (place : ℕ) → IsInterned (map (λ y. y) old) (map (λ y. y) new) x place → IsInterned old new x place
+pub IsInterned-itself : {X : Type 0} (old new : List X) (x : X) (place : ℕ) → IsInterned (map (λ y. y) old) (map (λ y. y) new) x place →
+    IsInterned old new x place
 IsInterned-itself {X} old new x place h =
     let P : List X → Type 0 = λ xs. IsInterned xs (map (λ y. y) new) x place in
     let Q : List X → Type 0 = λ xs. IsInterned old xs x place in
     subst Q (map-itself new) (subst P (map-itself old) h)
 
 -- an entry's place is at most the number of entries before the call
-place_at_most : {T : Type 0} (b : Bool) (old new : List T) (t k : T) (place : ℕ) → new ≡ cond b old (old ++ t ∷ []) → slice_get new place ≡ Some k → place ≤ length old
+place_at_most : {T : Type 0} (b : Bool) (old new : List T) (t k : T) (place : ℕ) → new ≡ cond b old (old ++ t ∷ []) → slice_get new place ≡ Some k →
+    place ≤ length old
 place_at_most true old new t k place e at =
     let within : place < length new = slice_get_within new place k at in
     let same : length new ≡ length old = ap length e in
@@ -149,7 +170,9 @@ place_at_most false old new t k place e at =
     omega (arith, within, same)
 
 -- where a place has no id, the table is full
-pub IsShortage-full : {A T X : Type 0} (v : T → X) (b : Bool) (old new : List T) (t k : T) (place : ℕ) (e : Exhausted) (r : Result A Exhausted) → new ≡ cond b old (old ++ t ∷ []) → slice_get new place ≡ Some k → (e ≡ Ids) × (4294967295 ≤ place) → IsErrAnd r (λ x. x ≡ e) → IfErr r (IsShortage (length (map v old)))
+pub IsShortage-full : {A T X : Type 0} (v : T → X) (b : Bool) (old new : List T) (t k : T) (place : ℕ) (e : Exhausted) (r : Result A Exhausted) →
+    new ≡ cond b old (old ++ t ∷ []) → slice_get new place ≡ Some k → (e ≡ Ids) × (4294967295 ≤ place) → IsErrAnd r (λ x. x ≡ e) →
+    IfErr r (IsShortage (length (map v old)))
 IsShortage-full v b old new t k place e (Ok x) inserted at full is = tt
 IsShortage-full v b old new t k place e (Err x) inserted at full is =
     let Says : Exhausted → Type 0 = λ y. IsShortage (length (map v old)) y in
@@ -160,12 +183,15 @@ IsShortage-full v b old new t k place e (Err x) inserted at full is =
 -- where `get_index_of` found a key
 pub position-at : {T : Type 0} (p : T → Bool) (xs : List T) (i : ℕ) → position p xs ≡ Some i → (k : T) × (slice_get xs i ≡ Some k) × (p k ≡ true)
 position-at p [] i e = absurd cc
-position-at p (x ∷ xs) i e = ⊎_elim (λ w. (w.0, w.2, sym (ap p w.3) ∙ (position-Some p (x ∷ xs) i w.0 e).1)) (λ w. absurd (omega (arith, w.0, (position-Some p (x ∷ xs) i x e).0))) (slice_get_cases (x ∷ xs) i).1
+position-at p (x ∷ xs) i e = ⊎_elim (λ w. (w.0, w.2, sym (ap p w.3) ∙ (position-Some p (x ∷ xs) i w.0 e).1)) (λ w.
+    absurd (omega (arith, w.0, (position-Some p (x ∷ xs) i x e).0))) (slice_get_cases (x ∷ xs) i).1
 
-pub text-at : (keys : List (String Global)) (text : List ℕ) (i : ℕ) → position (λ k. bytes_eq text (string_bytes k)) keys ≡ Some i → slice_get (map string_bytes keys) i ≡ Some text
+pub text-at : (keys : List (String Global)) (text : List ℕ) (i : ℕ) → position (λ k. bytes_eq text (string_bytes k)) keys ≡ Some i →
+    slice_get (map string_bytes keys) i ≡ Some text
 text-at keys text i e =
     let at = position-at (λ (k : String Global). bytes_eq text (string_bytes k)) keys i e in
-    slice_get-map string_bytes keys i ∙ (ap (option_map string_bytes) at.1 ∙ ap (λ (bs : List ℕ). Some bs) (sym ((bytes_eq-Decides text (string_bytes at.0)).0 at.2)))
+    slice_get-map string_bytes keys i ∙
+    (ap (option_map string_bytes) at.1 ∙ ap (λ (bs : List ℕ). Some bs) (sym ((bytes_eq-Decides text (string_bytes at.0)).0 at.2)))
 
 versions-same : (a b : Version) → version-eq.it a b ≡ true → a ≡ b
 versions-same a b e =
@@ -186,10 +212,13 @@ version_found keys v b e is = Contains-from_any versions-same v keys (sym e ∙ 
 first_at_most : {T : Type 0} (p : T → Bool) (xs : List T) (k : ℕ) (x : T) → slice_get xs k ≡ Some x → p x ≡ true → position_or_len p xs ≤ k
 first_at_most p xs k x at e =
     let is : get_or xs k x ≡ x = get_or_from_slice_get xs k x x at in
-    ⊎_elim (λ (lt : k < position_or_len p xs). absurd (clash (p (get_or xs k x)) (ap p is ∙ e) (fails_before_first p xs k x lt))) (λ (le : position_or_len p xs ≤ k). le) (cases_lt k (position_or_len p xs))
+    ⊎_elim (λ (lt : k < position_or_len p xs).
+    absurd (clash (p (get_or xs k x)) (ap p is ∙ e) (fails_before_first p xs k x lt))) (λ (le : position_or_len p xs ≤ k). le)
+    (cases_lt k (position_or_len p xs))
 
 -- where `get_index_of` found no place that has an id, nothing that passes has one
-unreached : {T : Type 0} (p : T → Bool) (xs : List T) (k : ℕ) (x : T) → slice_get xs k ≡ Some x → p x ≡ true → k < 4294967295 → IfSome (position p xs) (λ i. 4294967295 ≤ i) → ⊥
+unreached : {T : Type 0} (p : T → Bool) (xs : List T) (k : ℕ) (x : T) → slice_get xs k ≡ Some x → p x ≡ true → k < 4294967295 →
+    IfSome (position p xs) (λ i. 4294967295 ≤ i) → ⊥
 unreached p xs k x at e small none =
     let least : position_or_len p xs ≤ k = first_at_most p xs k x at e in
     let within : k < length xs = slice_get_within xs k x at in
@@ -198,23 +227,30 @@ unreached p xs k x at e small none =
     let beyond : 4294967295 ≤ position_or_len p xs = subst Out inside none in
     omega (arith, least, small, beyond)
 
-string-alone : (keys : List (String Global)) (text : List ℕ) → IsDistinct string_eq keys → (i j : ℕ) → slice_get (map string_bytes keys) i ≡ Some text → slice_get (map string_bytes keys) j ≡ Some text → i ≡ j
+string-alone : (keys : List (String Global)) (text : List ℕ) → IsDistinct string_eq keys → (i j : ℕ) → slice_get (map string_bytes keys) i ≡ Some text →
+    slice_get (map string_bytes keys) j ≡ Some text → i ≡ j
 string-alone keys text distinct i j at bt =
     let one = unmapped string_bytes (slice_get keys i) text (sym (slice_get-map string_bytes keys i) ∙ at) in
     let other = unmapped string_bytes (slice_get keys j) text (sym (slice_get-map string_bytes keys j) ∙ bt) in
     alone-at string_bytes string_eq string_eq-Decides keys distinct i j one.0 other.0 one.1 other.1 (one.2 ∙ sym other.2)
 
-pub no_text : (keys : List (String Global)) (text : List ℕ) (place : Option ℕ) (k : ℕ) → place ≡ position (λ t. bytes_eq text (string_bytes t)) keys → IfSome place (λ i. 4294967295 ≤ i) → slice_get (map string_bytes keys) k ≡ Some text → k < 4294967295 → ⊥
+pub no_text : (keys : List (String Global)) (text : List ℕ) (place : Option ℕ) (k : ℕ) → place ≡ position (λ t. bytes_eq text (string_bytes t)) keys →
+    IfSome place (λ i. 4294967295 ≤ i) → slice_get (map string_bytes keys) k ≡ Some text → k < 4294967295 → ⊥
 no_text keys text place k is none at small =
     let found = unmapped string_bytes (slice_get keys k) text (sym (slice_get-map string_bytes keys k) ∙ at) in
     let Out : Option ℕ → Type 0 = λ o. IfSome o (λ i. 4294967295 ≤ i) in
-    unreached (λ t. bytes_eq text (string_bytes t)) keys k found.0 found.1 ((bytes_eq-Decides text (string_bytes found.0)).1 (sym found.2)) small (subst Out is none)
+    unreached (λ t. bytes_eq text (string_bytes t)) keys k found.0 found.1 ((bytes_eq-Decides text (string_bytes found.0)).1 (sym found.2)) small
+    (subst Out is none)
 
 version-itself : (v : Version) → version-eq.it v v ≡ true
 version-itself v = both-and (v.name.0 == v.name.0) (v.number == v.number) (eq-eqb v.name.0 v.name.0 refl) (eq-eqb v.number v.number refl)
 
 -- the version under the name that is at this place, which no other place has
-pub no_version : (names : List (String Global)) (text : List ℕ) → IsDistinct string_eq names → (n : ℕ) → slice_get (map string_bytes names) n ≡ Some text → (keys : List Version) (number : ℕ) (place : Option ℕ) → (let v : Version = record { name = record { 0 = n }; number = number } in place ≡ position (version-eq.it v) keys) → IfSome place (λ i. 4294967295 ≤ i) → (m : NameId) → slice_get (map string_bytes names) m.0 ≡ Some text → (k : ℕ) → slice_get keys k ≡ Some (record { name = m; number = number }) → k < 4294967295 → ⊥
+pub no_version : (names : List (String Global)) (text : List ℕ) → IsDistinct string_eq names → (n : ℕ) → slice_get (map string_bytes names) n ≡ Some text →
+    (keys : List Version) (number : ℕ) (place : Option ℕ) →
+    (let v : Version = record { name = record { 0 = n }; number = number } in place ≡ position (version-eq.it v) keys) → IfSome place (λ i. 4294967295 ≤ i) →
+    (m : NameId) → slice_get (map string_bytes names) m.0 ≡ Some text → (k : ℕ) → slice_get keys k ≡ Some (record { name = m; number = number }) →
+    k < 4294967295 → ⊥
 no_version names text distinct n here keys number place is none m there k at small =
     let v : Version = record { name = record { 0 = n }; number = number } in
     let same : m.0 ≡ n = string-alone names text distinct m.0 n there here in

@@ -15,7 +15,9 @@ use Rattle.resolve.specs.declared.ids.NameId.{NameId}
 use Rattle.resolve.specs.declared.ids.SolvableId.{SolvableId}
 use Rattle.resolve.specs.declared.request.Request.{Request}
 
-pub explained_by : {C : Type 0} (request : Request) (it : Catalog) (root : Demands) (may_cancel : C → Type 0) (at_limit : Type 0) (answered : Result (Vec SolvableId Global) (UnsolvableOrCancelled Catalog C NameId SolvableId)) → it ≡ request.catalog → root ≡ demands_of request → IfErr answered (IsRefusal (catalog_universe it) may_cancel root at_limit) → IfErr answered (IsExplained request)
+pub explained_by : {C : Type 0} (request : Request) (it : Catalog) (root : Demands) (may_cancel : C → Type 0) (at_limit : Type 0)
+    (answered : Result (Vec SolvableId Global) (UnsolvableOrCancelled Catalog C NameId SolvableId)) → it ≡ request.catalog → root ≡ demands_of request →
+    IfErr answered (IsRefusal (catalog_universe it) may_cancel root at_limit) → IfErr answered (IsExplained request)
 explained_by request it root may_cancel at_limit (Ok chosen) same asked refusal = tt
 explained_by request it root may_cancel at_limit (Err (Unsolvable conflict)) same asked refusal =
     let Given : Catalog → Demands → Type 0 = λ it root. Explains (catalog_universe it) root (rules_in conflict) in

@@ -1,5 +1,6 @@
 -- What a push to a table and a write in one leave, and that packages stay lawful.
-use Rattle.std.proofs.Common.{◌≡◌, ◌≢◌, ℕ, zero, suc, ◌<◌, ◌≤◌, Bool, true, false, cond, List, [], ◌∷◌, ◌++◌, length, get_or, refl, arith, sym, ◌∙◌, subst, inl, inr, ⊎_elim, ◌⊎◌, Some, ap, set, length-append, length-set}
+use Rattle.std.proofs.Common.{◌≡◌, ◌≢◌, ℕ, zero, suc, ◌<◌, ◌≤◌, Bool, true, false, cond, List, [], ◌∷◌, ◌++◌, length, get_or, refl, arith, sym, ◌∙◌, subst, inl}
+use Rattle.std.proofs.Common.{inr, ⊎_elim, ◌⊎◌, Some, ap, set, length-append, length-set}
 use Rattle.std.specs.Prelude.{Option, slice_get, All, AllPairs, IfSome}
 use Rattle.std.proofs.lemmas.Option.{same_Some, IfSome_then, slice_get_read}
 use Rattle.std.proofs.lemmas.List.Elements.{All-weaker, All-push}
@@ -18,13 +19,15 @@ pub slice_get-end : {X : Type 0} (xs : List X) (y : X) → slice_get (xs ++ y �
 slice_get-end [] y = refl
 slice_get-end (x ∷ xs) y = slice_get-end xs y
 
-pub slice_get-push_cases : {X : Type 0} (xs : List X) (y : X) (k : ℕ) (z : X) → slice_get (xs ++ y ∷ []) k ≡ Some z → (slice_get xs k ≡ Some z) ⊎ ((k ≡ length xs) × (y ≡ z))
+pub slice_get-push_cases : {X : Type 0} (xs : List X) (y : X) (k : ℕ) (z : X) → slice_get (xs ++ y ∷ []) k ≡ Some z → (slice_get xs k ≡ Some z) ⊎
+    ((k ≡ length xs) × (y ≡ z))
 slice_get-push_cases [] y zero z e = inr (refl, same_Some y z e)
 slice_get-push_cases [] y (suc k) z e = absurd cc
 slice_get-push_cases (x ∷ xs) y zero z e = inl e
 slice_get-push_cases (x ∷ xs) y (suc k) z e = ⊎_elim (λ l. inl l) (λ r. inr (ap suc r.0, r.1)) (slice_get-push_cases xs y k z e)
 
-slice_get-set_cases : {X : Type 0} (xs : List X) (i : ℕ) (y : X) (k : ℕ) (z : X) → slice_get (set xs i y) k ≡ Some z → (slice_get xs k ≡ Some z) ⊎ ((k ≡ i) × (y ≡ z))
+slice_get-set_cases : {X : Type 0} (xs : List X) (i : ℕ) (y : X) (k : ℕ) (z : X) → slice_get (set xs i y) k ≡ Some z → (slice_get xs k ≡ Some z) ⊎
+    ((k ≡ i) × (y ≡ z))
 slice_get-set_cases [] i y k z e = inl e
 slice_get-set_cases (x ∷ xs) zero y zero z e = inr (refl, same_Some y z e)
 slice_get-set_cases (x ∷ xs) zero y (suc k) z e = inl e
@@ -35,7 +38,8 @@ pub All-pushed : {X : Type 0} (P : X → Type 0) (b : Bool) (xs ys : List X) (y 
 All-pushed {X} P true xs ys y e h p = let Q : List X → Type 0 = λ zs. All P zs in subst Q (sym e) (All-push P xs y h p)
 All-pushed {X} P false xs ys y e h p = let Q : List X → Type 0 = λ zs. All P zs in subst Q (sym e) h
 
-pub AllPairs-pushed : {X : Type 0} (R : X → X → Type 0) (b : Bool) (xs ys : List X) (y : X) → ys ≡ cond b (xs ++ y ∷ []) xs → AllPairs R xs → All (λ x. R x y) xs → AllPairs R ys
+pub AllPairs-pushed : {X : Type 0} (R : X → X → Type 0) (b : Bool) (xs ys : List X) (y : X) → ys ≡ cond b (xs ++ y ∷ []) xs → AllPairs R xs →
+    All (λ x. R x y) xs → AllPairs R ys
 AllPairs-pushed {X} R true xs ys y e h p = let Q : List X → Type 0 = λ zs. AllPairs R zs in subst Q (sym e) (all_pairs_push R xs y h p)
 AllPairs-pushed {X} R false xs ys y e h p = let Q : List X → Type 0 = λ zs. AllPairs R zs in subst Q (sym e) h
 
@@ -48,7 +52,10 @@ IsKept-refl : (xs : List Version) → IsKept xs xs
 IsKept-refl xs = record { declared = omega arith; named = λ k h. refl }
 
 pub IsKept-push : (xs : List Version) (y : Version) → IsKept xs (xs ++ y ∷ [])
-IsKept-push xs y = record { declared = omega (arith, length-append xs (y ∷ [])); named = λ k h. ap (λ (o : Option Version). (name_of o).0) (slice_get-push xs y k h) }
+IsKept-push xs y = record {
+  declared = omega (arith, length-append xs (y ∷ []));
+  named = λ k h. ap (λ (o : Option Version). (name_of o).0) (slice_get-push xs y k h);
+}
 
 pub IsKept-pushed : (b : Bool) (xs ys : List Version) (y : Version) → ys ≡ cond b (xs ++ y ∷ []) xs → IsKept xs ys
 IsKept-pushed true xs ys y e = let Q : List Version → Type 0 = λ zs. IsKept xs zs in subst Q (sym e) (IsKept-push xs y)
@@ -69,32 +76,45 @@ IsPackageOf-kept xs ys kept n p h = record {
 pub ArePackagesOf-kept : (xs ys : List Version) → IsKept xs ys → (ps : List Package) → ArePackagesOf xs ps → ArePackagesOf ys ps
 ArePackagesOf-kept xs ys kept ps h = λ n p e. IsPackageOf-kept xs ys kept n p (h n p e)
 
-pub ArePackagesOf-pushed : (b : Bool) (xs : List Version) (ps qs : List Package) (q : Package) → qs ≡ cond b (ps ++ q ∷ []) ps → ArePackagesOf xs ps → IsPackageOf xs (length ps) q → ArePackagesOf xs qs
-ArePackagesOf-pushed true xs ps qs q e h new = let Q : List Package → Type 0 = λ rs. ArePackagesOf xs rs in subst Q (sym e) (λ n p at. ⊎_elim (λ old. h n p old) (λ here. let R : ℕ → Type 0 = λ k. IsPackageOf xs k p in let S : Package → Type 0 = λ r. IsPackageOf xs (length ps) r in subst R (sym here.0) (subst S here.1 new)) (slice_get-push_cases ps q n p at))
+pub ArePackagesOf-pushed : (b : Bool) (xs : List Version) (ps qs : List Package) (q : Package) → qs ≡ cond b (ps ++ q ∷ []) ps → ArePackagesOf xs ps →
+    IsPackageOf xs (length ps) q → ArePackagesOf xs qs
+ArePackagesOf-pushed true xs ps qs q e h new = let Q : List Package → Type 0 = λ rs. ArePackagesOf xs rs in
+    subst Q (sym e) (λ n p at. ⊎_elim (λ old. h n p old) (λ here.
+    let R : ℕ → Type 0 = λ k. IsPackageOf xs k p in let S : Package → Type 0 = λ r. IsPackageOf xs (length ps) r in subst R (sym here.0) (subst S here.1 new))
+    (slice_get-push_cases ps q n p at))
 ArePackagesOf-pushed false xs ps qs q e h new = let Q : List Package → Type 0 = λ rs. ArePackagesOf xs rs in subst Q (sym e) h
 
 pub ArePackagesOf-set : (xs : List Version) (ps : List Package) (i : ℕ) (q : Package) → ArePackagesOf xs ps → IsPackageOf xs i q → ArePackagesOf xs (set ps i q)
-ArePackagesOf-set xs ps i q h new = λ n p at. ⊎_elim (λ old. h n p old) (λ here. let R : ℕ → Type 0 = λ k. IsPackageOf xs k p in let S : Package → Type 0 = λ r. IsPackageOf xs i r in subst R (sym here.0) (subst S here.1 new)) (slice_get-set_cases ps i q n p at)
+ArePackagesOf-set xs ps i q h new =
+    λ n p at. ⊎_elim (λ old. h n p old) (λ here.
+    let R : ℕ → Type 0 = λ k. IsPackageOf xs k p in let S : Package → Type 0 = λ r. IsPackageOf xs i r in subst R (sym here.0) (subst S here.1 new))
+    (slice_get-set_cases ps i q n p at)
 
-pub IsPackageOf-at : (xs : List Version) (ps : List Package) (i : ℕ) (p : Package) → i < length ps → p ≡ get_or ps i p → ArePackagesOf xs ps → IsPackageOf xs i p
+pub IsPackageOf-at : (xs : List Version) (ps : List Package) (i : ℕ) (p : Package) → i < length ps → p ≡ get_or ps i p → ArePackagesOf xs ps →
+    IsPackageOf xs i p
 IsPackageOf-at xs ps i p within read h = h i p (slice_get_read ps (length ps) i p refl within read)
 
 -- what was pushed last is a version of its package
 pub IsVersionOf-end : (xs ys : List Version) (y : Version) (s : SolvableId) → ys ≡ xs ++ y ∷ [] → s.0 ≡ length xs → IsVersionOf ys y.name.0 s
 IsVersionOf-end xs ys y s e at = record {
   declared = omega (arith, ap length e, length-append xs (y ∷ []));
-  named = ap (λ (k : ℕ). (name_of (slice_get ys k)).0) at ∙ ap (λ (zs : List Version). (name_of (slice_get zs (length xs))).0) e ∙ ap (λ (o : Option Version). (name_of o).0) (slice_get-end xs y);
+  named = ap (λ (k : ℕ). (name_of (slice_get ys k)).0) at ∙ ap (λ (zs : List Version). (name_of (slice_get zs (length xs))).0) e ∙
+      ap (λ (o : Option Version). (name_of o).0) (slice_get-end xs y);
 }
 
 -- the candidates of a package once a version of it was declared, and pushed to them or not
-pub listed_more : (xs ys : List Version) (y : Version) (s : SolvableId) (b : Bool) (cs ds : List SolvableId) → ys ≡ xs ++ y ∷ [] → s.0 ≡ length xs → ds ≡ cond b (cs ++ s ∷ []) cs → All (IsVersionOf xs y.name.0) cs → All (IsVersionOf ys y.name.0) ds
+pub listed_more : (xs ys : List Version) (y : Version) (s : SolvableId) (b : Bool) (cs ds : List SolvableId) → ys ≡ xs ++ y ∷ [] → s.0 ≡ length xs →
+    ds ≡ cond b (cs ++ s ∷ []) cs → All (IsVersionOf xs y.name.0) cs → All (IsVersionOf ys y.name.0) ds
 listed_more xs ys y s b cs ds e at pushed h =
     let Q : List Version → Type 0 = λ zs. IsKept xs zs in
     let kept : IsKept xs ys = subst Q (sym e) (IsKept-push xs y) in
-    All-pushed (IsVersionOf ys y.name.0) b cs ds s pushed (All-weaker (IsVersionOf xs y.name.0) (IsVersionOf ys y.name.0) (IsVersionOf-kept xs ys kept y.name.0) cs h) (IsVersionOf-end xs ys y s e at)
+    All-pushed (IsVersionOf ys y.name.0) b cs ds s pushed
+    (All-weaker (IsVersionOf xs y.name.0) (IsVersionOf ys y.name.0) (IsVersionOf-kept xs ys kept y.name.0) cs h) (IsVersionOf-end xs ys y s e at)
 
-pub rising_more : (xs : List Version) (n : ℕ) (s : SolvableId) (b : Bool) (cs ds : List SolvableId) → s.0 ≡ length xs → ds ≡ cond b (cs ++ s ∷ []) cs → All (IsVersionOf xs n) cs → AllPairs (λ x y. x.0 < y.0) cs → AllPairs (λ x y. x.0 < y.0) ds
-rising_more xs n s b cs ds at pushed h up = AllPairs-pushed (λ x y. x.0 < y.0) b cs ds s pushed up (λ k d l. let below : (get_or cs k d).0 < length xs = (h k d l).declared in omega arith)
+pub rising_more : (xs : List Version) (n : ℕ) (s : SolvableId) (b : Bool) (cs ds : List SolvableId) → s.0 ≡ length xs → ds ≡ cond b (cs ++ s ∷ []) cs →
+    All (IsVersionOf xs n) cs → AllPairs (λ x y. x.0 < y.0) cs → AllPairs (λ x y. x.0 < y.0) ds
+rising_more xs n s b cs ds at pushed h up =
+    AllPairs-pushed (λ x y. x.0 < y.0) b cs ds s pushed up (λ k d l. let below : (get_or cs k d).0 < length xs = (h k d l).declared in omega arith)
 
 pub All-empty : {X : Type 0} (P : X → Type 0) (xs : List X) → xs ≡ [] → All P xs
 All-empty P xs e = λ k d l. absurd (omega (arith, ap length e))
@@ -107,7 +127,8 @@ IsKept-inserted true xs ys y e = let Q : List Version → Type 0 = λ zs. IsKept
 IsKept-inserted false xs ys y e = let Q : List Version → Type 0 = λ zs. IsKept xs zs in subst Q (sym e) (IsKept-push xs y)
 
 -- a package of which nothing but its room changed
-pub IsPackageOf-same : (xs : List Version) (n : ℕ) (p q : Package) → q.candidates.items ≡ p.candidates.items → q.favored ≡ p.favored → q.locked ≡ p.locked → q.excluded ≡ p.excluded → IsPackageOf xs n p → IsPackageOf xs n q
+pub IsPackageOf-same : (xs : List Version) (n : ℕ) (p q : Package) → q.candidates.items ≡ p.candidates.items → q.favored ≡ p.favored → q.locked ≡ p.locked →
+    q.excluded ≡ p.excluded → IsPackageOf xs n p → IsPackageOf xs n q
 IsPackageOf-same xs n p q listed favored locked excluded h =
     let L : List SolvableId → Type 0 = λ cs. All (IsVersionOf xs n) cs in
     let R : List SolvableId → Type 0 = λ cs. AllPairs (λ a b. a.0 < b.0) cs in
@@ -121,7 +142,9 @@ IsPackageOf-same xs n p q listed favored locked excluded h =
     }
 
 -- a package once a version of it was declared, and listed or not
-pub IsPackageOf-declared : (xs ys : List Version) (y : Version) (s : SolvableId) (b : Bool) (p q : Package) → ys ≡ xs ++ y ∷ [] → s.0 ≡ length xs → q.candidates.items ≡ cond b (p.candidates.items ++ s ∷ []) p.candidates.items → q.favored ≡ p.favored → q.locked ≡ p.locked → q.excluded ≡ p.excluded → IsPackageOf xs y.name.0 p → IsPackageOf ys y.name.0 q
+pub IsPackageOf-declared : (xs ys : List Version) (y : Version) (s : SolvableId) (b : Bool) (p q : Package) → ys ≡ xs ++ y ∷ [] → s.0 ≡ length xs →
+    q.candidates.items ≡ cond b (p.candidates.items ++ s ∷ []) p.candidates.items → q.favored ≡ p.favored → q.locked ≡ p.locked → q.excluded ≡ p.excluded →
+    IsPackageOf xs y.name.0 p → IsPackageOf ys y.name.0 q
 IsPackageOf-declared xs ys y s b p q e at listed favored locked excluded h =
     let Q : List Version → Type 0 = λ zs. IsKept xs zs in
     let kept : IsKept xs ys = subst Q (sym e) (IsKept-push xs y) in
@@ -139,7 +162,8 @@ pub new_last : (b : Bool) (xs ys : List Version) (y : Version) → b ≡ false �
 new_last true xs ys y e f = absurd cc
 new_last false xs ys y e f = f
 
-pub IsPackageOf-at_set : (xs : List Version) (ps : List Package) (i : ℕ) (q p : Package) → i < length ps → p ≡ get_or (set ps i q) i p → ArePackagesOf xs (set ps i q) → IsPackageOf xs i p
+pub IsPackageOf-at_set : (xs : List Version) (ps : List Package) (i : ℕ) (q p : Package) → i < length ps → p ≡ get_or (set ps i q) i p →
+    ArePackagesOf xs (set ps i q) → IsPackageOf xs i p
 IsPackageOf-at_set xs ps i q p within read h = IsPackageOf-at xs (set ps i q) i p (omega (arith, length-set ps i q)) read h
 
 slice_get-set_same : {X : Type 0} (xs : List X) (i : ℕ) (y : X) → i < length xs → slice_get (set xs i y) i ≡ Some y
@@ -155,20 +179,26 @@ slice_get-set_other (x ∷ xs) (suc i) y zero h = refl
 slice_get-set_other (x ∷ xs) (suc i) y (suc k) h = slice_get-set_other xs i y k (λ e. h (ap suc e))
 
 -- what stands after the package's room and then its candidates were written
-pub IsDeclared-written : (vs ws : List Version) (ps : List Package) (v : Version) (p q r s : Package) (id : ℕ) → ws ≡ vs ++ v ∷ [] → v.name.0 < length ps → p ≡ get_or ps v.name.0 p → q.candidates.items ≡ p.candidates.items → r ≡ get_or (set ps v.name.0 q) v.name.0 r → id ≡ length vs → s.candidates.items ≡ r.candidates.items ++ record { 0 = id } ∷ [] → IsDeclared vs ws ps (set (set ps v.name.0 q) v.name.0 s) v
+pub IsDeclared-written : (vs ws : List Version) (ps : List Package) (v : Version) (p q r s : Package) (id : ℕ) → ws ≡ vs ++ v ∷ [] → v.name.0 < length ps →
+    p ≡ get_or ps v.name.0 p → q.candidates.items ≡ p.candidates.items → r ≡ get_or (set ps v.name.0 q) v.name.0 r → id ≡ length vs →
+    s.candidates.items ≡ r.candidates.items ++ record { 0 = id } ∷ [] → IsDeclared vs ws ps (set (set ps v.name.0 q) v.name.0 s) v
 IsDeclared-written vs ws ps v p q r s id added within read room again at pushed =
     let first : slice_get ps v.name.0 ≡ Some p = slice_get_read ps (length ps) v.name.0 p refl within read in
     let inside : v.name.0 < length (set ps v.name.0 q) = omega (arith, length-set ps v.name.0 q) in
-    let second : slice_get (set ps v.name.0 q) v.name.0 ≡ Some r = slice_get_read (set ps v.name.0 q) (length (set ps v.name.0 q)) v.name.0 r refl inside again in
+    let second : slice_get (set ps v.name.0 q) v.name.0 ≡ Some r =
+    slice_get_read (set ps v.name.0 q) (length (set ps v.name.0 q)) v.name.0 r refl inside again in
     let same : q ≡ r = same_Some q r (sym (slice_get-set_same ps v.name.0 q within) ∙ second) in
     let cs : r.candidates.items ≡ p.candidates.items = ap (λ (x : Package). x.candidates.items) (sym same) ∙ room in
     let third : slice_get (set (set ps v.name.0 q) v.name.0 s) v.name.0 ≡ Some s = slice_get-set_same (set ps v.name.0 q) v.name.0 s inside in
     record {
       last = added;
-      listed = ap candidates_of third ∙ (pushed ∙ (ap (λ (xs : List SolvableId). xs ++ record { 0 = id } ∷ []) (cs ∙ sym (ap candidates_of first)) ∙ ap (λ (k : ℕ). candidates_of (slice_get ps v.name.0) ++ record { 0 = k } ∷ []) at));
+      listed = ap candidates_of third ∙
+          (pushed ∙ (ap (λ (xs : List SolvableId). xs ++ record { 0 = id } ∷ []) (cs ∙ sym (ap candidates_of first)) ∙
+          ap (λ (k : ℕ). candidates_of (slice_get ps v.name.0) ++ record { 0 = k } ∷ []) at));
       others = λ n other. slice_get-set_other (set ps v.name.0 q) v.name.0 s n other ∙ slice_get-set_other ps v.name.0 q n other;
     }
 
 -- two reads of one place give one value
 pub same_read : {X : Type 0} (xs : List X) (i : ℕ) (x y : X) → i < length xs → x ≡ get_or xs i x → y ≡ get_or xs i y → x ≡ y
-same_read xs i x y within e f = let first : slice_get xs i ≡ Some x = slice_get_read xs (length xs) i x refl within e in let second : slice_get xs i ≡ Some y = slice_get_read xs (length xs) i y refl within f in cc
+same_read xs i x y within e f = let first : slice_get xs i ≡ Some x = slice_get_read xs (length xs) i x refl within e in
+    let second : slice_get xs i ≡ Some y = slice_get_read xs (length xs) i y refl within f in cc

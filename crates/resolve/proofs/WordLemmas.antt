@@ -40,9 +40,11 @@ range_refused text front back e wrong EachVersion h = h
 range_refused text front back e wrong (Within low high) (inl (one, below, next)) =
     dot_free front (46 ∷ back) (subst (AllDigits 10) (sym one ∙ e) (digits_decimal own low (omega arith)))
 range_refused text front back e (inl wrong) (Within low high) (inr (two, left, right)) =
-    wrong low left (sym (same_range (decimal low) (decimal high) front back (digits_decimal own low (omega arith)) (digits_decimal own high (omega arith)) (sym two ∙ e)).0)
+    wrong low left (sym (same_range (decimal low) (decimal high) front back (digits_decimal own low (omega arith)) (digits_decimal own high (omega arith))
+    (sym two ∙ e)).0)
 range_refused text front back e (inr wrong) (Within low high) (inr (two, left, right)) =
-    wrong high right (sym (same_range (decimal low) (decimal high) front back (digits_decimal own low (omega arith)) (digits_decimal own high (omega arith)) (sym two ∙ e)).1)
+    wrong high right (sym (same_range (decimal low) (decimal high) front back (digits_decimal own low (omega arith)) (digits_decimal own high (omega arith))
+    (sym two ∙ e)).1)
 
 -- a name has no byte that no name has, and is ASCII
 name_lacks : (sign : ℕ) (name : List ℕ) → (IsTrue (is_name_byte sign) → ⊥) → IsName name → Lacks sign name
@@ -115,11 +117,14 @@ versions_ascii text (Within low high) (inr (two, left, right)) =
 pub spec_utf8 : (word name : List ℕ) (versions : Range) → StatesSpec word name versions → IsUtf8 word
 spec_utf8 word name versions (n, inl (a, same)) = IsUtf8-from_ascii word (subst IsAscii (sym same) (name_ascii name n))
 spec_utf8 word name versions (n, inr (t, same, states)) =
-    IsUtf8-from_ascii word (subst IsAscii (sym same) (IsAscii-append name (64 ∷ t) (name_ascii name n) (IsAscii-cons 64 t (omega arith) (versions_ascii t versions states))))
+    IsUtf8-from_ascii word (subst IsAscii (sym same)
+    (IsAscii-append name (64 ∷ t) (name_ascii name n) (IsAscii-cons 64 t (omega arith) (versions_ascii t versions states))))
 
 pub solvable_utf8 : (word name : List ℕ) (version : ℕ) → StatesSolvable word name version → IsUtf8 word
 solvable_utf8 word name version (n, same, below) =
-    IsUtf8-from_ascii word (subst IsAscii (sym same) (IsAscii-append name (61 ∷ decimal version) (name_ascii name n) (IsAscii-cons 61 (decimal version) (omega arith) (IsAscii-decimal version (omega arith)))))
+    IsUtf8-from_ascii word (subst IsAscii (sym same)
+    (IsAscii-append name (61 ∷ decimal version) (name_ascii name n)
+    (IsAscii-cons 61 (decimal version) (omega arith) (IsAscii-decimal version (omega arith)))))
 
 -- the bounds of what was stated
 versions_bounded : (text : List ℕ) (versions : Range) → StatesVersions text versions → IsBounded versions

@@ -34,9 +34,11 @@ named_of : (solvables : List Version) (n : NameId) (s : SolvableId) → IsVersio
 named_of solvables n s h = ap (λ (k : ℕ). let m : NameId = record { 0 = k } in m) h.named
 
 once_of : (xs : List SolvableId) → AllPairs (λ a b. a.0 < b.0) xs → AllPairs ◌≢◌ xs
-once_of xs up = λ i j d below within e. let apart : (get_or xs i d).0 < (get_or xs j d).0 = up i j d below within in let same : (get_or xs i d).0 ≡ (get_or xs j d).0 = ap (λ (s : SolvableId). s.0) e in omega arith
+once_of xs up = λ i j d below within e. let apart : (get_or xs i d).0 < (get_or xs j d).0 = up i j d below within in
+    let same : (get_or xs i d).0 ≡ (get_or xs j d).0 = ap (λ (s : SolvableId). s.0) e in omega arith
 
-listing_lawful : (it : Catalog) (n : NameId) (o : Option Package) → ((p : Package) → o ≡ Some p → IsPackageOf it.packages.versions.keys n.0 p) → IsLawfulPackage (catalog_universe it) n (listing_of o)
+listing_lawful : (it : Catalog) (n : NameId) (o : Option Package) → ((p : Package) → o ≡ Some p → IsPackageOf it.packages.versions.keys n.0 p) →
+    IsLawfulPackage (catalog_universe it) n (listing_of o)
 listing_lawful it n None h = record {
   listed = λ s at. absurd (omega (arith, at.1));
   favored = tt;
@@ -51,7 +53,8 @@ listing_lawful it n (Some p) h =
       listed = λ s at. named_of it.packages.versions.keys n s (All-contains (IsVersionOf it.packages.versions.keys n.0) p.candidates.items s q.listed at);
       favored = IfSome_then p.favored q.favored (named_of it.packages.versions.keys n);
       locked = IfSome_then p.locked q.locked (named_of it.packages.versions.keys n);
-      excluded = All-weaker (λ e. IsVersionOf it.packages.versions.keys n.0 e.0) (λ e. name_at it.packages.versions.keys e.0 ≡ n) (λ e. named_of it.packages.versions.keys n e.0) p.excluded.items q.excluded;
+      excluded = All-weaker (λ e. IsVersionOf it.packages.versions.keys n.0 e.0) (λ e. name_at it.packages.versions.keys e.0 ≡ n) (λ e.
+          named_of it.packages.versions.keys n e.0) p.excluded.items q.excluded;
       once = once_of p.candidates.items q.rising;
     }
 

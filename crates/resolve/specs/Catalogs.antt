@@ -1,5 +1,6 @@
 -- What a catalog says.
-use Rattle.std.specs.Prelude.{◌≡◌, ◌<◌, ◌⊎◌, ℕ, Bool, not, ◌==◌, List, [], ◌∷◌, ◌++◌, Option, Some, None, slice_get, filter, map, codes, string_bytes, String, Vec}
+use Rattle.std.specs.Prelude.{◌≡◌, ◌<◌, ◌⊎◌, ℕ, Bool, not, ◌==◌, List, [], ◌∷◌, ◌++◌, Option, Some, None, slice_get, filter, map, codes, string_bytes, String}
+use Rattle.std.specs.Prelude.{Vec}
 use Rattle.std.specs.Global.{Global}
 use Rattle.std.specs.Ordering.{nat_cmp}
 use Rattle.resolver_clause_store.specs.Universe.{Universe, Package, Needs, known, unknown, hint_none}
@@ -68,7 +69,8 @@ rising_versions versions xs = sorted_by nat_cmp (map (version_at versions) xs)
 -- the name of the first, and all versions
 abbrev pub merged_text_of : List (String Global) → List Version → List SolvableId → List ℕ
 merged_text_of names versions [] = []
-merged_text_of names versions (s ∷ others) = text_of (slice_get names (name_at versions s).0) ++ codes " " ++ versions_text (rising_versions versions (s ∷ others))
+merged_text_of names versions (s ∷ others) = text_of (slice_get names (name_at versions s).0) ++ codes " " ++
+    versions_text (rising_versions versions (s ∷ others))
 
 abbrev pub same_solvable_ids : SolvableId → SolvableId → Bool
 same_solvable_ids a b = a.0 == b.0
@@ -155,4 +157,5 @@ IsUnfound it text number = (s : SolvableId) (found : IsFound it text number s) �
 
 -- the name was there and nothing changed, or it is the last one now, with a package that names no version
 abbrev pub IsNamed : Catalog → Catalog → List ℕ → Type 0
-IsNamed it it' text = ((names_in it' ≡ names_in it) × (packages_in it' ≡ packages_in it)) ⊎ ((names_in it' ≡ names_in it ++ text ∷ []) × IsPackageAdded (packages_in it) (packages_in it'))
+IsNamed it it' text = ((names_in it' ≡ names_in it) × (packages_in it' ≡ packages_in it)) ⊎
+    ((names_in it' ≡ names_in it ++ text ∷ []) × IsPackageAdded (packages_in it) (packages_in it'))

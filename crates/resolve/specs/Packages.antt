@@ -1,5 +1,6 @@
 -- What tables of packages and versions say, and what they keep to.
-use Rattle.std.specs.Prelude.{◌≡◌, ◌≢◌, [], ◌∷◌, ◌++◌, ℕ, ◌<◌, ◌≤◌, List, Option, Some, None, slice_get, slice_set, true, false, length, Contains, All, AllPairs, IfSome, IsSome, IsNone}
+use Rattle.std.specs.Prelude.{◌≡◌, ◌≢◌, [], ◌∷◌, ◌++◌, ℕ, ◌<◌, ◌≤◌, List, Option, Some, None, slice_get, slice_set, true, false, length, Contains, All}
+use Rattle.std.specs.Prelude.{AllPairs, IfSome, IsSome, IsNone}
 use Rattle.std.specs.Ordering.{nat_cmp, on, flip_args, then_cmp}
 use Rattle.std.specs.declared.cmp.Ordering.{Ordering}
 use Rattle.resolve.specs.declared.ids.NameId.{NameId}
@@ -129,7 +130,8 @@ pub record IsMadeUnknown (solvables solvables' : List Solvable) (s : SolvableId)
   pub written : solvables' ≡ slice_set solvables s.0 (record before { unknown = Some reason })
 
 -- the solvable, which was not excluded, now is for the reason, and is the last such one of its package; nothing else changed
-pub record IsExcluded (versions : List Version) (solvables solvables' : List Solvable) (packages packages' : List Package) (s : SolvableId) (reason : StringId) : Type 0 where
+pub record IsExcluded (versions : List Version) (solvables solvables' : List Solvable) (packages packages' : List Package) (s : SolvableId)
+    (reason : StringId) : Type 0 where
   pub before : Solvable
   pub stood : slice_get solvables s.0 ≡ Some before
   pub included : before.is_excluded ≡ false
@@ -159,7 +161,8 @@ pub record IsReasonRefused (solvables solvables' : List Solvable) (s : SolvableI
   pub taken : (t : Solvable) → slice_get solvables s.0 ≡ Some t → IsSome t.unknown
 
 -- nothing changed, since the solvable is excluded, or there is no such solvable or no package of it
-pub record IsExclusionRefused (versions : List Version) (solvables solvables' : List Solvable) (packages packages' : List Package) (s : SolvableId) : Type 0 where
+pub record IsExclusionRefused (versions : List Version) (solvables solvables' : List Solvable) (packages packages' : List Package)
+    (s : SolvableId) : Type 0 where
   pub kept : solvables' ≡ solvables
   pub kept_packages : packages' ≡ packages
   pub taken : (t : Solvable) → s.0 < length versions → (name_at versions s).0 < length packages → slice_get solvables s.0 ≡ Some t → t.is_excluded ≡ true

@@ -7,7 +7,8 @@ use Rattle.std.specs.Cmp.{IsTotalOrder, IsStrictWeakOrder}
 use Rattle.std.specs.Ordering.{is_lt, ordering_reverse}
 use Rattle.std.specs.declared.cmp.Ordering.{Ordering}
 use Rattle.std.specs.declared.cmp.Ordering.TheVariants.{Less, Equal, Greater}
-use Rattle.std.proofs.lemmas.List.Sorted.{ranks_by, sorted_far, sum_by-IsPermutation, IsPermutation-refl, IsPermutation-cons, IsPermutation-sym, IsPermutation-trans, IsPermutation-middle}
+use Rattle.std.proofs.lemmas.List.Sorted.{ranks_by, sorted_far, sum_by-IsPermutation, IsPermutation-refl, IsPermutation-cons, IsPermutation-sym}
+use Rattle.std.proofs.lemmas.List.Sorted.{IsPermutation-trans, IsPermutation-middle}
 use Rattle.std.proofs.lemmas.List.Sums.{sum_by-cons}
 use Rattle.std.specs.Fn.{Called, ComparesAs}
 use Rattle.std.proofs.lemmas.Fn.{always_returns_same}
@@ -50,13 +51,17 @@ IsPermutation-inserted : {X : Type 0} (cmp : X → X → Ordering) (x : X) (ys :
 IsPermutation-inserted cmp x [] = IsPermutation-refl (x ∷ [])
 IsPermutation-inserted cmp x (y ∷ ys) =
     elim (is_lt (cmp y x)) as (λ b. IsPermutation (x ∷ y ∷ ys) (cond b (y ∷ inserted_by cmp x ys) (x ∷ y ∷ ys))) [
-      | true ↦ IsPermutation-trans (x ∷ y ∷ ys) (y ∷ x ∷ ys) (y ∷ inserted_by cmp x ys) (IsPermutation-sym (y ∷ x ∷ ys) (x ∷ y ∷ ys) (IsPermutation-middle (y ∷ []) x ys)) (IsPermutation-cons y (x ∷ ys) (inserted_by cmp x ys) (IsPermutation-inserted cmp x ys))
+      | true ↦ IsPermutation-trans (x ∷ y ∷ ys) (y ∷ x ∷ ys) (y ∷ inserted_by cmp x ys)
+          (IsPermutation-sym (y ∷ x ∷ ys) (x ∷ y ∷ ys) (IsPermutation-middle (y ∷ []) x ys))
+          (IsPermutation-cons y (x ∷ ys) (inserted_by cmp x ys) (IsPermutation-inserted cmp x ys))
       | false ↦ IsPermutation-refl (x ∷ y ∷ ys)
     ]
 
 pub IsPermutation-sorted_by : {X : Type 0} (cmp : X → X → Ordering) (xs : List X) → IsPermutation xs (sorted_by cmp xs)
 IsPermutation-sorted_by cmp [] = IsPermutation-refl []
-IsPermutation-sorted_by cmp (x ∷ xs) = IsPermutation-trans (x ∷ xs) (x ∷ sorted_by cmp xs) (inserted_by cmp x (sorted_by cmp xs)) (IsPermutation-cons x xs (sorted_by cmp xs) (IsPermutation-sorted_by cmp xs)) (IsPermutation-inserted cmp x (sorted_by cmp xs))
+IsPermutation-sorted_by cmp (x ∷ xs) =
+    IsPermutation-trans (x ∷ xs) (x ∷ sorted_by cmp xs) (inserted_by cmp x (sorted_by cmp xs))
+    (IsPermutation-cons x xs (sorted_by cmp xs) (IsPermutation-sorted_by cmp xs)) (IsPermutation-inserted cmp x (sorted_by cmp xs))
 
 module _ {X : Type 0} (cmp : X → X → Ordering) (order : IsStrictWeakOrder (λ x y. is_lt (cmp x y))) where
   first-behind : (x y : X) (ys : List X) → is_lt (cmp y x) ≡ false → IsFirstOf cmp y ys → IsFirstOf cmp x ys
@@ -71,7 +76,8 @@ module _ {X : Type 0} (cmp : X → X → Ordering) (order : IsStrictWeakOrder (�
         | false ↦ (e, h)
       ]
 
-  rising-inserted_at : (x y : X) (ys : List X) (b : Bool) → is_lt (cmp y x) ≡ b → IsRising cmp (inserted_by cmp x ys) → IsRising cmp (y ∷ ys) → IsRising cmp (cond b (y ∷ inserted_by cmp x ys) (x ∷ y ∷ ys))
+  rising-inserted_at : (x y : X) (ys : List X) (b : Bool) → is_lt (cmp y x) ≡ b → IsRising cmp (inserted_by cmp x ys) → IsRising cmp (y ∷ ys) →
+      IsRising cmp (cond b (y ∷ inserted_by cmp x ys) (x ∷ y ∷ ys))
   rising-inserted_at x y ys true e h up = (first-inserted y x ys (order.one_way y x e) up.0, h)
   rising-inserted_at x y ys false e h up = ((e, first-behind x y ys e up.0), up)
 
@@ -89,12 +95,16 @@ module _ {X : Type 0} (cmp : X → X → Ordering) (order : IsStrictWeakOrder (�
 
   rising-from_far : (xs : List X) → ((i j : ℕ) (d : X) → i ≤ j → j < length xs → is_lt (cmp (get_or xs j d) (get_or xs i d)) ≡ false) → IsRising cmp xs
   rising-from_far [] h = tt
-  rising-from_far (x ∷ xs) h = (first-from_far x xs (λ j l. h 0 (suc j) x (omega arith) (omega arith)), rising-from_far xs (λ i j d i≤j l. h (suc i) (suc j) d (omega arith) (omega arith)))
+  rising-from_far (x ∷ xs) h = (
+    first-from_far x xs (λ j l. h 0 (suc j) x (omega arith) (omega arith)),
+    rising-from_far xs (λ i j d i≤j l. h (suc i) (suc j) d (omega arith) (omega arith)),
+  )
 
   -- how many are less than the first
   none_less : (x : X) (ys : List X) → IsFirstOf cmp x ys → sum_by (λ a. one_if (is_lt (cmp a x))) ys ≡ 0
   none_less x [] h = refl
-  none_less x (y ∷ ys) h = let here : one_if (is_lt (cmp y x)) ≡ 0 = ap one_if h.0 in omega (arith, here, none_less x ys h.1, sum_by-cons (λ a. one_if (is_lt (cmp a x))) y ys)
+  none_less x (y ∷ ys) h = let here : one_if (is_lt (cmp y x)) ≡ 0 = ap one_if h.0 in
+      omega (arith, here, none_less x ys h.1, sum_by-cons (λ a. one_if (is_lt (cmp a x))) y ys)
 
   not_less : (b : Bool) → one_if b ≡ 0 → b ≡ false
   not_less true e = absurd (omega arith)
@@ -114,7 +124,8 @@ module _ {X : Type 0} (cmp : X → X → Ordering) (order : IsStrictWeakOrder (�
       let none : less x ≡ 0 = omega (arith, both, left, right, here, rest) in
       not_less (is_lt (cmp x y)) none
 
-  rising_unique : (alike : (x y : X) → is_lt (cmp x y) ≡ false → is_lt (cmp y x) ≡ false → x ≡ y) (xs ys : List X) → IsRising cmp xs → IsRising cmp ys → ((f : X → ℕ) → sum_by f xs ≡ sum_by f ys) → xs ≡ ys
+  rising_unique : (alike : (x y : X) → is_lt (cmp x y) ≡ false → is_lt (cmp y x) ≡ false → x ≡ y) (xs ys : List X) → IsRising cmp xs → IsRising cmp ys →
+      ((f : X → ℕ) → sum_by f xs ≡ sum_by f ys) → xs ≡ ys
   rising_unique alike [] [] up up' same = refl
   rising_unique alike [] (y ∷ ys) up up' same = absurd (let e : 0 ≡ sum_by (λ _. 1) (y ∷ ys) = same (λ _. 1) in omega (arith, e, sum_by-cons (λ _. 1) y ys))
   rising_unique alike (x ∷ xs) [] up up' same = absurd (let e : sum_by (λ _. 1) (x ∷ xs) ≡ 0 = same (λ _. 1) in omega (arith, e, sum_by-cons (λ _. 1) x xs))
@@ -131,7 +142,8 @@ neither_less Greater Equal e l r = absurd cc
 neither_less Greater Greater e l r = absurd cc
 
 -- a sort by an order that ties no two values gives the sorted list
-pub sorted_by-unique : {X : Type 0} (cmp : X → X → Ordering) → IsTotalOrder cmp → ((x y : X) → cmp x y ≡ Equal → x ≡ y) → (xs ys : List X) → IsPermutation xs ys → IsSortedBy (λ x y. is_lt (cmp x y)) ys → ys ≡ sorted_by cmp xs
+pub sorted_by-unique : {X : Type 0} (cmp : X → X → Ordering) → IsTotalOrder cmp → ((x y : X) → cmp x y ≡ Equal → x ≡ y) → (xs ys : List X) →
+    IsPermutation xs ys → IsSortedBy (λ x y. is_lt (cmp x y)) ys → ys ≡ sorted_by cmp xs
 sorted_by-unique {X} cmp total tied xs ys moved up =
     let order : IsStrictWeakOrder (λ (x y : X). is_lt (cmp x y)) = ranks_by total (λ x. x) in
     rising_unique cmp order (λ x y l r. tied x y (neither_less (cmp x y) (cmp y x) (total.antisymm x y) l r)) ys (sorted_by cmp xs)
@@ -140,7 +152,10 @@ sorted_by-unique {X} cmp total tied xs ys moved up =
     (λ f. sum_by-IsPermutation f xs ys moved ∙ sym (sum-sorted cmp f xs))
 
 -- the same of what `sort_unstable_by` ensures, where each call of the closure compares its two elements
-pub sorted_by-from_clause : {X : Type 0} (cmp : X → X → Ordering) → IsTotalOrder cmp → ((x y : X) → cmp x y ≡ Equal → x ≡ y) → {F : Type 0} {g : Mut F (Bor X × (Bor X × Unit {0})) Ordering} {f : F} (xs ys : List X) → IsPermutation xs ys → ((lt : X → X → Bool) → IsStrictWeakOrder lt → ComparesAs g lt f → IsSortedBy lt ys) → ((a : Bor X × (Bor X × Unit {0})) (r : Ordering) (f' : F) → Called g f a r f' → (r ≡ cmp a.0.now a.1.0.now) × (f' ≡ f)) → ys ≡ sorted_by cmp xs
+pub sorted_by-from_clause : {X : Type 0} (cmp : X → X → Ordering) → IsTotalOrder cmp → ((x y : X) → cmp x y ≡ Equal → x ≡ y) →
+    {F : Type 0} {g : Mut F (Bor X × (Bor X × Unit {0})) Ordering} {f : F} (xs ys : List X) → IsPermutation xs ys →
+    ((lt : X → X → Bool) → IsStrictWeakOrder lt → ComparesAs g lt f → IsSortedBy lt ys) →
+    ((a : Bor X × (Bor X × Unit {0})) (r : Ordering) (f' : F) → Called g f a r f' → (r ≡ cmp a.0.now a.1.0.now) × (f' ≡ f)) → ys ≡ sorted_by cmp xs
 sorted_by-from_clause {X} cmp total tied {g = g} {f = f} xs ys moved up calls =
     sorted_by-unique cmp total tied xs ys moved (up (λ x y. is_lt (cmp x y)) (ranks_by total (λ x. x))
     (always_returns_same g (λ a r. is_lt r ≡ is_lt (cmp a.0.now a.1.0.now)) f (λ a r f' k. (ap is_lt (calls a r f' k).0, (calls a r f' k).1))))

@@ -6,7 +6,8 @@ use Rattle.resolver_clause_store.specs.declared.data.Exhausted.TheVariants.{Memo
 use Rattle.resolve.specs.declared.condition.ConditionStep.{ConditionStep}
 use Rattle.resolve.specs.declared.words.Spec.{Spec}
 use Rattle.resolve.specs.declared.statement.Statement.{Statement}
-use Rattle.resolve.specs.declared.statement.Statement.TheVariants.{Package, Requires, Constrains, Unknown, Favor, Lock, Exclude, Require, Constrain, Soft, SoftMatching}
+use Rattle.resolve.specs.declared.statement.Statement.TheVariants.{Package, Requires, Constrains, Unknown, Favor, Lock, Exclude, Require, Constrain, Soft}
+use Rattle.resolve.specs.declared.statement.Statement.TheVariants.{SoftMatching}
 use Rattle.resolve.specs.Postfix.{IsPostfix, IsStep}
 use Rattle.resolve.specs.Words.{IsName, IsSpec}
 use Rattle.resolve.specs.declared.statement.LineError.{LineError}

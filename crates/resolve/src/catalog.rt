@@ -2,7 +2,8 @@
 
 ghost use Rattle.std.specs.Prelude.{◌≡◌, ◌<◌, ◌≤◌, ◌++◌, ◌∷◌, [], IfErr, IfNone, IfOk, IfSome, MatchBool, OnOk, length};
 ghost use Rattle.resolve.specs.Additions.{IsInterned, IsShortage};
-ghost use Rattle.resolve.specs.Packages.{version_at, IsConstrained, IsDeclarationRefused, IsDeclared, IsExcluded, IsExclusionRefused, IsFavorRefused, IsFavored, IsLockRefused, IsLocked, IsMadeUnknown, IsReasonRefused, IsRequired, KeepsPackages};
+ghost use Rattle.resolve.specs.Packages.{version_at, IsConstrained, IsDeclarationRefused, IsDeclared, IsExcluded, IsExclusionRefused, IsFavorRefused};
+ghost use Rattle.resolve.specs.Packages.{IsFavored, IsLockRefused, IsLocked, IsMadeUnknown, IsReasonRefused, IsRequired, KeepsPackages};
 
 mod provider;
 mod tables;
@@ -34,7 +35,8 @@ pub struct Catalog {
 }
 
 impl Catalog {
-    ghost use Rattle.resolve.specs.Catalogs.{IsFound, IsNamed, IsUnfound, catalog_universe, conditions_in, names_in, no_tables, packages_in, solvables_in, strings_in, tables_in, unions_in, version_sets_in, versions_in};
+    ghost use Rattle.resolve.specs.Catalogs.{IsFound, IsNamed, IsUnfound, catalog_universe, conditions_in, names_in, no_tables, packages_in, solvables_in};
+    ghost use Rattle.resolve.specs.Catalogs.{strings_in, tables_in, unions_in, version_sets_in, versions_in};
 
     /// A catalog in which nothing is declared.
     pub fn new(alloc: Global) -> Catalog
@@ -102,8 +104,16 @@ impl Catalog {
     ///
     /// False if it was declared before.
     pub fn declare(&mut self, name: NameId, number: u32) -> Result<bool, Exhausted>
-        ensures declared { IfOk result (λ is_new. MatchBool is_new (IsDeclared (versions_in self.old) (versions_in self.new) (packages_in self.old) (packages_in self.new) (record { name = name; number = number })) (IsDeclarationRefused (versions_in self.old) (versions_in self.new) (packages_in self.old) (packages_in self.new) (record { name = name; number = number }))) }
-        ensures kept { tables_in self.new ≡ record (tables_in self.old) { packages = packages_in self.new; versions = versions_in self.new; solvables = solvables_in self.new } }
+        ensures declared { IfOk result (λ is_new.
+            MatchBool is_new (IsDeclared (versions_in self.old) (versions_in self.new) (packages_in self.old) (packages_in self.new)
+            (record { name = name; number = number }))
+            (IsDeclarationRefused (versions_in self.old) (versions_in self.new) (packages_in self.old) (packages_in self.new)
+            (record { name = name; number = number }))) }
+        ensures kept { tables_in self.new ≡ record (tables_in self.old) {
+          packages = packages_in self.new;
+          versions = versions_in self.new;
+          solvables = solvables_in self.new;
+        } }
         ensures refusal { IfErr result (IsShortage (length (versions_in self.old))) }
     {
         self.packages.add_version(self.alloc, name, number)
@@ -149,7 +159,8 @@ impl Catalog {
         ensures id { IfOk result (λ id. id.0 ≡ length (conditions_in self.old)) }
         ensures added { OnOk result (conditions_in self.new ≡ conditions_in self.old ++ Condition.Binary operator left right ∷ []) }
         ensures kept { tables_in self.new ≡ record (tables_in self.old) { conditions = conditions_in self.new } }
-        ensures refusal { left.0 < length (conditions_in self.old) → right.0 < length (conditions_in self.old) → IfErr result (IsShortage (length (conditions_in self.old))) }
+        ensures refusal { left.0 < length (conditions_in self.old) → right.0 < length (conditions_in self.old) →
+            IfErr result (IsShortage (length (conditions_in self.old))) }
     {
         self.conditions.add_of(operator, left, right)
     }
@@ -171,7 +182,8 @@ impl Catalog {
         solvable: SolvableId,
         requirement: ConditionalRequirement,
     ) -> Result<(), Exhausted>
-        ensures added { OnOk result (solvable.0 < length (solvables_in self.old) → IsRequired (solvables_in self.old) (solvables_in self.new) solvable requirement) }
+        ensures added { OnOk result (solvable.0 < length (solvables_in self.old) →
+            IsRequired (solvables_in self.old) (solvables_in self.new) solvable requirement) }
         ensures dropped { OnOk result (length (solvables_in self.old) ≤ solvable.0 → solvables_in self.new ≡ solvables_in self.old) }
         ensures kept { tables_in self.new ≡ record (tables_in self.old) { solvables = solvables_in self.new } }
         ensures memory { IfErr result (λ e. e ≡ Exhausted.Memory) }
@@ -185,7 +197,8 @@ impl Catalog {
         solvable: SolvableId,
         version_set: VersionSetId,
     ) -> Result<(), Exhausted>
-        ensures added { OnOk result (solvable.0 < length (solvables_in self.old) → IsConstrained (solvables_in self.old) (solvables_in self.new) solvable version_set) }
+        ensures added { OnOk result (solvable.0 < length (solvables_in self.old) →
+            IsConstrained (solvables_in self.old) (solvables_in self.new) solvable version_set) }
         ensures dropped { OnOk result (length (solvables_in self.old) ≤ solvable.0 → solvables_in self.new ≡ solvables_in self.old) }
         ensures kept { tables_in self.new ≡ record (tables_in self.old) { solvables = solvables_in self.new } }
         ensures memory { IfErr result (λ e. e ≡ Exhausted.Memory) }
@@ -197,7 +210,8 @@ impl Catalog {
     ///
     /// What it requires and constrains is then kept from the solver.
     pub fn set_unknown(&mut self, solvable: SolvableId, reason: StringId) -> bool
-        ensures unknown { MatchBool result (IsMadeUnknown (solvables_in self.old) (solvables_in self.new) solvable reason) (IsReasonRefused (solvables_in self.old) (solvables_in self.new) solvable) }
+        ensures unknown { MatchBool result (IsMadeUnknown (solvables_in self.old) (solvables_in self.new) solvable reason)
+            (IsReasonRefused (solvables_in self.old) (solvables_in self.new) solvable) }
         ensures kept { tables_in self.new ≡ record (tables_in self.old) { solvables = solvables_in self.new } }
     {
         self.packages.set_unknown(solvable, reason)
@@ -205,7 +219,8 @@ impl Catalog {
 
     /// Favors a solvable. False if its package has a favored one already.
     pub fn favor(&mut self, solvable: SolvableId) -> bool
-        ensures favored { MatchBool result (IsFavored (versions_in self.old) (packages_in self.old) (packages_in self.new) solvable) (IsFavorRefused (versions_in self.old) (packages_in self.old) (packages_in self.new) solvable) }
+        ensures favored { MatchBool result (IsFavored (versions_in self.old) (packages_in self.old) (packages_in self.new) solvable)
+            (IsFavorRefused (versions_in self.old) (packages_in self.old) (packages_in self.new) solvable) }
         ensures kept { tables_in self.new ≡ record (tables_in self.old) { packages = packages_in self.new } }
     {
         self.packages.favor(solvable)
@@ -213,7 +228,8 @@ impl Catalog {
 
     /// Locks the package of a solvable to it. False if the package is locked already.
     pub fn lock(&mut self, solvable: SolvableId) -> bool
-        ensures locked { MatchBool result (IsLocked (versions_in self.old) (packages_in self.old) (packages_in self.new) solvable) (IsLockRefused (versions_in self.old) (packages_in self.old) (packages_in self.new) solvable) }
+        ensures locked { MatchBool result (IsLocked (versions_in self.old) (packages_in self.old) (packages_in self.new) solvable)
+            (IsLockRefused (versions_in self.old) (packages_in self.old) (packages_in self.new) solvable) }
         ensures kept { tables_in self.new ≡ record (tables_in self.old) { packages = packages_in self.new } }
     {
         self.packages.lock(solvable)
@@ -221,7 +237,11 @@ impl Catalog {
 
     /// Excludes a solvable for a reason. False if it was excluded before.
     pub fn exclude(&mut self, solvable: SolvableId, reason: StringId) -> Result<bool, Exhausted>
-        ensures excluded { IfOk result (λ is_new. MatchBool is_new (IsExcluded (versions_in self.old) (solvables_in self.old) (solvables_in self.new) (packages_in self.old) (packages_in self.new) solvable reason) (IsExclusionRefused (versions_in self.old) (solvables_in self.old) (solvables_in self.new) (packages_in self.old) (packages_in self.new) solvable)) }
+        ensures excluded { IfOk result (λ is_new.
+            MatchBool is_new (IsExcluded (versions_in self.old) (solvables_in self.old) (solvables_in self.new) (packages_in self.old)
+            (packages_in self.new) solvable reason)
+            (IsExclusionRefused (versions_in self.old) (solvables_in self.old) (solvables_in self.new) (packages_in self.old)
+            (packages_in self.new) solvable)) }
         ensures kept { tables_in self.new ≡ record (tables_in self.old) { solvables = solvables_in self.new; packages = packages_in self.new } }
         ensures memory { IfErr result (λ e. e ≡ Exhausted.Memory) }
     {

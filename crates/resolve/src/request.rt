@@ -191,7 +191,11 @@ impl Request {
     /// Asks for the solvable where it can be taken, if it was declared. Answers whether it was.
     fn add_soft_requirement(&mut self, solvable: SolvableText<'_>) -> Result<bool, Exhausted>
         ensures only { self.new ≡ record self.old { soft_requirements = self.new.soft_requirements } }
-        ensures added { IfOk result (λ declared. MatchBool declared ((s : SolvableId) × IsFound self.old.catalog solvable.entry.name.now solvable.entry.version s × (self.new.soft_requirements.items ≡ self.old.soft_requirements.items ++ SoftSolvable s ∷ [])) ((self.new.soft_requirements.items ≡ self.old.soft_requirements.items) × IsUnfound self.old.catalog solvable.entry.name.now solvable.entry.version)) }
+        ensures added { IfOk result (λ declared.
+            MatchBool declared ((s : SolvableId) × IsFound self.old.catalog solvable.entry.name.now solvable.entry.version s ×
+            (self.new.soft_requirements.items ≡ self.old.soft_requirements.items ++ SoftSolvable s ∷ []))
+            ((self.new.soft_requirements.items ≡ self.old.soft_requirements.items) ×
+            IsUnfound self.old.catalog solvable.entry.name.now solvable.entry.version)) }
     {
         let Some(found) = self.catalog.find_solvable(solvable.name, solvable.version) else {
             return Ok(false);

@@ -160,7 +160,8 @@ fn parse_one_version(text: &str) -> Option<Range>
 
 /// Reads `NAME=VERSION`.
 pub fn parse_solvable(word: &[u8]) -> Option<SolvableText<'_>>
-    ensures { MatchOption result ((name : List ℕ) (version : ℕ) → StatesSolvable word.now name version → ⊥) (λ solvable. StatesSolvable word.now solvable.name.now solvable.version) }
+    ensures { MatchOption result ((name : List ℕ) (version : ℕ) → StatesSolvable word.now name version → ⊥) (λ solvable.
+        StatesSolvable word.now solvable.name.now solvable.version) }
 {
     let Some(text) = text_of(word) else {
         return None;
@@ -179,7 +180,8 @@ pub fn parse_solvable(word: &[u8]) -> Option<SolvableText<'_>>
 
 /// Reads `NAME`, `NAME@VERSION` or `NAME@LOW..HIGH`.
 pub fn parse_spec(word: &[u8]) -> Option<Spec<'_>>
-    ensures { MatchOption result ((name : List ℕ) (versions : Range) → StatesSpec word.now name versions → ⊥) (λ spec. StatesSpec word.now spec.name.now spec.versions) }
+    ensures { MatchOption result ((name : List ℕ) (versions : Range) → StatesSpec word.now name versions → ⊥) (λ spec.
+        StatesSpec word.now spec.name.now spec.versions) }
 {
     let Some(text) = text_of(word) else {
         return None;
@@ -199,7 +201,8 @@ pub fn parse_spec(word: &[u8]) -> Option<Spec<'_>>
 /// Reads `NAME`.
 fn parse_bare_spec(name: &str) -> Option<Spec<'_>>
     requires { Lacks 64 name.now }
-    ensures { MatchOption result ((bare : List ℕ) (versions : Range) → StatesSpec name.now bare versions → ⊥) (λ spec. StatesSpec name.now spec.name.now spec.versions) }
+    ensures { MatchOption result ((bare : List ℕ) (versions : Range) → StatesSpec name.now bare versions → ⊥) (λ spec.
+        StatesSpec name.now spec.name.now spec.versions) }
 {
     if !is_name(name) {
         return None;

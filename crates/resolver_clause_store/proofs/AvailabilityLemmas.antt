@@ -11,7 +11,8 @@ use Rattle.resolver_clause_store.specs.declared.cache.Cache.{Cache}
 use Rattle.resolver_clause_store.specs.declared.data.Candidates.{Candidates}
 
 -- a key that no look-up finds is not there
-pub absent : {K X : Type 0} {same : K → K → Bool} → IsEquivalence same → (k : K) (es : List (K × X)) → is_some (lookup (same k) es) ≡ false → Contains (keys_of es) k → ⊥
+pub absent : {K X : Type 0} {same : K → K → Bool} → IsEquivalence same → (k : K) (es : List (K × X)) → is_some (lookup (same k) es) ≡ false →
+    Contains (keys_of es) k → ⊥
 absent laws k es none has = false≢true (sym none ∙ IsSome-lookup_from_Contains laws k es has)
 
 module _ {N S : Type 0} (u : Universe N S) (c : Cache N S) (s : S) where
@@ -27,7 +28,8 @@ module _ {N S : Type 0} (u : Universe N S) (c : Cache N S) (s : S) where
   unavailable none uncovered = (λ e. absurd (false≢true e), λ available. absurd (neither none uncovered available))
 
   -- the candidates of the package are at hand, and the answer is whether the hint covers it
-  available_hinted : (b : Bool) (h : Hint S) → (HasDependencies c s → ⊥) → HasCandidates c (u.name s) → h ≡ (u.package_named (u.name s)).hint → MatchBool b (Covers h s) (Covers h s → ⊥) → IsTrue b ↔ IsAvailable u c s
+  available_hinted : (b : Bool) (h : Hint S) → (HasDependencies c s → ⊥) → HasCandidates c (u.name s) → h ≡ (u.package_named (u.name s)).hint →
+      MatchBool b (Covers h s) (Covers h s → ⊥) → IsTrue b ↔ IsAvailable u c s
   available_hinted true h none has same covered =
       let Covered : Hint S → Type 0 = λ x. Covers x s in
       (λ _. hinted has (subst Covered same covered), λ _. refl)
@@ -42,7 +44,10 @@ module _ {N S : Type 0} (u : Universe N S) (c : Cache N S) (s : S) where
         let Has : N → Type 0 = λ m. HasCandidates c m in
         unavailable none (λ has _. unasked (subst Has (sym same_name) has))
 
-    pub available_here : (answer : Candidates S) (b : Bool) → HasCandidates c n → package_of (Some answer) ≡ u.package_named n → MatchBool b (Covers (hint_of answer.hint_dependencies_available) s) (Covers (hint_of answer.hint_dependencies_available) s → ⊥) → IsTrue b ↔ IsAvailable u c s
+    pub available_here : (answer : Candidates S) (b : Bool) → HasCandidates c n → package_of (Some answer) ≡ u.package_named n →
+        MatchBool b (Covers (hint_of answer.hint_dependencies_available) s) (Covers (hint_of answer.hint_dependencies_available) s → ⊥) →
+        IsTrue b ↔ IsAvailable u c s
     available_here answer b has is covers =
         let Has : N → Type 0 = λ m. HasCandidates c m in
-        available_hinted b (hint_of answer.hint_dependencies_available) none (subst Has same_name has) (ap (λ (p : Package S). p.hint) (is ∙ ap u.package_named same_name)) covers
+        available_hinted b (hint_of answer.hint_dependencies_available) none (subst Has same_name has)
+        (ap (λ (p : Package S). p.hint) (is ∙ ap u.package_named same_name)) covers

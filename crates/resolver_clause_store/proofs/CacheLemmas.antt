@@ -13,11 +13,13 @@ use Rattle.resolver_clause_store.specs.declared.data.Candidates.{Candidates}
 use Rattle.resolver_clause_store.specs.declared.cache.Cache.{Cache}
 
 -- what holds of each entry holds of the key and the value that a look-up finds
-pub found : {K X : Type 0} {same : K → K → Bool} → IsIdentity same → (P : K × X → Type 0) (k : K) (v : X) (es : List (K × X)) → All P es → lookup (same k) es ≡ Some v → P (k, v)
+pub found : {K X : Type 0} {same : K → K → Bool} → IsIdentity same → (P : K × X → Type 0) (k : K) (v : X) (es : List (K × X)) → All P es →
+    lookup (same k) es ≡ Some v → P (k, v)
 found identity P k v es all is = All-contains P es (k, v) all (Contains-from_lookup identity.alone k v es is)
 
 -- a cache whose tables are empty
-pub IsTrueCache-empty : {N S : Type 0} (u : Universe N S) (c : Cache N S) → c.packages.entries ≡ [] → c.matching.entries ≡ [] → c.non_matching.entries ≡ [] → c.sorted.entries ≡ [] → c.dependencies.entries ≡ [] → IsTrueCache u c
+pub IsTrueCache-empty : {N S : Type 0} (u : Universe N S) (c : Cache N S) → c.packages.entries ≡ [] → c.matching.entries ≡ [] → c.non_matching.entries ≡ [] →
+    c.sorted.entries ≡ [] → c.dependencies.entries ≡ [] → IsTrueCache u c
 IsTrueCache-empty u c packages matching non_matching sorted dependencies = record {
   packages = All-same (λ e. package_of (Some e.1) ≡ u.package_named e.0) _ _ packages (All-nil _);
   matching = All-same (λ e. e.1.items ≡ matching_in u e.0) _ _ matching (All-nil _);
@@ -38,11 +40,15 @@ module _ {N S : Type 0} (u : Universe N S) (answer : Candidates S) (n m : N) (is
   favored_at = ap (λ (p : Package S). p.favored) package_at
 
 -- what a version set takes, sorted and the favored one first
-pub sorted_at : {N S : Type 0} (u : Universe N S) (v : VersionSetId) (items xs : List S) (favored : Option S) → items ≡ favored_first u favored (u.sorted_of xs) → favored ≡ (u.package_named (u.version_set_name v)).favored → xs ≡ matching_in u v → items ≡ sorted_candidates u v
-sorted_at u v items xs favored is same_favored same_list = is ∙ ap (λ f. favored_first u f (u.sorted_of xs)) same_favored ∙ ap (λ ys. favored_first u (u.package_named (u.version_set_name v)).favored (u.sorted_of ys)) same_list
+pub sorted_at : {N S : Type 0} (u : Universe N S) (v : VersionSetId) (items xs : List S) (favored : Option S) →
+    items ≡ favored_first u favored (u.sorted_of xs) → favored ≡ (u.package_named (u.version_set_name v)).favored → xs ≡ matching_in u v →
+    items ≡ sorted_candidates u v
+sorted_at u v items xs favored is same_favored same_list = is ∙ ap (λ f. favored_first u f (u.sorted_of xs)) same_favored ∙
+    ap (λ ys. favored_first u (u.package_named (u.version_set_name v)).favored (u.sorted_of ys)) same_list
 
 -- what was answered stays answered over two steps, and over none
-pub KeepsAnswers-trans : {N S : Type 0} (before between after : Cache N S) → KeepsAnswers before between → KeepsAnswers between after → KeepsAnswers before after
+pub KeepsAnswers-trans : {N S : Type 0} (before between after : Cache N S) → KeepsAnswers before between → KeepsAnswers between after →
+    KeepsAnswers before after
 KeepsAnswers-trans before between after first then = record {
   packages = λ k h. then.packages k (first.packages k h);
   matching = λ k h. then.matching k (first.matching k h);

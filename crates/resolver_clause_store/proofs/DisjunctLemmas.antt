@@ -1,7 +1,8 @@
 -- A condition holds in a set exactly where some list of its disjunctive form does.
 use Rattle.std.proofs.Common.{◌≡◌, zero, suc, ◌⊎◌, inl, inr, ⊎_elim, refl, sym, ap, subst, List, [], ◌∷◌, ◌++◌, Contains, All, arith}
 use Rattle.std.specs.Prelude.{map}
-use Rattle.std.proofs.lemmas.List.Elements.{All-nil, All-cons, All-head, All-tail, All-append, Contains-append_left, Contains-append_right, Contains-append_cases}
+use Rattle.std.proofs.lemmas.List.Elements.{All-nil, All-cons, All-head, All-tail, All-append, Contains-append_left, Contains-append_right}
+use Rattle.std.proofs.lemmas.List.Elements.{Contains-append_cases}
 use Rattle.resolver_clause_store.specs.Universe.{Universe}
 use Rattle.resolver_clause_store.specs.Candidates.{matching}
 use Rattle.resolver_clause_store.specs.Conditions.{ConditionHolds, matched, both, left, right}
@@ -49,7 +50,8 @@ Contains-joined {X} (z ∷ zs) ys x y h k = ⊎_elim
     (λ t. Contains-append_right (map (λ w. z ++ w) ys) (joined zs ys) (x ++ y) (Contains-joined zs ys x y t k))
     (Contains-cons_cases z zs x h)
 
-Contains-joined_back : {X : Type 0} (xs ys : List (List X)) (w : List X) → Contains (joined xs ys) w → (x : List X) × (y : List X) × Contains xs x × Contains ys y × (x ++ y ≡ w)
+Contains-joined_back : {X : Type 0} (xs ys : List (List X)) (w : List X) → Contains (joined xs ys) w → (x : List X) × (y : List X) × Contains xs x ×
+    Contains ys y × (x ++ y ≡ w)
 Contains-joined_back [] ys w h = absurd (Contains-none w h)
 Contains-joined_back (z ∷ zs) ys w h = ⊎_elim
     (λ a. let m = Contains-map_back (λ v. z ++ v) ys w a in (z, m.0, Contains-here z zs, m.1, m.2))
@@ -112,10 +114,12 @@ module _ {N S : Type 0} (u : Universe N S) (Has : S → Type 0) where
 
   -- lists behind one another
   left_holds : (lefts rights : List (List VersionSetId)) → Some lefts → Some (lefts ++ rights)
-  left_holds lefts rights some = record { disjunct = some.disjunct; listed = Contains-append_left lefts rights some.disjunct some.listed; all_taken = some.all_taken }
+  left_holds lefts rights some =
+      record { disjunct = some.disjunct; listed = Contains-append_left lefts rights some.disjunct some.listed; all_taken = some.all_taken }
 
   right_holds : (lefts rights : List (List VersionSetId)) → Some rights → Some (lefts ++ rights)
-  right_holds lefts rights some = record { disjunct = some.disjunct; listed = Contains-append_right lefts rights some.disjunct some.listed; all_taken = some.all_taken }
+  right_holds lefts rights some =
+      record { disjunct = some.disjunct; listed = Contains-append_right lefts rights some.disjunct some.listed; all_taken = some.all_taken }
 
   either_some : (lefts rights : List (List VersionSetId)) → Some (lefts ++ rights) → Some lefts ⊎ Some rights
   either_some lefts rights some = ⊎_elim
@@ -135,8 +139,10 @@ module _ {N S : Type 0} (u : Universe N S) (Has : S → Type 0) where
   both_some lefts rights some =
       let m = Contains-joined_back lefts rights some.disjunct some.listed in
       let P : List VersionSetId → Type 0 = λ list. All Taken list in
-      let all : All Taken (m.0 ++ m.1) = subst P (sym m.4) some.all_taken in
-      (record { disjunct = m.0; listed = m.2; all_taken = All-front Taken m.0 m.1 all }, record { disjunct = m.1; listed = m.3; all_taken = All-behind Taken m.0 m.1 all })
+      let all : All Taken (m.0 ++ m.1) = subst P (sym m.4) some.all_taken in (
+        record { disjunct = m.0; listed = m.2; all_taken = All-front Taken m.0 m.1 all },
+        record { disjunct = m.1; listed = m.3; all_taken = All-behind Taken m.0 m.1 all },
+      )
 
   -- what makes a condition hold, by its kind
   matched_taken : (c : ConditionId) (v : VersionSetId) → u.condition c ≡ Matched v → Holds c → Taken v

@@ -10,10 +10,12 @@ module _ {N S : Type 0} (u : Universe N S) (root : Demands) where
       (r, v, Requires-within u root Has More within r asked, OptionalConditionHolds-within u Has More within r.condition active, single, choice)
 
   -- least: it is within each set that is closed under the step
-  IsFirstWithin-least : (Closed : S → Type 0) → ((s : S) → IsFirstNext u root Closed s → Closed s) → (rounds : ℕ) (s : S) → IsFirstWithin u root rounds s → Closed s
+  IsFirstWithin-least : (Closed : S → Type 0) → ((s : S) → IsFirstNext u root Closed s → Closed s) → (rounds : ℕ) (s : S) → IsFirstWithin u root rounds s →
+      Closed s
   IsFirstWithin-least Closed step zero s h = absurd h
   IsFirstWithin-least Closed step (suc rounds) s (inl h) = IsFirstWithin-least Closed step rounds s h
-  IsFirstWithin-least Closed step (suc rounds) s (inr h) = step s (IsFirstNext-within (IsFirstWithin u root rounds) Closed (λ t k. IsFirstWithin-least Closed step rounds t k) s h)
+  IsFirstWithin-least Closed step (suc rounds) s (inr h) =
+      step s (IsFirstNext-within (IsFirstWithin u root rounds) Closed (λ t k. IsFirstWithin-least Closed step rounds t k) s h)
 
   pub IsFirst-least : (Closed : S → Type 0) → ((s : S) → IsFirstNext u root Closed s → Closed s) → (s : S) → IsFirst u root s → Closed s
   IsFirst-least Closed step s (rounds, h) = IsFirstWithin-least Closed step rounds s h

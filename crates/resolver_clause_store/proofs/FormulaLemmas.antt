@@ -14,30 +14,38 @@ use Rattle.std.proofs.lemmas.Option.{slice_get-get_or, slice_get_past}
 use Rattle.resolver_clause_store.specs.declared.literals.Literal.{Literal}
 use Rattle.resolver_clause_store.specs.Formula.{clause_at, clause_true, literal_true}
 
-pub clause_at-get_or : (table : List (Vec Literal Global)) (number : ℕ) (d : Vec Literal Global) → number < length table → clause_at table number ≡ (get_or table number d).items
+pub clause_at-get_or : (table : List (Vec Literal Global)) (number : ℕ) (d : Vec Literal Global) → number < length table →
+    clause_at table number ≡ (get_or table number d).items
 clause_at-get_or table number d within = ap (λ o. option_map_or (λ (clause : Vec Literal Global). clause.items) o []) (slice_get-get_or table number d within)
 
 pub clause_at-past : (table : List (Vec Literal Global)) (number : ℕ) → length table ≤ number → clause_at table number ≡ []
 clause_at-past table number past = ap (λ o. option_map_or (λ (clause : Vec Literal Global). clause.items) o []) (slice_get_past table number past)
 
-pub clause_at-push : (table : List (Vec Literal Global)) (clause : Vec Literal Global) (number : ℕ) → number < length table → clause_at (table ++ clause ∷ []) number ≡ clause_at table number
-clause_at-push table clause number within = clause_at-get_or (table ++ clause ∷ []) number clause (simp length-append (omega arith)) ∙ ap (λ (c : Vec Literal Global). c.items) (get_or-append table (clause ∷ []) clause number within) ∙ sym (clause_at-get_or table number clause within)
+pub clause_at-push : (table : List (Vec Literal Global)) (clause : Vec Literal Global) (number : ℕ) → number < length table →
+    clause_at (table ++ clause ∷ []) number ≡ clause_at table number
+clause_at-push table clause number within = clause_at-get_or (table ++ clause ∷ []) number clause (simp length-append (omega arith)) ∙
+    ap (λ (c : Vec Literal Global). c.items) (get_or-append table (clause ∷ []) clause number within) ∙ sym (clause_at-get_or table number clause within)
 
 pub clause_at-last : (table : List (Vec Literal Global)) (clause : Vec Literal Global) → clause_at (table ++ clause ∷ []) (length table) ≡ clause.items
-clause_at-last table clause = clause_at-get_or (table ++ clause ∷ []) (length table) clause (simp length-append (omega arith)) ∙ ap (λ (c : Vec Literal Global). c.items) (get_or-append_seam table clause [] clause)
+clause_at-last table clause = clause_at-get_or (table ++ clause ∷ []) (length table) clause (simp length-append (omega arith)) ∙
+    ap (λ (c : Vec Literal Global). c.items) (get_or-append_seam table clause [] clause)
 
 -- the first clauses of a table
 pub clause_at-append : (table rest : List (Vec Literal Global)) (number : ℕ) → number < length table → clause_at (table ++ rest) number ≡ clause_at table number
 clause_at-append [] rest number within = absurd (omega arith)
-clause_at-append (d ∷ table) rest number within = clause_at-get_or (d ∷ table ++ rest) number d (simp length-append (omega arith)) ∙ ap (λ (c : Vec Literal Global). c.items) (get_or-append (d ∷ table) rest d number within) ∙ sym (clause_at-get_or (d ∷ table) number d within)
+clause_at-append (d ∷ table) rest number within = clause_at-get_or (d ∷ table ++ rest) number d (simp length-append (omega arith)) ∙
+    ap (λ (c : Vec Literal Global). c.items) (get_or-append (d ∷ table) rest d number within) ∙ sym (clause_at-get_or (d ∷ table) number d within)
 
-pub clause_at-take : (table : List (Vec Literal Global)) (count number : ℕ) → count ≤ length table → number < count → clause_at (take count table) number ≡ clause_at table number
+pub clause_at-take : (table : List (Vec Literal Global)) (count number : ℕ) → count ≤ length table → number < count →
+    clause_at (take count table) number ≡ clause_at table number
 clause_at-take table count number inside within =
     let parts : take count table ++ drop count table ≡ table = take-append-drop count table in
-    sym (clause_at-append (take count table) (drop count table) number (omega (arith, within, length-take-le count table inside))) ∙ ap (λ t. clause_at t number) parts
+    sym (clause_at-append (take count table) (drop count table) number (omega (arith, within, length-take-le count table inside))) ∙
+    ap (λ t. clause_at t number) parts
 
 -- a clause with no true literal is false
-pub false-by_recursion : (values : ℕ → Bool) (clause : List Literal) → AllByRecursion (λ literal. literal_true values literal ≡ false) clause → clause_true values clause ≡ false
+pub false-by_recursion : (values : ℕ → Bool) (clause : List Literal) → AllByRecursion (λ literal. literal_true values literal ≡ false) clause →
+    clause_true values clause ≡ false
 false-by_recursion values [] all = refl
 false-by_recursion values (literal ∷ rest) all = or_from _ _ all.0 (false-by_recursion values rest all.1)
 
@@ -45,12 +53,16 @@ pub clause-false : (values : ℕ → Bool) (clause : List Literal) → All (λ l
 clause-false values clause all = false-by_recursion values clause (recursion_from_All (λ literal. literal_true values literal ≡ false) clause all)
 
 -- the literals of a false clause are false
-pub false-each : (values : ℕ → Bool) (clause : List Literal) → clause_true values clause ≡ false → AllByRecursion (λ literal. literal_true values literal ≡ false) clause
+pub false-each : (values : ℕ → Bool) (clause : List Literal) → clause_true values clause ≡ false →
+    AllByRecursion (λ literal. literal_true values literal ≡ false) clause
 false-each values [] is = tt
 false-each values (literal ∷ rest) is = let parts = or_parts _ _ is in (parts.0, false-each values rest parts.1)
 
-pub false-contains : (values : ℕ → Bool) (clause : List Literal) (literal : Literal) → clause_true values clause ≡ false → Contains clause literal → literal_true values literal ≡ false
-false-contains values clause literal is inside = All-contains (λ literal. literal_true values literal ≡ false) clause literal (All-from_recursion (λ literal. literal_true values literal ≡ false) clause (false-each values clause is)) inside
+pub false-contains : (values : ℕ → Bool) (clause : List Literal) (literal : Literal) → clause_true values clause ≡ false → Contains clause literal →
+    literal_true values literal ≡ false
+false-contains values clause literal is inside =
+    All-contains (λ literal. literal_true values literal ≡ false) clause literal
+    (All-from_recursion (λ literal. literal_true values literal ≡ false) clause (false-each values clause is)) inside
 
 -- two values that are the same as a test says
 pub beq-true : (a b : Bool) → beq a b ≡ true → a ≡ b

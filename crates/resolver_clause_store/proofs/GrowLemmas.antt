@@ -1,5 +1,6 @@
 -- A trail with more variables.
-use Rattle.std.proofs.Common.{◌≡◌, ℕ, ◌-◌, ◌<◌, ◌≤◌, List, ◌++◌, length, length-append, get_or, take, replicate, Bool, true, false, Option, None, arith, sym, ap, ◌∙◌, ⊎_elim}
+use Rattle.std.proofs.Common.{◌≡◌, ℕ, ◌-◌, ◌<◌, ◌≤◌, List, ◌++◌, length, length-append, get_or, take, replicate, Bool, true, false, Option, None, arith, sym}
+use Rattle.std.proofs.Common.{ap, ◌∙◌, ⊎_elim}
 use Rattle.std.specs.Prelude.{if◌then◌else◌}
 use Rattle.std.specs.Option.{option_map}
 use Rattle.std.proofs.Math.ListN.{get_or-append}
@@ -23,8 +24,10 @@ appended slots count v = ⊎_elim
     (cases_lt v (length slots))
 
 -- what a table's growth leaves
-pub slots-resized : (ok : Bool) (old new : List (Option Slot)) (count more : ℕ) → length old ≤ count → new ≡ (if ok then take count old ++ replicate more None else old) → (v : ℕ) → slot_in new v ≡ slot_in old v
-slots-resized true old new count more longer is v = ap (λ slots. slot_in slots v) (is ∙ ap (λ slots. slots ++ replicate more None) (take_all count old longer)) ∙ appended old more v
+pub slots-resized : (ok : Bool) (old new : List (Option Slot)) (count more : ℕ) → length old ≤ count →
+    new ≡ (if ok then take count old ++ replicate more None else old) → (v : ℕ) → slot_in new v ≡ slot_in old v
+slots-resized true old new count more longer is v =
+    ap (λ slots. slot_in slots v) (is ∙ ap (λ slots. slots ++ replicate more None) (take_all count old longer)) ∙ appended old more v
 slots-resized false old new count more longer is v = ap (λ slots. slot_in slots v) is
 
 -- the same slots
@@ -51,22 +54,29 @@ no_value_at count v = ⊎_elim
     (cases_lt v count)
 
 -- a table without values, for as many slots without a value
-pub values-none : (values : List (Option Bool)) (slots : List (Option Slot)) (count : ℕ) → values ≡ replicate count None → slots ≡ replicate count None → AreValues values slots
+pub values-none : (values : List (Option Bool)) (slots : List (Option Slot)) (count : ℕ) → values ≡ replicate count None → slots ≡ replicate count None →
+    AreValues values slots
 values-none values slots count is are = record {
   size = omega (arith, ap length is, ap length are, length-replicate {A = Option Bool} count None, length-replicate {A = Option Slot} count None);
-  each = λ v. ap (λ xs. get_or xs v None) is ∙ no_value_at count v ∙ sym (ap (λ o. option_map (λ (slot : Slot). slot.value) o) (ap (λ xs. slot_in xs v) are ∙ none_at count v));
+  each = λ v. ap (λ xs. get_or xs v None) is ∙ no_value_at count v ∙
+      sym (ap (λ o. option_map (λ (slot : Slot). slot.value) o) (ap (λ xs. slot_in xs v) are ∙ none_at count v));
 }
 
 -- a table of values that was made as long as there will be slots
-pub values-resized : (old new : List (Option Bool)) (slots : List (Option Slot)) (count size : ℕ) → AreValues old slots → length slots ≤ count → size ≡ length old → new ≡ take count old ++ replicate (count - size) None → (length new ≡ count) × AreValues new slots
+pub values-resized : (old new : List (Option Bool)) (slots : List (Option Slot)) (count size : ℕ) → AreValues old slots → length slots ≤ count →
+    size ≡ length old → new ≡ take count old ++ replicate (count - size) None → (length new ≡ count) × AreValues new slots
 values-resized old new slots count size values fit had is =
-    let long : length new ≡ count = ap length is ∙ length-append (take count old) _ ∙ omega (arith, had, length-take count old, length-replicate {A = Option Bool} (count - size) None) in (
+    let long : length new ≡ count = ap length is ∙ length-append (take count old) _ ∙
+    omega (arith, had, length-take count old, length-replicate {A = Option Bool} (count - size) None) in (
       long,
       record {
         size = omega (arith, long, fit);
         each = λ v. ap (λ xs. get_or xs v None) is ∙ ⊎_elim
-            (λ (less : v < length (take count old)). get_or-append (take count old) (replicate (count - size) None) None v less ∙ get_or-take count old v None (omega (arith, less, length-take count old)) ∙ values.each v)
-            (λ (past : length (take count old) ≤ v). get_or-append_right (take count old) (replicate (count - size) None) v None past ∙ no_value_at (count - size) _ ∙ ⊎_elim
+            (λ (less : v < length (take count old)).
+            get_or-append (take count old) (replicate (count - size) None) None v less ∙
+            get_or-take count old v None (omega (arith, less, length-take count old)) ∙ values.each v)
+            (λ (past : length (take count old) ≤ v).
+            get_or-append_right (take count old) (replicate (count - size) None) v None past ∙ no_value_at (count - size) _ ∙ ⊎_elim
             (λ (within : v < count). sym (sym (values.each v) ∙ get_or_past old v None (omega (arith, past, within, length-take count old))))
             (λ (beyond : count ≤ v). sym (ap (λ o. option_map (λ (slot : Slot). slot.value) o) (get_or_past slots v None (omega (arith, fit, beyond)))))
             (cases_lt v count))
@@ -75,10 +85,22 @@ values-resized old new slots count size values fit had is =
     )
 
 -- a table of slots that was made longer, or stayed, is no longer than it should be
-pub slots-fit : (ok : Bool) (old new : List (Option Slot)) (count size : ℕ) → length old ≤ count → size ≡ length old → new ≡ (if ok then take count old ++ replicate (count - size) None else old) → length new ≤ count
-slots-fit true old new count size fit had is = omega (arith, had, fit, ap length is, length-append (take count old) (replicate (count - size) None), length-take count old, length-replicate {A = Option Slot} (count - size) None)
+pub slots-fit : (ok : Bool) (old new : List (Option Slot)) (count size : ℕ) → length old ≤ count → size ≡ length old →
+    new ≡ (if ok then take count old ++ replicate (count - size) None else old) → length new ≤ count
+slots-fit true old new count size fit had is =
+    omega (
+      arith,
+      had,
+      fit,
+      ap length is,
+      length-append (take count old) (replicate (count - size) None),
+      length-take count old,
+      length-replicate {A = Option Slot} (count - size) None,
+    )
 slots-fit false old new count size fit had is = omega (arith, fit, ap length is)
 
 -- slots that are the same have the same values
-pub values-same : (values : List (Option Bool)) (old new : List (Option Slot)) → AreSame old new → length new ≤ length values → AreValues values old → AreValues values new
-values-same values old new same long are = record { size = long; each = λ v. are.each v ∙ sym (ap (λ o. option_map (λ (slot : Slot). slot.value) o) (same.each v)) }
+pub values-same : (values : List (Option Bool)) (old new : List (Option Slot)) → AreSame old new → length new ≤ length values → AreValues values old →
+    AreValues values new
+values-same values old new same long are =
+    record { size = long; each = λ v. are.each v ∙ sym (ap (λ o. option_map (λ (slot : Slot). slot.value) o) (same.each v)) }

@@ -12,22 +12,27 @@ slot_placed : (o : Option Slot) (k : ℕ) → option_map (λ (slot : Slot). slot
 slot_placed None k e = absurd cc
 slot_placed (Some slot) k e = (slot, refl, same_Some _ _ e)
 
-pub slot_at : (trail : Trail) (place : ℕ) → place < length_of trail → (slot : Slot) × (slot_of trail (variable_at trail place) ≡ Some slot) × (slot.place ≡ place)
+pub slot_at : (trail : Trail) (place : ℕ) → place < length_of trail → (slot : Slot) × (slot_of trail (variable_at trail place) ≡ Some slot) ×
+    (slot.place ≡ place)
 slot_at trail place within = slot_placed _ place (trail.placed place within)
 
 -- a place whose slot stays is as it was
-place_kept : (old new : Trail) (place : ℕ) → place < length_of old → ((variable : ℕ) (slot : Slot) → slot_of old variable ≡ Some slot → slot.place ≡ place → slot_of new variable ≡ Some slot) → (place < length_of new) × (variable_at new place ≡ variable_at old place)
+place_kept : (old new : Trail) (place : ℕ) → place < length_of old →
+    ((variable : ℕ) (slot : Slot) → slot_of old variable ≡ Some slot → slot.place ≡ place → slot_of new variable ≡ Some slot) → (place < length_of new) ×
+    (variable_at new place ≡ variable_at old place)
 place_kept old new place within kept =
     let s = slot_at old place within in
     let l = new.listed (variable_at old place) s.0 (kept _ s.0 s.1 s.2) in
     (omega (arith, l.0, s.2), ap (λ p. variable_at new p) (sym s.2) ∙ l.1)
 
-long_enough : (old new : Trail) (count : ℕ) → count ≤ length_of old → ((variable : ℕ) (slot : Slot) → slot_of old variable ≡ Some slot → slot.place < count → slot_of new variable ≡ Some slot) → count ≤ length_of new
+long_enough : (old new : Trail) (count : ℕ) → count ≤ length_of old →
+    ((variable : ℕ) (slot : Slot) → slot_of old variable ≡ Some slot → slot.place < count → slot_of new variable ≡ Some slot) → count ≤ length_of new
 long_enough old new zero within kept = omega arith
 long_enough old new (suc count) within kept = omega (arith, (place_kept old new count (omega arith) (λ v s at e. kept v s at (omega (arith, e)))).0)
 
 -- where the slots of the first places stay, the places are as they were
-pub keeps_places : (old new : Trail) (count : ℕ) → count ≤ length_of old → ((variable : ℕ) (slot : Slot) → slot_of old variable ≡ Some slot → slot.place < count → slot_of new variable ≡ Some slot) → KeepsPlaces old new count
+pub keeps_places : (old new : Trail) (count : ℕ) → count ≤ length_of old →
+    ((variable : ℕ) (slot : Slot) → slot_of old variable ≡ Some slot → slot.place < count → slot_of new variable ≡ Some slot) → KeepsPlaces old new count
 keeps_places old new count within kept = record {
   were = within;
   are = long_enough old new count within kept;
@@ -40,7 +45,8 @@ pub keeps_all : (old new : Trail) → Keeps old new → KeepsPlaces old new (len
 keeps_all old new keeps = keeps_places old new (length_of old) (omega arith) (λ v s at below. keeps.kept v s at)
 
 pub keeps_trans : (a b c : Trail) (first second : ℕ) → KeepsPlaces a b first → KeepsPlaces b c second → KeepsPlaces a c (min first second)
-keeps_trans a b c first second k l = keeps_places a c (min first second) (omega (arith, k.were)) (λ v s at below. l.slots v s (k.slots v s at (omega arith)) (omega arith))
+keeps_trans a b c first second k l =
+    keeps_places a c (min first second) (omega (arith, k.were)) (λ v s at below. l.slots v s (k.slots v s at (omega arith)) (omega arith))
 
 -- what a trail gained before it was undone does not matter
 pub keeps_through : (a b c : Trail) (first second : ℕ) → KeepsPlaces a b first → KeepsPlaces b c second → first ≤ second → KeepsPlaces a c first

@@ -16,7 +16,8 @@ some_under true n i e = same_Some n i e
 some_under false n i e = absurd cc
 
 -- what stands at the first place that passes, where only x passes
-pub first_stands : {T : Type 0} (test : T → Bool) (x : T) → ((y : T) → test y ≡ true → x ≡ y) → (xs : List T) (i : ℕ) → i < length xs → Some i ≡ position test xs → slice_get xs i ≡ Some x
+pub first_stands : {T : Type 0} (test : T → Bool) (x : T) → ((y : T) → test y ≡ true → x ≡ y) → (xs : List T) (i : ℕ) → i < length xs →
+    Some i ≡ position test xs → slice_get xs i ≡ Some x
 first_stands test x alone xs i below found =
     let place : position_or_len test xs ≡ i = some_under _ (position_or_len test xs) i (sym found) in
     let Passes : ℕ → Type 0 = λ k. test (get_or xs k x) ≡ true in

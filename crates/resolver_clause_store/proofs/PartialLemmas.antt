@@ -5,7 +5,9 @@ use Rattle.std.proofs.lemmas.List.{append-nil, map-append, reverse-append}
 use Rattle.std.proofs.Math.Nat.{mul-le-mul_left, mul-le-mul_right}
 use Rattle.resolver_clause_store.specs.Universe.{Universe}
 use Rattle.resolver_clause_store.specs.Laws.{HasLawfulIds}
-use Rattle.resolver_clause_store.specs.Disjuncts.{joined, IsDisjunctive, of_version_set, of_or, of_and, PartialDisjunct, AreJoined, joined_none, joined_next, AreFinished, finished_none, finished_next, partial_disjunct, partial_disjuncts, work_at, pending_work, work_left, IsCloser}
+use Rattle.resolver_clause_store.specs.Disjuncts.{joined, IsDisjunctive, of_version_set, of_or, of_and, PartialDisjunct, AreJoined, joined_none, joined_next}
+use Rattle.resolver_clause_store.specs.Disjuncts.{AreFinished, finished_none, finished_next, partial_disjunct, partial_disjuncts, work_at, pending_work}
+use Rattle.resolver_clause_store.specs.Disjuncts.{work_left, IsCloser}
 use Rattle.resolver_clause_store.proofs.DisjunctLemmas.{IsDisjunctive-unique}
 use Rattle.resolver_clause_store.specs.declared.ids.VersionSetId.{VersionSetId}
 use Rattle.resolver_clause_store.specs.declared.ids.ConditionId.{ConditionId}
@@ -21,7 +23,8 @@ map-front xs ys (z ∷ zs) = cc (append_assoc xs ys z, map-front xs ys zs)
 -- joining is associative
 joined-append : {X : Type 0} (xs ys zs : List (List X)) → joined (xs ++ ys) zs ≡ joined xs zs ++ joined ys zs
 joined-append [] ys zs = refl
-joined-append (x ∷ xs) ys zs = ap (λ t. map (λ z. x ++ z) zs ++ t) (joined-append xs ys zs) ∙ sym (append_assoc (map (λ z. x ++ z) zs) (joined xs zs) (joined ys zs))
+joined-append (x ∷ xs) ys zs = ap (λ t. map (λ z. x ++ z) zs ++ t) (joined-append xs ys zs) ∙
+    sym (append_assoc (map (λ z. x ++ z) zs) (joined xs zs) (joined ys zs))
 
 joined-front : {X : Type 0} (x : List X) (ys zs : List (List X)) → joined (map (λ y. x ++ y) ys) zs ≡ map (λ z. x ++ z) (joined ys zs)
 joined-front x [] zs = refl
@@ -83,7 +86,8 @@ emptied xs ys n none is rest =
     is ∙ append-nil ys ∙ rest ∙ ap (λ k. take k xs) zero_left
 
 -- one more on the stack
-pub pushed : (stack stack' : List Partial) (p : Partial) (pending : List ConditionId) (chosen : List VersionSetId) → stack' ≡ stack ++ p ∷ [] → p.pending.items ≡ pending → p.chosen.items ≡ chosen →
+pub pushed : (stack stack' : List Partial) (p : Partial) (pending : List ConditionId) (chosen : List VersionSetId) → stack' ≡ stack ++ p ∷ [] →
+    p.pending.items ≡ pending → p.chosen.items ≡ chosen →
     partial_disjuncts stack' ≡ record { pending = reverse pending; chosen = chosen } ∷ partial_disjuncts stack
 pushed stack stack' p pending chosen is e f =
     let build : List ConditionId → List VersionSetId → PartialDisjunct = λ cs vs. record { pending = reverse cs; chosen = vs } in
@@ -93,7 +97,8 @@ pushed stack stack' p pending chosen is e f =
 module _ {N S : Type 0} (u : Universe N S) where
   -- the parts of lists that join disjuncts, and of lists that come of partial ones
   joined_parts : (c : ConditionId) (cs : List ConditionId) (lists : List (List VersionSetId)) → AreJoined u (c ∷ cs) lists →
-      (firsts : List (List VersionSetId)) × (others : List (List VersionSetId)) × IsDisjunctive u c firsts × AreJoined u cs others × (lists ≡ joined firsts others)
+      (firsts : List (List VersionSetId)) × (others : List (List VersionSetId)) × IsDisjunctive u c firsts × AreJoined u cs others ×
+      (lists ≡ joined firsts others)
   joined_parts c cs lists (joined_next {firsts = firsts} {others = others} p q) = (firsts, others, p, q, refl)
 
   joined_end : (lists : List (List VersionSetId)) → AreJoined u [] lists → lists ≡ [] ∷ []
@@ -109,7 +114,8 @@ module _ {N S : Type 0} (u : Universe N S) where
       cc (a.4, b.4, firsts, others)
 
   finished_parts : (p : PartialDisjunct) (ps : List PartialDisjunct) (lists : List (List VersionSetId)) → AreFinished u (p ∷ ps) lists →
-      (here : List (List VersionSetId)) × (others : List (List VersionSetId)) × AreJoined u p.pending here × AreFinished u ps others × (lists ≡ map (λ list. p.chosen ++ list) here ++ others)
+      (here : List (List VersionSetId)) × (others : List (List VersionSetId)) × AreJoined u p.pending here × AreFinished u ps others ×
+      (lists ≡ map (λ list. p.chosen ++ list) here ++ others)
   finished_parts p ps lists (finished_next {lists = here} {others = others} a b) = (here, others, a, b, refl)
 
   abbrev unfinished : List ConditionId → List VersionSetId → PartialDisjunct
@@ -120,13 +126,15 @@ module _ {N S : Type 0} (u : Universe N S) where
   pending_low (c ∷ cs) = omega (arith, pending_low cs, mul-le-mul_right (pending_work u cs) (work_low (u.condition_rank c)))
 
   -- nothing is pending
-  pub finish : (chosen : List VersionSetId) (ps : List PartialDisjunct) (lists : List (List VersionSetId)) → AreFinished u ps lists → AreFinished u (unfinished [] chosen ∷ ps) (chosen ∷ lists)
+  pub finish : (chosen : List VersionSetId) (ps : List PartialDisjunct) (lists : List (List VersionSetId)) → AreFinished u ps lists →
+      AreFinished u (unfinished [] chosen ∷ ps) (chosen ∷ lists)
   finish chosen ps lists rest =
       let P : List (List VersionSetId) → Type 0 = λ all. AreFinished u (unfinished [] chosen ∷ ps) all in
       subst P (ap (λ list. list ∷ lists) (append-nil chosen)) (finished_next joined_none rest)
 
   -- the next condition is a version set
-  pub put_version_set : (c : ConditionId) (v : VersionSetId) (cs : List ConditionId) (chosen : List VersionSetId) (ps : List PartialDisjunct) → u.condition c ≡ Matched v →
+  pub put_version_set : (c : ConditionId) (v : VersionSetId) (cs : List ConditionId) (chosen : List VersionSetId) (ps : List PartialDisjunct) →
+      u.condition c ≡ Matched v →
       IsCloser u (unfinished cs (chosen ++ v ∷ []) ∷ ps) (unfinished (c ∷ cs) chosen ∷ ps)
   put_version_set c v cs chosen ps is = record {
     same = λ lists finished.
@@ -148,10 +156,12 @@ module _ {N S : Type 0} (u : Universe N S) where
           let first = joined_parts a (b ∷ cs) w.0 w.2 in
           let second = joined_parts b cs first.1 first.3 in
           let P : List (List VersionSetId) → Type 0 = λ all. AreFinished u (unfinished (c ∷ cs) chosen ∷ ps) all in
-          let all : joined (joined first.0 second.0) second.1 ≡ w.0 = joined-joined first.0 second.0 second.1 ∙ ap (joined first.0) (sym second.4) ∙ sym first.4 in
+          let all : joined (joined first.0 second.0) second.1 ≡ w.0 = joined-joined first.0 second.0 second.1 ∙ ap (joined first.0) (sym second.4) ∙
+          sym first.4 in
           subst P (ap (λ t. map (λ list. chosen ++ list) t ++ w.1) all ∙ sym w.4) (finished_next (joined_next (of_and a b is first.2 second.2) second.3) w.3);
       less = product_times (work_at (u.condition_rank a)) (work_at (u.condition_rank b)) (work_at (u.condition_rank c)) (pending_work u cs) (work_left u ps)
-          (work_product (u.condition_rank a) (u.condition_rank b) (u.condition_rank c) (ids.left_lower c a b And is) (ids.right_lower c a b And is)) (pending_low cs);
+          (work_product (u.condition_rank a) (u.condition_rank b) (u.condition_rank c) (ids.left_lower c a b And is) (ids.right_lower c a b And is))
+          (pending_low cs);
     }
 
     -- the next condition is two joined by Or
@@ -166,7 +176,13 @@ module _ {N S : Type 0} (u : Universe N S) where
           let same : second.1 ≡ first.1 = AreJoined-unique cs second.1 first.1 second.3 first.3 in
           let P : List (List VersionSetId) → Type 0 = λ all. AreFinished u (unfinished (c ∷ cs) chosen ∷ ps) all in
           let all : map (λ list. chosen ++ list) (joined (first.0 ++ second.0) first.1) ≡ map (λ list. chosen ++ list) w.0 ++ map (λ list. chosen ++ list) v.0 =
-          cc (joined-append first.0 second.0 first.1, map-append (λ list. chosen ++ list) (joined first.0 first.1) (joined second.0 first.1), first.4, second.4, same) in
+          cc (
+            joined-append first.0 second.0 first.1,
+            map-append (λ list. chosen ++ list) (joined first.0 first.1) (joined second.0 first.1),
+            first.4,
+            second.4,
+            same,
+          ) in
           let whole : map (λ list. chosen ++ list) (joined (first.0 ++ second.0) first.1) ++ v.1 ≡ lists =
           cc (all, w.4, v.4, append_assoc (map (λ list. chosen ++ list) w.0) (map (λ list. chosen ++ list) v.0) v.1) in
           subst P whole (finished_next (joined_next (of_or a b is first.2 second.2) first.3) v.3);
@@ -175,24 +191,30 @@ module _ {N S : Type 0} (u : Universe N S) where
     }
 
   -- the same of the stack
-  pub stack_version_set : (c : ConditionId) (v : VersionSetId) (pending : List ConditionId) (chosen : List VersionSetId) (stack stack' : List Partial) (p : Partial) → u.condition c ≡ Matched v →
+  pub stack_version_set : (c : ConditionId) (v : VersionSetId) (pending : List ConditionId) (chosen : List VersionSetId) (stack stack' : List Partial)
+      (p : Partial) → u.condition c ≡ Matched v →
       stack' ≡ stack ++ p ∷ [] → p.pending.items ≡ pending → p.chosen.items ≡ chosen ++ v ∷ [] →
       IsCloser u (partial_disjuncts stack') (unfinished (c ∷ reverse pending) chosen ∷ partial_disjuncts stack)
   stack_version_set c v pending chosen stack stack' p is new e f =
       let P : List PartialDisjunct → Type 0 = λ after. IsCloser u after (unfinished (c ∷ reverse pending) chosen ∷ partial_disjuncts stack) in
       subst P (sym (pushed stack stack' p pending (chosen ++ v ∷ []) new e f)) (put_version_set c v (reverse pending) chosen (partial_disjuncts stack) is)
 
-  pub stack_both : HasLawfulIds u → (c a b : ConditionId) (pending middle : List ConditionId) (chosen : List VersionSetId) (stack stack' : List Partial) (p : Partial) → u.condition c ≡ Binary And a b →
+  pub stack_both : HasLawfulIds u →
+      (c a b : ConditionId) (pending middle : List ConditionId) (chosen : List VersionSetId) (stack stack' : List Partial) (p : Partial) →
+      u.condition c ≡ Binary And a b →
       middle ≡ pending ++ b ∷ [] → stack' ≡ stack ++ p ∷ [] → p.pending.items ≡ middle ++ a ∷ [] → p.chosen.items ≡ chosen →
       IsCloser u (partial_disjuncts stack') (unfinished (c ∷ reverse pending) chosen ∷ partial_disjuncts stack)
   stack_both ids c a b pending middle chosen stack stack' p is d new e f =
       let P : List PartialDisjunct → Type 0 = λ after. IsCloser u after (unfinished (c ∷ reverse pending) chosen ∷ partial_disjuncts stack) in
-      let order : reverse (middle ++ a ∷ []) ≡ a ∷ b ∷ reverse pending = reverse-push middle a ∙ ap (λ cs. a ∷ reverse cs) d ∙ ap (λ cs. a ∷ cs) (reverse-push pending b) in
+      let order : reverse (middle ++ a ∷ []) ≡ a ∷ b ∷ reverse pending = reverse-push middle a ∙ ap (λ cs. a ∷ reverse cs) d ∙
+      ap (λ cs. a ∷ cs) (reverse-push pending b) in
       let after : partial_disjuncts stack' ≡ unfinished (a ∷ b ∷ reverse pending) chosen ∷ partial_disjuncts stack =
       pushed stack stack' p (middle ++ a ∷ []) chosen new e f ∙ ap (λ cs. unfinished cs chosen ∷ partial_disjuncts stack) order in
       subst P (sym after) (put_both ids c a b (reverse pending) chosen (partial_disjuncts stack) is)
 
-  pub stack_either : HasLawfulIds u → (c a b : ConditionId) (pending seen copied : List ConditionId) (chosen looked taken : List VersionSetId) (stack middle stack' : List Partial) (q p : Partial) → u.condition c ≡ Binary Or a b →
+  pub stack_either : HasLawfulIds u →
+      (c a b : ConditionId) (pending seen copied : List ConditionId) (chosen looked taken : List VersionSetId) (stack middle stack' : List Partial)
+      (q p : Partial) → u.condition c ≡ Binary Or a b →
       seen ≡ pending → copied ≡ seen → looked ≡ chosen → taken ≡ looked →
       middle ≡ stack ++ q ∷ [] → q.pending.items ≡ copied ++ b ∷ [] → q.chosen.items ≡ taken →
       stack' ≡ middle ++ p ∷ [] → p.pending.items ≡ pending ++ a ∷ [] → p.chosen.items ≡ chosen →
@@ -201,9 +223,11 @@ module _ {N S : Type 0} (u : Universe N S) where
       let P : List PartialDisjunct → Type 0 = λ after. IsCloser u after (unfinished (c ∷ reverse pending) chosen ∷ partial_disjuncts stack) in
       let copy : q.pending.items ≡ pending ++ b ∷ [] = cc in
       let below : partial_disjuncts middle ≡ unfinished (b ∷ reverse pending) chosen ∷ partial_disjuncts stack =
-      pushed stack middle q (pending ++ b ∷ []) chosen new copy (f ∙ same_taken ∙ same_looked) ∙ ap (λ cs. unfinished cs chosen ∷ partial_disjuncts stack) (reverse-push pending b) in
+      pushed stack middle q (pending ++ b ∷ []) chosen new copy (f ∙ same_taken ∙ same_looked) ∙
+      ap (λ cs. unfinished cs chosen ∷ partial_disjuncts stack) (reverse-push pending b) in
       let after : partial_disjuncts stack' ≡ unfinished (a ∷ reverse pending) chosen ∷ unfinished (b ∷ reverse pending) chosen ∷ partial_disjuncts stack =
-      pushed middle stack' p (pending ++ a ∷ []) chosen newer e' f' ∙ ap (λ cs. unfinished cs chosen ∷ partial_disjuncts middle) (reverse-push pending a) ∙ ap (λ ps. unfinished (a ∷ reverse pending) chosen ∷ ps) below in
+      pushed middle stack' p (pending ++ a ∷ []) chosen newer e' f' ∙ ap (λ cs. unfinished cs chosen ∷ partial_disjuncts middle) (reverse-push pending a) ∙
+      ap (λ ps. unfinished (a ∷ reverse pending) chosen ∷ ps) below in
       subst P (sym after) (put_either ids c a b (reverse pending) chosen (partial_disjuncts stack) is)
 
 joined-end : {X : Type 0} (lists : List (List X)) → joined lists ([] ∷ []) ≡ lists
@@ -228,11 +252,13 @@ module _ {N S : Type 0} (u : Universe N S) (c : ConditionId) where
       let one = joined_parts u c [] w.0 w.2 in
       let P : List (List VersionSetId) → Type 0 = λ all. IsDisjunctive u c all in
       let all : rest ≡ one.0 =
-      w.4 ∙ ap (λ t. map (λ list. [] ++ list) w.0 ++ t) (finished_end w.1 w.3) ∙ append-nil (map (λ list. [] ++ list) w.0) ∙ front-none w.0 ∙ one.4 ∙ ap (joined one.0) (joined_end u one.1 one.3) ∙ joined-end one.0 in
+      w.4 ∙ ap (λ t. map (λ list. [] ++ list) w.0 ++ t) (finished_end w.1 w.3) ∙ append-nil (map (λ list. [] ++ list) w.0) ∙ front-none w.0 ∙ one.4 ∙
+      ap (joined one.0) (joined_end u one.1 one.3) ∙ joined-end one.0 in
       subst P (sym all) one.2
 
   -- the whole condition is pending
-  pub start : (fresh : List ConditionId) (empty stack : List Partial) (done : List (List VersionSetId)) (p : Partial) → empty ≡ [] → stack ≡ empty ++ p ∷ [] → fresh ≡ [] → p.pending.items ≡ fresh ++ c ∷ [] → p.chosen.items ≡ [] → done ≡ [] →
+  pub start : (fresh : List ConditionId) (empty stack : List Partial) (done : List (List VersionSetId)) (p : Partial) → empty ≡ [] → stack ≡ empty ++ p ∷ [] →
+      fresh ≡ [] → p.pending.items ≡ fresh ++ c ∷ [] → p.chosen.items ≡ [] → done ≡ [] →
       IsOnTheWay u c stack done
   start fresh empty stack done p clear is new e f none = record {
     form = λ rest finished.
@@ -245,13 +271,15 @@ module _ {N S : Type 0} (u : Universe N S) (c : ConditionId) where
 
   module _ (before after : List Partial) (p : Partial) (is : before ≡ after ++ p ∷ []) where
     -- the top has nothing pending
-    pub finish_top : (done done' : List (List VersionSetId)) → p.pending.items ≡ [] → done' ≡ done ++ p.chosen.items ∷ [] → IsOnTheWay u c before done → IsOnTheWay u c after done'
+    pub finish_top : (done done' : List (List VersionSetId)) → p.pending.items ≡ [] → done' ≡ done ++ p.chosen.items ∷ [] → IsOnTheWay u c before done →
+        IsOnTheWay u c after done'
     finish_top done done' none new way = record {
       form = λ rest finished.
           let P : List PartialDisjunct → Type 0 = λ ps. AreFinished u ps (p.chosen.items ∷ rest) in
           let Q : List (List VersionSetId) → Type 0 = λ all. IsDisjunctive u c all in
           let all : done ++ (p.chosen.items ∷ rest) ≡ done' ++ rest = sym (append_assoc done (p.chosen.items ∷ []) rest) ∙ ap (λ t. t ++ rest) (sym new) in
-          subst Q all (way.form (p.chosen.items ∷ rest) (subst P (sym (pushed after before p [] p.chosen.items is none refl)) (finish u p.chosen.items (partial_disjuncts after) rest finished)));
+          subst Q all (way.form (p.chosen.items ∷ rest)
+          (subst P (sym (pushed after before p [] p.chosen.items is none refl)) (finish u p.chosen.items (partial_disjuncts after) rest finished)));
     }
 
     pub finish_less : p.pending.items ≡ [] → work_left u (partial_disjuncts after) < work_left u (partial_disjuncts before)
@@ -260,12 +288,14 @@ module _ {N S : Type 0} (u : Universe N S) (c : ConditionId) where
     module _ (next : ConditionId) (pending : List ConditionId) (stack : List Partial) (some : p.pending.items ≡ pending ++ next ∷ [])
         (closer : IsCloser u (partial_disjuncts stack) (unfinished u (next ∷ reverse pending) p.chosen.items ∷ partial_disjuncts after)) where
       opened : partial_disjuncts before ≡ unfinished u (next ∷ reverse pending) p.chosen.items ∷ partial_disjuncts after
-      opened = pushed after before p (pending ++ next ∷ []) p.chosen.items is some refl ∙ ap (λ cs. unfinished u cs p.chosen.items ∷ partial_disjuncts after) (reverse-push pending next)
+      opened = pushed after before p (pending ++ next ∷ []) p.chosen.items is some refl ∙
+          ap (λ cs. unfinished u cs p.chosen.items ∷ partial_disjuncts after) (reverse-push pending next)
 
       -- the next condition of the top was put
       pub put_top : (done : List (List VersionSetId)) → IsOnTheWay u c before done → IsOnTheWay u c stack done
       put_top done way = record {
-        form = λ rest finished. let P : List PartialDisjunct → Type 0 = λ ps. AreFinished u ps rest in way.form rest (subst P (sym opened) (closer.same rest finished));
+        form = λ rest finished. let P : List PartialDisjunct → Type 0 = λ ps. AreFinished u ps rest in
+            way.form rest (subst P (sym opened) (closer.same rest finished));
       }
 
       pub put_less : work_left u (partial_disjuncts stack) < work_left u (partial_disjuncts before)

@@ -1,5 +1,6 @@
 -- What stands at the places of a list that grows.
-use Rattle.std.proofs.Common.{◌≡◌, ℕ, ◌+◌, zero, suc, ◌<◌, ◌≤◌, ◌⊎◌, List, [], ◌∷◌, ◌++◌, length, length-append, get_or, refl, arith, inl, inr, sym, ap, ◌∙◌, subst, ⊎_elim, Contains}
+use Rattle.std.proofs.Common.{◌≡◌, ℕ, ◌+◌, zero, suc, ◌<◌, ◌≤◌, ◌⊎◌, List, [], ◌∷◌, ◌++◌, length, length-append, get_or, refl, arith, inl, inr, sym, ap, ◌∙◌}
+use Rattle.std.proofs.Common.{subst, ⊎_elim, Contains}
 use Rattle.std.specs.Prelude.{Some, slice_get}
 use Rattle.std.proofs.Math.ListN.{get_or-append}
 use Rattle.std.proofs.Math.Seq.{get_or-append_seam}
@@ -29,12 +30,14 @@ place_last xs x =
     slice_get-get_or (xs ++ x ∷ []) (length xs) x (omega (arith, long)) ∙ ap Some (get_or-append_seam xs x [] x)
 
 -- what stands in the longer list stood there before, or is the last one
-pub place_cases : {X : Type 0} (xs : List X) (y : X) (k : ℕ) (x : X) → slice_get (xs ++ y ∷ []) k ≡ Some x → (slice_get xs k ≡ Some x) ⊎ ((k ≡ length xs) × (y ≡ x))
+pub place_cases : {X : Type 0} (xs : List X) (y : X) (k : ℕ) (x : X) → slice_get (xs ++ y ∷ []) k ≡ Some x → (slice_get xs k ≡ Some x) ⊎
+    ((k ≡ length xs) × (y ≡ x))
 place_cases {X} xs y k x at =
     let long : length (xs ++ y ∷ []) ≡ length xs + 1 = simp length-append in
     let below : k < length (xs ++ y ∷ []) = slice_get_within (xs ++ y ∷ []) k x at in
     ⊎_elim
-    (λ (less : k < length xs). inl (slice_get-get_or xs k x less ∙ ap Some (sym (get_or-append xs (y ∷ []) x k less) ∙ get_or_from_slice_get (xs ++ y ∷ []) k x x at)))
+    (λ (less : k < length xs). inl
+    (slice_get-get_or xs k x less ∙ ap Some (sym (get_or-append xs (y ∷ []) x k less) ∙ get_or_from_slice_get (xs ++ y ∷ []) k x x at)))
     (λ (more : length xs ≤ k).
     let end : k ≡ length xs = omega (arith, below, long, more) in
     let At : ℕ → Type 0 = λ n. slice_get (xs ++ y ∷ []) n ≡ Some x in
@@ -81,9 +84,13 @@ AreDistinct-from {X} same identity xs distinct = record {
       let At : X → X → Type 0 = λ a b. same a b ≡ false in
       let never : same x x ≡ false → ⊥ = λ e. false≢true (sym e ∙ identity.itself x) in
       ⊎_elim
-      (λ (less : i < k). absurd (never (subst (λ a. At a x) (get_or_from_slice_get xs i x x one) (subst (λ b. At (get_or xs i x) b) (get_or_from_slice_get xs k x x other) (apart_from_distinct same xs i k x distinct less below_k)))))
+      (λ (less : i < k). absurd (never
+      (subst (λ a. At a x) (get_or_from_slice_get xs i x x one)
+      (subst (λ b. At (get_or xs i x) b) (get_or_from_slice_get xs k x x other) (apart_from_distinct same xs i k x distinct less below_k)))))
       (λ (not_less : k ≤ i). ⊎_elim
-      (λ (more : k < i). absurd (never (subst (λ a. At a x) (get_or_from_slice_get xs k x x other) (subst (λ b. At (get_or xs k x) b) (get_or_from_slice_get xs i x x one) (apart_from_distinct same xs k i x distinct more below_i)))))
+      (λ (more : k < i). absurd (never
+      (subst (λ a. At a x) (get_or_from_slice_get xs k x x other)
+      (subst (λ b. At (get_or xs k x) b) (get_or_from_slice_get xs i x x one) (apart_from_distinct same xs k i x distinct more below_i)))))
       (λ (not_more : i ≤ k). omega (arith, not_less, not_more))
       (cases_lt k i))
       (cases_lt i k);

@@ -1,5 +1,6 @@
 -- The queue of requirements that are to be decided.
-use Rattle.std.proofs.Common.{◌≡◌, ◌≢◌, ℕ, ◌+◌, ◌<◌, ◌≤◌, ◌⊎◌, List, [], ◌∷◌, ◌++◌, length, get_or, min, Option, Some, None, Bool, true, false, arith, inl, inr, refl, sym, ap, ◌∙◌, subst, ⊎_elim, length-append, Contains}
+use Rattle.std.proofs.Common.{◌≡◌, ◌≢◌, ℕ, ◌+◌, ◌<◌, ◌≤◌, ◌⊎◌, List, [], ◌∷◌, ◌++◌, length, get_or, min, Option, Some, None, Bool, true, false, arith, inl, inr}
+use Rattle.std.proofs.Common.{refl, sym, ap, ◌∙◌, subst, ⊎_elim, length-append, Contains}
 use Rattle.std.specs.Prelude.{Vec, slice_index}
 use Rattle.std.specs.Bool.{beq}
 use Rattle.std.specs.List.{All, swap_remove}
@@ -25,7 +26,8 @@ use Rattle.resolver_clause_store.specs.declared.queue.DecideQueue.{DecideQueue}
 use Rattle.resolver_clause_store.specs.Queues.{IsFollowed, IsHeld, IsMetBy, IsQueued, IsWaiting, list_of}
 
 -- a slot at a place that is kept was there
-slot-back : (old new : Trail) (count variable : ℕ) (slot : Slot) → KeepsPlaces old new count → slot_of new variable ≡ Some slot → slot.place < count → slot_of old variable ≡ Some slot
+slot-back : (old new : Trail) (count variable : ℕ) (slot : Slot) → KeepsPlaces old new count → slot_of new variable ≡ Some slot → slot.place < count →
+    slot_of old variable ≡ Some slot
 slot-back old new count variable slot keeps at below =
     let s = slot_at old slot.place (omega (arith, below, keeps.were)) in
     let named : variable_at old slot.place ≡ variable = sym (keeps.variables slot.place below) ∙ (new.listed variable slot at).1 in
@@ -34,21 +36,26 @@ slot-back old new count variable slot keeps at below =
     was ∙ sym here ∙ at
 
 -- what is parked where the lists are the same
-parked-same : (old new : Lists) (variable index : ℕ) → list_of new variable ≡ list_of old variable → Contains (list_of old variable) index → Contains (list_of new variable) index
+parked-same : (old new : Lists) (variable index : ℕ) → list_of new variable ≡ list_of old variable → Contains (list_of old variable) index →
+    Contains (list_of new variable) index
 parked-same old new variable index same inside = let Inside : List ℕ → Type 0 = λ list. Contains list index in subst Inside (sym same) inside
 
-waiting-cut : (waiting : Lists) (old new : Trail) (kept left : ℕ) (clause : List Literal) (index : ℕ) → left ≤ kept → KeepsPlaces old new left → IsWaiting waiting old kept clause index → IsWaiting waiting new left clause index
+waiting-cut : (waiting : Lists) (old new : Trail) (kept left : ℕ) (clause : List Literal) (index : ℕ) → left ≤ kept → KeepsPlaces old new left →
+    IsWaiting waiting old kept clause index → IsWaiting waiting new left clause index
 waiting-cut waiting old new kept left clause index less keeps w = record {
   variable = w.variable;
   parked = w.parked;
   asks = w.asks;
   not_true = λ slot at is_so. ⊎_elim
-      (λ (below : slot.place < left). let late = w.not_true slot (slot-back old new left w.variable slot keeps at below) is_so in omega (arith, late, below, less))
+      (λ (below : slot.place < left). let late = w.not_true slot (slot-back old new left w.variable slot keeps at below) is_so in
+      omega (arith, late, below, less))
       (λ (late : left ≤ slot.place). late)
       (cases_lt slot.place left);
 }
 
-met-cut : (met : Lists) (followed : List ℕ) (old new : Trail) (kept left : ℕ) (clause : List Literal) (index : ℕ) → left ≤ kept → kept ≤ length_of old → ((place : ℕ) → place < kept → slice_index followed place ≡ variable_at old place) → KeepsPlaces old new left → IsMetBy met old followed kept clause index → IsMetBy met new followed left clause index
+met-cut : (met : Lists) (followed : List ℕ) (old new : Trail) (kept left : ℕ) (clause : List Literal) (index : ℕ) → left ≤ kept → kept ≤ length_of old →
+    ((place : ℕ) → place < kept → slice_index followed place ≡ variable_at old place) → KeepsPlaces old new left → IsMetBy met old followed kept clause index →
+    IsMetBy met new followed left clause index
 met-cut met followed old new kept left clause index less reached same keeps w = record {
   variable = w.variable;
   parked = w.parked;
@@ -64,7 +71,9 @@ met-cut met followed old new kept left clause index less reached same keeps w = 
       ap (option_map (λ (slot : Slot). beq slot.value true)) (now ∙ sym was) ∙ w.true_there (omega (arith, below, less));
 }
 
-held-cut : (active : List ℕ) (waiting met : Lists) (followed : List ℕ) (old new : Trail) (kept left : ℕ) (clause : List Literal) (index : ℕ) → left ≤ kept → kept ≤ length_of old → ((place : ℕ) → place < kept → slice_index followed place ≡ variable_at old place) → KeepsPlaces old new left → IsHeld active waiting met followed kept old clause index → IsHeld active waiting met followed left new clause index
+held-cut : (active : List ℕ) (waiting met : Lists) (followed : List ℕ) (old new : Trail) (kept left : ℕ) (clause : List Literal) (index : ℕ) → left ≤ kept →
+    kept ≤ length_of old → ((place : ℕ) → place < kept → slice_index followed place ≡ variable_at old place) → KeepsPlaces old new left →
+    IsHeld active waiting met followed kept old clause index → IsHeld active waiting met followed left new clause index
 held-cut active waiting met followed old new kept left clause index less reached same keeps held = ⊎_elim
     (λ (here : Contains active index). inl here)
     (λ rest. ⊎_elim
@@ -74,22 +83,30 @@ held-cut active waiting met followed old new kept left clause index less reached
     held
 
 -- where the first places of the trail stay
-pub queued-cut : (old new : DecideQueue) (before after : Trail) (table : List (Vec Literal Global)) (requirements : List RequirementClause) → new.active.items ≡ old.active.items → new.waiting ≡ old.waiting → new.met ≡ old.met → new.followed.items ≡ old.followed.items → new.kept ≤ old.kept → KeepsPlaces before after new.kept → IsQueued old before table requirements → IsQueued new after table requirements
+pub queued-cut : (old new : DecideQueue) (before after : Trail) (table : List (Vec Literal Global)) (requirements : List RequirementClause) →
+    new.active.items ≡ old.active.items → new.waiting ≡ old.waiting → new.met ≡ old.met → new.followed.items ≡ old.followed.items → new.kept ≤ old.kept →
+    KeepsPlaces before after new.kept → IsQueued old before table requirements → IsQueued new after table requirements
 queued-cut old new before after table requirements active waiting met followed less keeps it = record {
   following = record {
     followed = omega (arith, less, it.following.followed, ap length followed);
     reached = keeps.are;
-    same = λ place below. ap (λ list. slice_index list place) followed ∙ it.following.same place (omega (arith, below, less)) ∙ sym (keeps.variables place below);
+    same = λ place below. ap (λ list. slice_index list place) followed ∙ it.following.same place (omega (arith, below, less)) ∙
+        sym (keeps.variables place below);
   };
-  each = λ index d below. rw (active, waiting, met, followed) (held-cut old.active.items old.waiting old.met old.followed.items before after old.kept new.kept _ index less it.following.reached it.following.same keeps (it.each index d below));
+  each = λ index d below. rw (active, waiting, met, followed)
+      (held-cut old.active.items old.waiting old.met old.followed.items before after old.kept new.kept _ index less it.following.reached it.following.same keeps
+      (it.each index d below));
 }
 
 -- the same, for a queue that does not change
-pub queued-kept : (it : DecideQueue) (before after : Trail) (table : List (Vec Literal Global)) (requirements : List RequirementClause) → KeepsPlaces before after it.kept → IsQueued it before table requirements → IsQueued it after table requirements
+pub queued-kept : (it : DecideQueue) (before after : Trail) (table : List (Vec Literal Global)) (requirements : List RequirementClause) →
+    KeepsPlaces before after it.kept → IsQueued it before table requirements → IsQueued it after table requirements
 queued-kept it before after table requirements keeps queued = queued-cut it it before after table requirements refl refl refl refl (omega arith) keeps queued
 
 -- where other parts of a queue change
-pub queued-same : (old new : DecideQueue) (trail : Trail) (table : List (Vec Literal Global)) (requirements : List RequirementClause) → new.active.items ≡ old.active.items → new.waiting ≡ old.waiting → new.met ≡ old.met → new.followed.items ≡ old.followed.items → new.kept ≡ old.kept → IsQueued old trail table requirements → IsQueued new trail table requirements
+pub queued-same : (old new : DecideQueue) (trail : Trail) (table : List (Vec Literal Global)) (requirements : List RequirementClause) →
+    new.active.items ≡ old.active.items → new.waiting ≡ old.waiting → new.met ≡ old.met → new.followed.items ≡ old.followed.items → new.kept ≡ old.kept →
+    IsQueued old trail table requirements → IsQueued new trail table requirements
 queued-same old new trail table requirements active waiting met followed kept it = record {
   following = record {
     followed = omega (arith, kept, it.following.followed, ap length followed);
@@ -100,7 +117,10 @@ queued-same old new trail table requirements active waiting met followed kept it
 }
 
 -- where clauses stay what they were
-pub queued-grown : (it : DecideQueue) (trail : Trail) (table more : List (Vec Literal Global)) (requirements : List RequirementClause) → All (λ (r : RequirementClause). r.number < length table) requirements → ((number : ℕ) → number < length table → clause_at more number ≡ clause_at table number) → IsQueued it trail table requirements → IsQueued it trail more requirements
+pub queued-grown : (it : DecideQueue) (trail : Trail) (table more : List (Vec Literal Global)) (requirements : List RequirementClause) →
+    All (λ (r : RequirementClause). r.number < length table) requirements →
+    ((number : ℕ) → number < length table → clause_at more number ≡ clause_at table number) → IsQueued it trail table requirements →
+    IsQueued it trail more requirements
 queued-grown it trail table more requirements inside same queued = record {
   following = queued.following;
   each = λ index d below.
@@ -109,11 +129,16 @@ queued-grown it trail table more requirements inside same queued = record {
 }
 
 -- more are to be looked at
-held-more : (active more : List ℕ) (waiting met : Lists) (followed : List ℕ) (kept : ℕ) (trail : Trail) (clause : List Literal) (index : ℕ) → IsHeld active waiting met followed kept trail clause index → IsHeld (active ++ more) waiting met followed kept trail clause index
-held-more active more waiting met followed kept trail clause index held = ⊎_elim (λ (here : Contains active index). inl (Contains-append_left active more index here)) (λ rest. inr rest) held
+held-more : (active more : List ℕ) (waiting met : Lists) (followed : List ℕ) (kept : ℕ) (trail : Trail) (clause : List Literal) (index : ℕ) →
+    IsHeld active waiting met followed kept trail clause index → IsHeld (active ++ more) waiting met followed kept trail clause index
+held-more active more waiting met followed kept trail clause index held =
+    ⊎_elim (λ (here : Contains active index). inl (Contains-append_left active more index here)) (λ rest. inr rest) held
 
 -- a requirement behind the others
-pub queued-add : (old new : DecideQueue) (trail : Trail) (table : List (Vec Literal Global)) (requirements : List RequirementClause) (requirement : RequirementClause) (last : ℕ) → last ≡ length requirements → new.active.items ≡ old.active.items ++ last ∷ [] → new.waiting ≡ old.waiting → new.met ≡ old.met → new.followed.items ≡ old.followed.items → new.kept ≡ old.kept → IsQueued old trail table requirements → IsQueued new trail table (requirements ++ requirement ∷ [])
+pub queued-add : (old new : DecideQueue) (trail : Trail) (table : List (Vec Literal Global)) (requirements : List RequirementClause)
+    (requirement : RequirementClause) (last : ℕ) → last ≡ length requirements → new.active.items ≡ old.active.items ++ last ∷ [] → new.waiting ≡ old.waiting →
+    new.met ≡ old.met → new.followed.items ≡ old.followed.items → new.kept ≡ old.kept → IsQueued old trail table requirements →
+    IsQueued new trail table (requirements ++ requirement ∷ [])
 queued-add old new trail table requirements requirement last end active waiting met followed kept it = record {
   following = record {
     followed = omega (arith, kept, it.following.followed, ap length followed);
@@ -122,8 +147,10 @@ queued-add old new trail table requirements requirement last end active waiting 
   };
   each = λ index d below. rw (active, waiting, met, followed, kept) (⊎_elim
       (λ (early : index < length requirements).
-      let Held : RequirementClause → Type 0 = λ r. IsHeld (old.active.items ++ last ∷ []) old.waiting old.met old.followed.items old.kept trail (clause_at table r.number) index in
-      subst Held (sym (get_or-append requirements (requirement ∷ []) d index early)) (held-more old.active.items (last ∷ []) old.waiting old.met old.followed.items old.kept trail _ index (it.each index d early)))
+      let Held : RequirementClause → Type 0 =
+      λ r. IsHeld (old.active.items ++ last ∷ []) old.waiting old.met old.followed.items old.kept trail (clause_at table r.number) index in
+      subst Held (sym (get_or-append requirements (requirement ∷ []) d index early))
+      (held-more old.active.items (last ∷ []) old.waiting old.met old.followed.items old.kept trail _ index (it.each index d early)))
       (λ (late : length requirements ≤ index).
       let same : last ≡ index = omega (arith, end, late, below, length-append requirements (requirement ∷ [])) in
       let Inside : ℕ → Type 0 = λ i. Contains (old.active.items ++ last ∷ []) i in
@@ -132,12 +159,16 @@ queued-add old new trail table requirements requirement last end active waiting 
 }
 
 -- the last place that was followed is taken back
-pub queued-forget : (old new : DecideQueue) (trail : Trail) (table : List (Vec Literal Global)) (requirements : List RequirementClause) (variable : ℕ) → old.kept < length old.followed.items → old.followed.items ≡ new.followed.items ++ variable ∷ [] → new.active.items ≡ old.active.items ++ list_of old.met variable → ((v : ℕ) → v ≢ variable → list_of new.met v ≡ list_of old.met v) → new.waiting ≡ old.waiting → new.kept ≡ old.kept → IsQueued old trail table requirements → IsQueued new trail table requirements
+pub queued-forget : (old new : DecideQueue) (trail : Trail) (table : List (Vec Literal Global)) (requirements : List RequirementClause) (variable : ℕ) →
+    old.kept < length old.followed.items → old.followed.items ≡ new.followed.items ++ variable ∷ [] → new.active.items ≡ old.active.items ++
+    list_of old.met variable → ((v : ℕ) → v ≢ variable → list_of new.met v ≡ list_of old.met v) → new.waiting ≡ old.waiting → new.kept ≡ old.kept →
+    IsQueued old trail table requirements → IsQueued new trail table requirements
 queued-forget old new trail table requirements variable more followed active others waiting kept it =
     let longer : length old.followed.items ≡ length new.followed.items + 1 = ap length followed ∙ length-append new.followed.items (variable ∷ []) in
     let read : (place : ℕ) → place < length new.followed.items → slice_index new.followed.items place ≡ slice_index old.followed.items place = λ place below.
     sym (ap (λ list. slice_index list place) followed ∙ get_or-append new.followed.items (variable ∷ []) 0 place below) in
-    let last : slice_index old.followed.items (length new.followed.items) ≡ variable = ap (λ list. slice_index list (length new.followed.items)) followed ∙ get_or-append_seam new.followed.items variable [] 0 in
+    let last : slice_index old.followed.items (length new.followed.items) ≡ variable = ap (λ list. slice_index list (length new.followed.items)) followed ∙
+    get_or-append_seam new.followed.items variable [] 0 in
     record {
       following = record {
         followed = omega (arith, kept, more, longer);
@@ -174,16 +205,22 @@ queued-forget old new trail table requirements variable more followed active oth
     }
 
 -- the next place is followed
-pub queued-follow : (old new : DecideQueue) (trail : Trail) (table : List (Vec Literal Global)) (requirements : List RequirementClause) (variable : ℕ) → length old.followed.items ≡ old.kept → old.kept < length_of trail → variable ≡ variable_at trail old.kept → new.followed.items ≡ old.followed.items ++ variable ∷ [] → new.kept ≡ old.kept + 1 → new.met ≡ old.met →
-    ((index : ℕ) → Contains old.active.items index → Contains new.active.items index) → ((v : ℕ) → v ≢ variable → list_of new.waiting v ≡ list_of old.waiting v) →
-    ((index : ℕ) → Contains (list_of old.waiting variable) index → Contains new.active.items index ⊎ (Contains (list_of new.waiting variable) index × ((slot : Slot) → slot_of trail variable ≡ Some slot → slot.value ≡ true → ⊥))) →
+pub queued-follow : (old new : DecideQueue) (trail : Trail) (table : List (Vec Literal Global)) (requirements : List RequirementClause) (variable : ℕ) →
+    length old.followed.items ≡ old.kept → old.kept < length_of trail → variable ≡ variable_at trail old.kept → new.followed.items ≡ old.followed.items ++
+    variable ∷ [] → new.kept ≡ old.kept + 1 → new.met ≡ old.met →
+    ((index : ℕ) → Contains old.active.items index → Contains new.active.items index) →
+    ((v : ℕ) → v ≢ variable → list_of new.waiting v ≡ list_of old.waiting v) →
+    ((index : ℕ) → Contains (list_of old.waiting variable) index → Contains new.active.items index ⊎
+    (Contains (list_of new.waiting variable) index × ((slot : Slot) → slot_of trail variable ≡ Some slot → slot.value ≡ true → ⊥))) →
     IsQueued old trail table requirements → IsQueued new trail table requirements
 queued-follow old new trail table requirements variable all inside next followed kept met active others here it =
     let longer : length new.followed.items ≡ length old.followed.items + 1 = ap length followed ∙ length-append old.followed.items (variable ∷ []) in
     let read : (place : ℕ) → place < old.kept → slice_index new.followed.items place ≡ slice_index old.followed.items place = λ place below.
     ap (λ list. slice_index list place) followed ∙ get_or-append old.followed.items (variable ∷ []) 0 place (omega (arith, below, all)) in
-    let last : slice_index new.followed.items old.kept ≡ variable = ap (λ list. slice_index list old.kept) followed ∙ ap (λ p. slice_index (old.followed.items ++ variable ∷ []) p) (sym all) ∙ get_or-append_seam old.followed.items variable [] 0 in
-    let early : (v : ℕ) → v ≢ variable → ((slot : Slot) → slot_of trail v ≡ Some slot → slot.value ≡ true → old.kept ≤ slot.place) → (slot : Slot) → slot_of trail v ≡ Some slot → slot.value ≡ true → new.kept ≤ slot.place = λ v differs late slot at is_so. ⊎_elim
+    let last : slice_index new.followed.items old.kept ≡ variable = ap (λ list. slice_index list old.kept) followed ∙
+    ap (λ p. slice_index (old.followed.items ++ variable ∷ []) p) (sym all) ∙ get_or-append_seam old.followed.items variable [] 0 in
+    let early : (v : ℕ) → v ≢ variable → ((slot : Slot) → slot_of trail v ≡ Some slot → slot.value ≡ true → old.kept ≤ slot.place) → (slot : Slot) →
+    slot_of trail v ≡ Some slot → slot.value ≡ true → new.kept ≤ slot.place = λ v differs late slot at is_so. ⊎_elim
     (λ (less : slot.place < old.kept + 1).
     let same : slot.place ≡ old.kept = omega (arith, less, late slot at is_so) in
     absurd (differs (sym (trail.listed v slot at).1 ∙ ap (λ p. variable_at trail p) same ∙ sym next)))
@@ -213,7 +250,12 @@ queued-follow old new trail table requirements variable all inside next followed
           inr (inl (record { variable = variable; parked = left.0; asks = subst Asks is w.asks; not_true = λ slot at is_so. absurd (left.1 slot at is_so) })))
           (here index (subst Inside is w.parked)))
           (λ (differs : w.variable ≢ variable).
-          inr (inl (record { variable = w.variable; parked = parked-same old.waiting new.waiting w.variable index (others w.variable differs) w.parked; asks = w.asks; not_true = early w.variable differs w.not_true })))
+          inr (inl (record {
+            variable = w.variable;
+            parked = parked-same old.waiting new.waiting w.variable index (others w.variable differs) w.parked;
+            asks = w.asks;
+            not_true = early w.variable differs w.not_true;
+          })))
           (cases_eq w.variable variable))
           (λ (w : IsMetBy old.met trail old.followed.items old.kept (clause_at table (get_or requirements index d).number) index).
           let before : w.place < old.kept = omega (arith, w.within, all) in
@@ -235,15 +277,20 @@ queued-follow old new trail table requirements variable all inside next followed
 -- what stays in a list from which one was taken
 pub left-or : (xs : List ℕ) (place x : ℕ) → place < length xs → x ≡ get_or xs place x → (y : ℕ) → Contains xs y → (x ≡ y) ⊎ Contains (swap_remove xs place x) y
 left-or xs place x inside is y there = ⊎_elim
-    (λ (first : Contains (x ∷ []) y). ⊎_elim (λ (none : Contains [] y). absurd (omega (arith, none.1))) (λ (same : x ≡ y). inl same) (Contains-push_cases [] x y first))
+    (λ (first : Contains (x ∷ []) y).
+    ⊎_elim (λ (none : Contains [] y). absurd (omega (arith, none.1))) (λ (same : x ≡ y). inl same) (Contains-push_cases [] x y first))
     (λ (later : Contains (swap_remove xs place x) y). inr later)
-    (Contains-append_cases (x ∷ []) (swap_remove xs place x) y (Contains-permutation xs (x ∷ swap_remove xs place x) y (IsPermutation-swap_remove xs place x inside is) there))
+    (Contains-append_cases (x ∷ []) (swap_remove xs place x) y
+    (Contains-permutation xs (x ∷ swap_remove xs place x) y (IsPermutation-swap_remove xs place x inside is) there))
 
 -- one requirement has another place in the queue
-pub queued-settled : (old new : DecideQueue) (trail : Trail) (table : List (Vec Literal Global)) (requirements : List RequirementClause) (settled : ℕ) → new.followed.items ≡ old.followed.items → new.kept ≡ old.kept →
+pub queued-settled : (old new : DecideQueue) (trail : Trail) (table : List (Vec Literal Global)) (requirements : List RequirementClause) (settled : ℕ) →
+    new.followed.items ≡ old.followed.items → new.kept ≡ old.kept →
     ((index : ℕ) → Contains old.active.items index → (settled ≡ index) ⊎ Contains new.active.items index) →
-    ((v index : ℕ) → Contains (list_of old.waiting v) index → Contains (list_of new.waiting v) index) → ((v index : ℕ) → Contains (list_of old.met v) index → Contains (list_of new.met v) index) →
-    ((d : RequirementClause) → settled < length requirements → IsHeld new.active.items new.waiting new.met new.followed.items new.kept trail (clause_at table (get_or requirements settled d).number) settled) →
+    ((v index : ℕ) → Contains (list_of old.waiting v) index → Contains (list_of new.waiting v) index) →
+    ((v index : ℕ) → Contains (list_of old.met v) index → Contains (list_of new.met v) index) →
+    ((d : RequirementClause) → settled < length requirements →
+    IsHeld new.active.items new.waiting new.met new.followed.items new.kept trail (clause_at table (get_or requirements settled d).number) settled) →
     IsQueued old trail table requirements → IsQueued new trail table requirements
 queued-settled old new trail table requirements settled followed kept active waiting met here it = record {
   following = record {
@@ -254,13 +301,19 @@ queued-settled old new trail table requirements settled followed kept active wai
   each = λ index d below. ⊎_elim
       (λ (there : Contains old.active.items index). ⊎_elim
       (λ (is : settled ≡ index).
-      let Held : ℕ → Type 0 = λ i. IsHeld new.active.items new.waiting new.met new.followed.items new.kept trail (clause_at table (get_or requirements i d).number) i in
+      let Held : ℕ → Type 0 = λ i. IsHeld new.active.items new.waiting new.met new.followed.items new.kept trail
+      (clause_at table (get_or requirements i d).number) i in
       subst Held is (here d (omega (arith, below, is))))
       (λ (left : Contains new.active.items index). inl left)
       (active index there))
       (λ rest. ⊎_elim
       (λ (w : IsWaiting old.waiting trail old.kept (clause_at table (get_or requirements index d).number) index).
-      inr (inl (record { variable = w.variable; parked = waiting w.variable index w.parked; asks = w.asks; not_true = λ slot at is_so. let late = w.not_true slot at is_so in omega (arith, late, kept) })))
+      inr (inl (record {
+        variable = w.variable;
+        parked = waiting w.variable index w.parked;
+        asks = w.asks;
+        not_true = λ slot at is_so. let late = w.not_true slot at is_so in omega (arith, late, kept);
+      })))
       (λ (w : IsMetBy old.met trail old.followed.items old.kept (clause_at table (get_or requirements index d).number) index).
       inr (inr (record {
         variable = w.variable;
@@ -276,23 +329,30 @@ queued-settled old new trail table requirements settled followed kept active wai
 }
 
 -- where one was added to a list, those that were there stay
-pub parked-more : (old new : Lists) (variable last : ℕ) → list_of new variable ≡ list_of old variable ++ last ∷ [] → ((v : ℕ) → v ≢ variable → list_of new v ≡ list_of old v) → (v index : ℕ) → Contains (list_of old v) index → Contains (list_of new v) index
+pub parked-more : (old new : Lists) (variable last : ℕ) → list_of new variable ≡ list_of old variable ++ last ∷ [] →
+    ((v : ℕ) → v ≢ variable → list_of new v ≡ list_of old v) → (v index : ℕ) → Contains (list_of old v) index → Contains (list_of new v) index
 parked-more old new variable last here others v index inside = ⊎_elim
     (λ (is : v ≡ variable).
     let Inside : List ℕ → Type 0 = λ list. Contains list index in
-    subst Inside (sym (ap (λ w. list_of new w) is ∙ here)) (Contains-append_left (list_of old variable) (last ∷ []) index (subst Inside (ap (λ w. list_of old w) is) inside)))
+    subst Inside (sym (ap (λ w. list_of new w) is ∙ here))
+    (Contains-append_left (list_of old variable) (last ∷ []) index (subst Inside (ap (λ w. list_of old w) is) inside)))
     (λ (differs : v ≢ variable). parked-same old new v index (others v differs) inside)
     (cases_eq v variable)
 
 pub parked-last : (old new : Lists) (variable last : ℕ) → list_of new variable ≡ list_of old variable ++ last ∷ [] → Contains (list_of new variable) last
-parked-last old new variable last here = let Inside : List ℕ → Type 0 = λ list. Contains list last in subst Inside (sym here) (Contains-push (list_of old variable) last)
+parked-last old new variable last here = let Inside : List ℕ → Type 0 = λ list. Contains list last in
+    subst Inside (sym here) (Contains-push (list_of old variable) last)
 
 -- where a variable is not true
-pub not-true : (trail : Trail) (variable kept : ℕ) → (literal_value trail (record { variable = variable; positive = false }) ≢ Some false) → (slot : Slot) → slot_of trail variable ≡ Some slot → slot.value ≡ true → kept ≤ slot.place
+pub not-true : (trail : Trail) (variable kept : ℕ) → (literal_value trail (record { variable = variable; positive = false }) ≢ Some false) → (slot : Slot) →
+    slot_of trail variable ≡ Some slot → slot.value ≡ true → kept ≤ slot.place
 not-true trail variable kept other slot at is_so = absurd (other (ap (option_map (λ (s : Slot). beq s.value false)) at ∙ ap (λ b. Some (beq b false)) is_so))
 
 -- where a candidate is true, its place was followed
-met-here : (met : Lists) (trail : Trail) (followed : List ℕ) (kept : ℕ) (clause : List Literal) (index variable : ℕ) → ((place : ℕ) → place < kept → slice_index followed place ≡ variable_at trail place) → kept ≡ length_of trail → length followed ≡ kept → Contains (list_of met variable) index → Contains clause (record { variable = variable; positive = true }) → literal_value trail (record { variable = variable; positive = true }) ≡ Some true → IsMetBy met trail followed kept clause index
+met-here : (met : Lists) (trail : Trail) (followed : List ℕ) (kept : ℕ) (clause : List Literal) (index variable : ℕ) →
+    ((place : ℕ) → place < kept → slice_index followed place ≡ variable_at trail place) → kept ≡ length_of trail → length followed ≡ kept →
+    Contains (list_of met variable) index → Contains clause (record { variable = variable; positive = true }) →
+    literal_value trail (record { variable = variable; positive = true }) ≡ Some true → IsMetBy met trail followed kept clause index
 met-here met trail followed kept clause index variable same all exact parked has is_so =
     let v = value-true (slot_of trail variable) true is_so in
     let at = trail.listed variable v.0 v.1 in
@@ -307,18 +367,27 @@ met-here met trail followed kept clause index variable same all exact parked has
     }
 
 -- the clause of the requirement that was read, whatever the default
-clause-read : (table : List (Vec Literal Global)) (requirements : List RequirementClause) (index : ℕ) (d r : RequirementClause) (literals : List Literal) → index < length requirements → r ≡ get_or requirements index r → literals ≡ clause_at table r.number → literals ≡ clause_at table (get_or requirements index d).number
-clause-read table requirements index d r literals inside is at = at ∙ ap (λ (q : RequirementClause). clause_at table q.number) (is ∙ get_or_default requirements index r d inside)
+clause-read : (table : List (Vec Literal Global)) (requirements : List RequirementClause) (index : ℕ) (d r : RequirementClause) (literals : List Literal) →
+    index < length requirements → r ≡ get_or requirements index r → literals ≡ clause_at table r.number →
+    literals ≡ clause_at table (get_or requirements index d).number
+clause-read table requirements index d r literals inside is at = at ∙
+    ap (λ (q : RequirementClause). clause_at table q.number) (is ∙ get_or_default requirements index r d inside)
 
 -- what stays where the one that was read is taken away
-pub left-read : (xs new : List ℕ) (place x taken : ℕ) → place < length xs → x ≡ get_or xs place x → taken ≡ get_or xs place taken → new ≡ swap_remove xs place taken → (y : ℕ) → Contains xs y → (x ≡ y) ⊎ Contains new y
+pub left-read : (xs new : List ℕ) (place x taken : ℕ) → place < length xs → x ≡ get_or xs place x → taken ≡ get_or xs place taken →
+    new ≡ swap_remove xs place taken → (y : ℕ) → Contains xs y → (x ≡ y) ⊎ Contains new y
 left-read xs new place x taken inside read is same y there = ⊎_elim
     (λ (one : taken ≡ y). inl (read ∙ get_or_default xs place x taken inside ∙ sym is ∙ one))
     (λ (left : Contains (swap_remove xs place taken) y). let Inside : List ℕ → Type 0 = λ list. Contains list y in inr (subst Inside (sym same) left))
     (left-or xs place taken inside is y there)
 
 -- a requirement that was put aside
-pub held-waiting : (active : List ℕ) (old waiting met : Lists) (followed : List ℕ) (kept : ℕ) (trail : Trail) (table : List (Vec Literal Global)) (requirements : List RequirementClause) (r : RequirementClause) (literals : List Literal) (index variable : ℕ) → list_of waiting variable ≡ list_of old variable ++ index ∷ [] → r ≡ get_or requirements index r → literals ≡ clause_at table r.number → Contains literals (record { variable = variable; positive = false }) × (literal_value trail (record { variable = variable; positive = false }) ≢ Some false) → (d : RequirementClause) → index < length requirements → IsHeld active waiting met followed kept trail (clause_at table (get_or requirements index d).number) index
+pub held-waiting : (active : List ℕ) (old waiting met : Lists) (followed : List ℕ) (kept : ℕ) (trail : Trail) (table : List (Vec Literal Global))
+    (requirements : List RequirementClause) (r : RequirementClause) (literals : List Literal) (index variable : ℕ) →
+    list_of waiting variable ≡ list_of old variable ++ index ∷ [] → r ≡ get_or requirements index r → literals ≡ clause_at table r.number →
+    Contains literals (record { variable = variable; positive = false }) ×
+    (literal_value trail (record { variable = variable; positive = false }) ≢ Some false) → (d : RequirementClause) → index < length requirements →
+    IsHeld active waiting met followed kept trail (clause_at table (get_or requirements index d).number) index
 held-waiting active old waiting met followed kept trail table requirements r literals index variable here is at standing d inside =
     let Asks : List Literal → Type 0 = λ clause. Contains clause (record { variable = variable; positive = false }) in
     inr (inl (record {
@@ -328,40 +397,62 @@ held-waiting active old waiting met followed kept trail table requirements r lit
       not_true = not-true trail variable kept standing.1;
     }))
 
-pub held-by_candidate : (active : List ℕ) (waiting old met : Lists) (followed : List ℕ) (kept : ℕ) (trail : Trail) (table : List (Vec Literal Global)) (requirements : List RequirementClause) (r : RequirementClause) (literals : List Literal) (index variable : ℕ) → ((place : ℕ) → place < kept → slice_index followed place ≡ variable_at trail place) → kept ≡ length_of trail → length followed ≡ kept → list_of met variable ≡ list_of old variable ++ index ∷ [] → r ≡ get_or requirements index r → literals ≡ clause_at table r.number → Contains literals (record { variable = variable; positive = true }) × (literal_value trail (record { variable = variable; positive = true }) ≡ Some true) → (d : RequirementClause) → index < length requirements → IsHeld active waiting met followed kept trail (clause_at table (get_or requirements index d).number) index
+pub held-by_candidate : (active : List ℕ) (waiting old met : Lists) (followed : List ℕ) (kept : ℕ) (trail : Trail) (table : List (Vec Literal Global))
+    (requirements : List RequirementClause) (r : RequirementClause) (literals : List Literal) (index variable : ℕ) →
+    ((place : ℕ) → place < kept → slice_index followed place ≡ variable_at trail place) → kept ≡ length_of trail → length followed ≡ kept →
+    list_of met variable ≡ list_of old variable ++ index ∷ [] → r ≡ get_or requirements index r → literals ≡ clause_at table r.number →
+    Contains literals (record { variable = variable; positive = true }) × (literal_value trail (record { variable = variable; positive = true }) ≡ Some true) →
+    (d : RequirementClause) → index < length requirements →
+    IsHeld active waiting met followed kept trail (clause_at table (get_or requirements index d).number) index
 held-by_candidate active waiting old met followed kept trail table requirements r literals index variable same all exact here is at standing d inside =
     let Has : List Literal → Type 0 = λ clause. Contains clause (record { variable = variable; positive = true }) in
-    inr (inr (met-here met trail followed kept _ index variable same all exact (parked-last old met variable index here) (subst Has (clause-read table requirements index d r literals inside is at) standing.0) standing.1))
+    inr (inr (met-here met trail followed kept _ index variable same all exact (parked-last old met variable index here)
+    (subst Has (clause-read table requirements index d r literals inside is at) standing.0) standing.1))
 
 -- a requirement that waits or is met has nothing to decide
-unmet-not : (trail : Trail) (clause : List Literal) (variable : ℕ) (o : Option Slot) → slot_of trail variable ≡ o → Contains clause (record { variable = variable; positive = false }) → ((slot : Slot) → o ≡ Some slot → slot.value ≡ true → ⊥) → IsMet trail clause
-unmet-not trail clause variable None at asks never = inr (asks.0, record { variable = variable; positive = false }, asks.1, asks.2, (ap (option_map (λ (s : Slot). beq s.value false)) at, refl))
+unmet-not : (trail : Trail) (clause : List Literal) (variable : ℕ) (o : Option Slot) → slot_of trail variable ≡ o →
+    Contains clause (record { variable = variable; positive = false }) → ((slot : Slot) → o ≡ Some slot → slot.value ≡ true → ⊥) → IsMet trail clause
+unmet-not trail clause variable None at asks never =
+    inr (asks.0, record { variable = variable; positive = false }, asks.1, asks.2, (ap (option_map (λ (s : Slot). beq s.value false)) at, refl))
 unmet-not trail clause variable (Some slot) at asks never =
     let value : slot.value ≡ false = not-yes slot.value (λ is_so. never slot refl is_so) in
-    inl (asks.0, record { variable = variable; positive = false }, asks.1, asks.2, ap (option_map (λ (s : Slot). beq s.value false)) at ∙ ap (λ b. Some (beq b false)) value)
+    inl (
+      asks.0,
+      record { variable = variable; positive = false },
+      asks.1,
+      asks.2,
+      ap (option_map (λ (s : Slot). beq s.value false)) at ∙
+          ap (λ b. Some (beq b false)) value,
+    )
   where
     not-yes : (b : Bool) → (b ≡ true → ⊥) → b ≡ false
     not-yes true never = absurd (never refl)
     not-yes false never = refl
 
-pub held-met : (active : List ℕ) (waiting met : Lists) (followed : List ℕ) (kept : ℕ) (trail : Trail) (clause : List Literal) (index : ℕ) → length active ≡ 0 → kept ≡ length_of trail → length followed ≡ kept → IsHeld active waiting met followed kept trail clause index → IsMet trail clause
+pub held-met : (active : List ℕ) (waiting met : Lists) (followed : List ℕ) (kept : ℕ) (trail : Trail) (clause : List Literal) (index : ℕ) → length active ≡ 0 →
+    kept ≡ length_of trail → length followed ≡ kept → IsHeld active waiting met followed kept trail clause index → IsMet trail clause
 held-met active waiting met followed kept trail clause index none all exact held = ⊎_elim
     (λ (here : Contains active index). absurd (omega (arith, here.1, none)))
     (λ rest. ⊎_elim
     (λ (w : IsWaiting waiting trail kept clause index).
-    unmet-not trail clause w.variable (slot_of trail w.variable) refl w.asks (λ slot at is_so. let late = w.not_true slot at is_so in omega (arith, late, all, (trail.listed w.variable slot at).0)))
+    unmet-not trail clause w.variable (slot_of trail w.variable) refl w.asks (λ slot at is_so.
+    let late = w.not_true slot at is_so in omega (arith, late, all, (trail.listed w.variable slot at).0)))
     (λ (w : IsMetBy met trail followed kept clause index).
     inl (w.has.0, record { variable = w.variable; positive = true }, w.has.1, w.has.2, w.true_there (omega (arith, w.within, exact))))
     rest)
     held
 
 -- where none is left to look at, each has a candidate or depends on what is not true
-pub all-met : (queue : DecideQueue) (trail : Trail) (table : List (Vec Literal Global)) (requirements : List RequirementClause) → length queue.active.items ≡ 0 → IsFollowed queue trail → IsQueued queue trail table requirements → All (λ (r : RequirementClause). IsMet trail (clause_at table r.number)) requirements
+pub all-met : (queue : DecideQueue) (trail : Trail) (table : List (Vec Literal Global)) (requirements : List RequirementClause) →
+    length queue.active.items ≡ 0 → IsFollowed queue trail → IsQueued queue trail table requirements →
+    All (λ (r : RequirementClause). IsMet trail (clause_at table r.number)) requirements
 all-met queue trail table requirements none followed it = λ index d below.
-    held-met queue.active.items queue.waiting queue.met queue.followed.items queue.kept trail _ index none followed.all followed.none_else (it.each index d below)
+    held-met queue.active.items queue.waiting queue.met queue.followed.items queue.kept trail _ index none followed.all followed.none_else
+    (it.each index d below)
 
 -- a variable that was found not to be true
-pub found-false : (trail : Trail) (variable : ℕ) (found : Bool) → found ≡ option_map_or (λ (slot : Slot). slot.value) (slot_of trail variable) false → found ≡ false → (slot : Slot) → slot_of trail variable ≡ Some slot → slot.value ≡ true → ⊥
+pub found-false : (trail : Trail) (variable : ℕ) (found : Bool) → found ≡ option_map_or (λ (slot : Slot). slot.value) (slot_of trail variable) false →
+    found ≡ false → (slot : Slot) → slot_of trail variable ≡ Some slot → slot.value ≡ true → ⊥
 found-false trail variable found is none slot at is_so = false≢true (sym none ∙ is ∙ ap (λ o. option_map_or (λ (s : Slot). s.value) o false) at ∙ is_so)
 
 -- fewer places are kept, too
@@ -374,11 +465,15 @@ places-fewer old new count fewer keeps less = record {
 }
 
 -- a trail that only gains
-pub queued-longer : (it : DecideQueue) (old new : Trail) (table : List (Vec Literal Global)) (requirements : List RequirementClause) → KeepsPlaces old new (length_of old) → IsQueued it old table requirements → IsQueued it new table requirements
-queued-longer it old new table requirements keeps queued = queued-kept it old new table requirements (places-fewer old new (length_of old) it.kept keeps queued.following.reached) queued
+pub queued-longer : (it : DecideQueue) (old new : Trail) (table : List (Vec Literal Global)) (requirements : List RequirementClause) →
+    KeepsPlaces old new (length_of old) → IsQueued it old table requirements → IsQueued it new table requirements
+queued-longer it old new table requirements keeps queued =
+    queued-kept it old new table requirements (places-fewer old new (length_of old) it.kept keeps queued.following.reached) queued
 
 -- a trail of which the first places are left, where that was noted
 pub queued-left : (it cut : DecideQueue) (old new : Trail) (table : List (Vec Literal Global)) (requirements : List RequirementClause) (count left : ℕ) →
-    ((before after : Trail) (clauses : List (Vec Literal Global)) (wanted : List RequirementClause) → KeepsPlaces before after (min it.kept count) → IsQueued it before clauses wanted → IsQueued cut after clauses wanted) →
+    ((before after : Trail) (clauses : List (Vec Literal Global)) (wanted : List RequirementClause) → KeepsPlaces before after (min it.kept count) →
+    IsQueued it before clauses wanted → IsQueued cut after clauses wanted) →
     KeepsPlaces old new left → count ≡ left → IsQueued it old table requirements → IsQueued cut new table requirements
-queued-left it cut old new table requirements count left noted keeps same queued = noted old new table requirements (places-fewer old new left (min it.kept count) keeps (omega (arith, same))) queued
+queued-left it cut old new table requirements count left noted keeps same queued =
+    noted old new table requirements (places-fewer old new left (min it.kept count) keeps (omega (arith, same))) queued

@@ -20,7 +20,8 @@ pub Contains-filter : {X : Type 0} (p : X → Bool) (xs : List X) (x : X) → Co
 Contains-filter p [] x h = h
 Contains-filter {X} p (y ∷ ys) x h = ⊎_elim
     (λ e. let Has : Bool → Type 0 = λ b. Contains (cond b (y ∷ filter p ys) (filter p ys)) x in
-    ⊎_elim (λ is. let P : X → Type 0 = λ q. Contains (y ∷ ys) q in subst P is (Contains-here y ys)) (λ t. Contains-there y ys x (Contains-filter p ys x t)) (Contains-cons_cases y (filter p ys) x (subst Has e h)))
+    ⊎_elim (λ is. let P : X → Type 0 = λ q. Contains (y ∷ ys) q in subst P is (Contains-here y ys)) (λ t. Contains-there y ys x (Contains-filter p ys x t))
+    (Contains-cons_cases y (filter p ys) x (subst Has e h)))
     (λ e. let Has : Bool → Type 0 = λ b. Contains (cond b (y ∷ filter p ys) (filter p ys)) x in Contains-there y ys x (Contains-filter p ys x (subst Has e h)))
     (cases_Bool (p y))
 
@@ -31,7 +32,8 @@ Contains-without_repeats {X} same (y ∷ ys) x h = ⊎_elim
     (λ t. Contains-there y ys x (Contains-without_repeats same ys x (Contains-filter (λ z. not (same z y)) (without_repeats same ys) x t)))
     (Contains-cons_cases y (filter (λ z. not (same z y)) (without_repeats same ys)) x h)
 
-pub Contains-moved_to_front : {X : Type 0} (same : X → X → Bool) → IsIdentity same → (y : X) (xs : List X) (x : X) → Contains (moved_to_front same y xs) x → Contains xs x
+pub Contains-moved_to_front : {X : Type 0} (same : X → X → Bool) → IsIdentity same → (y : X) (xs : List X) (x : X) → Contains (moved_to_front same y xs) x →
+    Contains xs x
 Contains-moved_to_front {X} same identity y xs x h =
     let Has : Bool → Type 0 = λ b. Contains (cond b (y ∷ filter (λ z. not (same z y)) xs) xs) x in
     ⊎_elim
@@ -84,7 +86,8 @@ module _ {N S : Type 0} (u : Universe N S) (packages : HasLawfulPackages u) wher
     favored_back (Some f) xs s h = Contains-moved_to_front u.same_solvable identity f xs s h
 
     pub sorted_matches : (v : VersionSetId) (s : S) → Contains (sorted_candidates u v) s → Contains (matching u v) s
-    sorted_matches v s h = Contains-permutation (u.sorted_of (matching u v)) (matching u v) s (IsPermutation-sym (matching u v) (u.sorted_of (matching u v)) (packages.sort_permutes (matching u v)))
+    sorted_matches v s h = Contains-permutation (u.sorted_of (matching u v)) (matching u v) s
+        (IsPermutation-sym (matching u v) (u.sorted_of (matching u v)) (packages.sort_permutes (matching u v)))
         (favored_back (u.package_named (u.version_set_name v)).favored (u.sorted_of (matching u v)) s h)
 
     in_order_matches : (vs : List VersionSetId) (s : S) → Contains (sorted_in_order u vs) s → (v : VersionSetId) × Contains vs v × Contains (matching u v) s
@@ -95,10 +98,13 @@ module _ {N S : Type 0} (u : Universe N S) (packages : HasLawfulPackages u) wher
         (Contains-append_cases (sorted_candidates u v) (sorted_in_order u vs) s h)
 
     -- a candidate matches a version set of the requirement
-    pub candidate_matches : (r : Requirement) (s : S) → Contains (requirement_candidates u r) s → (v : VersionSetId) × Contains (version_sets u r) v × Contains (matching u v) s
+    pub candidate_matches : (r : Requirement) (s : S) → Contains (requirement_candidates u r) s → (v : VersionSetId) × Contains (version_sets u r) v ×
+        Contains (matching u v) s
     candidate_matches (Single v) s h = (v, Contains-here v [], sorted_matches v s h)
-    candidate_matches (Union m) s h = in_order_matches (u.union_members m) s (Contains-without_repeats u.same_solvable (sorted_in_order u (u.union_members m)) s h)
+    candidate_matches (Union m) s h =
+        in_order_matches (u.union_members m) s (Contains-without_repeats u.same_solvable (sorted_in_order u (u.union_members m)) s h)
 
     -- and so bears its name
-    pub candidate_named : (r : Requirement) (s : S) → Contains (requirement_candidates u r) s → (v : VersionSetId) × Contains (version_sets u r) v × (u.name s ≡ u.version_set_name v)
+    pub candidate_named : (r : Requirement) (s : S) → Contains (requirement_candidates u r) s → (v : VersionSetId) × Contains (version_sets u r) v ×
+        (u.name s ≡ u.version_set_name v)
     candidate_named r s h = let w = candidate_matches r s h in (w.0, w.1, matching_named w.0 s w.2)

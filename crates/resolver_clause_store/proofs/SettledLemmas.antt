@@ -27,7 +27,8 @@ propagated trail clause settled = ⊎_elim
     (λ (free : IsOpen trail clause). record {
       not_false = λ all. none-false _ free.first_open (All-contains (λ literal. literal_value trail literal ≡ Some false) clause free.first all free.has_first);
       last = λ literal inside others. ⊎_elim
-          (λ first. ⊎_elim (λ second. absurd (free.differ (first ∙ sym second))) (λ f. absurd (none-false _ free.second_open f)) (others free.second free.has_second))
+          (λ first. ⊎_elim (λ second. absurd (free.differ (first ∙ sym second))) (λ f. absurd (none-false _ free.second_open f))
+          (others free.second free.has_second))
           (λ f. absurd (none-false _ free.first_open f))
           (others free.first free.has_first);
     })

@@ -24,7 +24,8 @@ module _ {K X : Type 0} (same : K → K → Bool) where
   IsPut k v es fs old = MatchOption old (IsPermutation ((k, v) ∷ es) fs) (λ _. fs ≡ set_value (same k) es v)
 
   module _ (identity : IsIdentity same) where
-    All-set_first : (P : K × X → Type 0) (k : K) (v : X) (e : K × X) (es fs : List (K × X)) (b : Bool) → same k e.0 ≡ b → P (k, v) → All P (e ∷ es) → All P fs → All P (cond b ((e.0, v) ∷ es) (e ∷ fs))
+    All-set_first : (P : K × X → Type 0) (k : K) (v : X) (e : K × X) (es fs : List (K × X)) (b : Bool) → same k e.0 ≡ b → P (k, v) → All P (e ∷ es) → All P fs →
+        All P (cond b ((e.0, v) ∷ es) (e ∷ fs))
     All-set_first P k v e es fs true is one all rest =
         let True : K → Type 0 = λ q. P (q, v) in
         All-cons P (e.0, v) es (subst True (identity.alone k e.0 is) one) (All-tail P e es all)
@@ -32,7 +33,8 @@ module _ {K X : Type 0} (same : K → K → Bool) where
 
     All-set_value : (P : K × X → Type 0) (k : K) (v : X) (es : List (K × X)) → P (k, v) → All P es → All P (set_value (same k) es v)
     All-set_value P k v [] one all = all
-    All-set_value P k v (e ∷ es) one all = All-set_first P k v e es (set_value (same k) es v) (same k e.0) refl one all (All-set_value P k v es one (All-tail P e es all))
+    All-set_value P k v (e ∷ es) one all =
+        All-set_first P k v e es (set_value (same k) es v) (same k e.0) refl one all (All-set_value P k v es one (All-tail P e es all))
 
     pub put_all : (P : K × X → Type 0) (k : K) (v : X) (es fs : List (K × X)) (old : Option X) → IsPut k v es fs old → P (k, v) → All P es → All P fs
     put_all P k v es fs None put one all = All-permutation P _ _ put (All-cons P (k, v) es one all)
@@ -47,5 +49,6 @@ module _ {K X : Type 0} (same : K → K → Bool) where
         IsWithin-same es fs (ap keys_of put ∙ keys-set_value (same k) es v) k (Contains-keys_from_lookup identity.alone k es found)
 
   pub put_keys : (k : K) (v : X) (es fs : List (K × X)) (old : Option X) → IsPut k v es fs old → IsWithin (keys_of es) (keys_of fs)
-  put_keys k v es fs None put = λ q h. Contains-permutation (k ∷ keys_of es) (keys_of fs) q (IsPermutation-map (λ e. e.0) _ _ put) (Contains-append_right (k ∷ []) (keys_of es) q h)
+  put_keys k v es fs None put = λ q h. Contains-permutation (k ∷ keys_of es) (keys_of fs) q (IsPermutation-map (λ e. e.0) _ _ put)
+      (Contains-append_right (k ∷ []) (keys_of es) q h)
   put_keys k v es fs (Some w) put = IsWithin-same es fs (ap keys_of put ∙ keys-set_value (same k) es v)

@@ -1,5 +1,6 @@
 -- Inserting each element of a list into a set that keeps its order leaves the list without its repeats.
-use Rattle.std.proofs.Common.{◌≡◌, ◌∙◌, ℕ, ◌+◌, ◌<◌, Bool, true, false, cond, not, ◌||◌, List, [], ◌∷◌, ◌++◌, length, take, get_or, refl, sym, ap, subst, append_assoc, append-nil, ◌≤◌, if◌then◌else◌}
+use Rattle.std.proofs.Common.{◌≡◌, ◌∙◌, ℕ, ◌+◌, ◌<◌, Bool, true, false, cond, not, ◌||◌, List, [], ◌∷◌, ◌++◌, length, take, get_or, refl, sym, ap, subst}
+use Rattle.std.proofs.Common.{append_assoc, append-nil, ◌≤◌, if◌then◌else◌}
 use Rattle.std.specs.Prelude.{filter}
 use Rattle.std.specs.List.{list_any}
 use Rattle.std.proofs.lemmas.Bool.{false≢true}
@@ -15,7 +16,8 @@ use Rattle.resolver_clause_store.specs.declared.ids.VersionSetUnionId.{VersionSe
 use Rattle.std.proofs.lemmas.List.{take_all, take_more}
 
 -- a filter of a filter is a filter by both
-filter_first : {X : Type 0} (p q r : X → Bool) (x : X) (ys zs : List X) (a b d : Bool) → a ≡ q x → b ≡ p x → cond a b false ≡ d → filter p ys ≡ zs → filter p (cond a (x ∷ ys) ys) ≡ cond d (x ∷ zs) zs
+filter_first : {X : Type 0} (p q r : X → Bool) (x : X) (ys zs : List X) (a b d : Bool) → a ≡ q x → b ≡ p x → cond a b false ≡ d → filter p ys ≡ zs →
+    filter p (cond a (x ∷ ys) ys) ≡ cond d (x ∷ zs) zs
 filter_first p q r x ys zs true b d first second both rest =
     let here : filter p (x ∷ ys) ≡ cond b (x ∷ filter p ys) (filter p ys) = ap (λ e. cond e (x ∷ filter p ys) (filter p ys)) (sym second) in
     here ∙ ap (λ e. cond e (x ∷ filter p ys) (filter p ys)) both ∙ ap (λ l. cond d (x ∷ l) l) rest
@@ -31,7 +33,8 @@ module _ {X : Type 0} (same : X → X → Bool) (identity : IsIdentity same) whe
   is_new ks y = not (list_any (same y) ks)
 
   -- one that is new is another one than x, where x is there
-  new_is_apart : (ks : List X) (x y : X) (a b : Bool) → list_any (same x) ks ≡ true → a ≡ same y x → b ≡ list_any (same y) ks → cond (not a) (not b) false ≡ not b
+  new_is_apart : (ks : List X) (x y : X) (a b : Bool) → list_any (same x) ks ≡ true → a ≡ same y x → b ≡ list_any (same y) ks →
+      cond (not a) (not b) false ≡ not b
   new_is_apart ks x y false b there first second = refl
   new_is_apart ks x y true true there first second = refl
   new_is_apart ks x y true false there first second =
@@ -47,14 +50,18 @@ module _ {X : Type 0} (same : X → X → Bool) (identity : IsIdentity same) whe
 
   added : (ks : List X) (x : X) (xs rest : List X) (b : Bool) → b ≡ list_any (same x) ks →
       filter (is_new (if b then ks else (ks ++ x ∷ []))) rest ≡ filter (is_new ks) (filter (λ y. not (same y x)) rest) →
-      (if b then ks else (ks ++ x ∷ [])) ++ filter (is_new (if b then ks else (ks ++ x ∷ []))) rest ≡ ks ++ cond (not b) (x ∷ filter (is_new ks) (filter (λ y. not (same y x)) rest)) (filter (is_new ks) (filter (λ y. not (same y x)) rest))
+      (if b then ks else (ks ++ x ∷ [])) ++ filter (is_new (if b then ks else (ks ++ x ∷ []))) rest ≡ ks ++
+      cond (not b) (x ∷ filter (is_new ks) (filter (λ y. not (same y x)) rest)) (filter (is_new ks) (filter (λ y. not (same y x)) rest))
   added ks x xs rest true is tail = ap (λ l. ks ++ l) tail
   added ks x xs rest false is tail = append_assoc ks (x ∷ []) _ ∙ ap (λ l. ks ++ x ∷ l) tail
 
-  tail_is : (ks : List X) (x : X) (rest : List X) (b : Bool) → b ≡ list_any (same x) ks → filter (is_new (if b then ks else (ks ++ x ∷ []))) rest ≡ filter (is_new ks) (filter (λ y. not (same y x)) rest)
-  tail_is ks x rest true is = sym (filter_both (is_new ks) (λ y. not (same y x)) (is_new ks) (λ y. new_is_apart ks x y (same y x) (list_any (same y) ks) (sym is) refl refl) rest)
+  tail_is : (ks : List X) (x : X) (rest : List X) (b : Bool) → b ≡ list_any (same x) ks →
+      filter (is_new (if b then ks else (ks ++ x ∷ []))) rest ≡ filter (is_new ks) (filter (λ y. not (same y x)) rest)
+  tail_is ks x rest true is = sym
+      (filter_both (is_new ks) (λ y. not (same y x)) (is_new ks) (λ y. new_is_apart ks x y (same y x) (list_any (same y) ks) (sym is) refl refl) rest)
   tail_is ks x rest false is =
-      sym (filter_both (is_new ks) (λ y. not (same y x)) (is_new (ks ++ x ∷ [])) (λ y. new_after ks x y (same y x) (list_any (same y) ks) refl refl ∙ ap not (sym (list_any-append (same y) ks (x ∷ [])))) rest)
+      sym (filter_both (is_new ks) (λ y. not (same y x)) (is_new (ks ++ x ∷ [])) (λ y.
+      new_after ks x y (same y x) (list_any (same y) ks) refl refl ∙ ap not (sym (list_any-append (same y) ks (x ∷ [])))) rest)
 
   insert_all_after : (xs ks : List X) → insert_all same ks xs ≡ ks ++ filter (is_new ks) (without_repeats same xs)
   insert_all_after [] ks = sym (append-nil ks)
@@ -73,10 +80,12 @@ module _ {X : Type 0} (same : X → X → Bool) (identity : IsIdentity same) whe
 module _ {N S : Type 0} (u : Universe N S) where
   sorted_in_order-append : (vs ws : List VersionSetId) → sorted_in_order u (vs ++ ws) ≡ sorted_in_order u vs ++ sorted_in_order u ws
   sorted_in_order-append [] ws = refl
-  sorted_in_order-append (v ∷ vs) ws = ap (λ l. sorted_candidates u v ++ l) (sorted_in_order-append vs ws) ∙ sym (append_assoc (sorted_candidates u v) (sorted_in_order u vs) (sorted_in_order u ws))
+  sorted_in_order-append (v ∷ vs) ws = ap (λ l. sorted_candidates u v ++ l) (sorted_in_order-append vs ws) ∙
+      sym (append_assoc (sorted_candidates u v) (sorted_in_order u vs) (sorted_in_order u ws))
 
   -- the sorted candidates of one more version set
-  sorted_in_order_more : (vs : List VersionSetId) (i : ℕ) (d : VersionSetId) → i < length vs → sorted_in_order u (take (i + 1) vs) ≡ sorted_in_order u (take i vs) ++ sorted_candidates u (get_or vs i d)
+  sorted_in_order_more : (vs : List VersionSetId) (i : ℕ) (d : VersionSetId) → i < length vs →
+      sorted_in_order u (take (i + 1) vs) ≡ sorted_in_order u (take i vs) ++ sorted_candidates u (get_or vs i d)
   sorted_in_order_more vs i d below =
       ap (sorted_in_order u) (take_more vs i d below)
       ∙ sorted_in_order-append (take i vs) (get_or vs i d ∷ [])
@@ -94,7 +103,8 @@ module _ {N S : Type 0} (u : Universe N S) where
       ∙ ap (insert_all same []) (sym (sorted_in_order_more vs i d below))
 
   -- what was taken, after all
-  pub taken_all : (same : S → S → Bool) → IsIdentity same → u.same_solvable ≡ same → (m : VersionSetUnionId) (vs : List VersionSetId) (i : ℕ) (items keys : List S) → length vs ≤ i → vs ≡ u.union_members m →
+  pub taken_all : (same : S → S → Bool) → IsIdentity same → u.same_solvable ≡ same →
+      (m : VersionSetUnionId) (vs : List VersionSetId) (i : ℕ) (items keys : List S) → length vs ≤ i → vs ≡ u.union_members m →
       items ≡ keys → keys ≡ insert_all same [] (sorted_in_order u (take i vs)) → items ≡ without_repeats u.same_solvable (sorted_in_order u (u.union_members m))
   taken_all same identity compares m vs i items keys end members copied held =
       copied

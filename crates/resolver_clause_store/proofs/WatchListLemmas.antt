@@ -1,5 +1,7 @@
 -- The lists of watches: how often a clause stands in a list, and what a write to a list leaves.
-use Rattle.std.proofs.Common.{◌≡◌, ◌≢◌, ℕ, ◌+◌, ◌-◌, ◌*◌, ◌<◌, ◌≤◌, ◌⊎◌, List, [], ◌∷◌, ◌++◌, length, get_or, set, Option, Some, None, Bool, true, false, cond, eqb, arith, rules, inl, inr, refl, suc, sym, ap, true≢false, ◌∙◌, subst, ⊎_elim, length-set, get_or-set_same, get_or-set_other, length-append}
+use Rattle.std.proofs.Common.{◌≡◌, ◌≢◌, ℕ, ◌+◌, ◌-◌, ◌*◌, ◌<◌, ◌≤◌, ◌⊎◌, List, [], ◌∷◌, ◌++◌, length, get_or, set, Option, Some, None, Bool, true, false, cond}
+use Rattle.std.proofs.Common.{eqb, arith, rules, inl, inr, refl, suc, sym, ap, true≢false, ◌∙◌, subst, ⊎_elim, length-set, get_or-set_same, get_or-set_other}
+use Rattle.std.proofs.Common.{length-append}
 use Rattle.std.proofs.Math.ListN.{get_or-append}
 use Rattle.std.proofs.Math.Seq.{get_or-append_seam, set-append_seam}
 use Rattle.std.specs.Prelude.{All, Contains, Vec}
@@ -17,17 +19,22 @@ use Rattle.resolver_clause_store.specs.Formula.{clause_at}
 use Rattle.resolver_clause_store.proofs.FormulaLemmas.{beq-true}
 use Rattle.resolver_clause_store.specs.declared.watches.Watch.{Watch}
 use Rattle.resolver_clause_store.specs.declared.watches.WatchedPair.{WatchedPair}
-use Rattle.resolver_clause_store.specs.Watches.{HasBlockers, IsPair, IsWatched, IsWatching, MovesWatch, PutsList, SameClauses, entry_count, is_literal, is_watched, list_at, list_number, number_at, pair_at, pair_count, replaced, same, stands_in, unwatched, watched_pair}
+use Rattle.resolver_clause_store.specs.Watches.{HasBlockers, IsPair, IsWatched, IsWatching, MovesWatch, PutsList, SameClauses, entry_count, is_literal}
+use Rattle.resolver_clause_store.specs.Watches.{is_watched, list_at, list_number, number_at, pair_at, pair_count, replaced, same, stands_in, unwatched}
+use Rattle.resolver_clause_store.specs.Watches.{watched_pair}
 
-pub list_at-get_or : (lists : List (Vec Watch Global)) (list : ℕ) (d : Vec Watch Global) → list < length lists → list_at lists list ≡ (get_or lists list d).items
+pub list_at-get_or : (lists : List (Vec Watch Global)) (list : ℕ) (d : Vec Watch Global) → list < length lists →
+    list_at lists list ≡ (get_or lists list d).items
 list_at-get_or lists list d within = ap (λ o. option_map_or (λ (c : Vec Watch Global). c.items) o []) (slice_get-get_or lists list d within)
 
 pub list_at-past : (lists : List (Vec Watch Global)) (list : ℕ) → length lists ≤ list → list_at lists list ≡ []
 list_at-past lists list past = ap (λ o. option_map_or (λ (c : Vec Watch Global). c.items) o []) (slice_get_past lists list past)
 
-pub value-at : (lists : List (Vec Watch Global)) (list place n : ℕ) (v : Vec Watch Global) (watch : Watch) → n ≡ list → v ≡ get_or lists n v → watch ≡ get_or v.items place watch → list < length lists → place < length (list_at lists list) → slice_get (list_at lists list) place ≡ Some watch
+pub value-at : (lists : List (Vec Watch Global)) (list place n : ℕ) (v : Vec Watch Global) (watch : Watch) → n ≡ list → v ≡ get_or lists n v →
+    watch ≡ get_or v.items place watch → list < length lists → place < length (list_at lists list) → slice_get (list_at lists list) place ≡ Some watch
 value-at lists list place n v watch named of is within inside =
-    let items : list_at lists list ≡ v.items = list_at-get_or lists list v within ∙ ap (λ (c : Vec Watch Global). c.items) (ap (λ m. get_or lists m v) (sym named) ∙ sym of) in
+    let items : list_at lists list ≡ v.items = list_at-get_or lists list v within ∙
+    ap (λ (c : Vec Watch Global). c.items) (ap (λ m. get_or lists m v) (sym named) ∙ sym of) in
     slice_get-get_or (list_at lists list) place watch inside ∙ ap (λ (w : Watch). Some w) (ap (λ (ws : List Watch). get_or ws place watch) items ∙ sym is)
 
 pub same-itself : (a b : ℕ) → a ≡ b → same a b ≡ 1
@@ -43,16 +50,20 @@ unfolding same
 same-swap a b = refl
 
 -- how the counts of a list change
-pub count-push : (lists new : List (Vec Watch Global)) (list : ℕ) (watch : Watch) → PutsList lists new list (list_at lists list ++ watch ∷ []) → (n : ℕ) → entry_count new list n ≡ entry_count lists list n + same watch.number n
+pub count-push : (lists new : List (Vec Watch Global)) (list : ℕ) (watch : Watch) → PutsList lists new list (list_at lists list ++ watch ∷ []) → (n : ℕ) →
+    entry_count new list n ≡ entry_count lists list n + same watch.number n
 unfolding entry_count
 count-push lists new list watch puts n =
-    ap (λ xs. count_by (λ (w : Watch). eqb w.number n) xs) puts.here ∙ sum_by-append (λ (w : Watch). cond (eqb w.number n) 1 0) (list_at lists list) (watch ∷ []) ∙ omega (arith, same-swap watch.number n)
+    ap (λ xs. count_by (λ (w : Watch). eqb w.number n) xs) puts.here ∙
+    sum_by-append (λ (w : Watch). cond (eqb w.number n) 1 0) (list_at lists list) (watch ∷ []) ∙ omega (arith, same-swap watch.number n)
 
-pub count-others : (lists new : List (Vec Watch Global)) (list : ℕ) (watches : List Watch) → PutsList lists new list watches → (other n : ℕ) → other ≢ list → entry_count new other n ≡ entry_count lists other n
+pub count-others : (lists new : List (Vec Watch Global)) (list : ℕ) (watches : List Watch) → PutsList lists new list watches → (other n : ℕ) → other ≢ list →
+    entry_count new other n ≡ entry_count lists other n
 unfolding entry_count
 count-others lists new list watches puts other n ne = ap (λ xs. count_by (λ (w : Watch). eqb w.number n) xs) (puts.others other ne)
 
-pub count-take : (lists new : List (Vec Watch Global)) (list place : ℕ) (d : Watch) → PutsList lists new list (swap_remove (list_at lists list) place d) → place < length (list_at lists list) → (n : ℕ) → entry_count new list n + same (get_or (list_at lists list) place d).number n ≡ entry_count lists list n
+pub count-take : (lists new : List (Vec Watch Global)) (list place : ℕ) (d : Watch) → PutsList lists new list (swap_remove (list_at lists list) place d) →
+    place < length (list_at lists list) → (n : ℕ) → entry_count new list n + same (get_or (list_at lists list) place d).number n ≡ entry_count lists list n
 unfolding entry_count
 count-take lists new list place d puts inside n =
     let here = ap (λ xs. count_by (λ (w : Watch). eqb w.number n) xs) puts.here in
@@ -60,7 +71,8 @@ count-take lists new list place d puts inside n =
     omega (arith, here, sums, same-swap (get_or (list_at lists list) place d).number n)
 
 -- a clause that stands in a list is counted there
-pub count-positive : (lists : List (Vec Watch Global)) (list place : ℕ) (d : Watch) → place < length (list_at lists list) → 0 < entry_count lists list (get_or (list_at lists list) place d).number
+pub count-positive : (lists : List (Vec Watch Global)) (list place : ℕ) (d : Watch) → place < length (list_at lists list) →
+    0 < entry_count lists list (get_or (list_at lists list) place d).number
 unfolding entry_count
 count-positive lists list place d inside =
     let number = (get_or (list_at lists list) place d).number in
@@ -72,14 +84,19 @@ pub pair_at-past : (pairs : List WatchedPair) (number : ℕ) → length pairs �
 pair_at-past pairs number past = get_or_past pairs number unwatched past
 
 -- one clause's count changes in some lists, and so does its pair
-pub watched-step : (lists new : List (Vec Watch Global)) (pairs : List WatchedPair) (number : ℕ) (pair : WatchedPair) (gains loses : ℕ → ℕ) → IsWatched lists pairs → number < length pairs → ((l n : ℕ) → entry_count new l n + loses l * same number n ≡ entry_count lists l n + gains l * same number n) → ((l : ℕ) → pair_count pair l + loses l ≡ pair_count (pair_at pairs number) l + gains l) → IsWatched new (set pairs number pair)
+pub watched-step : (lists new : List (Vec Watch Global)) (pairs : List WatchedPair) (number : ℕ) (pair : WatchedPair) (gains loses : ℕ → ℕ) →
+    IsWatched lists pairs → number < length pairs →
+    ((l n : ℕ) → entry_count new l n + loses l * same number n ≡ entry_count lists l n + gains l * same number n) →
+    ((l : ℕ) → pair_count pair l + loses l ≡ pair_count (pair_at pairs number) l + gains l) → IsWatched new (set pairs number pair)
 watched-step lists new pairs number pair gains loses watched inside counts now = λ l n.
     let before = watched l n in
     let step = counts l n in
     ⊎_elim
     (λ (e : n ≡ number).
     let one = same-itself number n (sym e) in
-    let here : pair_count (pair_at (set pairs number pair) n) l ≡ pair_count pair l = subst (λ m. pair_count (pair_at (set pairs number pair) m) l ≡ pair_count pair l) (sym e) (ap (λ (p : WatchedPair). pair_count p l) (get_or-set_same pairs number pair unwatched inside)) in
+    let here : pair_count (pair_at (set pairs number pair) n) l ≡ pair_count pair l =
+    subst (λ m. pair_count (pair_at (set pairs number pair) m) l ≡ pair_count pair l) (sym e)
+    (ap (λ (p : WatchedPair). pair_count p l) (get_or-set_same pairs number pair unwatched inside)) in
     let was : pair_count (pair_at pairs n) l ≡ pair_count (pair_at pairs number) l = ap (λ m. pair_count (pair_at pairs m) l) e in
     let st = rw one at step in
     omega (arith, st, here, was, now l, before))
@@ -90,8 +107,11 @@ watched-step lists new pairs number pair gains loses watched inside counts now =
     (cases_eq n number)
 
 -- a clause in one list more
-pub watched-attach : (lists new : List (Vec Watch Global)) (pairs : List WatchedPair) (list : ℕ) (watch : Watch) (pair : WatchedPair) → IsWatched lists pairs → watch.number < length pairs → PutsList lists new list (list_at lists list ++ watch ∷ []) → ((l : ℕ) → pair_count pair l ≡ pair_count (pair_at pairs watch.number) l + same list l) → IsWatched new (set pairs watch.number pair)
-watched-attach lists new pairs list watch pair watched inside pushed now = watched-step lists new pairs watch.number pair (λ l. same list l) (λ l. 0) watched inside
+pub watched-attach : (lists new : List (Vec Watch Global)) (pairs : List WatchedPair) (list : ℕ) (watch : Watch) (pair : WatchedPair) → IsWatched lists pairs →
+    watch.number < length pairs → PutsList lists new list (list_at lists list ++ watch ∷ []) →
+    ((l : ℕ) → pair_count pair l ≡ pair_count (pair_at pairs watch.number) l + same list l) → IsWatched new (set pairs watch.number pair)
+watched-attach lists new pairs list watch pair watched inside pushed now =
+    watched-step lists new pairs watch.number pair (λ l. same list l) (λ l. 0) watched inside
     (λ l n. ⊎_elim
     (λ (e : l ≡ list).
     let t = count-push lists new list watch pushed n in
@@ -105,7 +125,11 @@ watched-attach lists new pairs list watch pair watched inside pushed now = watch
     (λ l. omega (arith, now l))
 
 -- a clause that was moved from one list to another
-pub watched-move : (lists mid new : List (Vec Watch Global)) (pairs : List WatchedPair) (from to place : ℕ) (d watch : Watch) (pair : WatchedPair) → IsWatched lists pairs → from ≢ to → watch.number < length pairs → PutsList lists mid to (list_at lists to ++ watch ∷ []) → PutsList mid new from (swap_remove (list_at lists from) place d) → place < length (list_at lists from) → watch.number ≡ (get_or (list_at lists from) place d).number → ((l : ℕ) → pair_count pair l + same from l ≡ pair_count (pair_at pairs watch.number) l + same to l) → IsWatched new (set pairs watch.number pair)
+pub watched-move : (lists mid new : List (Vec Watch Global)) (pairs : List WatchedPair) (from to place : ℕ) (d watch : Watch) (pair : WatchedPair) →
+    IsWatched lists pairs → from ≢ to → watch.number < length pairs → PutsList lists mid to (list_at lists to ++ watch ∷ []) →
+    PutsList mid new from (swap_remove (list_at lists from) place d) → place < length (list_at lists from) →
+    watch.number ≡ (get_or (list_at lists from) place d).number →
+    ((l : ℕ) → pair_count pair l + same from l ≡ pair_count (pair_at pairs watch.number) l + same to l) → IsWatched new (set pairs watch.number pair)
 watched-move lists mid new pairs from to place d watch pair watched differ inside pushed taken at is now =
     let stays : list_at mid from ≡ list_at lists from = pushed.others from differ in
     let taken' : PutsList mid new from (swap_remove (list_at mid from) place d) = rw stays taken in
@@ -113,18 +137,21 @@ watched-move lists mid new pairs from to place d watch pair watched differ insid
     (λ l n. ⊎_elim
     (λ (e : l ≡ from).
     let t = count-take mid new from place d taken' (rw stays at) n in
-    let r : same (get_or (list_at mid from) place d).number n ≡ same watch.number n = ap (λ (ws : List Watch). same (get_or ws place d).number n) stays ∙ ap (λ k. same k n) (sym is) in
+    let r : same (get_or (list_at mid from) place d).number n ≡ same watch.number n = ap (λ (ws : List Watch). same (get_or ws place d).number n) stays ∙
+    ap (λ k. same k n) (sym is) in
     let o = count-others lists mid to _ pushed from n differ in
     let f1 = same-itself from from refl in
     let f0 = same-differ to from (λ w. differ (sym w)) in
-    subst (λ k. entry_count new k n + same from k * same watch.number n ≡ entry_count lists k n + same to k * same watch.number n) (sym e) (rw (f1, f0) (omega (arith, t, o, r))))
+    subst (λ k. entry_count new k n + same from k * same watch.number n ≡ entry_count lists k n + same to k * same watch.number n) (sym e)
+    (rw (f1, f0) (omega (arith, t, o, r))))
     (λ (ne : l ≢ from). ⊎_elim
     (λ (e : l ≡ to).
     let t = count-push lists mid to watch pushed n in
     let o = count-others mid new from _ taken to n (λ w. differ (sym w)) in
     let f1 = same-itself to to refl in
     let f0 = same-differ from to differ in
-    subst (λ k. entry_count new k n + same from k * same watch.number n ≡ entry_count lists k n + same to k * same watch.number n) (sym e) (rw (f1, f0) (omega (arith, t, o))))
+    subst (λ k. entry_count new k n + same from k * same watch.number n ≡ entry_count lists k n + same to k * same watch.number n) (sym e)
+    (rw (f1, f0) (omega (arith, t, o))))
     (λ (nt : l ≢ to).
     let t = count-others lists mid to _ pushed l n nt in
     let o = count-others mid new from _ taken l n ne in
@@ -160,7 +187,8 @@ beq-itself false = refl
 
 pub is_literal-true : (one other : Literal) → is_literal one other ≡ true → one ≡ other
 is_literal-true one other e = ⊎_elim
-    (λ (t : eqb one.variable other.variable ≡ true). literal-same one other (search rules) (beq-true one.positive other.positive (sym (cond-true _ (beq one.positive other.positive) false t) ∙ e)))
+    (λ (t : eqb one.variable other.variable ≡ true). literal-same one other (search rules)
+    (beq-true one.positive other.positive (sym (cond-true _ (beq one.positive other.positive) false t) ∙ e)))
     (λ (f : eqb one.variable other.variable ≡ false). absurd (true≢false (sym e ∙ cond-false _ (beq one.positive other.positive) false f)))
     (cases_Bool (eqb one.variable other.variable))
 
@@ -168,7 +196,9 @@ pub is_literal-itself : (one : Literal) → is_literal one one ≡ true
 is_literal-itself one = cond-true _ _ _ (eq-eqb one.variable one.variable refl) ∙ beq-itself one.positive
 
 pub is_literal-differ : (one other : Literal) → one ≢ other → is_literal one other ≡ false
-is_literal-differ one other ne = ⊎_elim (λ (t : is_literal one other ≡ true). absurd (ne (is_literal-true one other t))) (λ (f : is_literal one other ≡ false). f) (cases_Bool (is_literal one other))
+is_literal-differ one other ne =
+    ⊎_elim (λ (t : is_literal one other ≡ true). absurd (ne (is_literal-true one other t))) (λ (f : is_literal one other ≡ false). f)
+    (cases_Bool (is_literal one other))
 
 is_watched-true : (watched : Option Literal) (literal : Literal) → is_watched watched literal ≡ true → watched ≡ Some literal
 is_watched-true None literal e = absurd (true≢false (sym e))
@@ -184,7 +214,8 @@ stands-none list = refl
 
 is_watched-false : (watched : Option Literal) (literal : Literal) → is_watched watched literal ≡ false → stands_in watched (list_number literal) ≡ 0
 is_watched-false None literal e = stands-none _
-is_watched-false (Some one) literal e = stands-same one _ ∙ same-differ _ _ (λ w. true≢false (sym (ap (λ (l : Literal). is_literal l literal) (list_number-injective one literal w) ∙ is_literal-itself literal) ∙ e))
+is_watched-false (Some one) literal e = stands-same one _ ∙
+    same-differ _ _ (λ w. true≢false (sym (ap (λ (l : Literal). is_literal l literal) (list_number-injective one literal w) ∙ is_literal-itself literal) ∙ e))
 
 stands-positive : (watched : Option Literal) (literal : Literal) → 0 < stands_in watched (list_number literal) → watched ≡ Some literal
 stands-positive None literal e = absurd (omega (arith, e, stands-none (list_number literal)))
@@ -201,26 +232,51 @@ pair-parts pair list = refl
 pub pair-none : (list : ℕ) → pair_count unwatched list ≡ 0
 pair-none list = omega (arith, pair-parts unwatched list, stands-none list)
 
-pub pair-first : (first : Literal) (list : ℕ) → pair_count (record { first = Some first; second = None }) list ≡ pair_count unwatched list + same (list_number first) list
+pub pair-first : (first : Literal) (list : ℕ) →
+    pair_count (record { first = Some first; second = None }) list ≡ pair_count unwatched list + same (list_number first) list
 pair-first first list = omega (arith, pair-none list, pair-parts (record { first = Some first; second = None }) list, stands-same first list, stands-none list)
 
-pub pair-second : (first second : Literal) (list : ℕ) → pair_count (watched_pair first second) list ≡ pair_count (record { first = Some first; second = None }) list + same (list_number second) list
-pair-second first second list = omega (arith, pair-parts (watched_pair first second) list, pair-parts (record { first = Some first; second = None }) list, stands-same second list, stands-none list)
+pub pair-second : (first second : Literal) (list : ℕ) →
+    pair_count (watched_pair first second) list ≡ pair_count (record { first = Some first; second = None }) list + same (list_number second) list
+pair-second first second list =
+    omega (
+      arith,
+      pair-parts (watched_pair first second) list,
+      pair-parts (record { first = Some first; second = None }) list,
+      stands-same second list,
+      stands-none list,
+    )
 
-pub pair-watching : (pair : WatchedPair) (literal : Literal) → 0 < pair_count pair (list_number literal) → (pair.first ≡ Some literal) ⊎ (pair.second ≡ Some literal)
+pub pair-watching : (pair : WatchedPair) (literal : Literal) → 0 < pair_count pair (list_number literal) → (pair.first ≡ Some literal) ⊎
+    (pair.second ≡ Some literal)
 pair-watching pair literal positive = ⊎_elim
-    (λ (none : stands_in pair.first (list_number literal) ≡ 0). inr (stands-positive pair.second literal (omega (arith, positive, none, pair-parts pair (list_number literal)))))
+    (λ (none : stands_in pair.first (list_number literal) ≡ 0). inr
+    (stands-positive pair.second literal (omega (arith, positive, none, pair-parts pair (list_number literal)))))
     (λ (some : stands_in pair.first (list_number literal) ≢ 0). inl (stands-positive pair.first literal (omega (arith, some))))
     (cases_eq (stands_in pair.first (list_number literal)) 0)
 
-pub pair-positive : (pair : WatchedPair) (literal : Literal) → (pair.first ≡ Some literal) ⊎ (pair.second ≡ Some literal) → 0 < pair_count pair (list_number literal)
+pub pair-positive : (pair : WatchedPair) (literal : Literal) → (pair.first ≡ Some literal) ⊎ (pair.second ≡ Some literal) →
+    0 < pair_count pair (list_number literal)
 pair-positive pair literal watching = ⊎_elim
-    (λ (e : pair.first ≡ Some literal). omega (arith, pair-parts pair (list_number literal), ap (λ o. stands_in o (list_number literal)) e, stands-same literal (list_number literal), same-itself (list_number literal) (list_number literal) refl))
-    (λ (e : pair.second ≡ Some literal). omega (arith, pair-parts pair (list_number literal), ap (λ o. stands_in o (list_number literal)) e, stands-same literal (list_number literal), same-itself (list_number literal) (list_number literal) refl))
+    (λ (e : pair.first ≡ Some literal). omega (
+      arith,
+      pair-parts pair (list_number literal),
+      ap (λ o. stands_in o (list_number literal)) e,
+      stands-same literal (list_number literal),
+      same-itself (list_number literal) (list_number literal) refl,
+    ))
+    (λ (e : pair.second ≡ Some literal). omega (
+      arith,
+      pair-parts pair (list_number literal),
+      ap (λ o. stands_in o (list_number literal)) e,
+      stands-same literal (list_number literal),
+      same-itself (list_number literal) (list_number literal) refl,
+    ))
     watching
 
 -- a pair with one literal in the place of another
-pub replaced-count : (pair : WatchedPair) (from to : Literal) → 0 < pair_count pair (list_number from) → (list : ℕ) → pair_count (replaced pair from to) list + same (list_number from) list ≡ pair_count pair list + same (list_number to) list
+pub replaced-count : (pair : WatchedPair) (from to : Literal) → 0 < pair_count pair (list_number from) → (list : ℕ) →
+    pair_count (replaced pair from to) list + same (list_number from) list ≡ pair_count pair list + same (list_number to) list
 replaced-count pair from to positive list = ⊎_elim
     (λ (t : is_watched pair.first from ≡ true).
     let is : replaced pair from to ≡ record { first = Some to; second = pair.second } = cond-true _ _ _ t in
@@ -238,39 +294,47 @@ replaced-count pair from to positive list = ⊎_elim
 pub replaced-pair : (pair : WatchedPair) (from to kept : Literal) → from ≢ kept → IsPair pair from kept → IsPair (replaced pair from to) to kept
 replaced-pair pair from to kept ne is = ⊎_elim
     (λ (e : pair ≡ watched_pair from kept). inl (ap (λ (p : WatchedPair). replaced p from to) e ∙ cond-true _ _ _ (is_literal-itself from)))
-    (λ (e : pair ≡ watched_pair kept from). inr (ap (λ (p : WatchedPair). replaced p from to) e ∙ cond-false _ _ _ (is_literal-differ kept from (λ w. ne (sym w)))))
+    (λ (e : pair ≡ watched_pair kept from).
+    inr (ap (λ (p : WatchedPair). replaced p from to) e ∙ cond-false _ _ _ (is_literal-differ kept from (λ w. ne (sym w)))))
     is
 
 -- nothing is watched where there is no clause
 pub watched-empty : (lists : List (Vec Watch Global)) (pairs : List WatchedPair) → lists ≡ [] → pairs ≡ [] → IsWatched lists pairs
 unfolding entry_count
 watched-empty lists pairs none empty = λ l n.
-    ap (λ ws. count_by (λ (w : Watch). eqb w.number n) ws) (list_at-past lists l (omega (arith, ap (λ xs. length xs) none))) ∙ sym (ap (λ (p : WatchedPair). pair_count p l) (pair_at-past pairs n (omega (arith, ap (λ xs. length xs) empty))) ∙ pair-none l)
+    ap (λ ws. count_by (λ (w : Watch). eqb w.number n) ws) (list_at-past lists l (omega (arith, ap (λ xs. length xs) none))) ∙
+    sym (ap (λ (p : WatchedPair). pair_count p l) (pair_at-past pairs n (omega (arith, ap (λ xs. length xs) empty))) ∙ pair-none l)
 
 -- the same lists
-pub watched-lists : (lists new : List (Vec Watch Global)) (pairs : List WatchedPair) → ((list : ℕ) → list_at new list ≡ list_at lists list) → IsWatched lists pairs → IsWatched new pairs
+pub watched-lists : (lists new : List (Vec Watch Global)) (pairs : List WatchedPair) → ((list : ℕ) → list_at new list ≡ list_at lists list) →
+    IsWatched lists pairs → IsWatched new pairs
 unfolding entry_count
 watched-lists lists new pairs same' watched = λ l n. ap (λ ws. count_by (λ (w : Watch). eqb w.number n) ws) (same' l) ∙ watched l n
 
-pub puts-same : (lists new : List (Vec Watch Global)) (list : ℕ) → PutsList lists new list (list_at lists list) → (other : ℕ) → list_at new other ≡ list_at lists other
+pub puts-same : (lists new : List (Vec Watch Global)) (list : ℕ) → PutsList lists new list (list_at lists list) → (other : ℕ) →
+    list_at new other ≡ list_at lists other
 puts-same lists new list puts other = ⊎_elim
     (λ (e : other ≡ list). subst (λ l. list_at new l ≡ list_at lists l) (sym e) puts.here)
     (λ (ne : other ≢ list). puts.others other ne)
     (cases_eq other list)
 
 -- the pairs with one more
-pub pair_at-before : (pairs : List WatchedPair) (pair : WatchedPair) (number : ℕ) → number < length pairs → pair_at (pairs ++ pair ∷ []) number ≡ pair_at pairs number
+pub pair_at-before : (pairs : List WatchedPair) (pair : WatchedPair) (number : ℕ) → number < length pairs →
+    pair_at (pairs ++ pair ∷ []) number ≡ pair_at pairs number
 pair_at-before pairs pair number inside = get_or-append pairs (pair ∷ []) unwatched number inside
 
 pub pair_at-last : (pairs : List WatchedPair) (pair : WatchedPair) → pair_at (pairs ++ pair ∷ []) (length pairs) ≡ pair
 pair_at-last pairs pair = get_or-append_seam pairs pair [] unwatched
 
 -- a clause that stands in a literal's list watches the literal
-pub listed-watching : (lists : List (Vec Watch Global)) (pairs : List WatchedPair) (literal : Literal) (place : ℕ) (watch : Watch) → IsWatched lists pairs → slice_get (list_at lists (list_number literal)) place ≡ Some watch → IsWatching pairs watch.number literal
+pub listed-watching : (lists : List (Vec Watch Global)) (pairs : List WatchedPair) (literal : Literal) (place : ℕ) (watch : Watch) → IsWatched lists pairs →
+    slice_get (list_at lists (list_number literal)) place ≡ Some watch → IsWatching pairs watch.number literal
 listed-watching lists pairs literal place watch watched is =
     let list = list_number literal in
     let inside = slice_get_within (list_at lists list) place watch is in
-    let counted : 0 < entry_count lists list watch.number = subst (λ (w : Watch). 0 < entry_count lists list w.number) (get_or_from_slice_get (list_at lists list) place watch watch is) (count-positive lists list place watch inside) in
+    let counted : 0 < entry_count lists list watch.number =
+    subst (λ (w : Watch). 0 < entry_count lists list w.number) (get_or_from_slice_get (list_at lists list) place watch watch is)
+    (count-positive lists list place watch inside) in
     pair-watching (pair_at pairs watch.number) literal (omega (arith, counted, watched list watch.number))
 
 some-none : {A : Type 0} (literal : Literal) → None ≡ Some literal → A
@@ -288,7 +352,8 @@ watching-number pairs number literal watching = ⊎_elim
     (cases_lt number (length pairs))
 
 -- a clause stands in the list of each literal that it watches
-counted-stands : (watches : List Watch) (number : ℕ) → 0 < count_by (λ (w : Watch). eqb w.number number) watches → (place : ℕ) × (watch : Watch) × (slice_get watches place ≡ Some watch) × (watch.number ≡ number)
+counted-stands : (watches : List Watch) (number : ℕ) → 0 < count_by (λ (w : Watch). eqb w.number number) watches → (place : ℕ) × (watch : Watch) ×
+    (slice_get watches place ≡ Some watch) × (watch.number ≡ number)
 counted-stands [] number positive = absurd (omega (arith, positive))
 counted-stands (w ∷ watches) number positive =
     let counts = sum_by-cons (λ (x : Watch). cond (eqb x.number number) 1 0) w watches in
@@ -300,12 +365,16 @@ counted-stands (w ∷ watches) number positive =
     (suc rest.0, rest.1, rest.2, rest.3))
     (cases_eq w.number number)
 
-pub watching-stands : (lists : List (Vec Watch Global)) (pairs : List WatchedPair) (number : ℕ) (literal : Literal) → IsWatched lists pairs → IsWatching pairs number literal → (place : ℕ) × (watch : Watch) × (slice_get (list_at lists (list_number literal)) place ≡ Some watch) × (watch.number ≡ number)
+pub watching-stands : (lists : List (Vec Watch Global)) (pairs : List WatchedPair) (number : ℕ) (literal : Literal) → IsWatched lists pairs →
+    IsWatching pairs number literal → (place : ℕ) × (watch : Watch) × (slice_get (list_at lists (list_number literal)) place ≡ Some watch) ×
+    (watch.number ≡ number)
 unfolding entry_count
 watching-stands lists pairs number literal watched watching =
-    counted-stands (list_at lists (list_number literal)) number (omega (arith, watched (list_number literal) number, pair-positive (pair_at pairs number) literal watching))
+    counted-stands (list_at lists (list_number literal)) number
+    (omega (arith, watched (list_number literal) number, pair-positive (pair_at pairs number) literal watching))
 
-pub watching-list : (lists : List (Vec Watch Global)) (pairs : List WatchedPair) (number : ℕ) (literal : Literal) → IsWatched lists pairs → IsWatching pairs number literal → list_number literal < length lists
+pub watching-list : (lists : List (Vec Watch Global)) (pairs : List WatchedPair) (number : ℕ) (literal : Literal) → IsWatched lists pairs →
+    IsWatching pairs number literal → list_number literal < length lists
 watching-list lists pairs number literal watched watching = ⊎_elim
     (λ (less : list_number literal < length lists). less)
     (λ (more : length lists ≤ list_number literal).
@@ -315,27 +384,35 @@ watching-list lists pairs number literal watched watching = ⊎_elim
     (cases_lt (list_number literal) (length lists))
 
 -- what each watch of each list has
-pub puts-all : (P : Watch → Type 0) (old new : List (Vec Watch Global)) (list : ℕ) (watches : List Watch) → PutsList old new list watches → All P watches → ((l : ℕ) → All P (list_at old l)) → (l : ℕ) → All P (list_at new l)
+pub puts-all : (P : Watch → Type 0) (old new : List (Vec Watch Global)) (list : ℕ) (watches : List Watch) → PutsList old new list watches → All P watches →
+    ((l : ℕ) → All P (list_at old l)) → (l : ℕ) → All P (list_at new l)
 puts-all P old new list watches puts all' before l = ⊎_elim
     (λ (e : l ≡ list). subst (λ k. All P (list_at new k)) (sym e) (subst (λ (ws : List Watch). All P ws) (sym puts.here) all'))
     (λ (ne : l ≢ list). subst (λ (ws : List Watch). All P ws) (sym (puts.others l ne)) (before l))
     (cases_eq l list)
 
-pub blockers-push : (table : List (Vec Literal Global)) (old new : List (Vec Watch Global)) (list : ℕ) (watch : Watch) → PutsList old new list (list_at old list ++ watch ∷ []) → Contains (clause_at table watch.number) watch.blocker → HasBlockers table old → HasBlockers table new
+pub blockers-push : (table : List (Vec Literal Global)) (old new : List (Vec Watch Global)) (list : ℕ) (watch : Watch) →
+    PutsList old new list (list_at old list ++ watch ∷ []) → Contains (clause_at table watch.number) watch.blocker → HasBlockers table old →
+    HasBlockers table new
 blockers-push table old new list watch puts contains before =
     let P : Watch → Type 0 = λ w. Contains (clause_at table w.number) w.blocker in
     puts-all P old new list _ puts (All-push P (list_at old list) watch (before list) contains) before
 
-pub blockers-set : (table : List (Vec Literal Global)) (old new : List (Vec Watch Global)) (list place : ℕ) (watch : Watch) → PutsList old new list (set (list_at old list) place watch) → Contains (clause_at table watch.number) watch.blocker → HasBlockers table old → HasBlockers table new
+pub blockers-set : (table : List (Vec Literal Global)) (old new : List (Vec Watch Global)) (list place : ℕ) (watch : Watch) →
+    PutsList old new list (set (list_at old list) place watch) → Contains (clause_at table watch.number) watch.blocker → HasBlockers table old →
+    HasBlockers table new
 blockers-set table old new list place watch puts contains before =
     let P : Watch → Type 0 = λ w. Contains (clause_at table w.number) w.blocker in
     puts-all P old new list _ puts (All-set P (list_at old list) place watch contains (before list)) before
 
-pub blockers-take : (table : List (Vec Literal Global)) (old new : List (Vec Watch Global)) (list place : ℕ) (d : Watch) → PutsList old new list (swap_remove (list_at old list) place d) → place < length (list_at old list) → HasBlockers table old → HasBlockers table new
+pub blockers-take : (table : List (Vec Literal Global)) (old new : List (Vec Watch Global)) (list place : ℕ) (d : Watch) →
+    PutsList old new list (swap_remove (list_at old list) place d) → place < length (list_at old list) → HasBlockers table old → HasBlockers table new
 blockers-take table old new list place d puts inside before =
     let P : Watch → Type 0 = λ w. Contains (clause_at table w.number) w.blocker in
     let xs = list_at old list in
-    puts-all P old new list _ puts (All-take P (length xs - 1) (set xs place (get_or xs (length xs - 1) d)) (All-set P xs place _ (before list (length xs - 1) d (omega (arith, inside))) (before list))) before
+    puts-all P old new list _ puts
+    (All-take P (length xs - 1) (set xs place (get_or xs (length xs - 1) d))
+    (All-set P xs place _ (before list (length xs - 1) d (omega (arith, inside))) (before list))) before
 
 -- the number at a place
 pub number_at-watch : (watches : List Watch) (place : ℕ) (watch : Watch) → slice_get watches place ≡ Some watch → number_at watches place ≡ watch.number
@@ -345,13 +422,16 @@ pub number_at-get_or : (watches : List Watch) (place : ℕ) (d : Watch) → plac
 number_at-get_or watches place d within = number_at-watch watches place (get_or watches place d) (slice_get-get_or watches place d within)
 
 -- a list in which the watch at a place has another blocker
-pub watched-set : (lists new : List (Vec Watch Global)) (pairs : List WatchedPair) (list place : ℕ) (watch : Watch) → IsWatched lists pairs → PutsList lists new list (set (list_at lists list) place watch) → place < length (list_at lists list) → watch.number ≡ number_at (list_at lists list) place → IsWatched new pairs
+pub watched-set : (lists new : List (Vec Watch Global)) (pairs : List WatchedPair) (list place : ℕ) (watch : Watch) → IsWatched lists pairs →
+    PutsList lists new list (set (list_at lists list) place watch) → place < length (list_at lists list) → watch.number ≡ number_at (list_at lists list) place →
+    IsWatched new pairs
 unfolding entry_count
 watched-set lists new pairs list place watch watched puts inside named = λ l n. ⊎_elim
     (λ (e : l ≡ list).
     let here = ap (λ ws. count_by (λ (w : Watch). eqb w.number n) ws) puts.here in
     let sums = sum_by-set (λ (w : Watch). cond (eqb w.number n) 1 0) (list_at lists list) place watch watch inside in
-    let one : ◌≡◌ {A = ℕ} (cond (eqb watch.number n) 1 0) (cond (eqb (get_or (list_at lists list) place watch).number n) 1 0) = ap (λ k. cond (eqb k n) 1 0) (named ∙ number_at-get_or (list_at lists list) place watch inside) in
+    let one : ◌≡◌ {A = ℕ} (cond (eqb watch.number n) 1 0) (cond (eqb (get_or (list_at lists list) place watch).number n) 1 0) =
+    ap (λ k. cond (eqb k n) 1 0) (named ∙ number_at-get_or (list_at lists list) place watch inside) in
     subst (λ k. entry_count new k n ≡ pair_count (pair_at pairs n) k) (sym e) (omega (arith, here, sums, one, watched list n)))
     (λ (ne : l ≢ list). count-others lists new list _ puts l n ne ∙ watched l n)
     (cases_eq l list)
@@ -363,33 +443,40 @@ taken-length watches place d inside =
     let size : length moved ≡ length watches = length-set watches place _ in
     omega (arith, inside, length-take-le (length watches - 1) moved (omega (arith, size)))
 
-pub taken-before : (watches : List Watch) (place : ℕ) (d : Watch) (k : ℕ) → place < length watches → k < place → slice_get (swap_remove watches place d) k ≡ slice_get watches k
+pub taken-before : (watches : List Watch) (place : ℕ) (d : Watch) (k : ℕ) → place < length watches → k < place →
+    slice_get (swap_remove watches place d) k ≡ slice_get watches k
 taken-before watches place d k inside before =
     let moved = set watches place (get_or watches (length watches - 1) d) in
     slice_get-get_or (swap_remove watches place d) k d (omega (arith, inside, before, taken-length watches place d inside))
-    ∙ ap (λ (w : Watch). Some w) (get_or-take (length watches - 1) moved k d (omega (arith, inside, before)) ∙ get_or-set_other watches place k _ d (λ e. absurd (omega (arith, e, before))))
+    ∙ ap (λ (w : Watch). Some w) (get_or-take (length watches - 1) moved k d (omega (arith, inside, before)) ∙
+    get_or-set_other watches place k _ d (λ e. absurd (omega (arith, e, before))))
     ∙ sym (slice_get-get_or watches k d (omega (arith, inside, before)))
 
 -- another blocker
-pub same-clauses : (old new : List (Vec Watch Global)) (list place : ℕ) (blocker : Literal) → place < length (list_at old list) → PutsList old new list (set (list_at old list) place (record { number = number_at (list_at old list) place; blocker = blocker })) → SameClauses old new
+pub same-clauses : (old new : List (Vec Watch Global)) (list place : ℕ) (blocker : Literal) → place < length (list_at old list) →
+    PutsList old new list (set (list_at old list) place (record { number = number_at (list_at old list) place; blocker = blocker })) → SameClauses old new
 same-clauses old new list place blocker inside puts =
     let xs = list_at old list in
     let written : Watch = record { number = number_at xs place; blocker = blocker } in
     record {
       size = puts.size;
       count = λ l. ⊎_elim
-          (λ (e : l ≡ list). subst (λ k. length (list_at new k) ≡ length (list_at old k)) (sym e) (ap (λ (ws : List Watch). length ws) puts.here ∙ length-set xs place written))
+          (λ (e : l ≡ list). subst (λ k. length (list_at new k) ≡ length (list_at old k)) (sym e)
+          (ap (λ (ws : List Watch). length ws) puts.here ∙ length-set xs place written))
           (λ (ne : l ≢ list). ap (λ (ws : List Watch). length ws) (puts.others l ne))
           (cases_eq l list);
       back = λ l k watch is. ⊎_elim
           (λ (e : l ≡ list).
-          let here : slice_get (set xs place written) k ≡ Some watch = ap (λ (ws : List Watch). slice_get ws k) (sym puts.here) ∙ subst (λ m. slice_get (list_at new m) k ≡ Some watch) e is in
-          subst (λ m. (was : Watch) × (slice_get (list_at old m) k ≡ Some was) × (was.number ≡ watch.number)) (sym e) (set-back xs place k written watch inside (number_at-get_or xs place written inside) here))
+          let here : slice_get (set xs place written) k ≡ Some watch = ap (λ (ws : List Watch). slice_get ws k) (sym puts.here) ∙
+          subst (λ m. slice_get (list_at new m) k ≡ Some watch) e is in
+          subst (λ m. (was : Watch) × (slice_get (list_at old m) k ≡ Some was) × (was.number ≡ watch.number)) (sym e)
+          (set-back xs place k written watch inside (number_at-get_or xs place written inside) here))
           (λ (ne : l ≢ list). (watch, ap (λ (ws : List Watch). slice_get ws k) (sym (puts.others l ne)) ∙ is, refl))
           (cases_eq l list);
     }
   where
-    set-back : (xs : List Watch) (at k : ℕ) (written watch : Watch) → at < length xs → written.number ≡ (get_or xs at written).number → slice_get (set xs at written) k ≡ Some watch → (was : Watch) × (slice_get xs k ≡ Some was) × (was.number ≡ watch.number)
+    set-back : (xs : List Watch) (at k : ℕ) (written watch : Watch) → at < length xs → written.number ≡ (get_or xs at written).number →
+        slice_get (set xs at written) k ≡ Some watch → (was : Watch) × (slice_get xs k ≡ Some was) × (was.number ≡ watch.number)
     set-back xs at k written watch within named is =
         let inside' : k < length xs = rw length-set at (slice_get_within (set xs at written) k watch is) in
         let read : get_or (set xs at written) k written ≡ watch = get_or_from_slice_get (set xs at written) k watch written is in (
@@ -397,14 +484,18 @@ same-clauses old new list place blocker inside puts =
           slice_get-get_or xs k written inside',
           ⊎_elim
               (λ (e : k ≡ at).
-              let found : written ≡ watch = sym (subst (λ m. get_or (set xs at written) m written ≡ written) (sym e) (get_or-set_same xs at written written within)) ∙ read in
+              let found : written ≡ watch = sym
+              (subst (λ m. get_or (set xs at written) m written ≡ written) (sym e) (get_or-set_same xs at written written within)) ∙ read in
               ap (λ m. (get_or xs m written).number) e ∙ sym named ∙ ap (λ (w : Watch). w.number) found)
               (λ (ne : k ≢ at). ap (λ (w : Watch). w.number) (sym (get_or-set_other xs at k written written ne) ∙ read))
               (cases_eq k at),
         )
 
 -- a clause that was moved
-pub moves-watch : (old mid new : List (Vec Watch Global)) (before : List WatchedPair) (from to : Literal) (place : ℕ) (d watch : Watch) → from ≢ to → watch.number < length before → PutsList old mid (list_number to) (list_at old (list_number to) ++ watch ∷ []) → PutsList mid new (list_number from) (swap_remove (list_at mid (list_number from)) place d) → place < length (list_at old (list_number from)) → MovesWatch old new before (set before watch.number (replaced (pair_at before watch.number) from to)) from to place watch.number
+pub moves-watch : (old mid new : List (Vec Watch Global)) (before : List WatchedPair) (from to : Literal) (place : ℕ) (d watch : Watch) → from ≢ to →
+    watch.number < length before → PutsList old mid (list_number to) (list_at old (list_number to) ++ watch ∷ []) →
+    PutsList mid new (list_number from) (swap_remove (list_at mid (list_number from)) place d) → place < length (list_at old (list_number from)) →
+    MovesWatch old new before (set before watch.number (replaced (pair_at before watch.number) from to)) from to place watch.number
 moves-watch old mid new before from to place d watch differ inside pushed taken at' =
     let f = list_number from in
     let stays : list_at mid f ≡ list_at old f = pushed.others f (list_number-differ from to differ) in
@@ -414,39 +505,54 @@ moves-watch old mid new before from to place d watch differ inside pushed taken 
       size = taken.size ∙ pushed.size;
       attached = length-set before watch.number after;
       others = λ other ne. get_or-set_other before watch.number other after unwatched ne;
-      here = λ kept ne is. subst (λ (p : WatchedPair). IsPair p to kept) (sym (get_or-set_same before watch.number after unwatched inside)) (replaced-pair (pair_at before watch.number) from to kept ne is);
+      here = λ kept ne is. subst (λ (p : WatchedPair). IsPair p to kept) (sym (get_or-set_same before watch.number after unwatched inside))
+          (replaced-pair (pair_at before watch.number) from to kept ne is);
       shorter = omega (arith, ap (λ (ws : List Watch). length ws) list', taken-length (list_at old f) place d at');
       first = λ k less. ap (λ (ws : List Watch). slice_get ws k) list' ∙ taken-before (list_at old f) place d k at' less;
     }
 
-pub blockers-move : (table : List (Vec Literal Global)) (old mid new : List (Vec Watch Global)) (from to : Literal) (place : ℕ) (d watch : Watch) → from ≢ to → PutsList old mid (list_number to) (list_at old (list_number to) ++ watch ∷ []) → PutsList mid new (list_number from) (swap_remove (list_at mid (list_number from)) place d) → place < length (list_at old (list_number from)) → Contains (clause_at table watch.number) watch.blocker → HasBlockers table old → HasBlockers table new
+pub blockers-move : (table : List (Vec Literal Global)) (old mid new : List (Vec Watch Global)) (from to : Literal) (place : ℕ) (d watch : Watch) → from ≢ to →
+    PutsList old mid (list_number to) (list_at old (list_number to) ++ watch ∷ []) →
+    PutsList mid new (list_number from) (swap_remove (list_at mid (list_number from)) place d) → place < length (list_at old (list_number from)) →
+    Contains (clause_at table watch.number) watch.blocker → HasBlockers table old → HasBlockers table new
 blockers-move table old mid new from to place d watch differ pushed taken inside contains has =
     let stays = pushed.others (list_number from) (list_number-differ from to differ) in
-    blockers-take table mid new (list_number from) place d taken (omega (arith, inside, ap (λ (ws : List Watch). length ws) stays)) (blockers-push table old mid (list_number to) watch pushed contains has)
+    blockers-take table mid new (list_number from) place d taken (omega (arith, inside, ap (λ (ws : List Watch). length ws) stays))
+    (blockers-push table old mid (list_number to) watch pushed contains has)
 
 -- a clause that was added with two literals
-pub pairs-two : (old mid new last : List WatchedPair) (number : ℕ) (one two goal : WatchedPair) → number ≡ length old → mid ≡ old ++ unwatched ∷ [] → new ≡ set mid number one → last ≡ set new number two → two ≡ goal → last ≡ old ++ goal ∷ []
+pub pairs-two : (old mid new last : List WatchedPair) (number : ℕ) (one two goal : WatchedPair) → number ≡ length old → mid ≡ old ++ unwatched ∷ [] →
+    new ≡ set mid number one → last ≡ set new number two → two ≡ goal → last ≡ old ++ goal ∷ []
 pairs-two old mid new last number one two goal is added first second same-goal =
     second
     ∙ ap (λ (ps : List WatchedPair). set ps number two) (first ∙ ap (λ (ps : List WatchedPair). set ps number one) added)
-    ∙ subst (λ n. set (set (old ++ unwatched ∷ []) n one) n two ≡ old ++ two ∷ []) (sym is) (ap (λ (ps : List WatchedPair). set ps (length old) two) (set-append_seam old unwatched [] one) ∙ set-append_seam old one [] two)
+    ∙ subst (λ n. set (set (old ++ unwatched ∷ []) n one) n two ≡ old ++ two ∷ []) (sym is)
+    (ap (λ (ps : List WatchedPair). set ps (length old) two) (set-append_seam old unwatched [] one) ∙ set-append_seam old one [] two)
     ∙ ap (λ (p : WatchedPair). old ++ p ∷ []) same-goal
 
 -- a clause that watches one literal, and then two
-pub gains-first : (pairs new : List WatchedPair) (number : ℕ) (first one other : Literal) → new ≡ pairs ++ unwatched ∷ [] → number ≡ length pairs → one ≡ first → other ≡ first → (list : ℕ) → pair_count (record { first = Some one; second = None }) list ≡ pair_count (pair_at new number) list + same (list_number other) list
+pub gains-first : (pairs new : List WatchedPair) (number : ℕ) (first one other : Literal) → new ≡ pairs ++ unwatched ∷ [] → number ≡ length pairs →
+    one ≡ first → other ≡ first → (list : ℕ) →
+    pair_count (record { first = Some one; second = None }) list ≡ pair_count (pair_at new number) list + same (list_number other) list
 gains-first pairs new number first one other added last same-one same-other list =
-    let none : pair_at new number ≡ unwatched = ap (λ (ps : List WatchedPair). pair_at ps number) added ∙ ap (λ n. pair_at (pairs ++ unwatched ∷ []) n) last ∙ pair_at-last pairs unwatched in
-    pair-first one list ∙ ap (λ (p : WatchedPair). pair_count p list + same (list_number one) list) (sym none) ∙ ap (λ (l : Literal). pair_count (pair_at new number) list + same (list_number l) list) (same-one ∙ sym same-other)
+    let none : pair_at new number ≡ unwatched = ap (λ (ps : List WatchedPair). pair_at ps number) added ∙ ap (λ n. pair_at (pairs ++ unwatched ∷ []) n) last ∙
+    pair_at-last pairs unwatched in
+    pair-first one list ∙ ap (λ (p : WatchedPair). pair_count p list + same (list_number one) list) (sym none) ∙
+    ap (λ (l : Literal). pair_count (pair_at new number) list + same (list_number l) list) (same-one ∙ sym same-other)
 
-pub gains-second : (mid new : List WatchedPair) (number : ℕ) (first second one other third : Literal) → number < length mid → new ≡ set mid number (record { first = Some one; second = None }) → one ≡ first → other ≡ first → third ≡ second → (list : ℕ) → pair_count (watched_pair other third) list ≡ pair_count (pair_at new number) list + same (list_number second) list
+pub gains-second : (mid new : List WatchedPair) (number : ℕ) (first second one other third : Literal) → number < length mid →
+    new ≡ set mid number (record { first = Some one; second = None }) → one ≡ first → other ≡ first → third ≡ second → (list : ℕ) →
+    pair_count (watched_pair other third) list ≡ pair_count (pair_at new number) list + same (list_number second) list
 gains-second mid new number first second one other third inside written same-one same-other same-third list =
-    let was : pair_at new number ≡ record { first = Some one; second = None } = ap (λ (ps : List WatchedPair). pair_at ps number) written ∙ get_or-set_same mid number _ unwatched inside in
+    let was : pair_at new number ≡ record { first = Some one; second = None } = ap (λ (ps : List WatchedPair). pair_at ps number) written ∙
+    get_or-set_same mid number _ unwatched inside in
     pair-second other third list
     ∙ ap (λ (l : Literal). pair_count (record { first = Some l; second = None }) list + same (list_number third) list) (same-other ∙ sym same-one)
     ∙ ap (λ (p : WatchedPair). pair_count p list + same (list_number third) list) (sym was)
     ∙ ap (λ (l : Literal). pair_count (pair_at new number) list + same (list_number l) list) same-third
 
-pub contains-same : (table : List (Vec Literal Global)) (number other : ℕ) (literal copy : Literal) → other ≡ number → copy ≡ literal → Contains (clause_at table number) literal → Contains (clause_at table other) copy
+pub contains-same : (table : List (Vec Literal Global)) (number other : ℕ) (literal copy : Literal) → other ≡ number → copy ≡ literal →
+    Contains (clause_at table number) literal → Contains (clause_at table other) copy
 contains-same table number other literal copy named is contains =
     subst (λ n. Contains (clause_at table n) copy) (sym named) (subst (λ (l : Literal). Contains (clause_at table number) l) (sym is) contains)
 
@@ -454,7 +560,8 @@ pub added-inside : (pairs new : List WatchedPair) (pair : WatchedPair) (number :
 added-inside pairs new pair number added last = omega (arith, last, ap (λ (ps : List WatchedPair). length ps) added, length-append pairs (pair ∷ []))
 
 -- a move, step by step: what was read, pushed, taken and written
-pub record IsMove (old mid new : List (Vec Watch Global)) (before : List WatchedPair) (from to : Literal) (place : ℕ) (blocker : Literal) (read : Watch) (pair : WatchedPair) : Type 0 where
+pub record IsMove (old mid new : List (Vec Watch Global)) (before : List WatchedPair) (from to : Literal) (place : ℕ) (blocker : Literal) (read : Watch)
+    (pair : WatchedPair) : Type 0 where
   pub differ : from ≢ to
   pub value : slice_get (list_at old (list_number from)) place ≡ Some read
   pub inside : read.number < length before
@@ -463,7 +570,8 @@ pub record IsMove (old mid new : List (Vec Watch Global)) (before : List Watched
   pub taken : PutsList mid new (list_number from) (swap_remove (list_at mid (list_number from)) place read)
   pub pair_is : pair ≡ replaced (pair_at before read.number) from to
 
-module _ (old mid new : List (Vec Watch Global)) (before : List WatchedPair) (from to : Literal) (place : ℕ) (blocker : Literal) (read : Watch) (pair : WatchedPair) (m : IsMove old mid new before from to place blocker read pair) where
+module _ (old mid new : List (Vec Watch Global)) (before : List WatchedPair) (from to : Literal) (place : ℕ) (blocker : Literal) (read : Watch)
+    (pair : WatchedPair) (m : IsMove old mid new before from to place blocker read pair) where
   at' : place < length (list_at old (list_number from))
   at' = slice_get_within (list_at old (list_number from)) place read m.value
 
@@ -473,28 +581,37 @@ module _ (old mid new : List (Vec Watch Global)) (before : List WatchedPair) (fr
   pub move-watched : IsWatched old before → IsWatched new (set before read.number pair)
   move-watched watched =
       let stays : list_at mid (list_number from) ≡ list_at old (list_number from) = m.pushed.others (list_number from) (list_number-differ from to m.differ) in
-      watched-move old mid new before (list_number from) (list_number to) place read _ pair watched (list_number-differ from to m.differ) m.inside m.pushed (rw stays at m.taken) at'
+      watched-move old mid new before (list_number from) (list_number to) place read _ pair watched (list_number-differ from to m.differ) m.inside m.pushed
+      (rw stays at m.taken) at'
       (ap (λ (w : Watch). w.number) (sym (get_or_from_slice_get (list_at old (list_number from)) place read read m.value)))
-      (λ l. ap (λ (p : WatchedPair). pair_count p l + same (list_number from) l) m.pair_is ∙ replaced-count (pair_at before read.number) from to (pair-positive (pair_at before read.number) from m.watching) l)
+      (λ l. ap (λ (p : WatchedPair). pair_count p l + same (list_number from) l) m.pair_is ∙
+      replaced-count (pair_at before read.number) from to (pair-positive (pair_at before read.number) from m.watching) l)
 
-  pub move-moves : (watch : Watch) → slice_get (list_at old (list_number from)) place ≡ Some watch → MovesWatch old new before (set before read.number pair) from to place watch.number
+  pub move-moves : (watch : Watch) → slice_get (list_at old (list_number from)) place ≡ Some watch →
+      MovesWatch old new before (set before read.number pair) from to place watch.number
   move-moves watch is =
       subst (λ n. MovesWatch old new before (set before read.number pair) from to place n) (ap (λ (w : Watch). w.number) (found watch is))
       (subst (λ (p : WatchedPair). MovesWatch old new before (set before read.number p) from to place read.number) (sym m.pair_is)
       (moves-watch old mid new before from to place read _ m.differ m.inside m.pushed m.taken at'))
 
-  pub move-blockers : (table : List (Vec Literal Global)) (watch : Watch) → slice_get (list_at old (list_number from)) place ≡ Some watch → Contains (clause_at table watch.number) blocker → HasBlockers table old → HasBlockers table new
+  pub move-blockers : (table : List (Vec Literal Global)) (watch : Watch) → slice_get (list_at old (list_number from)) place ≡ Some watch →
+      Contains (clause_at table watch.number) blocker → HasBlockers table old → HasBlockers table new
   move-blockers table watch is contains has =
-      blockers-move table old mid new from to place read _ m.differ m.pushed m.taken at' (subst (λ n. Contains (clause_at table n) blocker) (sym (ap (λ (w : Watch). w.number) (found watch is))) contains) has
+      blockers-move table old mid new from to place read _ m.differ m.pushed m.taken at'
+      (subst (λ n. Contains (clause_at table n) blocker) (sym (ap (λ (w : Watch). w.number) (found watch is))) contains) has
 
 -- the clauses that were there watch what they watched
 
 pub kept-same : (old new : List WatchedPair) → new ≡ old → (number : ℕ) → number < length old → pair_at new number ≡ pair_at old number
 kept-same old new same number inside = ap (λ (ps : List WatchedPair). pair_at ps number) same
 
-pub kept-push : (old new : List WatchedPair) (pair : WatchedPair) → new ≡ old ++ pair ∷ [] → (number : ℕ) → number < length old → pair_at new number ≡ pair_at old number
+pub kept-push : (old new : List WatchedPair) (pair : WatchedPair) → new ≡ old ++ pair ∷ [] → (number : ℕ) → number < length old →
+    pair_at new number ≡ pair_at old number
 kept-push old new pair is number inside = ap (λ (ps : List WatchedPair). pair_at ps number) is ∙ get_or-append old (pair ∷ []) unwatched number inside
 
-pub kept-set : (old middle new : List WatchedPair) (last : ℕ) (pair : WatchedPair) → last ≡ length old → new ≡ set middle last pair → ((number : ℕ) → number < length old → pair_at middle number ≡ pair_at old number) → (number : ℕ) → number < length old → pair_at new number ≡ pair_at old number
+pub kept-set : (old middle new : List WatchedPair) (last : ℕ) (pair : WatchedPair) → last ≡ length old → new ≡ set middle last pair →
+    ((number : ℕ) → number < length old → pair_at middle number ≡ pair_at old number) → (number : ℕ) → number < length old →
+    pair_at new number ≡ pair_at old number
 kept-set old middle new last pair end is kept number inside =
-    ap (λ (ps : List WatchedPair). pair_at ps number) is ∙ get_or-set_other middle last number pair unwatched (λ (same : number ≡ last). omega (arith, same, end, inside)) ∙ kept number inside
+    ap (λ (ps : List WatchedPair). pair_at ps number) is ∙
+    get_or-set_other middle last number pair unwatched (λ (same : number ≡ last). omega (arith, same, end, inside)) ∙ kept number inside

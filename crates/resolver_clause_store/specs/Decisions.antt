@@ -21,9 +21,11 @@ pub record IsFirst (trail : Trail) (clause : List Literal) (place : ℕ) : Type 
 
 -- what is known after the first literals of a clause, where the one at this place was the first with no value
 pub record HasPassed (trail : Trail) (clause : List Literal) (count : ℕ) (first : Option ℕ) : Type 0 where
-  pub undecided : (k : ℕ) (d : Literal) → k < count → (literal_value trail (slice_index_or clause k d) ≡ Some false) ⊎ ((literal_value trail (slice_index_or clause k d) ≡ None) × ((slice_index_or clause k d).positive ≡ true))
+  pub undecided : (k : ℕ) (d : Literal) → k < count → (literal_value trail (slice_index_or clause k d) ≡ Some false) ⊎
+      ((literal_value trail (slice_index_or clause k d) ≡ None) × ((slice_index_or clause k d).positive ≡ true))
   pub none : first ≡ None → (k : ℕ) (d : Literal) → k < count → literal_value trail (slice_index_or clause k d) ≡ Some false
-  pub some : (place : ℕ) → first ≡ Some place → (place < count) × ((d : Literal) → literal_value trail (slice_index_or clause place d) ≡ None) × ((k : ℕ) (d : Literal) → k < place → literal_value trail (slice_index_or clause k d) ≡ Some false)
+  pub some : (place : ℕ) → first ≡ Some place → (place < count) × ((d : Literal) → literal_value trail (slice_index_or clause place d) ≡ None) ×
+      ((k : ℕ) (d : Literal) → k < place → literal_value trail (slice_index_or clause k d) ≡ Some false)
 
 -- the choice is for this requirement, and takes the first literal of its clause that is not false
 pub record IsChoiceOf (trail : Trail) (table : List (Vec Literal Global)) (requirement : RequirementClause) (choice : Choice) : Type 0 where
@@ -38,6 +40,8 @@ pub record IsChoice (trail : Trail) (table : List (Vec Literal Global)) (require
 
 -- how a requirement stands under a trail
 abbrev pub StandingIs : Trail → List Literal → Standing → Type 0
-StandingIs trail clause (Waiting variable) = Contains clause (record { variable = variable; positive = false }) × (literal_value trail (record { variable = variable; positive = false }) ≢ Some false)
-StandingIs trail clause (Met variable) = Contains clause (record { variable = variable; positive = true }) × (literal_value trail (record { variable = variable; positive = true }) ≡ Some true)
+StandingIs trail clause (Waiting variable) = Contains clause (record { variable = variable; positive = false }) ×
+    (literal_value trail (record { variable = variable; positive = false }) ≢ Some false)
+StandingIs trail clause (Met variable) = Contains clause (record { variable = variable; positive = true }) ×
+    (literal_value trail (record { variable = variable; positive = true }) ≡ Some true)
 StandingIs trail clause (Open place) = IsFirst trail clause place

@@ -17,8 +17,10 @@ joined (x ∷ xs) ys = map (λ y. x ++ y) ys ++ joined xs ys
 -- and in it each right list, the two joined, left first.
 pub data IsDisjunctive {N S : Type 0} (u : Universe N S) : ConditionId → List (List VersionSetId) → Type 0 where
   of_version_set : {c : ConditionId} (v : VersionSetId) → u.condition c ≡ Matched v → IsDisjunctive u c ((v ∷ []) ∷ [])
-  of_or : {c : ConditionId} {lefts rights : List (List VersionSetId)} (a b : ConditionId) → u.condition c ≡ Binary Or a b → IsDisjunctive u a lefts → IsDisjunctive u b rights → IsDisjunctive u c (lefts ++ rights)
-  of_and : {c : ConditionId} {lefts rights : List (List VersionSetId)} (a b : ConditionId) → u.condition c ≡ Binary And a b → IsDisjunctive u a lefts → IsDisjunctive u b rights → IsDisjunctive u c (joined lefts rights)
+  of_or : {c : ConditionId} {lefts rights : List (List VersionSetId)} (a b : ConditionId) → u.condition c ≡ Binary Or a b → IsDisjunctive u a lefts →
+      IsDisjunctive u b rights → IsDisjunctive u c (lefts ++ rights)
+  of_and : {c : ConditionId} {lefts rights : List (List VersionSetId)} (a b : ConditionId) → u.condition c ≡ Binary And a b → IsDisjunctive u a lefts →
+      IsDisjunctive u b rights → IsDisjunctive u c (joined lefts rights)
 
 -- a candidate that the version set takes is in the set
 pub record IsTaken {N S : Type 0} (u : Universe N S) (Has : S → Type 0) (v : VersionSetId) : Type 0 where
@@ -47,12 +49,14 @@ partial_disjuncts stack = map partial_disjunct (reverse stack)
 -- the lists that have a disjunct of each condition, in order
 pub data AreJoined {N S : Type 0} (u : Universe N S) : List ConditionId → List (List VersionSetId) → Type 0 where
   joined_none : AreJoined u [] ([] ∷ [])
-  joined_next : {c : ConditionId} {cs : List ConditionId} {firsts others : List (List VersionSetId)} → IsDisjunctive u c firsts → AreJoined u cs others → AreJoined u (c ∷ cs) (joined firsts others)
+  joined_next : {c : ConditionId} {cs : List ConditionId} {firsts others : List (List VersionSetId)} → IsDisjunctive u c firsts → AreJoined u cs others →
+      AreJoined u (c ∷ cs) (joined firsts others)
 
 -- the disjuncts that come of these, in order
 pub data AreFinished {N S : Type 0} (u : Universe N S) : List PartialDisjunct → List (List VersionSetId) → Type 0 where
   finished_none : AreFinished u [] []
-  finished_next : {p : PartialDisjunct} {ps : List PartialDisjunct} {lists others : List (List VersionSetId)} → AreJoined u p.pending lists → AreFinished u ps others → AreFinished u (p ∷ ps) (map (λ list. p.chosen ++ list) lists ++ others)
+  finished_next : {p : PartialDisjunct} {ps : List PartialDisjunct} {lists others : List (List VersionSetId)} → AreJoined u p.pending lists →
+      AreFinished u ps others → AreFinished u (p ∷ ps) (map (λ list. p.chosen ++ list) lists ++ others)
 
 -- how much work a condition of a rank is, with room for two of a lower rank, added or multiplied
 abbrev pub work_at : ℕ → ℕ

@@ -18,5 +18,6 @@ not_both false e f = false≢true e
 pub Splits-filter : {X : Type 0} (p : X → Bool) (xs : List X) → Splits xs (filter p xs) (filter (λ x. not (p x)) xs)
 Splits-filter p xs = record {
   cut = IsCut-filter p xs;
-  apart = λ x in_one in_other. not_both (p x) (All-contains (λ y. p y ≡ true) (filter p xs) x (filter_passes p xs) in_one) (All-contains (λ y. not (p y) ≡ true) (filter (λ y. not (p y)) xs) x (filter_passes (λ y. not (p y)) xs) in_other);
+  apart = λ x in_one in_other. not_both (p x) (All-contains (λ y. p y ≡ true) (filter p xs) x (filter_passes p xs) in_one)
+      (All-contains (λ y. not (p y) ≡ true) (filter (λ y. not (p y)) xs) x (filter_passes (λ y. not (p y)) xs) in_other);
 }

@@ -57,7 +57,8 @@ IsReasoned clauses requirements trail variable slot =
 -- the clause is not false, and where all its literals but one are false that one is true
 pub record IsPropagated (trail : Trail) (clause : List Literal) : Type 0 where
   pub not_false : IsFalsified trail clause → ⊥
-  pub last : (literal : Literal) → Contains clause literal → ((other : Literal) → Contains clause other → (other ≡ literal) ⊎ (literal_value trail other ≡ Some false)) → literal_value trail literal ≡ Some true
+  pub last : (literal : Literal) → Contains clause literal →
+      ((other : Literal) → Contains clause other → (other ≡ literal) ⊎ (literal_value trail other ≡ Some false)) → literal_value trail literal ≡ Some true
 
 -- some literal of the clause is true, or one of those that it depends on has no value
 abbrev pub IsMet : Trail → List Literal → Type 0

@@ -50,11 +50,14 @@ pub record IsFollowing (queue : DecideQueue) (trail : Trail) : Type 0 where
 -- the queue follows the trail, and each requirement has its place in it
 pub record IsQueued (queue : DecideQueue) (trail : Trail) (table : List (Vec Literal Global)) (requirements : List RequirementClause) : Type 0 where
   pub following : IsFollowing queue trail
-  pub each : (index : ℕ) (d : RequirementClause) → index < length requirements → IsHeld queue.active.items queue.waiting queue.met queue.followed.items queue.kept trail (clause_at table (slice_index_or requirements index d).number) index
+  pub each : (index : ℕ) (d : RequirementClause) → index < length requirements →
+      IsHeld queue.active.items queue.waiting queue.met queue.followed.items queue.kept trail
+      (clause_at table (slice_index_or requirements index d).number) index
 
 -- whatever the trail and the requirements, the queue still follows the one and has places for the others
 abbrev pub StaysQueued : DecideQueue → DecideQueue → Type 0
-StaysQueued old new = (trail : Trail) (table : List (Vec Literal Global)) (requirements : List RequirementClause) → IsQueued old trail table requirements → IsQueued new trail table requirements
+StaysQueued old new = (trail : Trail) (table : List (Vec Literal Global)) (requirements : List RequirementClause) → IsQueued old trail table requirements →
+    IsQueued new trail table requirements
 
 -- the whole trail was followed
 pub record IsFollowed (queue : DecideQueue) (trail : Trail) : Type 0 where

@@ -16,9 +16,11 @@ pub record Obeys {N S : Type 0} (set : List S) (rules : List (Rule N S)) : Type 
 -- s is in the set, and by need: it is a candidate of a rule whose `by` is the root or there by need, and whose lists have members in the set
 pub data IsNeeded {N S : Type 0} (rules : List (Rule N S)) (set : List S) : S → Type 0 where
   by_root : {s : S} {requirement : Requirement} {candidates : Vec S Global} {when : Vec (Vec S Global) Global} →
-      Contains rules (Requires Root requirement candidates when) → AllMeet set (lists_of when.items) → Contains candidates.items s → Contains set s → IsNeeded rules set s
+      Contains rules (Requires Root requirement candidates when) → AllMeet set (lists_of when.items) → Contains candidates.items s → Contains set s →
+      IsNeeded rules set s
   by_needed : {s t : S} {requirement : Requirement} {candidates : Vec S Global} {when : Vec (Vec S Global) Global} → IsNeeded rules set t →
-      Contains rules (Requires (Solvable t) requirement candidates when) → AllMeet set (lists_of when.items) → Contains candidates.items s → Contains set s → IsNeeded rules set s
+      Contains rules (Requires (Solvable t) requirement candidates when) → AllMeet set (lists_of when.items) → Contains candidates.items s → Contains set s →
+      IsNeeded rules set s
 
 -- each member is there by need
 abbrev pub AllNeeded : {N S : Type 0} → List (Rule N S) → List S → Type 0

@@ -33,7 +33,8 @@ IsListed slots order =
 -- levels never fall from place to place, and a decision or an assumption begins a level
 abbrev pub AreRising : List (Option Slot) → Type 0
 AreRising slots =
-    (variable other : ℕ) (slot later : Slot) → slot_in slots variable ≡ Some slot → slot_in slots other ≡ Some later → slot.place < later.place → (slot.level ≤ later.level) × (is_decided later.reason ≡ true → slot.level < later.level)
+    (variable other : ℕ) (slot later : Slot) → slot_in slots variable ≡ Some slot → slot_in slots other ≡ Some later → slot.place < later.place →
+    (slot.level ≤ later.level) × (is_decided later.reason ≡ true → slot.level < later.level)
 
 -- a level is at most one more than the place, and a decision or an assumption is above level 0
 abbrev pub AreCounted : List (Option Slot) → Type 0

@@ -24,10 +24,14 @@ Implies {N} {S} u when (Some c) = (set : List S) → AllMeet set when → Condit
 -- the statement says what the provider and the problem say
 abbrev pub IsTrueStatement : {N S : Type 0} → Universe N S → Demands → Statement N S → Type 0
 IsTrueStatement u root (requires by requirement candidates when) =
-    (r : ConditionalRequirement) × Contains (demands_by u root by).requirements r × (r.requirement ≡ requirement) × (candidates ≡ requirement_candidates u requirement) × Implies u when r.condition
-IsTrueStatement u root (constrains by version_set candidate) = Contains (demands_by u root by).constraints version_set × Contains (others u version_set) candidate
-IsTrueStatement u root (lock locked forbidden) = ((u.package_named (u.name forbidden)).locked ≡ Some locked) × Contains (u.package_named (u.name forbidden)).listed forbidden × (forbidden ≢ locked)
-IsTrueStatement u root (excluded solvable reason) = Contains (u.package_named (u.name solvable)).excluded (solvable, reason) ⊎ (u.needs solvable ≡ unknown reason)
+    (r : ConditionalRequirement) × Contains (demands_by u root by).requirements r × (r.requirement ≡ requirement) ×
+    (candidates ≡ requirement_candidates u requirement) × Implies u when r.condition
+IsTrueStatement u root (constrains by version_set candidate) = Contains (demands_by u root by).constraints version_set ×
+    Contains (others u version_set) candidate
+IsTrueStatement u root (lock locked forbidden) = ((u.package_named (u.name forbidden)).locked ≡ Some locked) ×
+    Contains (u.package_named (u.name forbidden)).listed forbidden × (forbidden ≢ locked)
+IsTrueStatement u root (excluded solvable reason) = Contains (u.package_named (u.name solvable)).excluded (solvable, reason) ⊎
+    (u.needs solvable ≡ unknown reason)
 IsTrueStatement u root (one_per_package name instance) = u.name instance ≡ name
 
 -- the rule says what the provider and the problem say

@@ -1,5 +1,6 @@
 -- Which clauses watch which literals.
-use Rattle.std.specs.Prelude.{◌≡◌, ◌≢◌, ◌⊎◌, ℕ, ◌+◌, ◌*◌, ◌<◌, ◌==◌, Bool, false, Option, Some, None, List, [], length, Vec, All, Contains, slice_get, slice_index_or, count_by, if◌then◌else◌}
+use Rattle.std.specs.Prelude.{◌≡◌, ◌≢◌, ◌⊎◌, ℕ, ◌+◌, ◌*◌, ◌<◌, ◌==◌, Bool, false, Option, Some, None, List, [], length, Vec, All, Contains, slice_get}
+use Rattle.std.specs.Prelude.{slice_index_or, count_by, if◌then◌else◌}
 use Rattle.std.specs.Bool.{beq}
 use Rattle.std.specs.Option.{option_map, option_map_or}
 use Rattle.std.specs.declared.alloc.Global.{Global}
@@ -84,7 +85,8 @@ pair_from pair = record { first = option_map (λ (two : Literal × Literal). two
 pub record SameClauses (old new : List (Vec Watch Global)) : Type 0 where
   pub size : length new ≡ length old
   pub count : (list : ℕ) → length (list_at new list) ≡ length (list_at old list)
-  pub back : (list place : ℕ) (watch : Watch) → slice_get (list_at new list) place ≡ Some watch → (was : Watch) × (slice_get (list_at old list) place ≡ Some was) × (was.number ≡ watch.number)
+  pub back : (list place : ℕ) (watch : Watch) → slice_get (list_at new list) place ≡ Some watch → (was : Watch) ×
+      (slice_get (list_at old list) place ≡ Some was) × (was.number ≡ watch.number)
 
 -- the clause with this number, which stood at a place of the list of one literal, watches another literal instead
 pub record MovesWatch (old new : List (Vec Watch Global)) (before after : List WatchedPair) (from to : Literal) (place number : ℕ) : Type 0 where

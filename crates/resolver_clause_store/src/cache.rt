@@ -31,7 +31,8 @@ pub struct Cache<N: Copy + Eq + Hash + Drop, S: Copy + Eq + Hash + Drop> {
 }
 
 impl<N: Copy + Eq + Hash + Drop, S: Copy + Eq + Hash + Drop> Cache<N, S> {
-    ghost use Rattle.resolver_clause_store.specs.Caches.{HasCandidates, HasDependencies, HasMatching, HasNonMatching, HasSorted, IsAvailable, IsTrueCache, KeepsAnswers};
+    ghost use Rattle.resolver_clause_store.specs.Caches.{HasCandidates, HasDependencies, HasMatching, HasNonMatching, HasSorted, IsAvailable, IsTrueCache};
+    ghost use Rattle.resolver_clause_store.specs.Caches.{KeepsAnswers};
 
     /// A cache without answers.
     pub fn new(alloc: Global) -> Self

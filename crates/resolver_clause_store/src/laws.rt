@@ -11,18 +11,22 @@ ghost use Rattle.resolver_clause_store.specs.Universe.{Demands, Universe};
 pub fn the_need_closure_is_least_closed<N, S>()
     ensures seeds { (u : Universe N S) (root : Demands) (seeds : List S) (s : S) → Contains seeds s → IsNear u root seeds s }
     ensures closed { (u : Universe N S) (root : Demands) (seeds : List S) (s : S) → IsNext u root (IsNear u root seeds) s → IsNear u root seeds s }
-    ensures least { (u : Universe N S) (root : Demands) (seeds : List S) (closed : S → Bool) → ((s : S) → Contains seeds s → closed s ≡ true) → ((s : S) → IsNext u root (λ t. closed t ≡ true) s → closed s ≡ true) → (s : S) → IsNear u root seeds s → closed s ≡ true }
+    ensures least { (u : Universe N S) (root : Demands) (seeds : List S) (closed : S → Bool) → ((s : S) → Contains seeds s → closed s ≡ true) →
+        ((s : S) → IsNext u root (λ t. closed t ≡ true) s → closed s ≡ true) → (s : S) → IsNear u root seeds s → closed s ≡ true }
 {}
 
 /// The first choices are the least set that has the first choice of each requirement, active in it, of the root or of its
 /// members that is no union: it is in each set, as a test gives one, of which that is so.
 pub fn first_choices_are_least_closed<N, S>()
     ensures closed { (u : Universe N S) (root : Demands) (s : S) → IsFirstNext u root (IsFirst u root) s → IsFirst u root s }
-    ensures least { (u : Universe N S) (root : Demands) (closed : S → Bool) → ((s : S) → IsFirstNext u root (λ t. closed t ≡ true) s → closed s ≡ true) → (s : S) → IsFirst u root s → closed s ≡ true }
+    ensures least { (u : Universe N S) (root : Demands) (closed : S → Bool) → ((s : S) → IsFirstNext u root (λ t. closed t ≡ true) s → closed s ≡ true) →
+        (s : S) → IsFirst u root s → closed s ≡ true }
 {}
 
 /// A run over no soft requirements ends with the answer that it starts from, and with nothing exempt.
 pub fn a_run_over_nothing_is_its_first_answer<N, S>()
-    ensures chosen { (u : Universe N S) (root : Demands) (first taken chosen exempt : List S) (asked : List N) → SoftRun u root first [] taken chosen exempt asked → chosen ≡ first }
-    ensures exempt { (u : Universe N S) (root : Demands) (first taken chosen exempt : List S) (asked : List N) → SoftRun u root first [] taken chosen exempt asked → exempt ≡ [] }
+    ensures chosen { (u : Universe N S) (root : Demands) (first taken chosen exempt : List S) (asked : List N) →
+        SoftRun u root first [] taken chosen exempt asked → chosen ≡ first }
+    ensures exempt { (u : Universe N S) (root : Demands) (first taken chosen exempt : List S) (asked : List N) →
+        SoftRun u root first [] taken chosen exempt asked → exempt ≡ [] }
 {}

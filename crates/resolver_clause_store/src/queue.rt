@@ -74,7 +74,8 @@ impl DecideQueue {
 
     /// Puts the requirement of a clause behind the others.
     pub fn add(&mut self, index: usize, literals: &[Literal]) -> Result<(), AllocError>
-        ensures { OnOk result ((trail : Trail) (table : List (Vec Literal Global)) (requirements : List RequirementClause) (requirement : RequirementClause) → index ≡ length requirements → IsQueued self.old trail table requirements → IsQueued self.new trail table (requirements ++ requirement ∷ [])) }
+        ensures { OnOk result ((trail : Trail) (table : List (Vec Literal Global)) (requirements : List RequirementClause) (requirement : RequirementClause) →
+            index ≡ length requirements → IsQueued self.old trail table requirements → IsQueued self.new trail table (requirements ++ requirement ∷ [])) }
     {
         let from = self.active.len();
         self.active.push(index)?;
@@ -101,7 +102,8 @@ impl DecideQueue {
 
     /// Notes that no more than the first places of the trail stayed.
     pub fn cut(&mut self, count: usize)
-        ensures { (old new : Trail) (table : List (Vec Literal Global)) (requirements : List RequirementClause) → KeepsPlaces old new (min self.old.kept count) → IsQueued self.old old table requirements → IsQueued self.new new table requirements }
+        ensures { (old new : Trail) (table : List (Vec Literal Global)) (requirements : List RequirementClause) →
+            KeepsPlaces old new (min self.old.kept count) → IsQueued self.old old table requirements → IsQueued self.new new table requirements }
     {
         self.kept = self.kept.min(count);
     }
@@ -140,7 +142,8 @@ impl DecideQueue {
     fn follow_place(&mut self, trail: &Trail) -> Result<(), AllocError>
         requires all { length self.old.followed.items ≡ self.old.kept }
         requires inside { self.old.kept < length_of trail.now }
-        ensures queued { OnOk result ((table : List (Vec Literal Global)) (requirements : List RequirementClause) → IsQueued self.old trail.now table requirements → IsQueued self.new trail.now table requirements) }
+        ensures queued { OnOk result ((table : List (Vec Literal Global)) (requirements : List RequirementClause) →
+            IsQueued self.old trail.now table requirements → IsQueued self.new trail.now table requirements) }
         ensures kept { OnOk result (self.new.kept ≡ self.old.kept + 1) }
         ensures all { OnOk result (length self.new.followed.items ≡ self.new.kept) }
     {
@@ -158,7 +161,8 @@ impl DecideQueue {
     /// Follows the whole trail.
     fn follow(&mut self, trail: &Trail) -> Result<(), AllocError>
         requires { IsFollowing self.old trail.now }
-        ensures queued { OnOk result ((table : List (Vec Literal Global)) (requirements : List RequirementClause) → IsQueued self.old trail.now table requirements → IsQueued self.new trail.now table requirements) }
+        ensures queued { OnOk result ((table : List (Vec Literal Global)) (requirements : List RequirementClause) →
+            IsQueued self.old trail.now table requirements → IsQueued self.new trail.now table requirements) }
         ensures followed { OnOk result (IsFollowed self.new trail.now) }
     {
         let from = self.active.len();
@@ -227,7 +231,8 @@ impl DecideQueue {
         requires settled { AllSettled trail.now table.now }
         requires inside { All (λ (requirement : RequirementClause). requirement.number < length table.now) requirements.now }
         requires queued { IsQueued self.old trail.now table.now requirements.now }
-        ensures none { IfOk result (λ answer. IfNone answer (All (λ (requirement : RequirementClause). IsMet trail.now (clause_at table.now requirement.number)) requirements.now)) }
+        ensures none { IfOk result (λ answer.
+            IfNone answer (All (λ (requirement : RequirementClause). IsMet trail.now (clause_at table.now requirement.number)) requirements.now)) }
         ensures some { IfOk result (λ answer. IfSome answer (IsChoice trail.now table.now requirements.now)) }
         ensures queued { OnOk result (IsQueued self.new trail.now table.now requirements.now) }
     {

@@ -155,5 +155,6 @@ impl Scores {
 
 /// A score that is read one learnt clause later has faded once more.
 pub fn scores_fade()
-    ensures { (scores : AllScores) (number learnt : ℕ) → (kept_score scores.scores.items number).learnt ≤ learnt → score_in scores number (suc learnt) ≡ fade scores.activity.decay (score_in scores number learnt) }
+    ensures { (scores : AllScores) (number learnt : ℕ) → (kept_score scores.scores.items number).learnt ≤ learnt →
+        score_in scores number (suc learnt) ≡ fade scores.activity.decay (score_in scores number learnt) }
 {}

@@ -59,7 +59,8 @@ impl Trail {
     ghost use Rattle.std.specs.Option.{option_map};
     ghost use Rattle.resolver_clause_store.specs.Slots.{is_decided};
     ghost use Rattle.resolver_clause_store.specs.declared.trail.Reason.TheVariants.{Assumed, Decided, Forced};
-    ghost use Rattle.resolver_clause_store.specs.TrailView.{AdditionIs, Gains, IsAbove, IsCut, IsGrown, IsSame, IsTop, IsUndone, length_of, level_of, literal_value, slot_of, variable_at, variable_count};
+    ghost use Rattle.resolver_clause_store.specs.TrailView.{AdditionIs, Gains, IsAbove, IsCut, IsGrown, IsSame, IsTop, IsUndone, length_of, level_of};
+    ghost use Rattle.resolver_clause_store.specs.TrailView.{literal_value, slot_of, variable_at, variable_count};
 
     /// A trail of no variables.
     pub fn empty(alloc: Global) -> Self

@@ -101,7 +101,8 @@ fn take_at(lists: &mut Vec<Vec<Watch>>, list: usize, place: usize)
 fn set_at(lists: &mut Vec<Vec<Watch>>, list: usize, place: usize, blocker: Literal)
     requires list { list < length lists.old.items }
     requires place { place < length (list_at lists.old.items list) }
-    ensures { PutsList lists.old.items lists.new.items list (slice_set (list_at lists.old.items list) place (record { number = number_at (list_at lists.old.items list) place; blocker = blocker })) }
+    ensures { PutsList lists.old.items lists.new.items list
+        (slice_set (list_at lists.old.items list) place (record { number = number_at (list_at lists.old.items list) place; blocker = blocker })) }
 {
     let number = lists[list][place].number;
     lists[list][place] = Watch { number, blocker };
@@ -120,7 +121,8 @@ pub struct Watches {
 impl Watches {
     ghost use Rattle.std.specs.Prelude.{Contains};
     ghost use Rattle.resolver_clause_store.specs.Formula.{clause_at};
-    ghost use Rattle.resolver_clause_store.specs.Watches.{HasBlockers, IsWatching, MovesWatch, SameClauses, pair_at, pair_count, pair_from, same, unwatched, watched_pair};
+    ghost use Rattle.resolver_clause_store.specs.Watches.{HasBlockers, IsWatching, MovesWatch, SameClauses, pair_at, pair_count, pair_from, same, unwatched};
+    ghost use Rattle.resolver_clause_store.specs.Watches.{watched_pair};
     ghost use Rattle.resolver_clause_store.specs.WatchesView.{HasList, lists_of, pairs_of};
 
     /// No literal and no clause.
@@ -194,7 +196,8 @@ impl Watches {
         requires list { HasList self.old literal }
         requires gains { (list : ℕ) → pair_count pair list ≡ pair_count (pair_at (pairs_of self.old) number) list + same (list_number literal) list }
         ensures pairs { OnOk result (pairs_of self.new ≡ slice_set (pairs_of self.old) number pair) }
-        ensures lists { OnOk result (PutsList (lists_of self.old) (lists_of self.new) (list_number literal) (list_at (lists_of self.old) (list_number literal) ++ record { number = number; blocker = blocker } ∷ [])) }
+        ensures lists { OnOk result (PutsList (lists_of self.old) (lists_of self.new) (list_number literal)
+            (list_at (lists_of self.old) (list_number literal) ++ record { number = number; blocker = blocker } ∷ [])) }
         ensures kept { OnErr result (pairs_of self.new ≡ pairs_of self.old) }
     {
         let watch = Watch { number, blocker };
@@ -210,7 +213,9 @@ impl Watches {
         ensures pairs { OnOk result (pairs_of self.new ≡ pairs_of self.old ++ watched_pair first second ∷ []) }
         ensures kept { (number : ℕ) → number < length (pairs_of self.old) → pair_at (pairs_of self.new) number ≡ pair_at (pairs_of self.old) number }
         ensures size { OnOk result (length (lists_of self.new) ≡ length (lists_of self.old)) }
-        ensures blockers { OnOk result ((table : List (Vec Literal Global)) → Contains (clause_at table (length (pairs_of self.old))) first → Contains (clause_at table (length (pairs_of self.old))) second → HasBlockers table (lists_of self.old) → HasBlockers table (lists_of self.new)) }
+        ensures blockers { OnOk result
+            ((table : List (Vec Literal Global)) → Contains (clause_at table (length (pairs_of self.old))) first →
+            Contains (clause_at table (length (pairs_of self.old))) second → HasBlockers table (lists_of self.old) → HasBlockers table (lists_of self.new)) }
     {
         let number = self.pairs.len();
         self.add_none()?;
@@ -242,11 +247,15 @@ impl Watches {
 
     /// Adds a clause behind the others that watches two literals, which are each other's blockers, or none.
     pub fn add(&mut self, pair: Option<(Literal, Literal)>) -> Result<(), AllocError>
-        requires inside { (first second : Literal) → pair ≡ Some (first, second) → (list_number first < length (lists_of self.old)) × (list_number second < length (lists_of self.old)) }
+        requires inside { (first second : Literal) → pair ≡ Some (first, second) → (list_number first < length (lists_of self.old)) ×
+            (list_number second < length (lists_of self.old)) }
         ensures pairs { OnOk result (pairs_of self.new ≡ pairs_of self.old ++ pair_from pair ∷ []) }
         ensures kept { (number : ℕ) → number < length (pairs_of self.old) → pair_at (pairs_of self.new) number ≡ pair_at (pairs_of self.old) number }
         ensures size { OnOk result (length (lists_of self.new) ≡ length (lists_of self.old)) }
-        ensures blockers { OnOk result ((table : List (Vec Literal Global)) → ((first second : Literal) → pair ≡ Some (first, second) → Contains (clause_at table (length (pairs_of self.old))) first × Contains (clause_at table (length (pairs_of self.old))) second) → HasBlockers table (lists_of self.old) → HasBlockers table (lists_of self.new)) }
+        ensures blockers { OnOk result
+            ((table : List (Vec Literal Global)) →
+            ((first second : Literal) → pair ≡ Some (first, second) → Contains (clause_at table (length (pairs_of self.old))) first ×
+            Contains (clause_at table (length (pairs_of self.old))) second) → HasBlockers table (lists_of self.old) → HasBlockers table (lists_of self.new)) }
     {
         match pair {
             Some((first, second)) => {
@@ -264,10 +273,14 @@ impl Watches {
     pub fn set_blocker(&mut self, literal: Literal, place: usize, blocker: Literal)
         requires list { HasList self.old literal }
         requires place { place < length (list_at (lists_of self.old) (list_number literal)) }
-        ensures set { PutsList (lists_of self.old) (lists_of self.new) (list_number literal) (slice_set (list_at (lists_of self.old) (list_number literal)) place (record { number = number_at (list_at (lists_of self.old) (list_number literal)) place; blocker = blocker })) }
+        ensures set { PutsList (lists_of self.old) (lists_of self.new) (list_number literal)
+            (slice_set (list_at (lists_of self.old) (list_number literal)) place
+            (record { number = number_at (list_at (lists_of self.old) (list_number literal)) place; blocker = blocker })) }
         ensures same { SameClauses (lists_of self.old) (lists_of self.new) }
         ensures pairs { pairs_of self.new ≡ pairs_of self.old }
-        ensures blockers { (table : List (Vec Literal Global)) (watch : Watch) → slice_get (list_at (lists_of self.old) (list_number literal)) place ≡ Some watch → Contains (clause_at table watch.number) blocker → HasBlockers table (lists_of self.old) → HasBlockers table (lists_of self.new) }
+        ensures blockers { (table : List (Vec Literal Global)) (watch : Watch) →
+            slice_get (list_at (lists_of self.old) (list_number literal)) place ≡ Some watch → Contains (clause_at table watch.number) blocker →
+            HasBlockers table (lists_of self.old) → HasBlockers table (lists_of self.new) }
     {
         set_at(&mut self.lists, list_number(literal), place, blocker);
     }
@@ -286,9 +299,12 @@ impl Watches {
         requires to { HasList self.old to }
         requires differ { from ≢ to }
         requires place { place < length (list_at (lists_of self.old) (list_number from)) }
-        ensures moved { OnOk result ((watch : Watch) → slice_get (list_at (lists_of self.old) (list_number from)) place ≡ Some watch → MovesWatch (lists_of self.old) (lists_of self.new) (pairs_of self.old) (pairs_of self.new) from to place watch.number) }
+        ensures moved { OnOk result ((watch : Watch) → slice_get (list_at (lists_of self.old) (list_number from)) place ≡ Some watch →
+            MovesWatch (lists_of self.old) (lists_of self.new) (pairs_of self.old) (pairs_of self.new) from to place watch.number) }
         ensures kept { OnErr result (pairs_of self.new ≡ pairs_of self.old) }
-        ensures blockers { OnOk result ((table : List (Vec Literal Global)) (watch : Watch) → slice_get (list_at (lists_of self.old) (list_number from)) place ≡ Some watch → Contains (clause_at table watch.number) blocker → HasBlockers table (lists_of self.old) → HasBlockers table (lists_of self.new)) }
+        ensures blockers { OnOk result
+            ((table : List (Vec Literal Global)) (watch : Watch) → slice_get (list_at (lists_of self.old) (list_number from)) place ≡ Some watch →
+            Contains (clause_at table watch.number) blocker → HasBlockers table (lists_of self.old) → HasBlockers table (lists_of self.new)) }
     {
         let number = self.watch_at(copied(&from), place).number;
         let watch = Watch { number, blocker };

@@ -21,22 +21,26 @@ use Rattle.resolver_clause_store.specs.declared.Origin.TheVariants.{Root, Solvab
 use Rattle.resolver_clause_store.specs.declared.ClauseKind.{ClauseKind}
 use Rattle.resolver_clause_store.specs.declared.ClauseKind.TheVariants.{AnyOf, Constrains, ConstrainsExcluded, ConstrainsParent, HasBit, Lock, Excluded}
 use Rattle.resolver_encoding.specs.Atoms.{IsHelper, Atom, atom, origin_by, atoms_of}
-use Rattle.resolver_encoding.specs.Read.{IsSettled, Covers, IsClosedPart, IsMade, made_direct, made_gated, IsForbidden, forbidden_direct, forbidden_helped, AreApart, apart_coded}
+use Rattle.resolver_encoding.specs.Read.{IsSettled, Covers, IsClosedPart, IsMade, made_direct, made_gated, IsForbidden, forbidden_direct, forbidden_helped}
+use Rattle.resolver_encoding.specs.Read.{AreApart, apart_coded}
 use Rattle.resolver_encoding.proofs.Lists.{here, there, cons_cases, none_in, Contains-map}
 
 unknown_or : (needs : Needs) → IsKnown needs ⊎ ((reason : _) × (needs ≡ unknown reason))
 unknown_or (known d) = inl tt
 unknown_or (unknown reason) = inr (reason, refl)
 
-module _ {N S : Type 0} (u : Universe N S) (root : Demands) (kinds : List (ClauseKind N S)) (Takes : Origin N S → Bool → Type 0) (settled : IsSettled u kinds Takes) where
+module _ {N S : Type 0} (u : Universe N S) (root : Demands) (kinds : List (ClauseKind N S)) (Takes : Origin N S → Bool → Type 0)
+    (settled : IsSettled u kinds Takes) where
   -- a clause with one or two atoms
   one_false : (k : ClauseKind N S) (a : Atom N S) → Contains kinds k → atoms_of u k ≡ a ∷ [] → Takes a.origin (not a.positive) → ⊥
   one_false k a inside is off =
       let ListHas : List (Atom N S) → Atom N S → Type 0 = λ xs x. Contains xs x in
       let Off : Atom N S → Type 0 = λ b. Takes b.origin (not b.positive) in
-      settled.no_false k inside (λ b among. ⊎_elim (λ e. subst Off e off) (λ n. absurd (none_in b n)) (cons_cases a [] b (subst (λ (xs : List (Atom N S)). ListHas xs b) is among)))
+      settled.no_false k inside (λ b among.
+      ⊎_elim (λ e. subst Off e off) (λ n. absurd (none_in b n)) (cons_cases a [] b (subst (λ (xs : List (Atom N S)). ListHas xs b) is among)))
 
-  both_false : (k : ClauseKind N S) (a b : Atom N S) → Contains kinds k → atoms_of u k ≡ a ∷ b ∷ [] → Takes a.origin (not a.positive) → Takes b.origin (not b.positive) → ⊥
+  both_false : (k : ClauseKind N S) (a b : Atom N S) → Contains kinds k → atoms_of u k ≡ a ∷ b ∷ [] → Takes a.origin (not a.positive) →
+      Takes b.origin (not b.positive) → ⊥
   both_false k a b inside is off off' =
       let ListHas : List (Atom N S) → Atom N S → Type 0 = λ xs x. Contains xs x in
       let Off : Atom N S → Type 0 = λ q. Takes q.origin (not q.positive) in
@@ -44,7 +48,8 @@ module _ {N S : Type 0} (u : Universe N S) (root : Demands) (kinds : List (Claus
       (λ t. ⊎_elim (λ e. subst Off e off') (λ n. absurd (none_in q n)) (cons_cases b [] q t))
       (cons_cases a (b ∷ []) q (subst (λ (xs : List (Atom N S)). ListHas xs q) is among)))
 
-  last_of_two : (k : ClauseKind N S) (other a : Atom N S) → IsHelper a.origin → Contains kinds k → atoms_of u k ≡ other ∷ a ∷ [] → Takes other.origin (not other.positive) → Takes a.origin a.positive
+  last_of_two : (k : ClauseKind N S) (other a : Atom N S) → IsHelper a.origin → Contains kinds k → atoms_of u k ≡ other ∷ a ∷ [] →
+      Takes other.origin (not other.positive) → Takes a.origin a.positive
   last_of_two k other a helper inside is off =
       let ListHas : List (Atom N S) → Atom N S → Type 0 = λ xs x. Contains xs x in
       let Off : Atom N S → Type 0 = λ b. Takes b.origin (not b.positive) in
@@ -53,7 +58,8 @@ module _ {N S : Type 0} (u : Universe N S) (root : Demands) (kinds : List (Claus
       (λ t. ⊎_elim (λ e. inl (sym e)) (λ n. absurd (none_in b n)) (cons_cases a [] b t))
       (cons_cases other (a ∷ []) b (subst (λ (xs : List (Atom N S)). ListHas xs b) is among)))
 
-  first_of_two : (k : ClauseKind N S) (a other : Atom N S) → IsHelper a.origin → Contains kinds k → atoms_of u k ≡ a ∷ other ∷ [] → Takes other.origin (not other.positive) → Takes a.origin a.positive
+  first_of_two : (k : ClauseKind N S) (a other : Atom N S) → IsHelper a.origin → Contains kinds k → atoms_of u k ≡ a ∷ other ∷ [] →
+      Takes other.origin (not other.positive) → Takes a.origin a.positive
   first_of_two k a other helper inside is off =
       let ListHas : List (Atom N S) → Atom N S → Type 0 = λ xs x. Contains xs x in
       let Off : Atom N S → Type 0 = λ b. Takes b.origin (not b.positive) in
@@ -62,7 +68,8 @@ module _ {N S : Type 0} (u : Universe N S) (root : Demands) (kinds : List (Claus
       (λ t. ⊎_elim (λ e. inr (subst Off e off)) (λ n. absurd (none_in b n)) (cons_cases other [] b t))
       (cons_cases a (other ∷ []) b (subst (λ (xs : List (Atom N S)). ListHas xs b) is among)))
 
-  module _ (lawful : HasLawfulSolvables u) (chosen exempt : List S) (covers : Covers u root kinds chosen exempt) (part : IsClosedPart u kinds Takes chosen) where
+  module _ (lawful : HasLawfulSolvables u) (chosen exempt : List S) (covers : Covers u root kinds chosen exempt)
+      (part : IsClosedPart u kinds Takes chosen) where
     taken_by : (by : By S) → IsPresent by chosen → Takes (origin_by by) true
     taken_by ByRoot h = settled.root_taken
     taken_by (BySolvable s) h = part.taken s h
@@ -70,7 +77,8 @@ module _ {N S : Type 0} (u : Universe N S) (root : Demands) (kinds : List (Claus
     met_by : (by : By S) (r : Requirement) → IsPresent by chosen → IsMade u kinds chosen by r → Meets (requirement_candidates u r) chosen
     met_by by r present (made_direct disjunct meets clause) =
         let on : (v : VersionSetId) → Contains disjunct.items v → Meets (matching u v) chosen → Takes (ConditionHelper v) true = λ v c m.
-        first_of_two (AnyOf (ConditionHelper v) m.shared) (atom (ConditionHelper v) true) (atom (Solvable m.shared) false) tt (covers.helpers by disjunct r clause v c m.shared m.in_first) refl (part.taken m.shared m.in_second) in
+        first_of_two (AnyOf (ConditionHelper v) m.shared) (atom (ConditionHelper v) true) (atom (Solvable m.shared) false) tt
+        (covers.helpers by disjunct r clause v c m.shared m.in_first) refl (part.taken m.shared m.in_second) in
         let candidate = settled.decided by disjunct r clause (taken_by by present)
         (λ k d below. let c = Contains-get_or disjunct.items k d below in
         on _ c (All-contains (λ xs. Meets xs chosen) (map (matching u) disjunct.items) _ meets (Contains-map (matching u) disjunct.items _ c))) in
@@ -82,7 +90,8 @@ module _ {N S : Type 0} (u : Universe N S) (root : Demands) (kinds : List (Claus
         let candidate = settled.decided_gate r clause gate in
         record { shared = candidate.0; in_first = candidate.1; in_second = part.closed_gate s r candidate.0 clause chosen_s implied candidate.1 candidate.2 }
 
-    met : (by : By S) (r : ConditionalRequirement) → IsPresent by chosen → Contains (demands_by u root by).requirements r → IsActive u (Contains chosen) r → Meets (requirement_candidates u r.requirement) chosen
+    met : (by : By S) (r : ConditionalRequirement) → IsPresent by chosen → Contains (demands_by u root by).requirements r → IsActive u (Contains chosen) r →
+        Meets (requirement_candidates u r.requirement) chosen
     met by r present asked active = met_by by r.requirement present (covers.requirements by r present asked active)
 
     forbidden_by : (by : By S) (v : VersionSetId) (s : S) → IsPresent by chosen → Contains chosen s → IsForbidden kinds by v s → ⊥
@@ -90,16 +99,20 @@ module _ {N S : Type 0} (u : Universe N S) (root : Demands) (kinds : List (Claus
         both_false (Constrains by v s) (atom (origin_by by) false) (atom (Solvable s) false) clause refl (taken_by by present) (part.taken s inside)
     forbidden_by by v s present inside (forbidden_helped parent excluded) =
         let on = last_of_two (ConstrainsExcluded s v) (atom (Solvable s) false) (atom (ConstraintHelper v) true) tt excluded refl (part.taken s inside) in
-        settled.apart (ConstraintHelper v) on (last_of_two (ConstrainsParent by v) (atom (origin_by by) false) (atom (ConstraintHelper v) false) tt parent refl (taken_by by present))
+        settled.apart (ConstraintHelper v) on
+        (last_of_two (ConstrainsParent by v) (atom (origin_by by) false) (atom (ConstraintHelper v) false) tt parent refl (taken_by by present))
 
-    not_constrained : (by : By S) (v : VersionSetId) (s : S) → IsPresent by chosen → Contains (demands_by u root by).constraints v → Contains chosen s → Contains (others u v) s → ⊥
+    not_constrained : (by : By S) (v : VersionSetId) (s : S) → IsPresent by chosen → Contains (demands_by u root by).constraints v → Contains chosen s →
+        Contains (others u v) s → ⊥
     not_constrained by v s present asked inside other = forbidden_by by v s present inside (covers.constraints by v s present asked other inside)
 
     not_apart : (n : N) (s t : S) → Contains chosen s → Contains chosen t → AreApart kinds n s t → ⊥
     not_apart n s t first second (apart_coded i true a b) =
-        settled.apart (Bit n i) (last_of_two (HasBit n s i true) (atom (Solvable s) false) (atom (Bit n i) true) tt a refl (part.taken s first)) (last_of_two (HasBit n t i false) (atom (Solvable t) false) (atom (Bit n i) false) tt b refl (part.taken t second))
+        settled.apart (Bit n i) (last_of_two (HasBit n s i true) (atom (Solvable s) false) (atom (Bit n i) true) tt a refl (part.taken s first))
+        (last_of_two (HasBit n t i false) (atom (Solvable t) false) (atom (Bit n i) false) tt b refl (part.taken t second))
     not_apart n s t first second (apart_coded i false a b) =
-        settled.apart (Bit n i) (last_of_two (HasBit n t i true) (atom (Solvable t) false) (atom (Bit n i) true) tt b refl (part.taken t second)) (last_of_two (HasBit n s i false) (atom (Solvable s) false) (atom (Bit n i) false) tt a refl (part.taken s first))
+        settled.apart (Bit n i) (last_of_two (HasBit n t i true) (atom (Solvable t) false) (atom (Bit n i) true) tt b refl (part.taken t second))
+        (last_of_two (HasBit n s i false) (atom (Solvable s) false) (atom (Bit n i) false) tt a refl (part.taken s first))
 
     alone : (s t : S) → Contains chosen s → Contains chosen t → u.name s ≡ u.name t → s ≡ t
     alone s t first second name = ⊎_elim

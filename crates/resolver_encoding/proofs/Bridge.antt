@@ -1,5 +1,6 @@
 -- A finished search over variables is a finished trail of what they stand for.
-use Rattle.std.proofs.Common.{◌≡◌, ◌≢◌, ℕ, zero, suc, ◌<◌, ◌≤◌, ◌⊎◌, List, [], ◌∷◌, ◌++◌, length, get_or, Option, Some, None, Bool, true, false, arith, inl, inr, refl, sym, ap, ◌∙◌, subst, ⊎_elim, Contains, All, Vec, Global}
+use Rattle.std.proofs.Common.{◌≡◌, ◌≢◌, ℕ, zero, suc, ◌<◌, ◌≤◌, ◌⊎◌, List, [], ◌∷◌, ◌++◌, length, get_or, Option, Some, None, Bool, true, false, arith, inl}
+use Rattle.std.proofs.Common.{inr, refl, sym, ap, ◌∙◌, subst, ⊎_elim, Contains, All, Vec, Global}
 use Rattle.std.specs.Prelude.{not, map, slice_get, Any}
 use Rattle.std.specs.List.{AllZip}
 use Rattle.std.specs.Option.{option_map, option_map_or}
@@ -36,7 +37,8 @@ use Rattle.resolver_encoding.specs.Read.{IsForbidden, IsSettled}
 use Rattle.resolver_encoding.specs.ReadState.{AreSeeds, HasClause, has_direct, has_gate, IsRead, IsReadRequirement}
 use Rattle.resolver_encoding.specs.SoFar.{IsHalfRead, IsReadSoFar}
 use Rattle.resolver_encoding.specs.Truth.{AreDue, HasLawfulSolvables}
-use Rattle.resolver_encoding.specs.TrailAtoms.{CoversReached, IsAnswerBy, IsChosen as IsChosenBy, Takes, IsEntailed, IsFirstOpen, IsBecause, needed, needed_gate, seeded, left_out, forced, IsTrail, begun, went_on}
+use Rattle.resolver_encoding.specs.TrailAtoms.{CoversReached, IsAnswerBy, IsChosen as IsChosenBy, Takes, IsEntailed, IsFirstOpen, IsBecause, needed}
+use Rattle.resolver_encoding.specs.TrailAtoms.{needed_gate, seeded, left_out, forced, IsTrail, begun, went_on}
 use Rattle.resolver_encoding.specs.Trails.{AreAssumed, solvable_if, solvables_before, origin_at, value_of, entry_at, atoms_before, atoms_by}
 use Rattle.resolver_encoding.specs.Values.{IsAtom, AreInOrder}
 use Rattle.std.proofs.lemmas.List.{get_or_default}
@@ -49,7 +51,8 @@ use Rattle.resolver_encoding.proofs.Reached.{finished_is_answer}
 use Rattle.resolver_encoding.proofs.Reading.{covers_reached}
 use Rattle.resolver_encoding.proofs.Spared.{Spares-further}
 use Rattle.resolver_encoding.proofs.Extended.{values_by, values_by-origin, table_by_kinds}
-use Rattle.resolver_encoding.proofs.Lists.{Contains-slice, here, there, cons_cases, none_in, Contains-map, Contains-map_back, list_any-contains, list_any-witness, beq-true, beq-false}
+use Rattle.resolver_encoding.proofs.Lists.{Contains-slice, here, there, cons_cases, none_in, Contains-map, Contains-map_back, list_any-contains}
+use Rattle.resolver_encoding.proofs.Lists.{list_any-witness, beq-true, beq-false}
 
 pub below_or : (n k : ℕ) → k ≤ n → (k < n) ⊎ (k ≡ n)
 below_or n k h = ⊎_elim (λ (l : k < n). inl l) (λ (g : n ≤ k). inr (omega arith)) (cases_lt k n)
@@ -64,7 +67,8 @@ pub slot_placed : (o : Option Slot) (k : ℕ) → option_map (λ (slot : Slot). 
 slot_placed None k e = absurd cc
 slot_placed (Some slot) k e = (slot, refl, same_Some _ _ e)
 
-literal_false : (o : Option Slot) (slot : Slot) (p q : Bool) → o ≡ Some slot → slot.value ≡ not p → q ≡ p → option_map (λ (s : Slot). beq s.value q) o ≡ Some false
+literal_false : (o : Option Slot) (slot : Slot) (p q : Bool) → o ≡ Some slot → slot.value ≡ not p → q ≡ p →
+    option_map (λ (s : Slot). beq s.value q) o ≡ Some false
 literal_false o slot true q at v e = rw (at, v, e) refl
 literal_false o slot false q at v e = rw (at, v, e) refl
 
@@ -118,10 +122,12 @@ abbrev list_rest : {X : Type 0} → List X → List X
 list_rest [] = []
 list_rest (y ∷ ys) = ys
 
-cut_candidates : {N S : Type 0} (candidates : List S) (first : List (Atom N S)) (middle : Atom N S) (last : List (Atom N S)) → map (λ x. atom (Solvable x) true) candidates ≡ first ++ middle ∷ last → Cut [] candidates first middle
+cut_candidates : {N S : Type 0} (candidates : List S) (first : List (Atom N S)) (middle : Atom N S) (last : List (Atom N S)) →
+    map (λ x. atom (Solvable x) true) candidates ≡ first ++ middle ∷ last → Cut [] candidates first middle
 cut_candidates [] [] middle last e = absurd cc
 cut_candidates [] (a ∷ first) middle last e = absurd cc
-cut_candidates {N} {S} (c ∷ cs) [] middle last e = record { s = c; before = []; after = cs; is = refl; first_is = refl; middle_is = sym (ap (list_head middle) e) }
+cut_candidates {N} {S} (c ∷ cs) [] middle last e =
+    record { s = c; before = []; after = cs; is = refl; first_is = refl; middle_is = sym (ap (list_head middle) e) }
 cut_candidates {N} {S} (c ∷ cs) (a ∷ first) middle last e =
     let w = cut_candidates cs first middle last (ap list_rest e) in
     let head : atom (Solvable c) true ≡ a = ap (list_head a) e in
@@ -134,7 +140,8 @@ cut_candidates {N} {S} (c ∷ cs) (a ∷ first) middle last e =
       middle_is = w.middle_is;
     }
 
-cut_helpers : {N S : Type 0} (vs : List VersionSetId) (candidates : List S) (first : List (Atom N S)) (middle : Atom N S) (last : List (Atom N S)) → middle.positive ≡ true →
+cut_helpers : {N S : Type 0} (vs : List VersionSetId) (candidates : List S) (first : List (Atom N S)) (middle : Atom N S) (last : List (Atom N S)) →
+    middle.positive ≡ true →
     map (λ v. atom (ConditionHelper v) false) vs ++ map (λ x. atom (Solvable x) true) candidates ≡ first ++ middle ∷ last → Cut vs candidates first middle
 cut_helpers [] candidates first middle last positive e = cut_candidates candidates first middle last e
 cut_helpers {N} {S} (v ∷ vs) candidates [] middle last positive e =
@@ -153,7 +160,8 @@ cut_helpers {N} {S} (v ∷ vs) candidates (a ∷ first) middle last positive e =
     }
 
 -- the same behind the requirer or the gate
-record CutBehind {N S : Type 0} (parent : Origin N S) (vs : List VersionSetId) (candidates : List S) (first : List (Atom N S)) (middle : Atom N S) : Type 0 where
+record CutBehind {N S : Type 0} (parent : Origin N S) (vs : List VersionSetId) (candidates : List S) (first : List (Atom N S))
+    (middle : Atom N S) : Type 0 where
   s : S
   before : List S
   after : List S
@@ -161,8 +169,10 @@ record CutBehind {N S : Type 0} (parent : Origin N S) (vs : List VersionSetId) (
   first_is : first ≡ atom parent false ∷ (map (λ v. atom (ConditionHelper v) false) vs ++ map (λ x. atom (Solvable x) true) before)
   middle_is : middle ≡ atom (Solvable s) true
 
-cut_parent : {N S : Type 0} (parent : Origin N S) (vs : List VersionSetId) (candidates : List S) (first : List (Atom N S)) (middle : Atom N S) (last : List (Atom N S)) → middle.positive ≡ true →
-    atom parent false ∷ (map (λ v. atom (ConditionHelper v) false) vs ++ map (λ x. atom (Solvable x) true) candidates) ≡ first ++ middle ∷ last → CutBehind parent vs candidates first middle
+cut_parent : {N S : Type 0} (parent : Origin N S) (vs : List VersionSetId) (candidates : List S) (first : List (Atom N S)) (middle : Atom N S)
+    (last : List (Atom N S)) → middle.positive ≡ true →
+    atom parent false ∷ (map (λ v. atom (ConditionHelper v) false) vs ++ map (λ x. atom (Solvable x) true) candidates) ≡ first ++ middle ∷ last →
+    CutBehind parent vs candidates first middle
 cut_parent {N} {S} parent vs candidates [] middle last positive e =
     let head : atom parent false ≡ middle = ap (list_head middle) e in
     absurd (false≢true (ap (λ (a : Atom N S). a.positive) head ∙ positive))
@@ -201,7 +211,8 @@ module _ {N S : Type 0} (origins : List (Origin N S)) (trail : Trail) (size : va
   Contains-before zero k below = absurd (omega arith)
   Contains-before (suc n) k below = ⊎_elim
       (λ less. there (entry_at origins trail n) (atoms_before origins trail n) (entry_at origins trail k) (Contains-before n k less))
-      (λ e. let P : ℕ → Type 0 = λ j. Contains (atoms_before origins trail (suc n)) (entry_at origins trail j) in subst P (sym e) (here (entry_at origins trail n) (atoms_before origins trail n)))
+      (λ e. let P : ℕ → Type 0 = λ j. Contains (atoms_before origins trail (suc n)) (entry_at origins trail j) in
+      subst P (sym e) (here (entry_at origins trail n) (atoms_before origins trail n)))
       (below_or n k (omega arith))
 
   pub before-back : (n : ℕ) (a : Atom N S) → Contains (atoms_before origins trail n) a → (k : ℕ) × (k < n) × (entry_at origins trail k ≡ a)
@@ -212,11 +223,14 @@ module _ {N S : Type 0} (origins : List (Origin N S)) (trail : Trail) (size : va
       (cons_cases (entry_at origins trail n) (atoms_before origins trail n) a h)
 
   -- a variable with a value is on the trail of atoms
-  pub has_value : (n x : ℕ) (slot : Slot) → slot_of trail x ≡ Some slot → slot.place < n → Contains (atoms_before origins trail n) (atom (origin_at origins x) slot.value)
-  has_value n x slot at below = let P : Atom N S → Type 0 = λ a. Contains (atoms_before origins trail n) a in subst P (entry_is x slot at) (Contains-before n slot.place below)
+  pub has_value : (n x : ℕ) (slot : Slot) → slot_of trail x ≡ Some slot → slot.place < n →
+      Contains (atoms_before origins trail n) (atom (origin_at origins x) slot.value)
+  has_value n x slot at below = let P : Atom N S → Type 0 = λ a. Contains (atoms_before origins trail n) a in
+      subst P (entry_is x slot at) (Contains-before n slot.place below)
 
   -- and so is the negation of a literal that is false
-  pub has_negation : (n : ℕ) (l : Literal) → IsFalseBefore trail n l → Contains (atoms_before origins trail n) (atom (origin_at origins l.variable) (not l.positive))
+  pub has_negation : (n : ℕ) (l : Literal) → IsFalseBefore trail n l →
+      Contains (atoms_before origins trail n) (atom (origin_at origins l.variable) (not l.positive))
   has_negation n l f =
       let P : Bool → Type 0 = λ b. Contains (atoms_before origins trail n) (atom (origin_at origins l.variable) b) in
       subst P (beq-false f.slot.value l.positive f.false_there) (has_value n l.variable f.slot f.is f.earlier)
@@ -225,7 +239,8 @@ module _ {N S : Type 0} (origins : List (Origin N S)) (trail : Trail) (size : va
   false_in_range n l f = in_range l.variable f.slot f.is
 
   -- an atom that literals before a place zip with
-  zip_negation : (n : ℕ) (before : List Literal) (first : List (Atom N S)) → AllZip (IsAtom origins) before first → All (IsFalseBefore trail n) before → (a : Atom N S) → Contains first a → Contains (atoms_before origins trail n) (atom a.origin (not a.positive))
+  zip_negation : (n : ℕ) (before : List Literal) (first : List (Atom N S)) → AllZip (IsAtom origins) before first → All (IsFalseBefore trail n) before →
+      (a : Atom N S) → Contains first a → Contains (atoms_before origins trail n) (atom a.origin (not a.positive))
   zip_negation n before first zip falses a inside =
       let w = zip_has (IsAtom origins) before first a zip inside in
       let f = All-contains (IsFalseBefore trail n) before w.0 falses w.1 in
@@ -235,24 +250,31 @@ module _ {N S : Type 0} (origins : List (Origin N S)) (trail : Trail) (size : va
       subst (P a.origin) w.2.positive (subst Q o (has_negation n w.0 f))
 
 -- the clauses of an encoding, and a search over them that is finished
-module _ {N S : Type 0} (u : Universe N S) (root : Demands) (notes : Notes N S) (encoding : IsEncoding u root notes) (requirements : List RequirementClause) (numbers : map (λ (r : RequirementClause). r.number) requirements ≡ notes.requirements)
-    (trail : Trail) (size : variable_count trail ≡ length notes.origins) (finished : IsFinished notes.table requirements trail) (seeds refused : List S) (assumed : AreAssumed notes.origins seeds refused trail) where
+module _ {N S : Type 0} (u : Universe N S) (root : Demands) (notes : Notes N S) (encoding : IsEncoding u root notes) (requirements : List RequirementClause)
+    (numbers : map (λ (r : RequirementClause). r.number) requirements ≡ notes.requirements)
+    (trail : Trail) (size : variable_count trail ≡ length notes.origins) (finished : IsFinished notes.table requirements trail) (seeds refused : List S)
+    (assumed : AreAssumed notes.origins seeds refused trail) where
   abbrev before : ℕ → List (Atom N S)
   before n = atoms_before notes.origins trail n
 
   -- a clause that the table implies is entailed
-  entailed : (clause : List Literal) → IsImplied notes.table clause → ((l : Literal) → Contains clause l → l.variable < length notes.origins) → IsEntailed u notes.kinds (atoms_by notes.origins clause)
+  entailed : (clause : List Literal) → IsImplied notes.table clause → ((l : Literal) → Contains clause l → l.variable < length notes.origins) →
+      IsEntailed u notes.kinds (atoms_by notes.origins clause)
   entailed clause implied ranged = record {
     holds = λ value all.
-        let w = list_any-witness (λ (l : Literal). beq (values_by notes.origins value l.variable) l.positive) clause (implied (values_by notes.origins value) (table_by_kinds u notes.origins notes.table notes.kinds encoding.encoded value all)) in
+        let w = list_any-witness (λ (l : Literal). beq (values_by notes.origins value l.variable) l.positive) clause
+        (implied (values_by notes.origins value) (table_by_kinds u notes.origins notes.table notes.kinds encoding.encoded value all)) in
         let l : Literal = w.0 in
-        let same : values_by notes.origins value l.variable ≡ value (origin_at notes.origins l.variable) = values_by-origin notes.origins value l.variable (origin_at notes.origins l.variable) (stands notes.origins trail size l.variable (ranged l w.1)) in
+        let same : values_by notes.origins value l.variable ≡ value (origin_at notes.origins l.variable) =
+        values_by-origin notes.origins value l.variable (origin_at notes.origins l.variable) (stands notes.origins trail size l.variable (ranged l w.1)) in
         let Holds : Bool → Type 0 = λ b. beq b l.positive ≡ true in
-        list_any-contains (λ (a : Atom N S). beq (value a.origin) a.positive) (atoms_by notes.origins clause) (atom (origin_at notes.origins l.variable) l.positive)
+        list_any-contains (λ (a : Atom N S). beq (value a.origin) a.positive) (atoms_by notes.origins clause)
+        (atom (origin_at notes.origins l.variable) l.positive)
         (Contains-map (λ (m : Literal). atom (origin_at notes.origins m.variable) m.positive) clause l w.1) (subst Holds same w.2);
   }
 
-  because_forced : (x : ℕ) (slot : Slot) → slot_of trail x ≡ Some slot → IsForced notes.table trail x slot → IsBecause u notes.kinds seeds refused (before slot.place) (atom (origin_at notes.origins x) slot.value)
+  because_forced : (x : ℕ) (slot : Slot) → slot_of trail x ≡ Some slot → IsForced notes.table trail x slot →
+      IsBecause u notes.kinds seeds refused (before slot.place) (atom (origin_at notes.origins x) slot.value)
   because_forced x slot at f =
       let it : Literal = record { variable = x; positive = slot.value } in
       let Forcing : Literal → Type 0 = λ other. (other ≡ it) ⊎ IsFalseBefore trail slot.place other in
@@ -266,7 +288,8 @@ module _ {N S : Type 0} (u : Universe N S) (root : Demands) (notes : Notes N S) 
       let w = Contains-map_back (λ (m : Literal). atom (origin_at notes.origins m.variable) m.positive) f.clause b inside in
       ⊎_elim
       (λ e. inl (sym w.2 ∙ ap (λ (m : Literal). atom (origin_at notes.origins m.variable) m.positive) e))
-      (λ off. let P : Atom N S → Type 0 = λ a. Contains (before slot.place) (atom a.origin (not a.positive)) in inr (subst P w.2 (has_negation notes.origins trail size slot.place w.0 off)))
+      (λ off. let P : Atom N S → Type 0 = λ a. Contains (before slot.place) (atom a.origin (not a.positive)) in
+      inr (subst P w.2 (has_negation notes.origins trail size slot.place w.0 off)))
       (each w.0 w.1))
 
   -- the first candidate that is left in a clause whose other literals are negative
@@ -278,40 +301,54 @@ module _ {N S : Type 0} (u : Universe N S) (root : Demands) (notes : Notes N S) 
     helpers_true : All (λ v. Contains (before slot.place) (atom (ConditionHelper v) true)) vs
     first_open : IsFirstOpen u (before slot.place) r s
 
-  first_left : (x : ℕ) (slot : Slot) → slot_of trail x ≡ Some slot → (chosen : IsChosen notes.table requirements trail x slot) → (parent : Origin N S) (vs : List VersionSetId) (r : Requirement) →
-      AllZip (IsAtom notes.origins) (clause_at notes.table chosen.requirement.number) (atom parent false ∷ (map (λ v. atom (ConditionHelper v) false) vs ++ map (λ s. atom (Solvable s) true) (requirement_candidates u r))) → IsFirstLeft x slot parent vs r
+  first_left : (x : ℕ) (slot : Slot) → slot_of trail x ≡ Some slot → (chosen : IsChosen notes.table requirements trail x slot) →
+      (parent : Origin N S) (vs : List VersionSetId) (r : Requirement) →
+      AllZip (IsAtom notes.origins) (clause_at notes.table chosen.requirement.number)
+      (atom parent false ∷ (map (λ v. atom (ConditionHelper v) false) vs ++ map (λ s. atom (Solvable s) true) (requirement_candidates u r))) →
+      IsFirstLeft x slot parent vs r
   first_left x slot at chosen parent vs r zip =
-      let atoms : List (Atom N S) = atom parent false ∷ (map (λ v. atom (ConditionHelper v) false) vs ++ map (λ s. atom (Solvable s) true) (requirement_candidates u r)) in
+      let atoms : List (Atom N S) = atom parent false ∷
+      (map (λ v. atom (ConditionHelper v) false) vs ++ map (λ s. atom (Solvable s) true) (requirement_candidates u r)) in
       let it : Literal = record { variable = x; positive = true } in
       let Zip : List Literal → Type 0 = λ ls. AllZip (IsAtom notes.origins) ls atoms in
       let w = halves (IsAtom notes.origins) chosen.before it chosen.after atoms (subst Zip chosen.clause zip) in
       let behind = cut_parent parent vs (requirement_candidates u r) w.first w.middle w.last (sym w.at.positive) w.is in
-      let negation : (a : Atom N S) → Contains w.first a → Contains (before slot.place) (atom a.origin (not a.positive)) = zip_negation notes.origins trail size slot.place chosen.before w.first w.front chosen.false_before in
-      let among : (a : Atom N S) → Contains (atom parent false ∷ (map (λ v. atom (ConditionHelper v) false) vs ++ map (λ s. atom (Solvable s) true) behind.before)) a → Contains w.first a = λ a inside. let At : List (Atom N S) → Type 0 = λ list. Contains list a in subst At (sym behind.first_is) inside in
+      let negation : (a : Atom N S) → Contains w.first a → Contains (before slot.place) (atom a.origin (not a.positive)) =
+      zip_negation notes.origins trail size slot.place chosen.before w.first w.front chosen.false_before in
+      let among : (a : Atom N S) → Contains
+      (atom parent false ∷ (map (λ v. atom (ConditionHelper v) false) vs ++ map (λ s. atom (Solvable s) true) behind.before)) a → Contains w.first a =
+      λ a inside. let At : List (Atom N S) → Type 0 = λ list. Contains list a in subst At (sym behind.first_is) inside in
       record {
         s = behind.s;
-        is_solvable = origin_is notes.origins trail size x w.middle.origin w.at.origin (in_range notes.origins trail size x slot at) ∙ ap (λ (a : Atom N S). a.origin) behind.middle_is;
+        is_solvable = origin_is notes.origins trail size x w.middle.origin w.at.origin (in_range notes.origins trail size x slot at) ∙
+            ap (λ (a : Atom N S). a.origin) behind.middle_is;
         is_true = chosen.value;
         parent_true = negation (atom parent false) (among _ (here _ _));
-        helpers_true = λ k d below. negation (atom (ConditionHelper (get_or vs k d)) false) (among _ (there _ _ _ (Contains-append_left (map (λ v. atom (ConditionHelper v) false) vs) (map (λ s. atom (Solvable s) true) behind.before) _ (Contains-map (λ v. atom (ConditionHelper v) false) vs _ (Contains-get_or vs k d below)))));
+        helpers_true = λ k d below. negation (atom (ConditionHelper (get_or vs k d)) false)
+            (among _ (there _ _ _ (Contains-append_left (map (λ v. atom (ConditionHelper v) false) vs) (map (λ s. atom (Solvable s) true) behind.before) _
+            (Contains-map (λ v. atom (ConditionHelper v) false) vs _ (Contains-get_or vs k d below)))));
         first_open = record {
           before = behind.before;
           after = behind.after;
           is = behind.is;
-          closed = λ s inside_s. negation (atom (Solvable s) true) (among _ (there _ _ _ (Contains-append_right (map (λ v. atom (ConditionHelper v) false) vs) (map (λ s. atom (Solvable s) true) behind.before) _ (Contains-map (λ s. atom (Solvable s) true) behind.before s inside_s))));
+          closed = λ s inside_s. negation (atom (Solvable s) true)
+              (among _ (there _ _ _ (Contains-append_right (map (λ v. atom (ConditionHelper v) false) vs) (map (λ s. atom (Solvable s) true) behind.before) _
+              (Contains-map (λ s. atom (Solvable s) true) behind.before s inside_s))));
         };
       }
 
   abbrev Because : ℕ → Slot → Atom N S → Type 0
   Because x slot a = IsBecause u notes.kinds seeds refused (before slot.place) a
 
-  because_left : (x : ℕ) (slot : Slot) (parent : Origin N S) (vs : List VersionSetId) (r : Requirement) (left : IsFirstLeft x slot parent vs r) → Because x slot (atom (Solvable left.s) true) → Because x slot (atom (origin_at notes.origins x) slot.value)
+  because_left : (x : ℕ) (slot : Slot) (parent : Origin N S) (vs : List VersionSetId) (r : Requirement) (left : IsFirstLeft x slot parent vs r) →
+      Because x slot (atom (Solvable left.s) true) → Because x slot (atom (origin_at notes.origins x) slot.value)
   because_left x slot parent vs r left it =
       let WithValue : Bool → Type 0 = λ b. Because x slot (atom (Solvable left.s) b) in
       let WithOrigin : Origin N S → Type 0 = λ p. Because x slot (atom p slot.value) in
       subst WithOrigin (sym left.is_solvable) (subst WithValue (sym left.is_true) it)
 
-  because_chosen : (x : ℕ) (slot : Slot) → slot_of trail x ≡ Some slot → (chosen : IsChosen notes.table requirements trail x slot) → (kind : ClauseKind N S) → slice_get notes.kinds chosen.requirement.number ≡ Some kind → AsksForCandidates kind → Because x slot (atom (origin_at notes.origins x) slot.value)
+  because_chosen : (x : ℕ) (slot : Slot) → slot_of trail x ≡ Some slot → (chosen : IsChosen notes.table requirements trail x slot) → (kind : ClauseKind N S) →
+      slice_get notes.kinds chosen.requirement.number ≡ Some kind → AsksForCandidates kind → Because x slot (atom (origin_at notes.origins x) slot.value)
   because_chosen x slot at chosen kind is asks =
       let In_order : ClauseKind N S → Type 0 = λ k. AreInOrder u notes.origins (clause_at notes.table chosen.requirement.number) k in
       let Has : ClauseKind N S → Type 0 = λ k. Contains notes.kinds k in
@@ -320,7 +357,8 @@ module _ {N S : Type 0} (u : Universe N S) (root : Demands) (notes : Notes N S) 
       ⊎_elim
       (λ (w : (by : By S) × (disjunct : Vec VersionSetId Global) × (r : Requirement) × (kind ≡ Requires by disjunct r)).
       let left = first_left x slot at chosen (origin_by w.0) w.1.items w.2 (subst In_order w.3 in_order) in
-      because_left x slot (origin_by w.0) w.1.items w.2 left (needed w.0 w.1 w.2 left.s (subst Has w.3 inside) left.parent_true left.helpers_true left.first_open))
+      because_left x slot (origin_by w.0) w.1.items w.2 left
+      (needed w.0 w.1 w.2 left.s (subst Has w.3 inside) left.parent_true left.helpers_true left.first_open))
       (λ (w : (r : Requirement) × (kind ≡ GateRequires r)).
       let left = first_left x slot at chosen (Gate w.0) [] w.0 (subst In_order w.1 in_order) in
       because_left x slot (Gate w.0) [] w.0 left (needed_gate w.0 left.s (subst Has w.1 inside) left.parent_true left.first_open))
@@ -342,11 +380,13 @@ module _ {N S : Type 0} (u : Universe N S) (root : Demands) (notes : Notes N S) 
   abbrev all : List (Atom N S)
   all = before (length_of trail)
 
-  because : (x : ℕ) (slot : Slot) → slot_of trail x ≡ Some slot → IsBecause u notes.kinds seeds refused (before slot.place) (atom (origin_at notes.origins x) slot.value)
+  because : (x : ℕ) (slot : Slot) → slot_of trail x ≡ Some slot →
+      IsBecause u notes.kinds seeds refused (before slot.place) (atom (origin_at notes.origins x) slot.value)
   because x slot at = ⊎_elim
       (λ (chosen : IsChosen notes.table requirements trail x slot).
       let Among : List ℕ → Type 0 = λ ns. Contains ns chosen.requirement.number in
-      let ask = encoding.ask chosen.requirement.number (subst Among numbers (Contains-map (λ (r : RequirementClause). r.number) requirements chosen.requirement chosen.listed)) in
+      let ask = encoding.ask chosen.requirement.number
+      (subst Among numbers (Contains-map (λ (r : RequirementClause). r.number) requirements chosen.requirement chosen.listed)) in
       because_chosen x slot at chosen ask.0 ask.1 ask.2)
       (λ rest. ⊎_elim (λ f. because_forced x slot at f) (λ a. because_assumed x slot at a) rest)
       (finished.reasons x slot at)
@@ -367,14 +407,21 @@ module _ {N S : Type 0} (u : Universe N S) (root : Demands) (notes : Notes N S) 
   is_trail = trail_before (length_of trail) (omega arith)
 
   -- the variable of an atom on the trail
-  pub variable_of : (n : ℕ) (o : Origin N S) (b : Bool) → n ≤ length_of trail → Contains (before n) (atom o b) → (x : ℕ) × (slot : Slot) × (slot_of trail x ≡ Some slot) × (slice_get notes.origins x ≡ Some o) × (slot.value ≡ b) × (slot.place < n)
+  pub variable_of : (n : ℕ) (o : Origin N S) (b : Bool) → n ≤ length_of trail → Contains (before n) (atom o b) → (x : ℕ) × (slot : Slot) ×
+      (slot_of trail x ≡ Some slot) × (slice_get notes.origins x ≡ Some o) × (slot.value ≡ b) × (slot.place < n)
   variable_of n o b h inside =
       let w = before-back notes.origins trail size n (atom o b) inside in
       let s = slot_at notes.origins trail size w.0 (omega (arith, w.1)) in
       let x : ℕ = variable_at trail w.0 in
       let origin : origin_at notes.origins x ≡ o = ap (λ (a : Atom N S). a.origin) w.2 in
-      let value : value_of trail x ≡ b = ap (λ (a : Atom N S). a.positive) w.2 in
-      (x, s.0, s.1, stands notes.origins trail size x (in_range notes.origins trail size x s.0 s.1) ∙ ap Some origin, sym (ap (λ p. option_map_or (λ (q : Slot). q.value) p false) s.1) ∙ value, omega (arith, w.1, s.2))
+      let value : value_of trail x ≡ b = ap (λ (a : Atom N S). a.positive) w.2 in (
+        x,
+        s.0,
+        s.1,
+        stands notes.origins trail size x (in_range notes.origins trail size x s.0 s.1) ∙ ap Some origin,
+        sym (ap (λ p. option_map_or (λ (q : Slot). q.value) p false) s.1) ∙ value,
+        omega (arith, w.1, s.2),
+      )
 
   same_slot : (x y : ℕ) (s t : Slot) → x ≡ y → slot_of trail x ≡ Some s → slot_of trail y ≡ Some t → s ≡ t
   same_slot x y s t e a b = same_Some _ _ (sym a ∙ ap (slot_of trail) e ∙ b)
@@ -424,7 +471,8 @@ module _ {N S : Type 0} (u : Universe N S) (root : Demands) (notes : Notes N S) 
       (λ off. inr (false_literal m b.0 b.2 off))
       (others b.0 b.1)))
 
-  pub no_false : (k : ClauseKind N S) → Contains notes.kinds k → ((b : Atom N S) → Contains (atoms_of u k) b → Contains all (atom b.origin (not b.positive))) → ⊥
+  pub no_false : (k : ClauseKind N S) → Contains notes.kinds k → ((b : Atom N S) → Contains (atoms_of u k) b → Contains all (atom b.origin (not b.positive))) →
+      ⊥
   no_false k inside wrong =
       let n = number_of k inside in
       let are = (encoding.encoded.each n.0 k n.2).atoms in
@@ -435,21 +483,26 @@ module _ {N S : Type 0} (u : Universe N S) (root : Demands) (notes : Notes N S) 
 
   -- what a clause asks for candidates that depends on these
   abbrev asking_atoms : Origin N S → List VersionSetId → Requirement → List (Atom N S)
-  asking_atoms parent vs r = atom parent false ∷ (map (λ v. atom (ConditionHelper v) false) vs ++ map (λ s. atom (Solvable s) true) (requirement_candidates u r))
+  asking_atoms parent vs r = atom parent false ∷
+      (map (λ v. atom (ConditionHelper v) false) vs ++ map (λ s. atom (Solvable s) true) (requirement_candidates u r))
 
-  atom_cases : (parent : Origin N S) (vs : List VersionSetId) (r : Requirement) → Contains all (atom parent true) → All (λ v. Contains all (atom (ConditionHelper v) true)) vs →
-      (a : Atom N S) → Contains (asking_atoms parent vs r) a → ((a.positive ≡ false) × Contains all (atom a.origin true)) ⊎ ((s : S) × Contains (requirement_candidates u r) s × (a ≡ atom (Solvable s) true))
+  atom_cases : (parent : Origin N S) (vs : List VersionSetId) (r : Requirement) → Contains all (atom parent true) →
+      All (λ v. Contains all (atom (ConditionHelper v) true)) vs →
+      (a : Atom N S) → Contains (asking_atoms parent vs r) a → ((a.positive ≡ false) × Contains all (atom a.origin true)) ⊎
+      ((s : S) × Contains (requirement_candidates u r) s × (a ≡ atom (Solvable s) true))
   atom_cases parent vs r on helpers a among =
       let Negative : Atom N S → Type 0 = λ q. (q.positive ≡ false) × Contains all (atom q.origin true) in
       ⊎_elim
       (λ e. inl (subst Negative e (refl, on)))
       (λ t. ⊎_elim
-      (λ h. let w = Contains-map_back (λ v. atom (ConditionHelper v) false) vs a h in inl (subst Negative w.2 (refl, All-contains (λ v. Contains all (atom (ConditionHelper v) true)) vs w.0 helpers w.1)))
+      (λ h. let w = Contains-map_back (λ v. atom (ConditionHelper v) false) vs a h in
+      inl (subst Negative w.2 (refl, All-contains (λ v. Contains all (atom (ConditionHelper v) true)) vs w.0 helpers w.1)))
       (λ h. let w = Contains-map_back (λ s. atom (Solvable s) true) (requirement_candidates u r) a h in inr (w.0, w.1, sym w.2))
       (Contains-append_cases (map (λ v. atom (ConditionHelper v) false) vs) (map (λ s. atom (Solvable s) true) (requirement_candidates u r)) a t))
       (cons_cases (atom parent false) (map (λ v. atom (ConditionHelper v) false) vs ++ map (λ s. atom (Solvable s) true) (requirement_candidates u r)) a among)
 
-  decided_kind : (kind : ClauseKind N S) (parent : Origin N S) (vs : List VersionSetId) (r : Requirement) → atoms_of u kind ≡ asking_atoms parent vs r → AsksForCandidates kind → Contains notes.kinds kind → Contains all (atom parent true) →
+  decided_kind : (kind : ClauseKind N S) (parent : Origin N S) (vs : List VersionSetId) (r : Requirement) → atoms_of u kind ≡ asking_atoms parent vs r →
+      AsksForCandidates kind → Contains notes.kinds kind → Contains all (atom parent true) →
       All (λ v. Contains all (atom (ConditionHelper v) true)) vs → (s : S) × Contains (requirement_candidates u r) s × Contains all (atom (Solvable s) true)
   decided_kind kind parent vs r same asks inside on helpers =
       let Among_atoms : Atom N S → List (Atom N S) → Type 0 = λ q list. Contains list q in
@@ -459,7 +512,8 @@ module _ {N S : Type 0} (u : Universe N S) (root : Demands) (notes : Notes N S) 
       let Among : List ℕ → Type 0 = λ ns. Contains ns n.0 in
       let w = Contains-map_back (λ (q : RequirementClause). q.number) requirements n.0 (subst Among (sym numbers) listed) in
       let Met : ℕ → Type 0 = λ m. IsMet trail (clause_at notes.table m) in
-      let met : Met n.0 = subst Met w.2 (All-contains (λ (q : RequirementClause). IsMet trail (clause_at notes.table q.number)) requirements w.0 finished.met w.1) in
+      let met : Met n.0 = subst Met w.2
+      (All-contains (λ (q : RequirementClause). IsMet trail (clause_at notes.table q.number)) requirements w.0 finished.met w.1) in
       ⊎_elim
       (λ satisfied.
       let l = any-witness (λ literal. literal_value trail literal ≡ Some true) (clause_at notes.table n.0) satisfied in
@@ -484,17 +538,23 @@ module _ {N S : Type 0} (u : Universe N S) (root : Demands) (notes : Notes N S) 
       (atom_cases parent vs r on helpers a.0 (subst (Among_atoms a.0) same a.1)))
       met
 
-  pub decided : (by : By S) (disjunct : Vec VersionSetId Global) (r : Requirement) → Contains notes.kinds (Requires by disjunct r) → Contains all (atom (origin_by by) true) →
-      All (λ v. Contains all (atom (ConditionHelper v) true)) disjunct.items → (s : S) × Contains (requirement_candidates u r) s × Contains all (atom (Solvable s) true)
-  decided by disjunct r inside on helpers = decided_kind (Requires by disjunct r) (origin_by by) disjunct.items r refl (inl (by, disjunct, r, refl)) inside on helpers
+  pub decided : (by : By S) (disjunct : Vec VersionSetId Global) (r : Requirement) → Contains notes.kinds (Requires by disjunct r) →
+      Contains all (atom (origin_by by) true) →
+      All (λ v. Contains all (atom (ConditionHelper v) true)) disjunct.items → (s : S) × Contains (requirement_candidates u r) s ×
+      Contains all (atom (Solvable s) true)
+  decided by disjunct r inside on helpers =
+      decided_kind (Requires by disjunct r) (origin_by by) disjunct.items r refl (inl (by, disjunct, r, refl)) inside on helpers
 
-  decided_gate : (r : Requirement) → Contains notes.kinds (GateRequires r) → Contains all (atom (Gate r) true) → (s : S) × Contains (requirement_candidates u r) s × Contains all (atom (Solvable s) true)
-  decided_gate r inside on = decided_kind (GateRequires r) (Gate r) [] r refl (inr (r, refl)) inside on (All-nil (λ v. Contains all (atom (ConditionHelper v) true)))
+  decided_gate : (r : Requirement) → Contains notes.kinds (GateRequires r) → Contains all (atom (Gate r) true) → (s : S) ×
+      Contains (requirement_candidates u r) s × Contains all (atom (Solvable s) true)
+  decided_gate r inside on = decided_kind (GateRequires r) (Gate r) [] r refl (inr (r, refl)) inside on
+      (All-nil (λ v. Contains all (atom (ConditionHelper v) true)))
 
   pub settled : IsSettled u notes.kinds (Takes all)
   settled = record {
     apart = apart;
-    root_taken = unit InstallRoot (atom Root true) encoding.installs (here (atom Root true) []) (λ b inside. ⊎_elim (λ e. inl (sym e)) (λ none. absurd (none_in b none)) (cons_cases (atom Root true) [] b inside));
+    root_taken = unit InstallRoot (atom Root true) encoding.installs (here (atom Root true) []) (λ b inside.
+        ⊎_elim (λ e. inl (sym e)) (λ none. absurd (none_in b none)) (cons_cases (atom Root true) [] b inside));
     no_false = no_false;
     unit = λ k a helper inside among others. unit k a inside among others;
     decided = decided;
@@ -515,14 +575,19 @@ module _ {N S : Type 0} (origins : List (Origin N S)) (trail : Trail) where
   true_before (suc n) s h = ⊎_elim
       (λ old. there (entry_at origins trail n) (atoms_before origins trail n) (atom (Solvable s) true) (true_before n s old))
       (λ last. let P : Atom N S → Type 0 = λ a. Contains (entry_at origins trail n ∷ atoms_before origins trail n) a in
-      subst P (solvable_of (origin_at origins (variable_at trail n)) (value_of trail (variable_at trail n)) s last) (here (entry_at origins trail n) (atoms_before origins trail n)))
-      (Contains-append_cases (solvables_before origins trail n) (solvable_if (origin_at origins (variable_at trail n)) (value_of trail (variable_at trail n))) s h)
+      subst P (solvable_of (origin_at origins (variable_at trail n)) (value_of trail (variable_at trail n)) s last)
+      (here (entry_at origins trail n) (atoms_before origins trail n)))
+      (Contains-append_cases (solvables_before origins trail n)
+      (solvable_if (origin_at origins (variable_at trail n)) (value_of trail (variable_at trail n))) s h)
 
   chosen_before : (n : ℕ) (s : S) → Contains (atoms_before origins trail n) (atom (Solvable s) true) → Contains (solvables_before origins trail n) s
   chosen_before zero s h = absurd (none_in (atom (Solvable s) true) h)
   chosen_before (suc n) s h = ⊎_elim
-      (λ e. Contains-append_right (solvables_before origins trail n) (solvable_if (origin_at origins (variable_at trail n)) (value_of trail (variable_at trail n))) s (solvable_back (origin_at origins (variable_at trail n)) (value_of trail (variable_at trail n)) s e))
-      (λ t. Contains-append_left (solvables_before origins trail n) (solvable_if (origin_at origins (variable_at trail n)) (value_of trail (variable_at trail n))) s (chosen_before n s t))
+      (λ e. Contains-append_right (solvables_before origins trail n)
+      (solvable_if (origin_at origins (variable_at trail n)) (value_of trail (variable_at trail n))) s
+      (solvable_back (origin_at origins (variable_at trail n)) (value_of trail (variable_at trail n)) s e))
+      (λ t. Contains-append_left (solvables_before origins trail n)
+      (solvable_if (origin_at origins (variable_at trail n)) (value_of trail (variable_at trail n))) s (chosen_before n s t))
       (cons_cases (entry_at origins trail n) (atoms_before origins trail n) (atom (Solvable s) true) h)
 
   pub is_chosen : IsChosenBy (atoms_before origins trail (length_of trail)) (solvables_before origins trail (length_of trail))
@@ -530,30 +595,36 @@ module _ {N S : Type 0} (origins : List (Origin N S)) (trail : Trail) where
 
   module _ (distinct : AreDistinct origins) (size : variable_count trail ≡ length origins) where
     -- an atom stands at one place
-    one_place : (j k : ℕ) (s : S) → j < length_of trail → k < length_of trail → entry_at origins trail j ≡ atom (Solvable s) true → entry_at origins trail k ≡ atom (Solvable s) true → j ≡ k
+    one_place : (j k : ℕ) (s : S) → j < length_of trail → k < length_of trail → entry_at origins trail j ≡ atom (Solvable s) true →
+        entry_at origins trail k ≡ atom (Solvable s) true → j ≡ k
     one_place j k s below_j below_k ej ek =
         let a = slot_at origins trail size j below_j in
         let b = slot_at origins trail size k below_k in
         let x : ℕ = variable_at trail j in
         let y : ℕ = variable_at trail k in
-        let ox : slice_get origins x ≡ Some (Solvable s) = stands origins trail size x (in_range origins trail size x a.0 a.1) ∙ ap (λ (q : Atom N S). Some q.origin) ej in
-        let oy : slice_get origins y ≡ Some (Solvable s) = stands origins trail size y (in_range origins trail size y b.0 b.1) ∙ ap (λ (q : Atom N S). Some q.origin) ek in
+        let ox : slice_get origins x ≡ Some (Solvable s) = stands origins trail size x (in_range origins trail size x a.0 a.1) ∙
+        ap (λ (q : Atom N S). Some q.origin) ej in
+        let oy : slice_get origins y ≡ Some (Solvable s) = stands origins trail size y (in_range origins trail size y b.0 b.1) ∙
+        ap (λ (q : Atom N S). Some q.origin) ek in
         let same : x ≡ y = distinct.same x y (Solvable s) ox oy in
         let slots : a.0 ≡ b.0 = same_Some _ _ (sym a.1 ∙ ap (slot_of trail) same ∙ b.1) in
         sym a.2 ∙ ap (λ (q : Slot). q.place) slots ∙ b.2
 
-    pub not_before : (n : ℕ) (s : S) → n < length_of trail → entry_at origins trail n ≡ atom (Solvable s) true → Contains (solvables_before origins trail n) s → ⊥
+    pub not_before : (n : ℕ) (s : S) → n < length_of trail → entry_at origins trail n ≡ atom (Solvable s) true → Contains (solvables_before origins trail n) s →
+        ⊥
     not_before n s below is inside =
         let w = before-back origins trail size n (atom (Solvable s) true) (true_before n s inside) in
         let e : w.0 ≡ n = one_place w.0 n s (omega (arith, w.1)) below w.2 is in omega (arith, w.1, e)
 
-    once_more : (xs : List S) (o : Origin N S) (b : Bool) → HasNoRepeats xs → ((s : S) → atom o b ≡ atom (Solvable s) true → Contains xs s → ⊥) → HasNoRepeats (xs ++ solvable_if o b)
+    once_more : (xs : List S) (o : Origin N S) (b : Bool) → HasNoRepeats xs → ((s : S) → atom o b ≡ atom (Solvable s) true → Contains xs s → ⊥) →
+        HasNoRepeats (xs ++ solvable_if o b)
     once_more xs (Solvable t) true once new = all_pairs_push ◌≢◌ xs t once (λ k d below same. new t refl (k, below, get_or_default xs k t d below ∙ same))
     once_more xs o b once new = let P : List S → Type 0 = λ ys. HasNoRepeats ys in subst P (sym (append-nil xs)) once
 
     once_before : (n : ℕ) → n ≤ length_of trail → HasNoRepeats (solvables_before origins trail n)
     once_before zero h = λ i j d below inside. absurd (omega arith)
-    once_before (suc n) h = once_more (solvables_before origins trail n) (origin_at origins (variable_at trail n)) (value_of trail (variable_at trail n)) (once_before n (omega arith)) (λ s is inside. not_before n s (omega arith) is inside)
+    once_before (suc n) h = once_more (solvables_before origins trail n) (origin_at origins (variable_at trail n)) (value_of trail (variable_at trail n))
+        (once_before n (omega arith)) (λ s is inside. not_before n s (omega arith) is inside)
 
     pub chosen_once : HasNoRepeats (solvables_before origins trail (length_of trail))
     chosen_once = once_before (length_of trail) (omega arith)
@@ -572,19 +643,23 @@ module _ {N S : Type 0} (u : Universe N S) (root : Demands) (notes : Notes N S) 
   demands_read ByRoot present = half.root_read
   demands_read (BySolvable s) present = needs_read s (u.needs s) (half.each_read s present)
 
-  clause_packages : (by : By S) (list : List VersionSetId) (r : Requirement) → HasClause notes.kinds by list r → (v : VersionSetId) → Contains (version_sets u r) v → Contains notes.asked (u.version_set_name v)
+  clause_packages : (by : By S) (list : List VersionSetId) (r : Requirement) → HasClause notes.kinds by list r → (v : VersionSetId) →
+      Contains (version_sets u r) v → Contains notes.asked (u.version_set_name v)
   clause_packages by list r (has_direct disjunct is h) v k = half.encoding.packages by disjunct r h v k
   clause_packages by list r (has_gate s is none h g) v k = half.encoding.gate_packages r g v k
 
-  clause_candidates : (by : By S) (list : List VersionSetId) (r : Requirement) → HasClause notes.kinds by list r → (s : S) → Contains (requirement_candidates u r) s → Contains notes.seen s
+  clause_candidates : (by : By S) (list : List VersionSetId) (r : Requirement) → HasClause notes.kinds by list r → (s : S) →
+      Contains (requirement_candidates u r) s → Contains notes.seen s
   clause_candidates by list r (has_direct disjunct is h) s k = half.encoding.candidates by disjunct r h s k
   clause_candidates by list r (has_gate t is none h g) s k = half.encoding.gate_candidates r g s k
 
   pub so_far_read : IsRead u root notes.kinds (IsLeft notes) notes.read notes.asked notes.seen notes.exempt
   so_far_read = record {
     installs = half.encoding.installs;
-    requirements = λ by r present asks. All-contains (IsReadRequirement u notes.kinds (IsLeft notes) by) (demands_by u root by).requirements r (demands_read by present).requirements asks;
-    constraints = λ by v s present asks other. All-contains (IsForbidden notes.kinds by v) (others u v) s (All-contains (IsConstraintRead u notes.kinds by) (demands_by u root by).constraints v (demands_read by present).constraints asks) other;
+    requirements = λ by r present asks. All-contains (IsReadRequirement u notes.kinds (IsLeft notes) by) (demands_by u root by).requirements r
+        (demands_read by present).requirements asks;
+    constraints = λ by v s present asks other. All-contains (IsForbidden notes.kinds by v) (others u v) s
+        (All-contains (IsConstraintRead u notes.kinds by) (demands_by u root by).constraints v (demands_read by present).constraints asks) other;
     unknowns = λ s reason h is. let NeedsRead : Needs → Type 0 = λ n. AreNeedsRead u notes s n in subst NeedsRead is (half.each_read s h);
     helpers = λ by disjunct r h v k s m. half.encoding.follow v (half.encoding.helpers by disjunct r h v k) s m;
     packages = clause_packages;
@@ -595,18 +670,24 @@ module _ {N S : Type 0} (u : Universe N S) (root : Demands) (notes : Notes N S) 
   }
 
 -- a finished search over what was read so far is an answer, where all that it chose was read
-pub finished_is_valid : {N S : Type 0} (u : Universe N S) (root : Demands) (notes : Notes N S) (requirements : List RequirementClause) (trail : Trail) (seeds refused : List S) →
-    HasLawfulSolvables u → HasLawfulPackages u → IsReadSoFar u root (solvables_before notes.origins trail (length_of trail)) notes → AreAssumed notes.origins seeds refused trail →
+pub finished_is_valid : {N S : Type 0} (u : Universe N S) (root : Demands) (notes : Notes N S) (requirements : List RequirementClause) (trail : Trail)
+    (seeds refused : List S) →
+    HasLawfulSolvables u → HasLawfulPackages u → IsReadSoFar u root (solvables_before notes.origins trail (length_of trail)) notes →
+    AreAssumed notes.origins seeds refused trail →
     AreSeeds u seeds (solvables_before notes.origins trail (length_of trail)) notes.asked notes.seen notes.exempt →
-    map (λ (r : RequirementClause). r.number) requirements ≡ notes.requirements → variable_count trail ≡ length notes.origins → IsFinished notes.table requirements trail →
+    map (λ (r : RequirementClause). r.number) requirements ≡ notes.requirements → variable_count trail ≡ length notes.origins →
+    IsFinished notes.table requirements trail →
     IsAnswerBy u root (solvables_before notes.origins trail (length_of trail)) seeds notes.exempt
 finished_is_valid {N} {S} u root notes requirements trail seeds refused lawful packages so_far assumed seeded_by numbers size finished =
     let encoding = so_far.half.encoding in
     let atoms : List (Atom N S) = atoms_before notes.origins trail (length_of trail) in
     let chosen : List S = solvables_before notes.origins trail (length_of trail) in
-    let covers : CoversReached u root notes.kinds chosen seeds notes.exempt = covers_reached u lawful packages root notes.kinds (IsLeft notes) notes.read notes.asked notes.seen notes.exempt (so_far_read u root notes so_far.half) chosen seeds seeded_by
+    let covers : CoversReached u root notes.kinds chosen seeds notes.exempt =
+    covers_reached u lawful packages root notes.kinds (IsLeft notes) notes.read notes.asked notes.seen notes.exempt
+    (so_far_read u root notes so_far.half) chosen seeds seeded_by
     (λ s inside registered. so_far.set_read s inside) so_far.none in
     finished_is_answer u encoding.codes root notes.kinds atoms chosen seeds refused notes.exempt lawful encoding.own_codes encoding.each_true
     (Spares-further u notes.asked notes.exempt notes.exempt notes.kinds encoding.due (λ s h. inl h))
-    (is_trail u root notes encoding requirements numbers trail size finished seeds refused assumed) (settled u root notes encoding requirements numbers trail size finished seeds refused assumed)
+    (is_trail u root notes encoding requirements numbers trail size finished seeds refused assumed)
+    (settled u root notes encoding requirements numbers trail size finished seeds refused assumed)
     (is_chosen notes.origins trail) covers

@@ -1,5 +1,6 @@
 -- Literals that are added, and clauses made of them.
-use Rattle.std.proofs.Common.{◌≡◌, ℕ, ◌+◌, ◌<◌, List, [], ◌∷◌, ◌++◌, length, get_or, take, sym, ap, ◌∙◌, subst, ⊎_elim, Contains, Vec, Global, append_assoc, append-nil, map}
+use Rattle.std.proofs.Common.{◌≡◌, ℕ, ◌+◌, ◌<◌, List, [], ◌∷◌, ◌++◌, length, get_or, take, sym, ap, ◌∙◌, subst, ⊎_elim, Contains, Vec, Global, append_assoc}
+use Rattle.std.proofs.Common.{append-nil, map}
 use Rattle.std.specs.List.{AllZip}
 use Rattle.std.proofs.lemmas.List.{take_more, map-append}
 use Rattle.resolver_clause_store.specs.Variables.{Keeps}
@@ -21,13 +22,15 @@ Grows-trans xs ys zs one other = record { keeps = Keeps-trans xs ys zs one.keeps
 pub IsAtom-keeps : {N S : Type 0} (old new : List (Origin N S)) (l : Literal) (a : Atom N S) → Keeps old new → IsAtom old l a → IsAtom new l a
 IsAtom-keeps old new l a keeps is = record { origin = keeps.kept _ _ is.origin; positive = is.positive }
 
-pub AllZip-keeps : {N S : Type 0} (old new : List (Origin N S)) → Keeps old new → (ls : List Literal) (as' : List (Atom N S)) → AllZip (IsAtom old) ls as' → AllZip (IsAtom new) ls as'
+pub AllZip-keeps : {N S : Type 0} (old new : List (Origin N S)) → Keeps old new → (ls : List Literal) (as' : List (Atom N S)) → AllZip (IsAtom old) ls as' →
+    AllZip (IsAtom new) ls as'
 AllZip-keeps old new keeps [] [] h = tt
 AllZip-keeps old new keeps [] (a ∷ as') h = h
 AllZip-keeps old new keeps (l ∷ ls) [] h = h
 AllZip-keeps old new keeps (l ∷ ls) (a ∷ as') h = (IsAtom-keeps old new l a keeps h.0, AllZip-keeps old new keeps ls as' h.1)
 
-pub AreAtoms-zip : {N S : Type 0} (origins : List (Origin N S)) (ls : List Literal) (as' : List (Atom N S)) → AllZip (IsAtom origins) ls as' → AreAtoms origins ls as'
+pub AreAtoms-zip : {N S : Type 0} (origins : List (Origin N S)) (ls : List Literal) (as' : List (Atom N S)) → AllZip (IsAtom origins) ls as' →
+    AreAtoms origins ls as'
 AreAtoms-zip origins [] [] h = record { each_literal = λ l i. absurd (none_in l i); each_atom = λ a i. absurd (none_in a i) }
 AreAtoms-zip origins [] (a ∷ as') h = absurd h
 AreAtoms-zip origins (l ∷ ls) [] h = absurd h
@@ -44,14 +47,16 @@ AreAtoms-zip {N} {S} origins (l ∷ ls) (a ∷ as') h =
           (cons_cases a as' b i);
     }
 
-pub AreAtoms-keeps : {N S : Type 0} (old new : List (Origin N S)) (ls : List Literal) (as' : List (Atom N S)) → Keeps old new → AreAtoms old ls as' → AreAtoms new ls as'
+pub AreAtoms-keeps : {N S : Type 0} (old new : List (Origin N S)) (ls : List Literal) (as' : List (Atom N S)) → Keeps old new → AreAtoms old ls as' →
+    AreAtoms new ls as'
 AreAtoms-keeps old new ls as' keeps are = record {
   each_literal = λ l i. let w = are.each_literal l i in (w.0, w.1, IsAtom-keeps old new l w.0 keeps w.2);
   each_atom = λ a i. let w = are.each_atom a i in (w.0, w.1, IsAtom-keeps old new w.0 a keeps w.2);
 }
 
 -- one literal that stands for an origin twice
-pub AreAtoms-twice : {N S : Type 0} (origins : List (Origin N S)) (ls : List Literal) (a b : Atom N S) → a ≡ b → AllZip (IsAtom origins) ls (a ∷ []) → AreAtoms origins ls (a ∷ b ∷ [])
+pub AreAtoms-twice : {N S : Type 0} (origins : List (Origin N S)) (ls : List Literal) (a b : Atom N S) → a ≡ b → AllZip (IsAtom origins) ls (a ∷ []) →
+    AreAtoms origins ls (a ∷ b ∷ [])
 AreAtoms-twice {N} {S} origins ls a b same h =
     let one = AreAtoms-zip origins ls (a ∷ []) h in
     record {
@@ -67,7 +72,8 @@ AreAtoms-twice {N} {S} origins ls a b same h =
           one.each_atom c of_a;
     }
 
-pub AllZip-append : {A B : Type 0} (R : A → B → Type 0) (xs xs' : List A) (ys ys' : List B) → AllZip R xs ys → AllZip R xs' ys' → AllZip R (xs ++ xs') (ys ++ ys')
+pub AllZip-append : {A B : Type 0} (R : A → B → Type 0) (xs xs' : List A) (ys ys' : List B) → AllZip R xs ys → AllZip R xs' ys' →
+    AllZip R (xs ++ xs') (ys ++ ys')
 AllZip-append R [] xs' [] ys' h k = k
 AllZip-append R [] xs' (z ∷ zs) ys' h k = absurd h
 AllZip-append R (z ∷ zs) xs' [] ys' h k = absurd h
@@ -77,7 +83,8 @@ AllZip-append R (z ∷ zs) xs' (w ∷ ws) ys' h k = (h.0, AllZip-append R zs xs'
 pub Adds-none : {N S : Type 0} (origins : List (Origin N S)) (ls : List Literal) → Adds origins ls ls []
 Adds-none origins ls = record { added = []; is = sym (append-nil ls); are = tt }
 
-pub Adds-trans : {N S : Type 0} (mid new : List (Origin N S)) (one two three : List Literal) (as' bs : List (Atom N S)) → Grows mid new → Adds mid one two as' → Adds new two three bs → Adds new one three (as' ++ bs)
+pub Adds-trans : {N S : Type 0} (mid new : List (Origin N S)) (one two three : List Literal) (as' bs : List (Atom N S)) → Grows mid new → Adds mid one two as' →
+    Adds new two three bs → Adds new one three (as' ++ bs)
 Adds-trans {N} {S} mid new one two three as' bs grows first second = record {
   added = first.added ++ second.added;
   is = second.is ∙ ap (λ ls. ls ++ second.added) first.is ∙ append_assoc one first.added second.added;
@@ -86,21 +93,26 @@ Adds-trans {N} {S} mid new one two three as' bs grows first second = record {
 
 -- the literals of one more element
 pub Adds-next : {N S X : Type 0} (f : X → Atom N S) (mid new : List (Origin N S)) (start now next : List Literal) (xs : List X) (i : ℕ) (d : X) (a : Atom N S) →
-    Grows mid new → Adds mid start now (map f (take i xs)) → i < length xs → f (get_or xs i d) ≡ a → Adds new now next (a ∷ []) → Adds new start next (map f (take (i + 1) xs))
+    Grows mid new → Adds mid start now (map f (take i xs)) → i < length xs → f (get_or xs i d) ≡ a → Adds new now next (a ∷ []) →
+    Adds new start next (map f (take (i + 1) xs))
 Adds-next {N} {S} {X} f mid new start now next xs i d a grows before below is more =
-    let taken : map f (take (i + 1) xs) ≡ map f (take i xs) ++ f (get_or xs i d) ∷ [] = ap (map f) (take_more xs i d below) ∙ map-append f (take i xs) (get_or xs i d ∷ []) in
+    let taken : map f (take (i + 1) xs) ≡ map f (take i xs) ++ f (get_or xs i d) ∷ [] = ap (map f) (take_more xs i d below) ∙
+    map-append f (take i xs) (get_or xs i d ∷ []) in
     let All_of : List (Atom N S) → Type 0 = λ as'. Adds new start next as' in
     subst All_of (sym (taken ∙ ap (λ b. map f (take i xs) ++ b ∷ []) is)) (Adds-trans mid new start now next (map f (take i xs)) (a ∷ []) grows before more)
 
 -- the literals of an empty list to which these were added
-pub Adds-zip : {N S : Type 0} (origins : List (Origin N S)) (start ls : List Literal) (as' : List (Atom N S)) → start ≡ [] → Adds origins start ls as' → AllZip (IsAtom origins) ls as'
+pub Adds-zip : {N S : Type 0} (origins : List (Origin N S)) (start ls : List Literal) (as' : List (Atom N S)) → start ≡ [] → Adds origins start ls as' →
+    AllZip (IsAtom origins) ls as'
 Adds-zip {N} {S} origins start ls as' none adds =
     let Zip : List Literal → Type 0 = λ l. AllZip (IsAtom origins) l as' in
     subst Zip (sym (adds.is ∙ ap (λ l. l ++ adds.added) none)) adds.are
 
-module _ {N S : Type 0} (old : Notes N S) (origins : List (Origin N S)) (limit : ℕ) (new : Notes N S) (kind : ClauseKind N S) (literals : Vec Literal Global) (as' : List (Atom N S)) (grows : Grows old.origins origins) (same : limit ≡ old.variable_limit) (are : AllZip (IsAtom origins) literals.items as') where
+module _ {N S : Type 0} (old : Notes N S) (origins : List (Origin N S)) (limit : ℕ) (new : Notes N S) (kind : ClauseKind N S) (literals : Vec Literal Global)
+    (as' : List (Atom N S)) (grows : Grows old.origins origins) (same : limit ≡ old.variable_limit) (are : AllZip (IsAtom origins) literals.items as') where
   -- a clause behind the others, after variables were added
-  pub clause_added : new ≡ record old { origins = origins; variable_limit = limit; table = old.table ++ literals ∷ []; kinds = old.kinds ++ kind ∷ [] } → AddsClause old new kind as'
+  pub clause_added : new ≡ record old { origins = origins; variable_limit = limit; table = old.table ++ literals ∷ []; kinds = old.kinds ++ kind ∷ [] } →
+      AddsClause old new kind as'
   clause_added is =
       let Grown : List (Origin N S) → Type 0 = λ os. Grows old.origins os in
       let Zip : List (Origin N S) → Type 0 = λ os. AllZip (IsAtom os) literals.items as' in
@@ -113,7 +125,13 @@ module _ {N S : Type 0} (old : Notes N S) (origins : List (Origin N S)) (limit :
       }
 
   -- a clause that asks for candidates
-  pub requirement_added : new ≡ record old { origins = origins; variable_limit = limit; table = old.table ++ literals ∷ []; kinds = old.kinds ++ kind ∷ []; requirements = old.requirements ++ length old.kinds ∷ [] } → AddsRequirement old new kind as'
+  pub requirement_added : new ≡ record old {
+    origins = origins;
+    variable_limit = limit;
+    table = old.table ++ literals ∷ [];
+    kinds = old.kinds ++ kind ∷ [];
+    requirements = old.requirements ++ length old.kinds ∷ [];
+  } → AddsRequirement old new kind as'
   requirement_added is =
       let Grown : List (Origin N S) → Type 0 = λ os. Grows old.origins os in
       let Zip : List (Origin N S) → Type 0 = λ os. AllZip (IsAtom os) literals.items as' in
@@ -122,5 +140,11 @@ module _ {N S : Type 0} (old : Notes N S) (origins : List (Origin N S)) (limit :
         origins = subst Grown (sym now) grows;
         literals = literals;
         are = subst Zip (sym now) are;
-        is = is ∙ (λ i. record old { origins = sym now i; variable_limit = same i; table = old.table ++ literals ∷ []; kinds = old.kinds ++ kind ∷ []; requirements = old.requirements ++ length old.kinds ∷ [] });
+        is = is ∙ (λ i. record old {
+          origins = sym now i;
+          variable_limit = same i;
+          table = old.table ++ literals ∷ [];
+          kinds = old.kinds ++ kind ∷ [];
+          requirements = old.requirements ++ length old.kinds ∷ [];
+        });
       }

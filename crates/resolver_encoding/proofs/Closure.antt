@@ -20,13 +20,15 @@ use Rattle.resolver_clause_store.proofs.ConditionLemmas.{holds_matched, matched_
 use Rattle.resolver_encoding.proofs.Lists.{here, there, cons_cases, none_in, list_any-contains}
 
 -- a larger set makes more conditions hold
-pub holds_more : {N S : Type 0} (u : Universe N S) (Has More : S → Type 0) → ((s : S) → Has s → More s) → (c : ConditionId) → ConditionHolds u Has c → ConditionHolds u More c
+pub holds_more : {N S : Type 0} (u : Universe N S) (Has More : S → Type 0) → ((s : S) → Has s → More s) → (c : ConditionId) → ConditionHolds u Has c →
+    ConditionHolds u More c
 holds_more u Has More more c (matched v s is listed inside) = matched v s is listed (more s inside)
 holds_more u Has More more c (both a b is h k) = both a b is (holds_more u Has More more a h) (holds_more u Has More more b k)
 holds_more u Has More more c (left a b is h) = left a b is (holds_more u Has More more a h)
 holds_more u Has More more c (right a b is h) = right a b is (holds_more u Has More more b h)
 
-pub active_more : {N S : Type 0} (u : Universe N S) (Has More : S → Type 0) → ((s : S) → Has s → More s) → (c : Option ConditionId) → OptionalConditionHolds u Has c → OptionalConditionHolds u More c
+pub active_more : {N S : Type 0} (u : Universe N S) (Has More : S → Type 0) → ((s : S) → Has s → More s) → (c : Option ConditionId) →
+    OptionalConditionHolds u Has c → OptionalConditionHolds u More c
 active_more u Has More more None h = tt
 active_more u Has More more (Some c) h = holds_more u Has More more c h
 
@@ -53,7 +55,8 @@ module _ {N S : Type 0} (u : Universe N S) (root : Demands) (lawful : HasLawfulS
   abbrev Holds : ConditionId → Type 0
   Holds c = ConditionHolds u (Contains chosen) c
 
-  by_kind : (n : ℕ) (c : ConditionId) (k : Condition) → u.condition c ≡ k → ((a : ConditionId) → u.condition_rank a < u.condition_rank c → Holds a ⊎ (Holds a → ⊥)) → Holds c ⊎ (Holds c → ⊥)
+  by_kind : (n : ℕ) (c : ConditionId) (k : Condition) → u.condition c ≡ k →
+      ((a : ConditionId) → u.condition_rank a < u.condition_rank c → Holds a ⊎ (Holds a → ⊥)) → Holds c ⊎ (Holds c → ⊥)
   by_kind n c (Matched v) is below = ⊎_elim
       (λ m. inl (holds_matched u chosen c v is m))
       (λ none. inr (λ h. none (matched_holds u chosen c v is h)))
@@ -97,7 +100,8 @@ module _ {N S : Type 0} (u : Universe N S) (root : Demands) (lawful : HasLawfulS
       (λ a. inl (record { r = a.r; listed = there r rs a.r a.listed; active = a.active; candidate = a.candidate }))
       (λ none.
       let only : ((Active r × Contains (requirement_candidates u r.requirement) s) → ⊥) → Asks (r ∷ rs) s → ⊥ = λ off a. ⊎_elim
-      (λ e. let IsIt : ConditionalRequirement → Type 0 = λ q. Active q × Contains (requirement_candidates u q.requirement) s in off (subst IsIt (sym e) (a.active, a.candidate)))
+      (λ e. let IsIt : ConditionalRequirement → Type 0 = λ q. Active q × Contains (requirement_candidates u q.requirement) s in
+      off (subst IsIt (sym e) (a.active, a.candidate)))
       (λ t. none (record { r = a.r; listed = t; active = a.active; candidate = a.candidate }))
       (cons_cases r rs a.r a.listed) in
       ⊎_elim
@@ -192,7 +196,8 @@ module _ {N S : Type 0} (u : Universe N S) (root : Demands) (lawful : HasLawfulS
     pub reached : (s : S) → Contains part s → Reached s
     pub closed : (s : S) → Contains chosen s → Next part s → Contains part s
 
-  close : (n : ℕ) (done rest : List S) → length rest ≤ n → ((x : S) → Contains chosen x → Contains done x ⊎ Contains rest x) → IsWithin done chosen → IsWithin rest chosen → ((t : S) → Contains done t → Reached t) → Closure
+  close : (n : ℕ) (done rest : List S) → length rest ≤ n → ((x : S) → Contains chosen x → Contains done x ⊎ Contains rest x) → IsWithin done chosen →
+      IsWithin rest chosen → ((t : S) → Contains done t → Reached t) → Closure
   close zero done rest short all in_done in_rest before = record {
     part = done;
     within = in_done;
@@ -204,7 +209,8 @@ module _ {N S : Type 0} (u : Universe N S) (root : Demands) (lawful : HasLawfulS
       (λ x inside. ⊎_elim (λ d. inl (there p.s done x d)) (λ r. ⊎_elim (λ e. inl (0, omega arith, e)) (λ o. inr o) (p.all x r)) (all x inside))
       (λ x h. ⊎_elim (λ e. let In : S → Type 0 = λ q. Contains chosen q in subst In e (in_rest p.s p.from)) (λ t. in_done x t) (cons_cases p.s done x h))
       (λ x h. in_rest x (p.kept x h))
-      (λ x h. ⊎_elim (λ e. let R : S → Type 0 = λ q. Reached q in subst R e (reached_next done before p.s (in_rest p.s p.from) p.next)) (λ t. before x t) (cons_cases p.s done x h)))
+      (λ x h. ⊎_elim (λ e. let R : S → Type 0 = λ q. Reached q in subst R e (reached_next done before p.s (in_rest p.s p.from) p.next)) (λ t. before x t)
+      (cons_cases p.s done x h)))
       (λ none. record {
         part = done;
         within = in_done;

@@ -81,7 +81,8 @@ digit_apart j k (suc fuel) less enough = ⊎_elim
     parities (suc zero) (suc (suc b)) h k differ = absurd (omega (arith, k))
 
 -- a digit begins with no other number than a power of two
-pub no_new_digit : (number count i : ℕ) → ((j : ℕ) → j < count → 2 ^ j ≤ number) → ((j : ℕ) → 2 ^ j ≤ number → j < count) → (number ≡ 2 ^ (count - 1) → ⊥) → number ≡ 2 ^ i → ⊥
+pub no_new_digit : (number count i : ℕ) → ((j : ℕ) → j < count → 2 ^ j ≤ number) → ((j : ℕ) → 2 ^ j ≤ number → j < count) → (number ≡ 2 ^ (count - 1) → ⊥) →
+    number ≡ 2 ^ i → ⊥
 no_new_digit number count i each every other is =
     let under : i < count = every i (omega (arith, is)) in
     let top : 2 ^ (count - 1) ≤ number = each (count - 1) (omega (arith, under)) in
@@ -97,7 +98,8 @@ turned false true e = refl
 turned false false e = absurd cc
 
 -- two that bear one name differ in a digit for which both have a clause
-pub apart_of_digits : {N S : Type 0} (u : Universe N S) (root : Demands) (notes : Notes N S) → IsEncoding u root notes → (s t : S) → Contains notes.seen s → Contains notes.seen t → u.name s ≡ u.name t → s ≢ t → AreApart notes.kinds (u.name s) s t
+pub apart_of_digits : {N S : Type 0} (u : Universe N S) (root : Demands) (notes : Notes N S) → IsEncoding u root notes → (s t : S) → Contains notes.seen s →
+    Contains notes.seen t → u.name s ≡ u.name t → s ≢ t → AreApart notes.kinds (u.name s) s t
 apart_of_digits {N} {S} u root notes encoding s t one other same differ =
     let At : N → Type 0 = λ n. IsAt notes.groups n (number_of_named notes.groups (u.name t) t (encoding.grouped t other)).0 t in
     let first = number_of_named notes.groups (u.name s) s (encoding.grouped s one) in
@@ -117,7 +119,8 @@ apart_of_digits {N} {S} u root notes encoding s t one other same differ =
         (λ (more : k < j).
         let w = digit_apart k j j more (omega arith) in
         let Has : Bool → Type 0 = λ b. Contains notes.kinds (HasBit n t w.0 b) in
-        apart_coded w.0 (bit j w.0) (encoding.digits n j j s s at at w.0 w.1) (subst Has (turned (bit j w.0) (bit k w.0) w.2) (encoding.digits n k j t s to at w.0 w.1)))
+        apart_coded w.0 (bit j w.0) (encoding.digits n j j s s at at w.0 w.1)
+        (subst Has (turned (bit j w.0) (bit k w.0) w.2) (encoding.digits n k j t s to at w.0 w.1)))
         (λ (not_more : j ≤ k). absurd (differ (same_number notes.groups n j k s t encoding.sound_groups at to (omega (arith, not_less, not_more)))))
         (cases_lt k j))
         (cases_lt j k)

@@ -48,7 +48,8 @@ module _ {N S : Type 0} (u : Universe N S) (same_name : N → N → Bool) (names
   says-gate r s (HasBit n t i true) e = absurd (false≢true e)
   says-gate r s k e = absurd (false≢true e)
 
-  says-helper : (v : VersionSetId) (s : S) (k : ClauseKind N S) → says_implies u same_name (ConstraintHelper v) s k ≡ true → (k ≡ ConstrainsExcluded s v) ⊎ (k ≡ AnyOf (ConstraintHelper v) s)
+  says-helper : (v : VersionSetId) (s : S) (k : ClauseKind N S) → says_implies u same_name (ConstraintHelper v) s k ≡ true → (k ≡ ConstrainsExcluded s v) ⊎
+      (k ≡ AnyOf (ConstraintHelper v) s)
   says-helper v s (AnyOf helper t) e =
       let Of : Origin N S → S → ClauseKind N S = λ o x. AnyOf o x in
       inr (ap (λ o. Of o t) (same_helper-true helper (ConstraintHelper v) (and_left _ _ e)) ∙ ap (Of (ConstraintHelper v)) (same.alone t s (and_right _ _ e)))
@@ -66,7 +67,8 @@ module _ {N S : Type 0} (u : Universe N S) (same_name : N → N → Bool) (names
   says-bit n i s (HasBit m t j true) e =
       let Of : N → S → ℕ → ClauseKind N S = λ x y k. HasBit x y k true in
       let named = and_left _ _ e in
-      inl (ap (λ x. Of x t j) (names.alone m n (and_left _ _ named)) ∙ ap (λ y. Of n y j) (same.alone t s (and_right _ _ e)) ∙ ap (Of n s) (eqb-true j i (and_right _ _ named)))
+      inl (ap (λ x. Of x t j) (names.alone m n (and_left _ _ named)) ∙ ap (λ y. Of n y j) (same.alone t s (and_right _ _ e)) ∙
+      ap (Of n s) (eqb-true j i (and_right _ _ named)))
   says-bit n i s k e = absurd (false≢true e)
 
   module _ (kinds : List (ClauseKind N S)) where
@@ -80,23 +82,27 @@ module _ {N S : Type 0} (u : Universe N S) (same_name : N → N → Bool) (names
         subst In (says-gate r s w.0 w.2) w.1
 
     -- from what the helper of a constraint follows
-    pub implied-helper : (v : VersionSetId) (s : S) → implied_in u same_name kinds (ConstraintHelper v) s ≡ true → Contains kinds (ConstrainsExcluded s v) ⊎ Contains kinds (AnyOf (ConstraintHelper v) s)
+    pub implied-helper : (v : VersionSetId) (s : S) → implied_in u same_name kinds (ConstraintHelper v) s ≡ true → Contains kinds (ConstrainsExcluded s v) ⊎
+        Contains kinds (AnyOf (ConstraintHelper v) s)
     implied-helper v s e =
         let w = list_any-witness (says_implies u same_name (ConstraintHelper v) s) kinds e in
         ⊎_elim (λ a. inl (subst In a w.1)) (λ b. inr (subst In b w.1)) (says-helper v s w.0 w.2)
 
     -- from what a bit follows
-    pub implied-bit : (n : N) (i : ℕ) (s : S) → implied_in u same_name kinds (Bit n i) s ≡ true → Contains kinds (HasBit n s i true) ⊎ Contains kinds (AnyOf (Bit n i) s)
+    pub implied-bit : (n : N) (i : ℕ) (s : S) → implied_in u same_name kinds (Bit n i) s ≡ true → Contains kinds (HasBit n s i true) ⊎
+        Contains kinds (AnyOf (Bit n i) s)
     implied-bit n i s e =
         let w = list_any-witness (says_implies u same_name (Bit n i) s) kinds e in
         ⊎_elim (λ a. inl (subst In a w.1)) (λ b. inr (subst In b w.1)) (says-bit n i s w.0 w.2)
 
     -- a helper follows from the solvables of which the clauses say so
     pub implied-any : (o : Origin N S) (s : S) → IsHelper o → Contains kinds (AnyOf o s) → implied_in u same_name kinds o s ≡ true
-    implied-any o s helper inside = list_any-contains (says_implies u same_name o s) kinds (AnyOf o s) inside (and_both _ _ (same_helper-same o helper) (same.itself s))
+    implied-any o s helper inside =
+        list_any-contains (says_implies u same_name o s) kinds (AnyOf o s) inside (and_both _ _ (same_helper-same o helper) (same.itself s))
 
     pub implied-excluded : (v : VersionSetId) (s : S) → Contains kinds (ConstrainsExcluded s v) → implied_in u same_name kinds (ConstraintHelper v) s ≡ true
-    implied-excluded v s inside = list_any-contains (says_implies u same_name (ConstraintHelper v) s) kinds (ConstrainsExcluded s v) inside (and_both _ _ (nat_same v.0) (same.itself s))
+    implied-excluded v s inside = list_any-contains (says_implies u same_name (ConstraintHelper v) s) kinds (ConstrainsExcluded s v) inside
+        (and_both _ _ (nat_same v.0) (same.itself s))
 
   module _ (codes : N → ℕ → S → Bool) (root : Demands) (kinds : List (ClauseKind N S)) (are_true : All (IsTrueClause u codes root) kinds) where
     truth : (kind : ClauseKind N S) → Contains kinds kind → IsTrueClause u codes root kind
@@ -106,11 +112,13 @@ module _ {N S : Type 0} (u : Universe N S) (same_name : N → N → Bool) (names
     implies o s = implied_in u same_name kinds o s
 
     moved : (o p : Origin N S) (t s : S) → (same_helper same_name o p && u.same_solvable t s) ≡ true → follows u codes o t ≡ true → follows u codes p s ≡ true
-    moved o p t s e f = sym (ap (λ x. follows u codes x s) (same_helper-true o p (and_left _ _ e))) ∙ sym (ap (follows u codes o) (same.alone t s (and_right _ _ e))) ∙ f
+    moved o p t s e f = sym (ap (λ x. follows u codes x s) (same_helper-true o p (and_left _ _ e))) ∙
+        sym (ap (follows u codes o) (same.alone t s (and_right _ _ e))) ∙ f
 
     says-follows : (o : Origin N S) (s : S) (k : ClauseKind N S) → Contains kinds k → says_implies u same_name o s k ≡ true → follows u codes o s ≡ true
     says-follows o s (AnyOf helper t) inside e = moved helper o t s e (truth (AnyOf helper t) inside).1
-    says-follows o s (ConstrainsExcluded t v) inside e = moved (ConstraintHelper v) o t s e (list_any-contains (u.same_solvable t) (others u v) t (truth (ConstrainsExcluded t v) inside) (same.itself t))
+    says-follows o s (ConstrainsExcluded t v) inside e =
+        moved (ConstraintHelper v) o t s e (list_any-contains (u.same_solvable t) (others u v) t (truth (ConstrainsExcluded t v) inside) (same.itself t))
     says-follows o s (HasBit n t i true) inside e = moved (Bit n i) o t s e (truth (HasBit n t i true) inside).1
     says-follows o s k inside e = absurd (false≢true e)
 
@@ -119,7 +127,8 @@ module _ {N S : Type 0} (u : Universe N S) (same_name : N → N → Bool) (names
     implied-follows o s e = let w = list_any-witness (says_implies u same_name o s) kinds e in says-follows o s w.0 w.1 w.2
 
     coded : (n : N) (s : S) (i : ℕ) (b : Bool) → Contains kinds (HasBit n s i b) → implies (Bit n i) s ≡ b
-    coded n s i true inside = list_any-contains (says_implies u same_name (Bit n i) s) kinds (HasBit n s i true) inside (and_both _ _ (and_both _ _ (names.itself n) (nat_same i)) (same.itself s))
+    coded n s i true inside = list_any-contains (says_implies u same_name (Bit n i) s) kinds (HasBit n s i true) inside
+        (and_both _ _ (and_both _ _ (names.itself n) (nat_same i)) (same.itself s))
     coded n s i false inside = ⊎_elim
         (λ e. absurd (both_ways _ (truth (HasBit n s i false) inside).1 (implied-follows (Bit n i) s e)))
         (λ e. e)

@@ -1,5 +1,6 @@
 -- What an encoding's clauses are for a search.
-use Rattle.std.proofs.Common.{◌≡◌, ℕ, zero, suc, ◌<◌, ◌≤◌, List, [], ◌∷◌, length, get_or, Some, None, arith, refl, sym, ap, subst, ⊎_elim, Contains, All, Vec, Global}
+use Rattle.std.proofs.Common.{◌≡◌, ℕ, zero, suc, ◌<◌, ◌≤◌, List, [], ◌∷◌, length, get_or, Some, None, arith, refl, sym, ap, subst, ⊎_elim, Contains, All, Vec}
+use Rattle.std.proofs.Common.{Global}
 use Rattle.std.specs.Prelude.{map, slice_get}
 use Rattle.std.specs.Option.{option_map_or}
 use Rattle.std.proofs.lemmas.Bool.{cases_lt}
@@ -38,17 +39,20 @@ module _ {N S : Type 0} (u : Universe N S) (root : Demands) (notes : Notes N S) 
       let a = are.each_literal l (Contains-get_or (clause_at notes.table number) k d below) in
       slice_below notes.origins l.variable a.0.origin a.2.origin)
       (λ (more : length notes.kinds ≤ number).
-      let none : clause_at notes.table number ≡ [] = ap (λ o. option_map_or (λ (c : Vec Literal Global). c.items) o []) (slice_none notes.table number (omega (arith, more, encoding.encoded.count))) in
+      let none : clause_at notes.table number ≡ [] =
+      ap (λ o. option_map_or (λ (c : Vec Literal Global). c.items) o []) (slice_none notes.table number (omega (arith, more, encoding.encoded.count))) in
       let Below : List Literal → Type 0 = λ c. IsBelow (length notes.origins) c in
       subst Below (sym none) (λ k d below. absurd (omega arith)))
       (cases_lt number (length notes.kinds))
 
   -- each clause that asks for candidates is in the table
-  pub requirements_inside : (requirements : List RequirementClause) → map (λ (r : RequirementClause). r.number) requirements ≡ notes.requirements → All (λ (r : RequirementClause). r.number < length notes.table) requirements
+  pub requirements_inside : (requirements : List RequirementClause) → map (λ (r : RequirementClause). r.number) requirements ≡ notes.requirements →
+      All (λ (r : RequirementClause). r.number < length notes.table) requirements
   requirements_inside requirements numbers = λ k d below.
       let r : RequirementClause = get_or requirements k d in
       let Has : List ℕ → Type 0 = λ ns. Contains ns r.number in
-      let listed : Contains notes.requirements r.number = subst Has numbers (Contains-map (λ (q : RequirementClause). q.number) requirements r (Contains-get_or requirements k d below)) in
+      let listed : Contains notes.requirements r.number =
+      subst Has numbers (Contains-map (λ (q : RequirementClause). q.number) requirements r (Contains-get_or requirements k d below)) in
       let ask = encoding.ask r.number listed in
       let inside = slice_below notes.kinds r.number ask.0 ask.1 in
       omega (arith, inside, encoding.encoded.count)

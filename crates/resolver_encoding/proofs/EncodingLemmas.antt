@@ -1,5 +1,6 @@
 -- Steps of an encoding: one after another, one more clause, one more solvable, package or helper.
-use Rattle.std.proofs.Common.{◌≡◌, ℕ, ◌+◌, ◌<◌, Bool, map, List, [], ◌∷◌, ◌++◌, length, length-append, refl, sym, ap, ◌∙◌, subst, ⊎_elim, inl, inr, arith, append_assoc, append-nil, Contains, Vec, Global, ◌⊎◌}
+use Rattle.std.proofs.Common.{◌≡◌, ℕ, ◌+◌, ◌<◌, Bool, map, List, [], ◌∷◌, ◌++◌, length, length-append, refl, sym, ap, ◌∙◌, subst, ⊎_elim, inl, inr, arith}
+use Rattle.std.proofs.Common.{append_assoc, append-nil, Contains, Vec, Global, ◌⊎◌}
 use Rattle.std.specs.Prelude.{Option, Some, ⊤, slice_get}
 use Rattle.std.specs.Option.{option_map_or}
 use Rattle.std.specs.List.{AllZip}
@@ -12,7 +13,8 @@ use Rattle.resolver_clause_store.specs.Candidates.{requirement_candidates, versi
 use Rattle.resolver_clause_store.specs.Variables.{AreDistinct, Keeps}
 use Rattle.resolver_clause_store.specs.declared.By.{By}
 use Rattle.resolver_clause_store.specs.declared.ClauseKind.{ClauseKind}
-use Rattle.resolver_clause_store.specs.declared.ClauseKind.TheVariants.{InstallRoot, Requires, AnyOf, GateRequires, Constrains, ConstrainsExcluded, ConstrainsParent, HasBit, Lock, Excluded}
+use Rattle.resolver_clause_store.specs.declared.ClauseKind.TheVariants.{InstallRoot, Requires, AnyOf, GateRequires, Constrains, ConstrainsExcluded}
+use Rattle.resolver_clause_store.specs.declared.ClauseKind.TheVariants.{ConstrainsParent, HasBit, Lock, Excluded}
 use Rattle.resolver_clause_store.specs.declared.Literal.{Literal}
 use Rattle.resolver_clause_store.specs.declared.Origin.{Origin}
 use Rattle.resolver_clause_store.specs.declared.Origin.TheVariants.{Root, Solvable}
@@ -21,7 +23,8 @@ use Rattle.resolver_clause_store.specs.declared.VersionSetId.{VersionSetId}
 use Rattle.resolver_clause_store.proofs.PlaceLemmas.{Keeps-same, Keeps-trans, place_cases, place_in, place_last, place_left, place_of_member}
 use Rattle.resolver_encoding.specs.Atoms.{Atom, atoms_of}
 use Rattle.resolver_encoding.specs.Called.{Call, to_ask, to_see}
-use Rattle.resolver_encoding.specs.Encodings.{AddsClause, AddsRequirement, AsksForCandidates, Coding, Doing, Extends, Grows, HasUsualHelper, IsAskStep, IsEncodingOf, IsEncodingWhile, IsFollowed, IsReadStep, IsStep, IsStepWhile, KeepsLimits, Notes, idle}
+use Rattle.resolver_encoding.specs.Encodings.{AddsClause, AddsRequirement, AsksForCandidates, Coding, Doing, Extends, Grows, HasUsualHelper, IsAskStep}
+use Rattle.resolver_encoding.specs.Encodings.{IsEncodingOf, IsEncodingWhile, IsFollowed, IsReadStep, IsStep, IsStepWhile, KeepsLimits, Notes, idle}
 use Rattle.resolver_encoding.specs.Codes.{bit}
 use Rattle.resolver_encoding.specs.Groups.{IsAt}
 use Rattle.resolver_encoding.specs.Read.{IsForbidden, forbidden_direct, forbidden_helped}
@@ -46,7 +49,8 @@ pub Extends-push : {X : Type 0} (xs : List X) (x : X) → Extends xs (xs ++ x �
 Extends-push xs x = record { more = x ∷ []; is = refl }
 
 pub Extends-trans : {X : Type 0} (xs ys zs : List X) → Extends xs ys → Extends ys zs → Extends xs zs
-Extends-trans xs ys zs one other = record { more = one.more ++ other.more; is = other.is ∙ ap (λ list. list ++ other.more) one.is ∙ append_assoc xs one.more other.more }
+Extends-trans xs ys zs one other =
+    record { more = one.more ++ other.more; is = other.is ∙ ap (λ list. list ++ other.more) one.is ∙ append_assoc xs one.more other.more }
 
 pub Extends-within : {X : Type 0} (xs ys : List X) → Extends xs ys → IsWithin xs ys
 Extends-within {X} xs ys more x h =
@@ -60,7 +64,8 @@ pub KeepsLimits-trans : {N S : Type 0} (one two three : Notes N S) → KeepsLimi
 KeepsLimits-trans one two three first second = record { variables = second.variables ∙ first.variables; clauses = second.clauses ∙ first.clauses }
 
 -- a clause's literals stay those of its kind when variables are added
-AreInOrder-keeps : {N S : Type 0} (u : Universe N S) (old new : List (Origin N S)) (ls : List Literal) (kind : ClauseKind N S) → Keeps old new → AreInOrder u old ls kind → AreInOrder u new ls kind
+AreInOrder-keeps : {N S : Type 0} (u : Universe N S) (old new : List (Origin N S)) (ls : List Literal) (kind : ClauseKind N S) → Keeps old new →
+    AreInOrder u old ls kind → AreInOrder u new ls kind
 AreInOrder-keeps u old new ls (Requires by disjunct r) keeps h = AllZip-keeps old new keeps ls (atoms_of u (Requires by disjunct r)) h
 AreInOrder-keeps u old new ls (GateRequires r) keeps h = AllZip-keeps old new keeps ls (atoms_of u (GateRequires r)) h
 AreInOrder-keeps u old new ls InstallRoot keeps h = tt
@@ -72,7 +77,8 @@ AreInOrder-keeps u old new ls (HasBit n s i b) keeps h = tt
 AreInOrder-keeps u old new ls (Lock s t) keeps h = tt
 AreInOrder-keeps u old new ls (Excluded s reason) keeps h = tt
 
-AreInOrder-zip : {N S : Type 0} (u : Universe N S) (origins : List (Origin N S)) (ls : List Literal) (kind : ClauseKind N S) → AllZip (IsAtom origins) ls (atoms_of u kind) → AreInOrder u origins ls kind
+AreInOrder-zip : {N S : Type 0} (u : Universe N S) (origins : List (Origin N S)) (ls : List Literal) (kind : ClauseKind N S) →
+    AllZip (IsAtom origins) ls (atoms_of u kind) → AreInOrder u origins ls kind
 AreInOrder-zip u origins ls (Requires by disjunct r) h = h
 AreInOrder-zip u origins ls (GateRequires r) h = h
 AreInOrder-zip u origins ls InstallRoot h = tt
@@ -85,19 +91,24 @@ AreInOrder-zip u origins ls (Lock s t) h = tt
 AreInOrder-zip u origins ls (Excluded s reason) h = tt
 
 -- literals that are the atoms of a kind, in order
-pub IsClauseOf-zip : {N S : Type 0} (u : Universe N S) (origins : List (Origin N S)) (ls : List Literal) (kind : ClauseKind N S) → AllZip (IsAtom origins) ls (atoms_of u kind) → IsClauseOf u origins ls kind
+pub IsClauseOf-zip : {N S : Type 0} (u : Universe N S) (origins : List (Origin N S)) (ls : List Literal) (kind : ClauseKind N S) →
+    AllZip (IsAtom origins) ls (atoms_of u kind) → IsClauseOf u origins ls kind
 IsClauseOf-zip u origins ls kind h = record { atoms = AreAtoms-zip origins ls (atoms_of u kind) h; in_order = AreInOrder-zip u origins ls kind h }
 
-IsClauseOf-keeps : {N S : Type 0} (u : Universe N S) (old new : List (Origin N S)) (ls : List Literal) (kind : ClauseKind N S) → Keeps old new → IsClauseOf u old ls kind → IsClauseOf u new ls kind
-IsClauseOf-keeps u old new ls kind keeps h = record { atoms = AreAtoms-keeps old new ls (atoms_of u kind) keeps h.atoms; in_order = AreInOrder-keeps u old new ls kind keeps h.in_order }
+IsClauseOf-keeps : {N S : Type 0} (u : Universe N S) (old new : List (Origin N S)) (ls : List Literal) (kind : ClauseKind N S) → Keeps old new →
+    IsClauseOf u old ls kind → IsClauseOf u new ls kind
+IsClauseOf-keeps u old new ls kind keeps h =
+    record { atoms = AreAtoms-keeps old new ls (atoms_of u kind) keeps h.atoms; in_order = AreInOrder-keeps u old new ls kind keeps h.in_order }
 
-pub IsForbidden-within : {N S : Type 0} (kinds more : List (ClauseKind N S)) → IsWithin kinds more → (by : By S) (v : VersionSetId) (s : S) → IsForbidden kinds by v s → IsForbidden more by v s
+pub IsForbidden-within : {N S : Type 0} (kinds more : List (ClauseKind N S)) → IsWithin kinds more → (by : By S) (v : VersionSetId) (s : S) →
+    IsForbidden kinds by v s → IsForbidden more by v s
 IsForbidden-within kinds more within by v s (forbidden_direct h) = forbidden_direct (within _ h)
 IsForbidden-within kinds more within by v s (forbidden_helped h k) = forbidden_helped (within _ h) (within _ k)
 
 module _ {N S : Type 0} (u : Universe N S) where
   -- one more clause
-  AreEncoded-push : (old new : List (Origin N S)) (table : List (Vec Literal Global)) (kinds : List (ClauseKind N S)) (literals : Vec Literal Global) (kind : ClauseKind N S) →
+  AreEncoded-push : (old new : List (Origin N S)) (table : List (Vec Literal Global)) (kinds : List (ClauseKind N S)) (literals : Vec Literal Global)
+      (kind : ClauseKind N S) →
       Keeps old new → AreEncoded u old table kinds → IsClauseOf u new literals.items kind → AreEncoded u new (table ++ literals ∷ []) (kinds ++ kind ∷ [])
   AreEncoded-push old new table kinds literals kind keeps before is = record {
     count =
@@ -108,11 +119,14 @@ module _ {N S : Type 0} (u : Universe N S) where
         (λ (earlier : slice_get kinds n ≡ Some k).
         let Is : List Literal → Type 0 = λ ls. IsClauseOf u new ls k in
         let below : n < length table = omega (arith, slice_get_within kinds n k earlier, before.count) in
-        let same : clause_at (table ++ literals ∷ []) n ≡ clause_at table n = ap (λ o. option_map_or (λ (clause : Vec Literal Global). clause.items) o []) (place_same table literals n below) in
+        let same : clause_at (table ++ literals ∷ []) n ≡ clause_at table n =
+        ap (λ o. option_map_or (λ (clause : Vec Literal Global). clause.items) o []) (place_same table literals n below) in
         subst Is (sym same) (IsClauseOf-keeps u old new (clause_at table n) k keeps (before.each n k earlier)))
         (λ (last : (n ≡ length kinds) × (kind ≡ k)).
         let Is : List Literal → ClauseKind N S → Type 0 = λ ls q. IsClauseOf u new ls q in
-        let same : clause_at (table ++ literals ∷ []) n ≡ literals.items = ap (λ o. option_map_or (λ (clause : Vec Literal Global). clause.items) o []) (ap (λ i. slice_get (table ++ literals ∷ []) i) (last.0 ∙ sym before.count) ∙ place_last table literals) in
+        let same : clause_at (table ++ literals ∷ []) n ≡ literals.items =
+        ap (λ o. option_map_or (λ (clause : Vec Literal Global). clause.items) o [])
+        (ap (λ i. slice_get (table ++ literals ∷ []) i) (last.0 ∙ sym before.count) ∙ place_last table literals) in
         subst (λ ls. Is ls k) (sym same) (subst (λ q. Is literals.items q) last.1 is))
         (place_cases kinds kind n k at);
   }
@@ -120,8 +134,10 @@ module _ {N S : Type 0} (u : Universe N S) where
       place_same : (xs : List (Vec Literal Global)) (x : Vec Literal Global) (n : ℕ) → n < length xs → slice_get (xs ++ x ∷ []) n ≡ slice_get xs n
       place_same xs x n below = place_left xs (x ∷ []) n _ (slice_get-get_or xs n x below) ∙ sym (slice_get-get_or xs n x below)
 
-  pub AreEncoded-keeps : (old new : List (Origin N S)) (table : List (Vec Literal Global)) (kinds : List (ClauseKind N S)) → Keeps old new → AreEncoded u old table kinds → AreEncoded u new table kinds
-  AreEncoded-keeps old new table kinds keeps before = record { count = before.count; each = λ n k at. IsClauseOf-keeps u old new (clause_at table n) k keeps (before.each n k at) }
+  pub AreEncoded-keeps : (old new : List (Origin N S)) (table : List (Vec Literal Global)) (kinds : List (ClauseKind N S)) → Keeps old new →
+      AreEncoded u old table kinds → AreEncoded u new table kinds
+  AreEncoded-keeps old new table kinds keeps before =
+      record { count = before.count; each = λ n k at. IsClauseOf-keeps u old new (clause_at table n) k keeps (before.each n k at) }
 
   -- what a new lock or exclusion must be
   abbrev pub IsDue : List N → List S → ClauseKind N S → Type 0
@@ -136,12 +152,14 @@ module _ {N S : Type 0} (u : Universe N S) where
   IsDue asked exempt (ConstrainsParent by v) = ⊤
   IsDue asked exempt (HasBit n s i b) = ⊤
 
-  AreDue-push : (asked : List N) (exempt : List S) (kinds : List (ClauseKind N S)) (kind : ClauseKind N S) → AreDue u asked exempt kinds → IsDue asked exempt kind → AreDue u asked exempt (kinds ++ kind ∷ [])
+  AreDue-push : (asked : List N) (exempt : List S) (kinds : List (ClauseKind N S)) (kind : ClauseKind N S) → AreDue u asked exempt kinds →
+      IsDue asked exempt kind → AreDue u asked exempt (kinds ++ kind ∷ [])
   AreDue-push asked exempt kinds kind before is =
       let Due : ClauseKind N S → Type 0 = λ k. IsDue asked exempt k in
       record {
         locks = λ s t h. ⊎_elim (λ earlier. before.locks s t earlier) (λ e. subst Due e is) (Contains-push_cases kinds kind (Lock s t) h);
-        exclusions = λ s reason h. ⊎_elim (λ earlier. before.exclusions s reason earlier) (λ e. subst Due e is) (Contains-push_cases kinds kind (Excluded s reason) h);
+        exclusions = λ s reason h. ⊎_elim (λ earlier. before.exclusions s reason earlier) (λ e. subst Due e is)
+            (Contains-push_cases kinds kind (Excluded s reason) h);
       }
 
   -- what a new requirement's clause needs to be there before it
@@ -174,7 +192,8 @@ module _ {N S : Type 0} (u : Universe N S) where
     pub coding : (c : Coding N S) → Contains doing.coding c → (i : ℕ) → codes c.name i c.instance ≡ bit c.number i
 
   -- a clause that may be added: it is true, due, and what it brings with it is there
-  pub record IsNext (doing : Doing N S) (root : Demands) (notes : Notes N S) (origins : List (Origin N S)) (literals : List Literal) (kind : ClauseKind N S) : Type 0 where
+  pub record IsNext (doing : Doing N S) (root : Demands) (notes : Notes N S) (origins : List (Origin N S)) (literals : List Literal)
+      (kind : ClauseKind N S) : Type 0 where
     pub clause : IsClauseOf u origins literals kind
     pub is_true : (codes : N → ℕ → S → Bool) → HasCodes doing notes codes → IsTrueClause u codes root kind
     pub usual : HasUsualHelper kind
@@ -186,20 +205,24 @@ module _ {N S : Type 0} (u : Universe N S) where
     pub listed : (n : ℕ) (kind : ClauseKind N S) → slice_get kinds n ≡ Some kind → AsksForCandidates kind → Contains requirements n
     pub ask : (n : ℕ) → Contains requirements n → (kind : ClauseKind N S) × (slice_get kinds n ≡ Some kind) × AsksForCandidates kind
 
-  pub AreListed-plain : (kinds : List (ClauseKind N S)) (requirements : List ℕ) (kind : ClauseKind N S) → (AsksForCandidates kind → ⊥) → AreListed kinds requirements → AreListed (kinds ++ kind ∷ []) requirements
+  pub AreListed-plain : (kinds : List (ClauseKind N S)) (requirements : List ℕ) (kind : ClauseKind N S) → (AsksForCandidates kind → ⊥) →
+      AreListed kinds requirements → AreListed (kinds ++ kind ∷ []) requirements
   AreListed-plain kinds requirements kind plain before =
       let Asks : ClauseKind N S → Type 0 = λ k. AsksForCandidates k in
       record {
-        listed = λ n k at asks. ⊎_elim (λ earlier. before.listed n k earlier asks) (λ last. absurd (plain (subst Asks (sym last.1) asks))) (place_cases kinds kind n k at);
+        listed = λ n k at asks. ⊎_elim (λ earlier. before.listed n k earlier asks) (λ last. absurd (plain (subst Asks (sym last.1) asks)))
+            (place_cases kinds kind n k at);
         ask = λ n h. let w = before.ask n h in (w.0, place_left kinds (kind ∷ []) n w.0 w.1, w.2);
       }
 
-  pub AreListed-asking : (kinds : List (ClauseKind N S)) (requirements : List ℕ) (kind : ClauseKind N S) → AsksForCandidates kind → AreListed kinds requirements → AreListed (kinds ++ kind ∷ []) (requirements ++ length kinds ∷ [])
+  pub AreListed-asking : (kinds : List (ClauseKind N S)) (requirements : List ℕ) (kind : ClauseKind N S) → AsksForCandidates kind →
+      AreListed kinds requirements → AreListed (kinds ++ kind ∷ []) (requirements ++ length kinds ∷ [])
   AreListed-asking kinds requirements kind asking before =
       let Has : ℕ → Type 0 = λ n. Contains (requirements ++ length kinds ∷ []) n in
       let Stands : ℕ → Type 0 = λ n. slice_get (kinds ++ kind ∷ []) n ≡ Some kind in
       record {
-        listed = λ n k at asks. ⊎_elim (λ earlier. Contains-append_left requirements (length kinds ∷ []) n (before.listed n k earlier asks)) (λ last. subst Has (sym last.0) (Contains-push requirements (length kinds))) (place_cases kinds kind n k at);
+        listed = λ n k at asks. ⊎_elim (λ earlier. Contains-append_left requirements (length kinds ∷ []) n (before.listed n k earlier asks)) (λ last.
+            subst Has (sym last.0) (Contains-push requirements (length kinds))) (place_cases kinds kind n k at);
         ask = λ n h. ⊎_elim
             (λ earlier. let w = before.ask n earlier in (w.0, place_left kinds (kind ∷ []) n w.0 w.1, w.2))
             (λ e. (kind, subst Stands e (place_last kinds kind), asking))
@@ -207,10 +230,13 @@ module _ {N S : Type 0} (u : Universe N S) where
       }
 
   abbrev pub with_clause : Notes N S → List (Origin N S) → List ℕ → Vec Literal Global → ClauseKind N S → Notes N S
-  with_clause notes origins requirements literals kind = record notes { origins = origins; requirements = requirements; table = notes.table ++ literals ∷ []; kinds = notes.kinds ++ kind ∷ [] }
+  with_clause notes origins requirements literals kind =
+      record notes { origins = origins; requirements = requirements; table = notes.table ++ literals ∷ []; kinds = notes.kinds ++ kind ∷ [] }
 
-  IsEncoding-clause : (doing : Doing N S) (root : Demands) (notes : Notes N S) (origins : List (Origin N S)) (requirements : List ℕ) (literals : Vec Literal Global) (kind : ClauseKind N S) → Grows notes.origins origins → AreListed (notes.kinds ++ kind ∷ []) requirements →
-      IsNext doing root notes origins literals.items kind → IsEncodingWhile u doing root notes → IsEncodingWhile u doing root (with_clause notes origins requirements literals kind)
+  IsEncoding-clause : (doing : Doing N S) (root : Demands) (notes : Notes N S) (origins : List (Origin N S)) (requirements : List ℕ)
+      (literals : Vec Literal Global) (kind : ClauseKind N S) → Grows notes.origins origins → AreListed (notes.kinds ++ kind ∷ []) requirements →
+      IsNext doing root notes origins literals.items kind → IsEncodingWhile u doing root notes →
+      IsEncodingWhile u doing root (with_clause notes origins requirements literals kind)
   IsEncoding-clause doing root notes origins requirements literals kind grows listed next before =
       let within = IsWithin-push notes.kinds kind in
       let Prepared : ClauseKind N S → Type 0 = λ k. IsPrepared doing notes k in
@@ -220,27 +246,40 @@ module _ {N S : Type 0} (u : Universe N S) where
         encoded = AreEncoded-push notes.origins origins notes.table notes.kinds literals kind grows.keeps before.encoded next.clause;
         codes = before.codes;
         own_codes = before.own_codes;
-        each_true = All-push (IsTrueClause u before.codes root) notes.kinds kind before.each_true (next.is_true before.codes (record { placed = before.placed; coding = before.coding }));
+        each_true = All-push (IsTrueClause u before.codes root) notes.kinds kind before.each_true
+            (next.is_true before.codes (record { placed = before.placed; coding = before.coding }));
         each_usual = All-push HasUsualHelper notes.kinds kind before.each_usual next.usual;
         due = AreDue-push (doing.asking ++ notes.asked) notes.exempt notes.kinds kind before.due next.due;
         installs = within InstallRoot before.installs;
         listed = listed.listed;
         ask = listed.ask;
-        helpers = λ by disjunct r h. ⊎_elim (λ earlier. before.helpers by disjunct r earlier) (λ e. let ready : IsReady notes disjunct.items r = subst Prepared e next.prepared in ready.helpers) (Contains-push_cases notes.kinds kind (Requires by disjunct r) h);
-        packages = λ by disjunct r h. ⊎_elim (λ earlier. before.packages by disjunct r earlier) (λ e. let ready : IsReady notes disjunct.items r = subst Prepared e next.prepared in ready.packages) (Contains-push_cases notes.kinds kind (Requires by disjunct r) h);
-        candidates = λ by disjunct r h. ⊎_elim (λ earlier. before.candidates by disjunct r earlier) (λ e. let ready : IsReady notes disjunct.items r = subst Prepared e next.prepared in ready.candidates) (Contains-push_cases notes.kinds kind (Requires by disjunct r) h);
-        once = λ by disjunct r h. ⊎_elim (λ earlier. before.once by disjunct r earlier) (λ e. let ready : IsReady notes disjunct.items r = subst Prepared e next.prepared in ready.once) (Contains-push_cases notes.kinds kind (Requires by disjunct r) h);
-        gate_packages = λ r h. ⊎_elim (λ earlier. before.gate_packages r earlier) (λ e. let ready : IsGateReady notes r = subst Prepared e next.prepared in ready.packages) (Contains-push_cases notes.kinds kind (GateRequires r) h);
-        gate_candidates = λ r h. ⊎_elim (λ earlier. before.gate_candidates r earlier) (λ e. let ready : IsGateReady notes r = subst Prepared e next.prepared in ready.candidates) (Contains-push_cases notes.kinds kind (GateRequires r) h);
+        helpers = λ by disjunct r h. ⊎_elim (λ earlier. before.helpers by disjunct r earlier) (λ e.
+            let ready : IsReady notes disjunct.items r = subst Prepared e next.prepared in ready.helpers)
+            (Contains-push_cases notes.kinds kind (Requires by disjunct r) h);
+        packages = λ by disjunct r h. ⊎_elim (λ earlier. before.packages by disjunct r earlier) (λ e.
+            let ready : IsReady notes disjunct.items r = subst Prepared e next.prepared in ready.packages)
+            (Contains-push_cases notes.kinds kind (Requires by disjunct r) h);
+        candidates = λ by disjunct r h. ⊎_elim (λ earlier. before.candidates by disjunct r earlier) (λ e.
+            let ready : IsReady notes disjunct.items r = subst Prepared e next.prepared in ready.candidates)
+            (Contains-push_cases notes.kinds kind (Requires by disjunct r) h);
+        once = λ by disjunct r h. ⊎_elim (λ earlier. before.once by disjunct r earlier) (λ e.
+            let ready : IsReady notes disjunct.items r = subst Prepared e next.prepared in ready.once)
+            (Contains-push_cases notes.kinds kind (Requires by disjunct r) h);
+        gate_packages = λ r h. ⊎_elim (λ earlier. before.gate_packages r earlier) (λ e.
+            let ready : IsGateReady notes r = subst Prepared e next.prepared in ready.packages) (Contains-push_cases notes.kinds kind (GateRequires r) h);
+        gate_candidates = λ r h. ⊎_elim (λ earlier. before.gate_candidates r earlier) (λ e.
+            let ready : IsGateReady notes r = subst Prepared e next.prepared in ready.candidates) (Contains-push_cases notes.kinds kind (GateRequires r) h);
         gated = λ r h. within _ (before.gated r h);
         excluded = λ v h s m. within _ (before.excluded v h s m);
         follow = λ v h s m. within _ (before.follow v h s m);
         locks = λ s t h free lock inside differ. within _ (before.locks s t h free lock inside differ);
         exclusions = λ s reason h free inside. within _ (before.exclusions s reason h free inside);
-        registered = λ s h. let at = place_of_member notes.origins (Solvable s) (before.registered s h) in place_in origins at.0 (Solvable s) (grows.keeps.kept at.0 (Solvable s) at.1);
+        registered = λ s h. let at = place_of_member notes.origins (Solvable s) (before.registered s h) in
+            place_in origins at.0 (Solvable s) (grows.keeps.kept at.0 (Solvable s) at.1);
         placed = before.placed;
         coding = before.coding;
-        coded = λ n s i b h. ⊎_elim (λ earlier. before.coded n s i b earlier) (λ e. subst Prepared e next.prepared) (Contains-push_cases notes.kinds kind (HasBit n s i b) h);
+        coded = λ n s i b h. ⊎_elim (λ earlier. before.coded n s i b earlier) (λ e. subst Prepared e next.prepared)
+            (Contains-push_cases notes.kinds kind (HasBit n s i b) h);
         digits = λ n j k s t one other i below. within _ (before.digits n j k s t one other i below);
         sound_groups = before.sound_groups;
         grouped = before.grouped;
@@ -253,9 +292,11 @@ module _ {N S : Type 0} (u : Universe N S) where
   abbrev IsStep_to : Doing N S → (Demands → Type 0) → Notes N S → Notes N S → Type 0
   IsStep_to doing Premise old new = IsStepWhile u doing Premise old new
 
-  IsStep-with_clause : (doing : Doing N S) (Premise : Demands → Type 0) (old : Notes N S) (origins : List (Origin N S)) (requirements : List ℕ) (literals : Vec Literal Global) (kind : ClauseKind N S) → Grows old.origins origins → Extends old.requirements requirements →
+  IsStep-with_clause : (doing : Doing N S) (Premise : Demands → Type 0) (old : Notes N S) (origins : List (Origin N S)) (requirements : List ℕ)
+      (literals : Vec Literal Global) (kind : ClauseKind N S) → Grows old.origins origins → Extends old.requirements requirements →
       (AreListed old.kinds old.requirements → AreListed (old.kinds ++ kind ∷ []) requirements) →
-      ((root : Demands) → Premise root → IsEncodingWhile u doing root old → IsNext doing root old origins literals.items kind) → IsStepWhile u doing Premise old (with_clause old origins requirements literals kind)
+      ((root : Demands) → Premise root → IsEncodingWhile u doing root old → IsNext doing root old origins literals.items kind) →
+      IsStepWhile u doing Premise old (with_clause old origins requirements literals kind)
   IsStep-with_clause doing Premise old origins requirements literals kind grows more listed next = record {
     origins = grows.keeps;
     table = Extends-push old.table literals;
@@ -270,22 +311,29 @@ module _ {N S : Type 0} (u : Universe N S) where
     deferred = refl;
     waiting = refl;
     exempt = refl;
-    keeps = λ root premise before. IsEncoding-clause doing root old origins requirements literals kind grows (listed (record { listed = before.listed; ask = before.ask })) (next root premise before) before;
+    keeps = λ root premise before. IsEncoding-clause doing root old origins requirements literals kind grows
+        (listed (record { listed = before.listed; ask = before.ask })) (next root premise before) before;
   }
 
   -- one more clause, which asks for no candidates
-  pub IsStep-clause : (doing : Doing N S) (Premise : Demands → Type 0) (old new : Notes N S) (kind : ClauseKind N S) (as' : List (Atom N S)) (adds : AddsClause old new kind as') → (AsksForCandidates kind → ⊥) →
-      ((root : Demands) → Premise root → IsEncodingWhile u doing root old → IsNext doing root old new.origins adds.literals.items kind) → IsStepWhile u doing Premise old new
+  pub IsStep-clause : (doing : Doing N S) (Premise : Demands → Type 0) (old new : Notes N S) (kind : ClauseKind N S) (as' : List (Atom N S))
+      (adds : AddsClause old new kind as') → (AsksForCandidates kind → ⊥) →
+      ((root : Demands) → Premise root → IsEncodingWhile u doing root old → IsNext doing root old new.origins adds.literals.items kind) →
+      IsStepWhile u doing Premise old new
   IsStep-clause doing Premise old new kind as' adds plain next =
       let Step : Notes N S → Type 0 = λ n. IsStepWhile u doing Premise old n in
-      subst Step (sym adds.is) (IsStep-with_clause doing Premise old new.origins old.requirements adds.literals kind adds.origins (Extends-same old.requirements) (AreListed-plain old.kinds old.requirements kind plain) next)
+      subst Step (sym adds.is) (IsStep-with_clause doing Premise old new.origins old.requirements adds.literals kind adds.origins
+      (Extends-same old.requirements) (AreListed-plain old.kinds old.requirements kind plain) next)
 
   -- one more clause, which asks for candidates
-  pub IsStep-requirement : (doing : Doing N S) (Premise : Demands → Type 0) (old new : Notes N S) (kind : ClauseKind N S) (as' : List (Atom N S)) (adds : AddsRequirement old new kind as') → AsksForCandidates kind →
-      ((root : Demands) → Premise root → IsEncodingWhile u doing root old → IsNext doing root old new.origins adds.literals.items kind) → IsStepWhile u doing Premise old new
+  pub IsStep-requirement : (doing : Doing N S) (Premise : Demands → Type 0) (old new : Notes N S) (kind : ClauseKind N S) (as' : List (Atom N S))
+      (adds : AddsRequirement old new kind as') → AsksForCandidates kind →
+      ((root : Demands) → Premise root → IsEncodingWhile u doing root old → IsNext doing root old new.origins adds.literals.items kind) →
+      IsStepWhile u doing Premise old new
   IsStep-requirement doing Premise old new kind as' adds asks next =
       let Step : Notes N S → Type 0 = λ n. IsStepWhile u doing Premise old n in
-      subst Step (sym adds.is) (IsStep-with_clause doing Premise old new.origins (old.requirements ++ length old.kinds ∷ []) adds.literals kind adds.origins (Extends-push old.requirements (length old.kinds)) (AreListed-asking old.kinds old.requirements kind asks) next)
+      subst Step (sym adds.is) (IsStep-with_clause doing Premise old new.origins (old.requirements ++ length old.kinds ∷ []) adds.literals kind adds.origins
+      (Extends-push old.requirements (length old.kinds)) (AreListed-asking old.kinds old.requirements kind asks) next)
 
   pub clause_listed : (old new : Notes N S) (kind : ClauseKind N S) (as' : List (Atom N S)) → AddsClause old new kind as' → Contains new.kinds kind
   clause_listed old new kind as' adds =
@@ -315,7 +363,8 @@ module _ {N S : Type 0} (u : Universe N S) where
     keeps = λ root premise before. before;
   }
 
-  pub IsStep-trans : (doing : Doing N S) (Premise : Demands → Type 0) (one two three : Notes N S) → IsStepWhile u doing Premise one two → IsStepWhile u doing Premise two three → IsStepWhile u doing Premise one three
+  pub IsStep-trans : (doing : Doing N S) (Premise : Demands → Type 0) (one two three : Notes N S) → IsStepWhile u doing Premise one two →
+      IsStepWhile u doing Premise two three → IsStepWhile u doing Premise one three
   IsStep-trans doing Premise one two three first second = record {
     origins = Keeps-trans one.origins two.origins three.origins first.origins second.origins;
     table = Extends-trans one.table two.table three.table first.table second.table;
@@ -334,7 +383,8 @@ module _ {N S : Type 0} (u : Universe N S) where
   }
 
   -- under a premise from which its own follows
-  pub IsStep-weaker : (doing : Doing N S) (Premise Stronger : Demands → Type 0) → ((root : Demands) → Stronger root → Premise root) → (old new : Notes N S) → IsStepWhile u doing Premise old new → IsStepWhile u doing Stronger old new
+  pub IsStep-weaker : (doing : Doing N S) (Premise Stronger : Demands → Type 0) → ((root : Demands) → Stronger root → Premise root) → (old new : Notes N S) →
+      IsStepWhile u doing Premise old new → IsStepWhile u doing Stronger old new
   IsStep-weaker doing Premise Stronger follows old new step = record {
     origins = step.origins;
     table = step.table;
@@ -358,7 +408,8 @@ module _ {N S : Type 0} (u : Universe N S) where
   followed_before old new asked seen (to_see s) h = let Has : List S → Type 0 = λ list. Contains list s in subst Has seen h
 
   -- steps that may ask and register
-  pub IsAskStep-of : (Called : Call N S → Type 0) (Premise : Demands → Type 0) (old new : Notes N S) → IsStep u Premise old new → IsAskStep u Called Premise old new
+  pub IsAskStep-of : (Called : Call N S → Type 0) (Premise : Demands → Type 0) (old new : Notes N S) → IsStep u Premise old new →
+      IsAskStep u Called Premise old new
   IsAskStep-of Called Premise old new step =
       let Asked : List N → Type 0 = λ list. IsWithin old.asked list in
       let Seen : List S → Type 0 = λ list. Extends old.seen list in
@@ -380,7 +431,8 @@ module _ {N S : Type 0} (u : Universe N S) where
   pub IsAskStep-same : (Called : Call N S → Type 0) (Premise : Demands → Type 0) (notes : Notes N S) → IsAskStep u Called Premise notes notes
   IsAskStep-same Called Premise notes = IsAskStep-of Called Premise notes notes (IsStep-same idle Premise notes)
 
-  pub IsAskStep-trans : (Called : Call N S → Type 0) (Premise : Demands → Type 0) (one two three : Notes N S) → IsAskStep u Called Premise one two → IsAskStep u Called Premise two three → IsAskStep u Called Premise one three
+  pub IsAskStep-trans : (Called : Call N S → Type 0) (Premise : Demands → Type 0) (one two three : Notes N S) → IsAskStep u Called Premise one two →
+      IsAskStep u Called Premise two three → IsAskStep u Called Premise one three
   IsAskStep-trans Called Premise one two three first second = record {
     origins = Keeps-trans one.origins two.origins three.origins first.origins second.origins;
     table = Extends-trans one.table two.table three.table first.table second.table;
@@ -397,7 +449,8 @@ module _ {N S : Type 0} (u : Universe N S) where
   }
 
   -- with more called for, under a premise from which its own follows
-  pub IsAskStep-weaker : (Called More : Call N S → Type 0) → ((call : Call N S) → Called call → More call) → (Premise Stronger : Demands → Type 0) → ((root : Demands) → Stronger root → Premise root) → (old new : Notes N S) → IsAskStep u Called Premise old new → IsAskStep u More Stronger old new
+  pub IsAskStep-weaker : (Called More : Call N S → Type 0) → ((call : Call N S) → Called call → More call) → (Premise Stronger : Demands → Type 0) →
+      ((root : Demands) → Stronger root → Premise root) → (old new : Notes N S) → IsAskStep u Called Premise old new → IsAskStep u More Stronger old new
   IsAskStep-weaker Called More more Premise Stronger follows old new step = record {
     origins = step.origins;
     table = step.table;
@@ -414,7 +467,8 @@ module _ {N S : Type 0} (u : Universe N S) where
   }
 
   -- steps that may put disjuncts off
-  pub IsReadStep-of : (Defers : Deferred S → Type 0) (Called : Call N S → Type 0) (Premise : Demands → Type 0) (old new : Notes N S) → IsAskStep u Called Premise old new → IsReadStep u Defers Called Premise old new
+  pub IsReadStep-of : (Defers : Deferred S → Type 0) (Called : Call N S → Type 0) (Premise : Demands → Type 0) (old new : Notes N S) →
+      IsAskStep u Called Premise old new → IsReadStep u Defers Called Premise old new
   IsReadStep-of Defers Called Premise old new step =
       let Longer : List (Option (Deferred S)) → Type 0 = λ list. Extends old.deferred list in
       let Deferred_so : List (Option (Deferred S)) → Type 0 = λ list. (e : Deferred S) → Contains list (Some e) → Contains old.deferred (Some e) ⊎ Defers e in
@@ -433,10 +487,12 @@ module _ {N S : Type 0} (u : Universe N S) where
         keeps = step.keeps;
       }
 
-  pub IsReadStep-same : (Defers : Deferred S → Type 0) (Called : Call N S → Type 0) (Premise : Demands → Type 0) (notes : Notes N S) → IsReadStep u Defers Called Premise notes notes
+  pub IsReadStep-same : (Defers : Deferred S → Type 0) (Called : Call N S → Type 0) (Premise : Demands → Type 0) (notes : Notes N S) →
+      IsReadStep u Defers Called Premise notes notes
   IsReadStep-same Defers Called Premise notes = IsReadStep-of Defers Called Premise notes notes (IsAskStep-same Called Premise notes)
 
-  pub IsReadStep-trans : (Defers : Deferred S → Type 0) (Called : Call N S → Type 0) (Premise : Demands → Type 0) (one two three : Notes N S) → IsReadStep u Defers Called Premise one two → IsReadStep u Defers Called Premise two three → IsReadStep u Defers Called Premise one three
+  pub IsReadStep-trans : (Defers : Deferred S → Type 0) (Called : Call N S → Type 0) (Premise : Demands → Type 0) (one two three : Notes N S) →
+      IsReadStep u Defers Called Premise one two → IsReadStep u Defers Called Premise two three → IsReadStep u Defers Called Premise one three
   IsReadStep-trans Defers Called Premise one two three first second = record {
     origins = Keeps-trans one.origins two.origins three.origins first.origins second.origins;
     table = Extends-trans one.table two.table three.table first.table second.table;
@@ -452,7 +508,9 @@ module _ {N S : Type 0} (u : Universe N S) where
     keeps = λ root premise before. second.keeps root premise (first.keeps root premise before);
   }
 
-  pub IsReadStep-weaker : (Defers : Deferred S → Type 0) (Called More : Call N S → Type 0) → ((call : Call N S) → Called call → More call) → (Premise Stronger : Demands → Type 0) → ((root : Demands) → Stronger root → Premise root) → (old new : Notes N S) → IsReadStep u Defers Called Premise old new → IsReadStep u Defers More Stronger old new
+  pub IsReadStep-weaker : (Defers : Deferred S → Type 0) (Called More : Call N S → Type 0) → ((call : Call N S) → Called call → More call) →
+      (Premise Stronger : Demands → Type 0) → ((root : Demands) → Stronger root → Premise root) → (old new : Notes N S) →
+      IsReadStep u Defers Called Premise old new → IsReadStep u Defers More Stronger old new
   IsReadStep-weaker Defers Called More more Premise Stronger follows old new step = record {
     origins = step.origins;
     table = step.table;
@@ -469,14 +527,22 @@ module _ {N S : Type 0} (u : Universe N S) where
   }
 
   -- an encoding of the same problem, after a step; of a problem of which another premise holds
-  pub IsEncodingOf-step : (Premise : Demands → Type 0) (old new : Notes N S) → IsEncodingOf u Premise old → IsStep u Premise old new → IsEncodingOf u Premise new
-  IsEncodingOf-step Premise old new before step = record { root = before.root; premise = before.premise; encoding = step.keeps before.root before.premise before.encoding }
+  pub IsEncodingOf-step : (Premise : Demands → Type 0) (old new : Notes N S) → IsEncodingOf u Premise old → IsStep u Premise old new →
+      IsEncodingOf u Premise new
+  IsEncodingOf-step Premise old new before step =
+      record { root = before.root; premise = before.premise; encoding = step.keeps before.root before.premise before.encoding }
 
-  pub IsEncodingOf-asked : (Called : Call N S → Type 0) (Premise : Demands → Type 0) (old new : Notes N S) → IsEncodingOf u Premise old → IsAskStep u Called Premise old new → IsEncodingOf u Premise new
-  IsEncodingOf-asked Called Premise old new before step = record { root = before.root; premise = before.premise; encoding = step.keeps before.root before.premise before.encoding }
+  pub IsEncodingOf-asked : (Called : Call N S → Type 0) (Premise : Demands → Type 0) (old new : Notes N S) → IsEncodingOf u Premise old →
+      IsAskStep u Called Premise old new → IsEncodingOf u Premise new
+  IsEncodingOf-asked Called Premise old new before step =
+      record { root = before.root; premise = before.premise; encoding = step.keeps before.root before.premise before.encoding }
 
-  pub IsEncodingOf-read : (Defers : Deferred S → Type 0) (Called : Call N S → Type 0) (Premise : Demands → Type 0) (old new : Notes N S) → IsEncodingOf u Premise old → IsReadStep u Defers Called Premise old new → IsEncodingOf u Premise new
-  IsEncodingOf-read Defers Called Premise old new before step = record { root = before.root; premise = before.premise; encoding = step.keeps before.root before.premise before.encoding }
+  pub IsEncodingOf-read : (Defers : Deferred S → Type 0) (Called : Call N S → Type 0) (Premise : Demands → Type 0) (old new : Notes N S) →
+      IsEncodingOf u Premise old → IsReadStep u Defers Called Premise old new → IsEncodingOf u Premise new
+  IsEncodingOf-read Defers Called Premise old new before step =
+      record { root = before.root; premise = before.premise; encoding = step.keeps before.root before.premise before.encoding }
 
-  pub IsEncodingOf-weaker : (Premise Weaker : Demands → Type 0) → ((root : Demands) → Premise root → Weaker root) → (notes : Notes N S) → IsEncodingOf u Premise notes → IsEncodingOf u Weaker notes
-  IsEncodingOf-weaker Premise Weaker follows notes before = record { root = before.root; premise = follows before.root before.premise; encoding = before.encoding }
+  pub IsEncodingOf-weaker : (Premise Weaker : Demands → Type 0) → ((root : Demands) → Premise root → Weaker root) → (notes : Notes N S) →
+      IsEncodingOf u Premise notes → IsEncodingOf u Weaker notes
+  IsEncodingOf-weaker Premise Weaker follows notes before =
+      record { root = before.root; premise = follows before.root before.premise; encoding = before.encoding }

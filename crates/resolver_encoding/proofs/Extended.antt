@@ -21,7 +21,8 @@ use Rattle.resolver_encoding.proofs.Sound.{defines, valid_obeys}
 use Rattle.resolver_encoding.proofs.Lists.{list_any-contains, list_any-witness}
 
 -- variables that have the values of their origins make a clause true that is true by its atoms
-pub clause_true-atoms : {N S : Type 0} (origins : List (Origin N S)) (value : Origin N S → Bool) (values : ℕ → Bool) → ((x : ℕ) (o : Origin N S) → slice_get origins x ≡ Some o → values x ≡ value o) →
+pub clause_true-atoms : {N S : Type 0} (origins : List (Origin N S)) (value : Origin N S → Bool) (values : ℕ → Bool) →
+    ((x : ℕ) (o : Origin N S) → slice_get origins x ≡ Some o → values x ≡ value o) →
     (literals : List Literal) (atoms : List (Atom N S)) → AreAtoms origins literals atoms → is_satisfied value atoms ≡ true → clause_true values literals ≡ true
 clause_true-atoms origins value values agree literals atoms are holds =
     let w = list_any-witness (λ a. beq (value a.origin) a.positive) atoms holds in
@@ -33,13 +34,18 @@ clause_true-atoms origins value values agree literals atoms are holds =
 abbrev pub values_by : {N S : Type 0} → List (Origin N S) → (Origin N S → Bool) → ℕ → Bool
 values_by origins value x = option_map_or value (slice_get origins x) false
 
-pub values_by-origin : {N S : Type 0} (origins : List (Origin N S)) (value : Origin N S → Bool) (x : ℕ) (o : Origin N S) → slice_get origins x ≡ Some o → values_by origins value x ≡ value o
+pub values_by-origin : {N S : Type 0} (origins : List (Origin N S)) (value : Origin N S → Bool) (x : ℕ) (o : Origin N S) → slice_get origins x ≡ Some o →
+    values_by origins value x ≡ value o
 values_by-origin origins value x o e = ap (λ p. option_map_or value p false) e
 
-module _ {N S : Type 0} (u : Universe N S) (origins : List (Origin N S)) (table : List (Vec Literal Global)) (kinds : List (ClauseKind N S)) (encoded : AreEncoded u origins table kinds) (value : Origin N S → Bool) where
+module _ {N S : Type 0} (u : Universe N S) (origins : List (Origin N S)) (table : List (Vec Literal Global)) (kinds : List (ClauseKind N S))
+    (encoded : AreEncoded u origins table kinds) (value : Origin N S → Bool) where
   -- a clause is true by its variables where it is by its atoms
-  pub clause_by_kind : (n : ℕ) (kind : ClauseKind N S) → slice_get kinds n ≡ Some kind → is_satisfied value (atoms_of u kind) ≡ true → clause_true (values_by origins value) (clause_at table n) ≡ true
-  clause_by_kind n kind e holds = clause_true-atoms origins value (values_by origins value) (values_by-origin origins value) (clause_at table n) (atoms_of u kind) (encoded.each n kind e).atoms holds
+  pub clause_by_kind : (n : ℕ) (kind : ClauseKind N S) → slice_get kinds n ≡ Some kind → is_satisfied value (atoms_of u kind) ≡ true →
+      clause_true (values_by origins value) (clause_at table n) ≡ true
+  clause_by_kind n kind e holds =
+      clause_true-atoms origins value (values_by origins value) (values_by-origin origins value) (clause_at table n) (atoms_of u kind)
+      (encoded.each n kind e).atoms holds
 
   pub table_by_kinds : ((k : ClauseKind N S) → Contains kinds k → is_satisfied value (atoms_of u k) ≡ true) → Satisfies (values_by origins value) table
   table_by_kinds all = λ n d below.
@@ -48,11 +54,15 @@ module _ {N S : Type 0} (u : Universe N S) (origins : List (Origin N S)) (table 
       let is : slice_get kinds n ≡ Some kind = slice_get-get_or kinds n InstallRoot inside in
       let stands : slice_get table n ≡ Some (get_or table n d) = slice_get-get_or table n d below in
       let True : List Literal → Type 0 = λ c. clause_true (values_by origins value) c ≡ true in
-      subst True (ap (λ o. option_map_or (λ (c : Vec Literal Global). c.items) o []) stands) (clause_by_kind n kind is (all kind (Contains-get_or kinds n InstallRoot inside)))
+      subst True (ap (λ o. option_map_or (λ (c : Vec Literal Global). c.items) o []) stands)
+      (clause_by_kind n kind is (all kind (Contains-get_or kinds n InstallRoot inside)))
 
 -- an answer
-pub valid_satisfies : {N S : Type 0} (u : Universe N S) (codes : N → ℕ → S → Bool) (root : Demands) (origins : List (Origin N S)) (table : List (Vec Literal Global)) (kinds : List (ClauseKind N S)) (set exempt : List S) →
-    HasLawfulSolvables u → AreCodes u codes → AreEncoded u origins table kinds → All (IsTrueClause u codes root) kinds → Spares u exempt kinds → IsValid u root set exempt → Satisfies (extension u (follows u codes) origins set) table
+pub valid_satisfies : {N S : Type 0} (u : Universe N S) (codes : N → ℕ → S → Bool) (root : Demands) (origins : List (Origin N S))
+    (table : List (Vec Literal Global)) (kinds : List (ClauseKind N S)) (set exempt : List S) →
+    HasLawfulSolvables u → AreCodes u codes → AreEncoded u origins table kinds → All (IsTrueClause u codes root) kinds → Spares u exempt kinds →
+    IsValid u root set exempt → Satisfies (extension u (follows u codes) origins set) table
 valid_satisfies u codes root origins table kinds set exempt lawful are_codes encoded are_true spares ok =
     table_by_kinds u origins table kinds encoded (is_on u (follows u codes) set)
-    (satisfied u (follows u codes) lawful.same_solvable set kinds (defines u root kinds codes are_codes are_true lawful.same_solvable) (valid_obeys u root kinds codes are_codes are_true lawful.same_solvable set exempt ok spares))
+    (satisfied u (follows u codes) lawful.same_solvable set kinds (defines u root kinds codes are_codes are_true lawful.same_solvable)
+    (valid_obeys u root kinds codes are_codes are_true lawful.same_solvable set exempt ok spares))

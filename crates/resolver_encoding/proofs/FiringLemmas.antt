@@ -1,5 +1,6 @@
 -- Disjuncts that are put off, taken out and fired.
-use Rattle.std.proofs.Common.{◌≡◌, ◌≢◌, ℕ, zero, suc, ◌+◌, ◌-◌, ◌<◌, ◌≤◌, Bool, true, false, MatchBool, List, [], ◌∷◌, ◌++◌, length, get_or, take, drop, map, refl, ap, sym, ◌∙◌, subst, ⊎_elim, inl, inr, arith, Contains, All, cond}
+use Rattle.std.proofs.Common.{◌≡◌, ◌≢◌, ℕ, zero, suc, ◌+◌, ◌-◌, ◌<◌, ◌≤◌, Bool, true, false, MatchBool, List, [], ◌∷◌, ◌++◌, length, get_or, take, drop, map}
+use Rattle.std.proofs.Common.{refl, ap, sym, ◌∙◌, subst, ⊎_elim, inl, inr, arith, Contains, All, cond}
 use Rattle.std.specs.Prelude.{⊤, Option, Some, None, IfSome, IfNone, count_by, is_some, slice_get, slice_set, ◌||◌}
 use Rattle.std.specs.Option.{option_map}
 use Rattle.std.proofs.lemmas.Bool.{cases_eq, cases_lt}
@@ -39,14 +40,17 @@ match_false P Q false is fact = fact
 pub met_if : {S : Type 0} (candidates set : List S) (b : Bool) → b ≡ true → MatchBool b (Meets candidates set) (Meets candidates set → ⊥) → Meets candidates set
 met_if candidates set b is fact = match_true (Meets candidates set) (Meets candidates set → ⊥) b is fact
 
-pub unmet_if : {S : Type 0} (candidates set : List S) (b : Bool) → b ≡ false → MatchBool b (Meets candidates set) (Meets candidates set → ⊥) → Meets candidates set → ⊥
+pub unmet_if : {S : Type 0} (candidates set : List S) (b : Bool) → b ≡ false → MatchBool b (Meets candidates set) (Meets candidates set → ⊥) →
+    Meets candidates set → ⊥
 unmet_if candidates set b is fact = match_false (Meets candidates set) (Meets candidates set → ⊥) b is fact
 
 -- a version set that is not met
-pub unmet_at : {N S : Type 0} (u : Universe N S) (set : List S) (list : List VersionSetId) (i : ℕ) (d : VersionSetId) → i < length list → (Meets (matching u (get_or list i d)) set → ⊥) → AllMeet set (map (matching u) list) → ⊥
+pub unmet_at : {N S : Type 0} (u : Universe N S) (set : List S) (list : List VersionSetId) (i : ℕ) (d : VersionSetId) → i < length list →
+    (Meets (matching u (get_or list i d)) set → ⊥) → AllMeet set (map (matching u) list) → ⊥
 unmet_at u set list i d below unmet all =
     let inside : Contains list (get_or list i d) = Contains-get_or list i d below in
-    unmet (All-contains (λ xs. Meets xs set) (map (matching u) list) (matching u (get_or list i d)) all (Contains-map (matching u) list (get_or list i d) inside))
+    unmet (All-contains (λ xs. Meets xs set) (map (matching u) list) (matching u (get_or list i d)) all
+    (Contains-map (matching u) list (get_or list i d) inside))
 
 -- a place of a list from which an element was taken
 kept : {X : Type 0} (xs : List (Option X)) (n i : ℕ) (x : X) → slice_get (slice_set xs n None) i ≡ Some (Some x) → slice_get xs i ≡ Some (Some x)
@@ -90,37 +94,49 @@ get_map f (y ∷ ys) (suc n) x at = get_map f ys n x at
 pub count_map : {X Y : Type 0} (f : X → Y) (xs : List (Option X)) → count_by is_some (map (option_map f) xs) ≡ count_by is_some xs
 count_map {X} {Y} f xs = is_count_by (λ (list : List (Option X)). count_by is_some (map (option_map f) list)) is_some refl one_more xs
   where
-    one_more : (o : Option X) (rest : List (Option X)) → count_by is_some (map (option_map f) (o ∷ rest)) ≡ cond (is_some o) (1 + count_by is_some (map (option_map f) rest)) (count_by is_some (map (option_map f) rest))
+    one_more : (o : Option X) (rest : List (Option X)) →
+        count_by is_some (map (option_map f) (o ∷ rest)) ≡ cond (is_some o) (1 + count_by is_some (map (option_map f) rest))
+        (count_by is_some (map (option_map f) rest))
     one_more None rest = refl
     one_more (Some x) rest = sum_by-cons (λ (z : Option Y). cond (is_some z) 1 0) (Some (f x)) (map (option_map f) rest)
 
 -- what is there now of the one that was taken
-pub taken_some : {N S : Type 0} (notes : Notes N S) (items : List (Option (Entry S))) (number : ℕ) (d result after : Option (Entry S)) → notes.deferred ≡ map (option_map entry_of) items → number < length items → result ≡ get_or items number d → after ≡ None →
+pub taken_some : {N S : Type 0} (notes : Notes N S) (items : List (Option (Entry S))) (number : ℕ) (d result after : Option (Entry S)) →
+    notes.deferred ≡ map (option_map entry_of) items → number < length items → result ≡ get_or items number d → after ≡ None →
     IfSome result (λ entry. IsTakenOut number (entry_of entry) notes (record notes { deferred = map (option_map entry_of) (slice_set items number after) }))
 taken_some notes items number d None after view below is none = tt
 taken_some {N} {S} notes items number d (Some entry) after view below is none =
     let At : List (Option (Deferred S)) → Type 0 = λ xs. slice_get xs number ≡ Some (Some (entry_of entry)) in
     let now : map (option_map entry_of) (slice_set items number after) ≡ slice_set notes.deferred number None =
-    ap (λ (a : Option (Entry S)). map (option_map entry_of) (slice_set items number a)) none ∙ map_set (option_map entry_of) items number None ∙ ap (λ (xs : List (Option (Deferred S))). slice_set xs number None) (sym view) in
+    ap (λ (a : Option (Entry S)). map (option_map entry_of) (slice_set items number a)) none ∙ map_set (option_map entry_of) items number None ∙
+    ap (λ (xs : List (Option (Deferred S))). slice_set xs number None) (sym view) in
     record {
       was = subst At (sym view) (get_map (option_map entry_of) items number (Some entry) (slice_get-get_or items number d below ∙ ap Some (sym is)));
       is = λ i. record notes { deferred = now i };
     }
 
-pub taken_none : {S : Type 0} (items : List (Option (Entry S))) (number : ℕ) (d result : Option (Entry S)) → number < length items → result ≡ get_or items number d →
+pub taken_none : {S : Type 0} (items : List (Option (Entry S))) (number : ℕ) (d result : Option (Entry S)) → number < length items →
+    result ≡ get_or items number d →
     IfNone result ((e : Deferred S) → slice_get (map (option_map entry_of) items) number ≡ Some (Some e) → ⊥)
 taken_none items number d (Some entry) below is = tt
-taken_none items number d None below is = λ e at. none-some e (same_Some _ _ (sym (get_map (option_map entry_of) items number None (slice_get-get_or items number d below ∙ ap Some (sym is))) ∙ at))
+taken_none items number d None below is =
+    λ e at. none-some e (same_Some _ _ (sym (get_map (option_map entry_of) items number None (slice_get-get_or items number d below ∙ ap Some (sym is))) ∙ at))
 
-pub pushed_entry : {S : Type 0} (old new : List (Option (Entry S))) (entry : Entry S) → new ≡ old ++ Some entry ∷ [] → map (option_map entry_of) new ≡ map (option_map entry_of) old ++ Some (entry_of entry) ∷ []
-pushed_entry {S} old new entry is = ap (λ (xs : List (Option (Entry S))). map (option_map entry_of) xs) is ∙ map-append (option_map entry_of) old (Some entry ∷ [])
+pub pushed_entry : {S : Type 0} (old new : List (Option (Entry S))) (entry : Entry S) → new ≡ old ++ Some entry ∷ [] →
+    map (option_map entry_of) new ≡ map (option_map entry_of) old ++ Some (entry_of entry) ∷ []
+pushed_entry {S} old new entry is = ap (λ (xs : List (Option (Entry S))). map (option_map entry_of) xs) is ∙
+    map-append (option_map entry_of) old (Some entry ∷ [])
 
-module _ {N S : Type 0} (u : Universe N S) (set : List S) (notes : Notes N S) (items : List (Option (Entry S))) (view : notes.deferred ≡ map (option_map entry_of) items) (number : ℕ) where
+module _ {N S : Type 0} (u : Universe N S) (set : List S) (notes : Notes N S) (items : List (Option (Entry S)))
+    (view : notes.deferred ≡ map (option_map entry_of) items) (number : ℕ) where
   seen_at : (o : Option (Entry S)) → slice_get items number ≡ Some o → slice_get notes.deferred number ≡ Some (option_map entry_of o)
-  seen_at o at = let At : List (Option (Deferred S)) → Type 0 = λ xs. slice_get xs number ≡ Some (option_map entry_of o) in subst At (sym view) (get_map (option_map entry_of) items number o at)
+  seen_at o at = let At : List (Option (Deferred S)) → Type 0 = λ xs. slice_get xs number ≡ Some (option_map entry_of o) in
+      subst At (sym view) (get_map (option_map entry_of) items number o at)
 
   -- whether a disjunct that is put off is due
-  pub due_of : (entry : Entry S) (b : Bool) → slice_get items number ≡ Some (Some entry) → MatchBool b (AllMeet set (map (matching u) entry.disjunct.items)) (AllMeet set (map (matching u) entry.disjunct.items) → ⊥) → MatchBool b (HasMet u set notes number) (IsQuietAt u set notes number)
+  pub due_of : (entry : Entry S) (b : Bool) → slice_get items number ≡ Some (Some entry) →
+      MatchBool b (AllMeet set (map (matching u) entry.disjunct.items)) (AllMeet set (map (matching u) entry.disjunct.items) → ⊥) →
+      MatchBool b (HasMet u set notes number) (IsQuietAt u set notes number)
   due_of entry true at met = record { entry = entry_of entry; is = seen_at (Some entry) at; met = met }
   due_of entry false at unmet = record {
     quiet = λ e there met.
@@ -142,11 +158,20 @@ module _ {N S : Type 0} (u : Universe N S) (set : List S) (notes : Notes N S) (i
 
 module _ {N S : Type 0} (u : Universe N S) where
   pub IsIndexing-same : (number : ℕ) (notes : Notes N S) → IsIndexing u number [] notes notes
-  IsIndexing-same number notes = record { waiting = notes.waiting; is = refl; sound = λ h. h; earlier = λ h n i m. m; here = λ h. All-nil (λ v. IsNamed notes.waiting (u.version_set_name v) number) }
+  IsIndexing-same number notes =
+      record {
+        waiting = notes.waiting;
+        is = refl;
+        sound = λ h. h;
+        earlier = λ h n i m. m;
+        here = λ h. All-nil (λ v. IsNamed notes.waiting (u.version_set_name v) number);
+      }
 
   -- the package of one more version set
-  pub IsIndexing-more : (number : ℕ) (list : List VersionSetId) (i : ℕ) (d : VersionSetId) (old mid new : Notes N S) (n : N) → n ≡ u.version_set_name (get_or list i d) → i < length list → IsIndexing u number (take i list) old mid →
-      (AreGroups mid.waiting → AddsNamed mid.waiting new.waiting n number) → new ≡ record mid { waiting = new.waiting } → IsIndexing u number (take (i + 1) list) old new
+  pub IsIndexing-more : (number : ℕ) (list : List VersionSetId) (i : ℕ) (d : VersionSetId) (old mid new : Notes N S) (n : N) →
+      n ≡ u.version_set_name (get_or list i d) → i < length list → IsIndexing u number (take i list) old mid →
+      (AreGroups mid.waiting → AddsNamed mid.waiting new.waiting n number) → new ≡ record mid { waiting = new.waiting } →
+      IsIndexing u number (take (i + 1) list) old new
   IsIndexing-more number list i d old mid new n named below before adds is =
       let same : mid.waiting ≡ before.waiting = ap (λ (m : Notes N S). m.waiting) before.is in
       let Sound : Groups N ℕ → Type 0 = λ g. AreGroups g in
@@ -159,10 +184,12 @@ module _ {N S : Type 0} (u : Universe N S) where
         sound = λ h. (adds (ready h)).sound;
         earlier = λ h m k at. let Is : Groups N ℕ → Type 0 = λ g. IsNamed g m k in (adds (ready h)).earlier m k (subst Is (sym same) (before.earlier h m k at));
         here = λ h. All-grown_at (λ v. IsNamed mid.waiting (u.version_set_name v) number) (λ v. IsNamed new.waiting (u.version_set_name v) number) list i d
-            (λ v at. (adds (ready h)).earlier (u.version_set_name v) number at) below (subst Here (sym same) (before.here h)) (subst Named named (adds (ready h)).here);
+            (λ v at. (adds (ready h)).earlier (u.version_set_name v) number at) below (subst Here (sym same) (before.here h))
+            (subst Named named (adds (ready h)).here);
       }
 
-  pub IsDeferral-from : (number : ℕ) (e : Deferred S) (old mid new : Notes N S) → number ≡ length old.deferred → IsIndexing u number e.disjunct old mid → new ≡ record mid { deferred = mid.deferred ++ Some e ∷ [] } → IsDeferral u e old new
+  pub IsDeferral-from : (number : ℕ) (e : Deferred S) (old mid new : Notes N S) → number ≡ length old.deferred → IsIndexing u number e.disjunct old mid →
+      new ≡ record mid { deferred = mid.deferred ++ Some e ∷ [] } → IsDeferral u e old new
   IsDeferral-from number e old mid new last before is =
       let Here : ℕ → Type 0 = λ k. All (λ v. IsNamed before.waiting (u.version_set_name v) k) e.disjunct in
       record {
@@ -174,8 +201,10 @@ module _ {N S : Type 0} (u : Universe N S) where
       }
 
   -- an encoding with other disjuncts that are put off
-  encoding_deferred : (root : Demands) (old : Notes N S) (deferred : List (Option (Deferred S))) (waiting : Groups N ℕ) → IsEncoding u root old → ((e : Deferred S) → Contains deferred (Some e) → IsTrueEntry u root e) →
-      ((i : ℕ) (e : Deferred S) → slice_get deferred i ≡ Some (Some e) → (v : VersionSetId) → Contains e.disjunct v → IsNamed waiting (u.version_set_name v) i) → AreGroups waiting →
+  encoding_deferred : (root : Demands) (old : Notes N S) (deferred : List (Option (Deferred S))) (waiting : Groups N ℕ) → IsEncoding u root old →
+      ((e : Deferred S) → Contains deferred (Some e) → IsTrueEntry u root e) →
+      ((i : ℕ) (e : Deferred S) → slice_get deferred i ≡ Some (Some e) → (v : VersionSetId) → Contains e.disjunct v →
+      IsNamed waiting (u.version_set_name v) i) → AreGroups waiting →
       IsEncoding u root (record old { deferred = deferred; waiting = waiting })
   encoding_deferred root old deferred waiting before left_true indexed sound = record {
     root_first = before.root_first;
@@ -220,7 +249,8 @@ module _ {N S : Type 0} (u : Universe N S) where
       subst Left (sym deferral.is) (Contains-push old.deferred (Some e))
 
   -- one more disjunct is put off
-  pub IsReadStep-deferral : (Defers : Deferred S → Type 0) (Called : Call N S → Type 0) (Premise : Demands → Type 0) (e : Deferred S) (old new : Notes N S) → IsDeferral u e old new → Defers e → ((root : Demands) → Premise root → IsTrueEntry u root e) →
+  pub IsReadStep-deferral : (Defers : Deferred S → Type 0) (Called : Call N S → Type 0) (Premise : Demands → Type 0) (e : Deferred S) (old new : Notes N S) →
+      IsDeferral u e old new → Defers e → ((root : Demands) → Premise root → IsTrueEntry u root e) →
       IsReadStep u Defers Called Premise old new
   IsReadStep-deferral Defers Called Premise e old new deferral defers is_true =
       let Step : Notes N S → Type 0 = λ n. IsReadStep u Defers Called Premise old n in
@@ -234,29 +264,35 @@ module _ {N S : Type 0} (u : Universe N S) where
         called = λ n h. inl h;
         read = refl;
         deferred = Extends-push old.deferred (Some e);
-        defers = λ x h. ⊎_elim (λ (earlier : IsLeft old x). inl earlier) (λ (is : Some e ≡ Some x). inr (subst Defers (same_Some e x is) defers)) (Contains-push_cases old.deferred (Some e) (Some x) h);
+        defers = λ x h. ⊎_elim (λ (earlier : IsLeft old x). inl earlier) (λ (is : Some e ≡ Some x). inr (subst Defers (same_Some e x is) defers))
+            (Contains-push_cases old.deferred (Some e) (Some x) h);
         exempt = refl;
         keeps = λ root premise before. encoding_deferred root old (old.deferred ++ Some e ∷ []) deferral.waiting before
             (λ x h.
             let True : Deferred S → Type 0 = λ y. IsTrueEntry u root y in
-            ⊎_elim (λ (earlier : IsLeft old x). before.left_true x earlier) (λ (is : Some e ≡ Some x). subst True (same_Some e x is) (is_true root premise)) (Contains-push_cases old.deferred (Some e) (Some x) h))
+            ⊎_elim (λ (earlier : IsLeft old x). before.left_true x earlier) (λ (is : Some e ≡ Some x). subst True (same_Some e x is) (is_true root premise))
+            (Contains-push_cases old.deferred (Some e) (Some x) h))
             (λ i x at v h.
             let Has : Deferred S → Type 0 = λ y. Contains y.disjunct v in
             let Named : ℕ → Type 0 = λ k. IsNamed deferral.waiting (u.version_set_name v) k in
             ⊎_elim
-            (λ (earlier : slice_get old.deferred i ≡ Some (Some x)). deferral.earlier before.sound_waiting (u.version_set_name v) i (before.indexed i x earlier v h))
+            (λ (earlier : slice_get old.deferred i ≡ Some (Some x)). deferral.earlier before.sound_waiting (u.version_set_name v) i
+            (before.indexed i x earlier v h))
             (λ (last : (i ≡ length old.deferred) × (Some e ≡ Some x)).
-            subst Named (sym last.0) (All-contains (λ w. IsNamed deferral.waiting (u.version_set_name w) (length old.deferred)) e.disjunct v (deferral.here before.sound_waiting) (subst Has (sym (same_Some e x last.1)) h)))
+            subst Named (sym last.0) (All-contains (λ w. IsNamed deferral.waiting (u.version_set_name w) (length old.deferred)) e.disjunct v
+            (deferral.here before.sound_waiting) (subst Has (sym (same_Some e x last.1)) h)))
             (place_cases old.deferred (Some e) i (Some x) at))
             (deferral.sound before.sound_waiting);
       })
 
   -- fewer disjuncts are left
-  pub IsEncoding-taken : (root : Demands) (number : ℕ) (e : Deferred S) (old mid : Notes N S) → IsTakenOut number e old mid → IsEncoding u root old → IsEncoding u root mid
+  pub IsEncoding-taken : (root : Demands) (number : ℕ) (e : Deferred S) (old mid : Notes N S) → IsTakenOut number e old mid → IsEncoding u root old →
+      IsEncoding u root mid
   IsEncoding-taken root number e old mid out before =
       let Right : Notes N S → Type 0 = λ n. IsEncoding u root n in
       subst Right (sym out.is) (encoding_deferred root old (slice_set old.deferred number None) old.waiting before
-      (λ x h. let at = place_of_member (slice_set old.deferred number None) (Some x) h in before.left_true x (place_in old.deferred at.0 (Some x) (kept old.deferred number at.0 x at.1)))
+      (λ x h. let at = place_of_member (slice_set old.deferred number None) (Some x) h in
+      before.left_true x (place_in old.deferred at.0 (Some x) (kept old.deferred number at.0 x at.1)))
       (λ i x at. before.indexed i x (kept old.deferred number i x at))
       before.sound_waiting)
 
@@ -297,19 +333,22 @@ module _ {N S : Type 0} (u : Universe N S) where
       stays = λ i e at. first.stays i e (second.stays i e at);
       taken = λ i e at. ⊎_elim
           (λ (there : slice_get two.deferred i ≡ Some (Some e)). second.taken i e there)
-          (λ (fired : AllMeet set (map (matching u) e.disjunct) × HasClause two.kinds e.by e.disjunct e.requirement). inr (fired.0, HasClause-within u two.kinds three.kinds second.kinds e.by e.disjunct e.requirement fired.1))
+          (λ (fired : AllMeet set (map (matching u) e.disjunct) × HasClause two.kinds e.by e.disjunct e.requirement). inr
+          (fired.0, HasClause-within u two.kinds three.kinds second.kinds e.by e.disjunct e.requirement fired.1))
           (first.taken i e at);
       exempt = second.exempt ∙ first.exempt;
       keeps = λ root before. second.keeps root (first.keeps root before);
     }
 
     -- the disjunct at hand was met
-    pub met_entry : (number : ℕ) (e : Deferred S) (old mid : Notes N S) → HasMet u set old number → IsTakenOut number e old mid → AllMeet set (map (matching u) e.disjunct)
+    pub met_entry : (number : ℕ) (e : Deferred S) (old mid : Notes N S) → HasMet u set old number → IsTakenOut number e old mid →
+        AllMeet set (map (matching u) e.disjunct)
     met_entry number e old mid has out =
         let Met : Deferred S → Type 0 = λ x. AllMeet set (map (matching u) x.disjunct) in
         subst Met (same_Some _ _ (same_Some _ _ (sym has.is ∙ out.was))) has.met
 
-    module _ (number : ℕ) (e : Deferred S) (old mid new : Notes N S) (out : IsTakenOut number e old mid) (step : IsAskStep u (IsWantedBy u e.requirement) (IsTrueUnder u e.by e.disjunct e.requirement) mid new) where
+    module _ (number : ℕ) (e : Deferred S) (old mid new : Notes N S) (out : IsTakenOut number e old mid)
+        (step : IsAskStep u (IsWantedBy u e.requirement) (IsTrueUnder u e.by e.disjunct e.requirement) mid new) where
       left_now : new.deferred ≡ slice_set old.deferred number None
       left_now = step.deferred ∙ ap (λ (n : Notes N S). n.deferred) out.is
 
@@ -319,7 +358,10 @@ module _ {N S : Type 0} (u : Universe N S) where
           subst Fewer (sym left_now) (fewer old.deferred number e out.was)
 
       pub fired_quiet : IsQuietAt u set new number
-      fired_quiet = record { quiet = λ x at met. let At : List (Option (Deferred S)) → Type 0 = λ xs. slice_get xs number ≡ Some (Some x) in gone old.deferred number x (subst At left_now at) }
+      fired_quiet = record {
+        quiet = λ x at met. let At : List (Option (Deferred S)) → Type 0 = λ xs. slice_get xs number ≡ Some (Some x) in
+            gone old.deferred number x (subst At left_now at);
+      }
 
       -- a disjunct was taken out, and its requirement encoded
       pub IsFiring-taken : AllMeet set (map (matching u) e.disjunct) → HasClause new.kinds e.by e.disjunct e.requirement → IsFiring u set old new
@@ -333,10 +375,13 @@ module _ {N S : Type 0} (u : Universe N S) where
             requirements = plain.requirements;
             seen = plain.seen;
             asked = plain.asked;
-            called = λ call h. ⊎_elim (λ (earlier : IsFollowed old call). inl earlier) (λ (wanted : IsWantedBy u e.requirement call). inr (e, place_in old.deferred number (Some e) out.was, met, wanted)) (plain.called call h);
+            called = λ call h. ⊎_elim (λ (earlier : IsFollowed old call).
+                inl earlier) (λ (wanted : IsWantedBy u e.requirement call). inr (e, place_in old.deferred number (Some e) out.was, met, wanted))
+                (plain.called call h);
             read = plain.read;
             waiting = plain.waiting;
-            stays = λ i x at. let At : List (Option (Deferred S)) → Type 0 = λ xs. slice_get xs i ≡ Some (Some x) in kept old.deferred number i x (subst At left_now at);
+            stays = λ i x at. let At : List (Option (Deferred S)) → Type 0 = λ xs. slice_get xs i ≡ Some (Some x) in
+                kept old.deferred number i x (subst At left_now at);
             taken = λ i x at.
                 let At : List (Option (Deferred S)) → Type 0 = λ xs. slice_get xs i ≡ Some (Some x) in
                 let Fired : Deferred S → Type 0 = λ y. AllMeet set (map (matching u) y.disjunct) × HasClause new.kinds y.by y.disjunct y.requirement in
@@ -347,7 +392,8 @@ module _ {N S : Type 0} (u : Universe N S) where
                 (λ (differ : i ≢ number). inl (subst At (sym left_now) (stays_there old.deferred number i (Some x) differ at)))
                 (cases_eq i number);
             exempt = plain.exempt;
-            keeps = λ root before. step.keeps root (before.left_true e (place_in old.deferred number (Some e) out.was)).is_true (IsEncoding-taken root number e old mid out before);
+            keeps = λ root before. step.keeps root (before.left_true e (place_in old.deferred number (Some e) out.was)).is_true
+                (IsEncoding-taken root number e old mid out before);
           }
 
     module _ (old new : Notes N S) (firing : IsFiring u set old new) where
@@ -356,11 +402,19 @@ module _ {N S : Type 0} (u : Universe N S) where
       IsQuietAt-kept i before = record { quiet = λ e at. before.quiet e (firing.stays i e at) }
 
       pub IsQuietUnder-kept : (n : N) → IsQuietUnder u set old n → IsQuietUnder u set new n
-      IsQuietUnder-kept n before = record { quiet = λ i named. let Named : Groups N ℕ → Type 0 = λ g. IsNamed g n i in IsQuietAt-kept i (before.quiet i (subst Named firing.waiting named)) }
+      IsQuietUnder-kept n before = record {
+        quiet = λ i named. let Named : Groups N ℕ → Type 0 = λ g. IsNamed g n i in
+            IsQuietAt-kept i (before.quiet i (subst Named firing.waiting named));
+      }
 
       -- all of a group are
-      pub IsQuietUnder-all : (n : N) (numbers : List ℕ) → ((i : ℕ) → IsNamed old.waiting n i → Contains numbers i) → All (IsQuietAt u set new) numbers → IsQuietUnder u set new n
-      IsQuietUnder-all n numbers every quiet = record { quiet = λ i named. let Named : Groups N ℕ → Type 0 = λ g. IsNamed g n i in All-contains (IsQuietAt u set new) numbers i quiet (every i (subst Named firing.waiting named)) }
+      pub IsQuietUnder-all : (n : N) (numbers : List ℕ) → ((i : ℕ) → IsNamed old.waiting n i → Contains numbers i) → All (IsQuietAt u set new) numbers →
+          IsQuietUnder u set new n
+      IsQuietUnder-all n numbers every quiet =
+          record {
+            quiet = λ i named. let Named : Groups N ℕ → Type 0 = λ g. IsNamed g n i in
+                All-contains (IsQuietAt u set new) numbers i quiet (every i (subst Named firing.waiting named));
+          }
 
       pub groups_kept : AreGroups old.waiting → AreGroups new.waiting
       groups_kept sound = let Sound : Groups N ℕ → Type 0 = λ g. AreGroups g in subst Sound (sym firing.waiting) sound
@@ -375,7 +429,8 @@ module _ {N S : Type 0} (u : Universe N S) where
   pub AreQuiet-none : (set : List S) (notes : Notes N S) (from : ℕ) → AreQuiet set notes from from
   AreQuiet-none set notes from = record { each = λ k s low high. absurd (omega (arith, low, high)) }
 
-  pub AreQuiet-more : (set : List S) (old new : Notes N S) (from place : ℕ) (s : S) → IsFiring u set old new → slice_get set place ≡ Some s → AreQuiet set old from place → IsQuietUnder u set new (u.name s) → AreQuiet set new from (place + 1)
+  pub AreQuiet-more : (set : List S) (old new : Notes N S) (from place : ℕ) (s : S) → IsFiring u set old new → slice_get set place ≡ Some s →
+      AreQuiet set old from place → IsQuietUnder u set new (u.name s) → AreQuiet set new from (place + 1)
   AreQuiet-more set old new from place s firing at before here = record {
     each = λ k t low high is. ⊎_elim
         (λ (same : k ≡ place).
@@ -388,16 +443,19 @@ module _ {N S : Type 0} (u : Universe N S) where
       below_of : (k n : ℕ) → k < n + 1 → k ≢ n → k < n
       below_of k n high differ = ⊎_elim (λ (less : k < n). less) (λ (more : n ≤ k). absurd (differ (omega (arith, high, more)))) (cases_lt k n)
 
-  pub AreQuiet-done : (set : List S) (notes : Notes N S) (from place : ℕ) → length set ≤ place → AreQuiet set notes from place → All (λ s. IsQuietUnder u set notes (u.name s)) (drop from set)
+  pub AreQuiet-done : (set : List S) (notes : Notes N S) (from place : ℕ) → length set ≤ place → AreQuiet set notes from place →
+      All (λ s. IsQuietUnder u set notes (u.name s)) (drop from set)
   AreQuiet-done set notes from place end all k d below =
       let Quiet : S → Type 0 = λ s. IsQuietUnder u set notes (u.name s) in
       let shorter : length (drop from set) ≡ length set - from = length-drop from set in
       let inside : from + k < length set = omega (arith, shorter, below) in
-      subst Quiet (sym (get_or-drop from set k d)) (all.each (from + k) (get_or set (from + k) d) (omega arith) (omega (arith, inside, end)) (slice_get-get_or set (from + k) d inside))
+      subst Quiet (sym (get_or-drop from set k d))
+      (all.each (from + k) (get_or set (from + k) d) (omega arith) (omega (arith, inside, end)) (slice_get-get_or set (from + k) d inside))
 
 -- after one reading and another
 pub HasFired-trans : {N S : Type 0} (one two three : Notes N S) (a b : Bool) → HasFired one two a → HasFired two three b → HasFired one three (a || b)
 HasFired-trans one two three true true first second = omega (arith, first, second)
-HasFired-trans {N} {S} one two three true false first second = let Fewer : Notes N S → Type 0 = λ n. left_count n < left_count one in subst Fewer (sym second) first
+HasFired-trans {N} {S} one two three true false first second = let Fewer : Notes N S → Type 0 = λ n. left_count n < left_count one in
+    subst Fewer (sym second) first
 HasFired-trans {N} {S} one two three false true first second = let Fewer : Notes N S → Type 0 = λ n. left_count three < left_count n in subst Fewer first second
 HasFired-trans one two three false false first second = second ∙ first

@@ -1,5 +1,6 @@
 -- Groups to which a solvable was added.
-use Rattle.std.proofs.Common.{◌≡◌, ◌≢◌, ℕ, ◌+◌, ◌<◌, ◌≤◌, List, [], ◌∷◌, ◌++◌, get_or, length, length-append, arith, inl, inr, refl, sym, ap, ◌∙◌, subst, ⊎_elim, Contains, Vec, Global}
+use Rattle.std.proofs.Common.{◌≡◌, ◌≢◌, ℕ, ◌+◌, ◌<◌, ◌≤◌, List, [], ◌∷◌, ◌++◌, get_or, length, length-append, arith, inl, inr, refl, sym, ap, ◌∙◌, subst}
+use Rattle.std.proofs.Common.{⊎_elim, Contains, Vec, Global}
 use Rattle.std.specs.Prelude.{Some, slice_get}
 use Rattle.std.specs.Option.{option_map_or}
 use Rattle.std.proofs.lemmas.Bool.{cases_eq, cases_lt}
@@ -13,7 +14,8 @@ use Rattle.resolver_clause_store.proofs.PlaceLemmas.{place_in, place_left, place
 
 module _ {N S : Type 0} (old new : Groups N S) (n : N) (s : S) where
   -- the group of a new name
-  pub opened : (group : Vec S Global) → (Contains old.names.keys n → ⊥) → new.members.items ≡ old.members.items ++ group ∷ [] → new.names.keys ≡ old.names.keys ++ n ∷ [] → group.items ≡ s ∷ [] → AreGroups old → AddsNamed old new n s
+  pub opened : (group : Vec S Global) → (Contains old.names.keys n → ⊥) → new.members.items ≡ old.members.items ++ group ∷ [] →
+      new.names.keys ≡ old.names.keys ++ n ∷ [] → group.items ≡ s ∷ [] → AreGroups old → AddsNamed old new n s
   opened group absent members names one sound =
       let Names : List N → ℕ → N → Type 0 = λ list k m. slice_get list k ≡ Some m in
       let Distinct : List N → Type 0 = λ list. AreDistinct list in
@@ -21,9 +23,13 @@ module _ {N S : Type 0} (old new : Groups N S) (n : N) (s : S) where
       let Is : List S → S → Type 0 = λ list t. Contains list t in
       let Place : List S → ℕ → S → Type 0 = λ list k t. slice_get list k ≡ Some t in
       let same_group : (k : ℕ) → k < length old.members.items → group_at new.members.items k ≡ group_at old.members.items k = λ k below.
-      ap (λ list. group_at list k) members ∙ ap (λ o. option_map_or (λ (g : Vec S Global). g.items) o []) (place_left old.members.items (group ∷ []) k _ (slice_get-get_or old.members.items k group below) ∙ sym (slice_get-get_or old.members.items k group below)) in
+      ap (λ list. group_at list k) members ∙
+      ap (λ o. option_map_or (λ (g : Vec S Global). g.items) o [])
+      (place_left old.members.items (group ∷ []) k _ (slice_get-get_or old.members.items k group below) ∙
+      sym (slice_get-get_or old.members.items k group below)) in
       let last : group_at new.members.items (length old.names.keys) ≡ s ∷ [] =
-      ap (λ list. group_at list (length old.names.keys)) members ∙ ap (λ k. group_at (old.members.items ++ group ∷ []) k) (sym sound.count) ∙ ap (λ o. option_map_or (λ (g : Vec S Global). g.items) o []) (place_last old.members.items group) ∙ one in
+      ap (λ list. group_at list (length old.names.keys)) members ∙ ap (λ k. group_at (old.members.items ++ group ∷ []) k) (sym sound.count) ∙
+      ap (λ o. option_map_or (λ (g : Vec S Global). g.items) o []) (place_last old.members.items group) ∙ one in
       record {
         sound = record {
           count =
@@ -35,7 +41,8 @@ module _ {N S : Type 0} (old new : Groups N S) (n : N) (s : S) where
         earlier = λ m t h. record {
           place = h.place;
           named = subst (λ list. Names list h.place m) (sym names) (place_left old.names.keys (n ∷ []) h.place m h.named);
-          inside = subst (λ list. Is list t) (sym (same_group h.place (omega (arith, slice_get_within old.names.keys h.place m h.named, sound.count)))) h.inside;
+          inside = subst (λ list. Is list t)
+              (sym (same_group h.place (omega (arith, slice_get_within old.names.keys h.place m h.named, sound.count)))) h.inside;
         };
         here = record {
           place = length old.names.keys;
@@ -43,7 +50,12 @@ module _ {N S : Type 0} (old new : Groups N S) (n : N) (s : S) where
           inside = subst (λ list. Is list s) (sym last) (0, omega arith, refl);
         };
         only = λ m t h. ⊎_elim
-            (λ (at : slice_get old.names.keys h.place ≡ Some m). inl (record { place = h.place; named = at; inside = subst (λ list. Is list t) (same_group h.place (omega (arith, slice_get_within old.names.keys h.place m at, sound.count))) h.inside }))
+            (λ (at : slice_get old.names.keys h.place ≡ Some m). inl
+            (record {
+              place = h.place;
+              named = at;
+              inside = subst (λ list. Is list t) (same_group h.place (omega (arith, slice_get_within old.names.keys h.place m at, sound.count))) h.inside;
+            }))
             (λ (end : (h.place ≡ length old.names.keys) × (n ≡ m)).
             let of_last : Contains (s ∷ []) t = subst (λ list. Is list t) (ap (λ k. group_at new.members.items k) end.0 ∙ last) h.inside in
             ⊎_elim
@@ -63,9 +75,15 @@ module _ {N S : Type 0} (old new : Groups N S) (n : N) (s : S) where
           at = subst (λ list. Place list k t) (sym (same_group h.place (omega (arith, slice_get_within old.names.keys h.place m h.named, sound.count)))) h.at;
         };
         only_at = λ m k t h. ⊎_elim
-            (λ (at : slice_get old.names.keys h.place ≡ Some m). inl (record { place = h.place; named = at; at = subst (λ list. Place list k t) (same_group h.place (omega (arith, slice_get_within old.names.keys h.place m at, sound.count))) h.at }))
+            (λ (at : slice_get old.names.keys h.place ≡ Some m). inl
+            (record {
+              place = h.place;
+              named = at;
+              at = subst (λ list. Place list k t) (same_group h.place (omega (arith, slice_get_within old.names.keys h.place m at, sound.count))) h.at;
+            }))
             (λ (end : (h.place ≡ length old.names.keys) × (n ≡ m)). ⊎_elim
-            (λ (none : slice_get [] k ≡ Some t). let empty : List S = [] in let impossible : k < length empty = slice_get_within empty k t none in absurd (omega (arith, impossible)))
+            (λ (none : slice_get [] k ≡ Some t).
+            let empty : List S = [] in let impossible : k < length empty = slice_get_within empty k t none in absurd (omega (arith, impossible)))
             (λ (is : (k ≡ 0) × (s ≡ t)). inr (sym end.1, is.0, sym is.1))
             (place_cases [] s k t (subst (λ list. Place list k t) (ap (λ q. group_at new.members.items q) end.0 ∙ last) h.at)))
             (place_cases old.names.keys n h.place m (subst (λ list. Names list h.place m) names h.named));
@@ -81,14 +99,16 @@ module _ {N S : Type 0} (old new : Groups N S) (n : N) (s : S) where
       let Distinct : List N → Type 0 = λ list. AreDistinct list in
       let Is : List S → S → Type 0 = λ list t. Contains list t in
       let Place : List S → ℕ → S → Type 0 = λ list k t. slice_get list k ≡ Some t in
-      let pushed : group_at new.members.items place ≡ group_at old.members.items place ++ s ∷ [] = here (omega (arith, slice_get_within old.names.keys place n at, sound.count)) in
+      let pushed : group_at new.members.items place ≡ group_at old.members.items place ++ s ∷ [] =
+      here (omega (arith, slice_get_within old.names.keys place n at, sound.count)) in
       record {
         sound = record { count = count ∙ sound.count ∙ sym (ap length names); distinct = subst Distinct (sym names) sound.distinct };
         earlier = λ m t h. record {
           place = h.place;
           named = subst (λ list. Names list h.place m) (sym names) h.named;
           inside = ⊎_elim
-              (λ (e : h.place ≡ place). subst (λ list. Is list t) (sym (ap (λ k. group_at new.members.items k) e ∙ pushed)) (Contains-append_left (group_at old.members.items place) (s ∷ []) t (subst (λ k. Is (group_at old.members.items k) t) e h.inside)))
+              (λ (e : h.place ≡ place). subst (λ list. Is list t) (sym (ap (λ k. group_at new.members.items k) e ∙ pushed))
+              (Contains-append_left (group_at old.members.items place) (s ∷ []) t (subst (λ k. Is (group_at old.members.items k) t) e h.inside)))
               (λ (differ : h.place ≢ place). subst (λ list. Is list t) (sym (others h.place differ)) h.inside)
               (cases_eq h.place place);
         };
@@ -101,11 +121,13 @@ module _ {N S : Type 0} (old new : Groups N S) (n : N) (s : S) where
             let named : slice_get old.names.keys h.place ≡ Some m = subst (λ list. Names list h.place m) names h.named in
             ⊎_elim
             (λ (e : h.place ≡ place). ⊎_elim
-            (λ (before : Contains (group_at old.members.items place) t). inl (record { place = h.place; named = named; inside = subst (λ k. Is (group_at old.members.items k) t) (sym e) before }))
+            (λ (before : Contains (group_at old.members.items place) t). inl
+            (record { place = h.place; named = named; inside = subst (λ k. Is (group_at old.members.items k) t) (sym e) before }))
             (λ (is : s ≡ t).
             let both : Some m ≡ Some n = sym named ∙ ap (λ k. slice_get old.names.keys k) e ∙ at in
             inr (cc, sym is))
-            (Contains-push_cases (group_at old.members.items place) s t (subst (λ list. Is list t) (ap (λ k. group_at new.members.items k) e ∙ pushed) h.inside)))
+            (Contains-push_cases (group_at old.members.items place) s t
+            (subst (λ list. Is list t) (ap (λ k. group_at new.members.items k) e ∙ pushed) h.inside)))
             (λ (differ : h.place ≢ place). inl (record { place = h.place; named = named; inside = subst (λ list. Is list t) (others h.place differ) h.inside }))
             (cases_eq h.place place);
         number = length (group_at old.members.items place);
@@ -118,7 +140,8 @@ module _ {N S : Type 0} (old new : Groups N S) (n : N) (s : S) where
           place = h.place;
           named = subst (λ list. Names list h.place m) (sym names) h.named;
           at = ⊎_elim
-              (λ (e : h.place ≡ place). subst (λ list. Place list k t) (sym (ap (λ q. group_at new.members.items q) e ∙ pushed)) (place_left (group_at old.members.items place) (s ∷ []) k t (subst (λ q. Place (group_at old.members.items q) k t) e h.at)))
+              (λ (e : h.place ≡ place). subst (λ list. Place list k t) (sym (ap (λ q. group_at new.members.items q) e ∙ pushed))
+              (place_left (group_at old.members.items place) (s ∷ []) k t (subst (λ q. Place (group_at old.members.items q) k t) e h.at)))
               (λ (differ : h.place ≢ place). subst (λ list. Place list k t) (sym (others h.place differ)) h.at)
               (cases_eq h.place place);
         };
@@ -126,7 +149,8 @@ module _ {N S : Type 0} (old new : Groups N S) (n : N) (s : S) where
             let named : slice_get old.names.keys h.place ≡ Some m = subst (λ list. Names list h.place m) names h.named in
             ⊎_elim
             (λ (e : h.place ≡ place). ⊎_elim
-            (λ (before : slice_get (group_at old.members.items place) k ≡ Some t). inl (record { place = h.place; named = named; at = subst (λ q. Place (group_at old.members.items q) k t) (sym e) before }))
+            (λ (before : slice_get (group_at old.members.items place) k ≡ Some t). inl
+            (record { place = h.place; named = named; at = subst (λ q. Place (group_at old.members.items q) k t) (sym e) before }))
             (λ (is : (k ≡ length (group_at old.members.items place)) × (s ≡ t)).
             let both : Some m ≡ Some n = sym named ∙ ap (λ q. slice_get old.names.keys q) e ∙ at in
             inr (same_Some m n both, is.0, sym is.1))
@@ -152,7 +176,8 @@ named_of_number g n k s h = record { place = h.place; named = h.named; inside = 
 pub same_number : {N S : Type 0} (g : Groups N S) (n : N) (j k : ℕ) (s t : S) → AreGroups g → IsAt g n j s → IsAt g n k t → j ≡ k → s ≡ t
 same_number g n j k s t sound one other e =
     let places : one.place ≡ other.place = sound.distinct.same one.place other.place n one.named other.named in
-    same_Some s t (sym one.at ∙ ap (λ p. slice_get (group_at g.members.items p) j) places ∙ ap (λ i. slice_get (group_at g.members.items other.place) i) e ∙ other.at)
+    same_Some s t (sym one.at ∙ ap (λ p. slice_get (group_at g.members.items p) j) places ∙ ap (λ i. slice_get (group_at g.members.items other.place) i) e ∙
+    other.at)
 
 -- the number of one that was added is how many there were
 pub number_is : {N S : Type 0} (old new : Groups N S) (n : N) (s : S) (list : List S) → (added : AddsNamed old new n s) →
@@ -169,10 +194,17 @@ number_is {N} {S} old new n s list added each every = ⊎_elim
   where
     beyond : length list < added.number → ⊥
     beyond more =
-        let within : added.number < length (group_at new.members.items added.here_at.place) = slice_get_within (group_at new.members.items added.here_at.place) added.number s added.here_at.at in
+        let within : added.number < length (group_at new.members.items added.here_at.place) =
+        slice_get_within (group_at new.members.items added.here_at.place) added.number s added.here_at.at in
         let t : S = get_or (group_at new.members.items added.here_at.place) (length list) s in
-        let there : IsAt new n (length list) t = record { place = added.here_at.place; named = added.here_at.named; at = slice_get-get_or (group_at new.members.items added.here_at.place) (length list) s (omega (arith, more, within)) } in
+        let there : IsAt new n (length list) t =
+        record {
+          place = added.here_at.place;
+          named = added.here_at.named;
+          at = slice_get-get_or (group_at new.members.items added.here_at.place) (length list) s (omega (arith, more, within));
+        } in
         ⊎_elim
-        (λ (before : IsAt old n (length list) t). let again : length list < length list = slice_get_within list (length list) t (every (length list) t before) in omega (arith, again))
+        (λ (before : IsAt old n (length list) t).
+        let again : length list < length list = slice_get_within list (length list) t (every (length list) t before) in omega (arith, again))
         (λ (is : (n ≡ n) × (length list ≡ added.number) × (t ≡ s)). omega (arith, more, is.1))
         (added.only_at n (length list) t there)

@@ -1,5 +1,6 @@
 -- What is left out fits into no answer.
-use Rattle.std.proofs.Common.{◌≡◌, ℕ, ◌⊎◌, List, [], ◌∷◌, ◌++◌, arith, length-append, Bool, true, false, inl, inr, refl, sym, ap, ◌∙◌, subst, ⊎_elim, Contains, Some, Vec, Global}
+use Rattle.std.proofs.Common.{◌≡◌, ℕ, ◌⊎◌, List, [], ◌∷◌, ◌++◌, arith, length-append, Bool, true, false, inl, inr, refl, sym, ap, ◌∙◌, subst, ⊎_elim, Contains}
+use Rattle.std.proofs.Common.{Some, Vec, Global}
 use Rattle.std.specs.Prelude.{map, slice_get}
 use Rattle.std.specs.Option.{option_map_or}
 use Rattle.std.proofs.Math.ListN.{get_or-append}
@@ -38,7 +39,8 @@ satisfies_fewer values table more extends holds =
     λ k d below. subst True (get_or-append table extends.more d k below) (all k d (omega (arith, below, length-append table extends.more)))
 
 -- what is left out stays so
-pub left_out_more : {N S : Type 0} (origins more : List (Origin N S)) (table longer : List (Vec Literal Global)) (set larger : List S) (s : S) → Keeps origins more → Extends table longer → IsWithin set larger → IsLeftOut origins table set s → IsLeftOut more longer larger s
+pub left_out_more : {N S : Type 0} (origins more : List (Origin N S)) (table longer : List (Vec Literal Global)) (set larger : List S) (s : S) →
+    Keeps origins more → Extends table longer → IsWithin set larger → IsLeftOut origins table set s → IsLeftOut more longer larger s
 left_out_more origins more table longer set larger s keeps extends within out = record {
   variable = out.variable;
   stands = keeps.kept out.variable _ out.stands;
@@ -53,7 +55,8 @@ module _ {N S : Type 0} (u : Universe N S) where
   negative : (a b : Atom N S) → b.positive ≡ false → b ≡ a → a.positive ≡ true → ⊥
   negative a b off same on = false≢true (sym off ∙ ap (λ (c : Atom N S). c.positive) same ∙ on)
 
-  candidate_of : (kind : ClauseKind N S) → AsksForCandidates kind → (a : Atom N S) → Contains (atoms_of u kind) a → a.positive ≡ true → (s : S) × (a.origin ≡ Solvable s)
+  candidate_of : (kind : ClauseKind N S) → AsksForCandidates kind → (a : Atom N S) → Contains (atoms_of u kind) a → a.positive ≡ true → (s : S) ×
+      (a.origin ≡ Solvable s)
   candidate_of kind asks a inside on =
       let Found : Type 0 = (s : S) × (a.origin ≡ Solvable s) in
       let Among : ClauseKind N S → Type 0 = λ k. Contains (atoms_of u k) a in
@@ -65,7 +68,8 @@ module _ {N S : Type 0} (u : Universe N S) where
       let found : Found = ⊎_elim
       (λ e. absurd (negative a parent refl e on))
       (λ rest. ⊎_elim
-      (λ helper. let v = Contains-map_back (λ v. atom (ConditionHelper v) false) w.1.items a helper in absurd (negative a (atom (ConditionHelper v.0) false) refl v.2 on))
+      (λ helper. let v = Contains-map_back (λ v. atom (ConditionHelper v) false) w.1.items a helper in
+      absurd (negative a (atom (ConditionHelper v.0) false) refl v.2 on))
       (λ candidate. candidate_in (requirement_candidates u w.2) a candidate)
       (Contains-append_cases helpers candidates a rest))
       (cons_cases parent (helpers ++ candidates) a (subst Among w.3 inside))
@@ -83,7 +87,8 @@ module _ {N S : Type 0} (u : Universe N S) where
 
   module _ (root : Demands) (notes : Notes N S) (encoding : IsEncoding u root notes) where
     -- a positive literal of a clause that asks for candidates
-    pub asked_candidate : (number : ℕ) → Contains notes.requirements number → (l : Literal) → Contains (clause_at notes.table number) l → l.positive ≡ true → (s : S) × (slice_get notes.origins l.variable ≡ Some (Solvable s))
+    pub asked_candidate : (number : ℕ) → Contains notes.requirements number → (l : Literal) → Contains (clause_at notes.table number) l → l.positive ≡ true →
+        (s : S) × (slice_get notes.origins l.variable ≡ Some (Solvable s))
     asked_candidate number listed l stands on =
         let ask = encoding.ask number listed in
         let a = (encoding.encoded.each number ask.0 ask.1).atoms.each_literal l stands in
@@ -91,18 +96,24 @@ module _ {N S : Type 0} (u : Universe N S) where
         (w.0, a.2.origin ∙ ap Some w.1)
 
     -- what is left out fits into no answer with exemptions that the clauses spare
-    pub left_out_nowhere : HasLawfulSolvables u → (set exempt : List S) (s : S) → Spares u exempt notes.kinds → IsLeftOut notes.origins notes.table set s → FitsNowhere u root set exempt s
+    pub left_out_nowhere : HasLawfulSolvables u → (set exempt : List S) (s : S) → Spares u exempt notes.kinds → IsLeftOut notes.origins notes.table set s →
+        FitsNowhere u root set exempt s
     left_out_nowhere lawful set exempt s spares out = λ larger within inside ok.
-        let on : (x : ℕ) (t : S) → Contains larger t → slice_get notes.origins x ≡ Some (Solvable t) → extension u (follows u encoding.codes) notes.origins larger x ≡ true =
-        λ x t h is. ap (λ o. option_map_or (is_on u (follows u encoding.codes) larger) o false) is ∙ has-contains u (follows u encoding.codes) lawful.same_solvable larger t h in
-        let holds = valid_satisfies u encoding.codes root notes.origins notes.table notes.kinds larger exempt lawful encoding.own_codes encoding.encoded encoding.each_true spares ok in
-        both_ways _ (out.never (extension u (follows u encoding.codes) notes.origins larger) holds (λ x t h is. on x t (within t h) is)) (on out.variable s inside out.stands)
+        let on : (x : ℕ) (t : S) → Contains larger t → slice_get notes.origins x ≡ Some (Solvable t) →
+        extension u (follows u encoding.codes) notes.origins larger x ≡ true =
+        λ x t h is. ap (λ o. option_map_or (is_on u (follows u encoding.codes) larger) o false) is ∙
+        has-contains u (follows u encoding.codes) lawful.same_solvable larger t h in
+        let holds = valid_satisfies u encoding.codes root notes.origins notes.table notes.kinds larger exempt lawful encoding.own_codes encoding.encoded
+        encoding.each_true spares ok in
+        both_ways _ (out.never (extension u (follows u encoding.codes) notes.origins larger) holds (λ x t h is. on x t (within t h) is))
+        (on out.variable s inside out.stands)
 
   -- the clauses spare what is exempt, and what becomes so in a package that was not asked for
   pub spares_present : (asked : List N) (exempt : List S) (kinds : List (ClauseKind N S)) → AreDue u asked exempt kinds → Spares u exempt kinds
   spares_present asked exempt kinds due = Spares-further u asked exempt exempt kinds due (λ s h. inl h)
 
-  pub spares_exempting : (asked : List N) (exempt : List S) (s : S) (more : List S) (kinds : List (ClauseKind N S)) → AreDue u asked exempt kinds → Exempts u asked exempt s more → Spares u more kinds
+  pub spares_exempting : (asked : List N) (exempt : List S) (s : S) (more : List S) (kinds : List (ClauseKind N S)) → AreDue u asked exempt kinds →
+      Exempts u asked exempt s more → Spares u more kinds
   spares_exempting asked exempt s more kinds due (asked_before was) = spares_present asked exempt kinds due
   spares_exempting asked exempt s more kinds due (not_asked free) = Spares-further u asked exempt (exempt ++ s ∷ []) kinds due (λ t h. ⊎_elim
       (λ was. inl was)

@@ -13,10 +13,12 @@ use Rattle.resolver_encoding.proofs.Lists.{none_in}
 module _ {N S : Type 0} (old new : Listing N S) where
   -- one more rule, whose mark may be noted
   pub pushed_with : (rule : Rule N S) → HasMarks old → new.rules.items ≡ old.rules.items ++ rule ∷ [] →
-      ((m : Mark N S) → Contains new.marked.keys m → Contains old.marked.keys m ⊎ (one_per_package m.name m.instance ≡ statement_of rule)) → AddsRules (λ st. st ≡ statement_of rule) old new
+      ((m : Mark N S) → Contains new.marked.keys m → Contains old.marked.keys m ⊎ (one_per_package m.name m.instance ≡ statement_of rule)) →
+      AddsRules (λ st. st ≡ statement_of rule) old new
   pushed_with rule marks items noted =
       let Has : List (Rule N S) → Rule N S → Type 0 = λ list r. Contains list r in
-      let kept : (r : Rule N S) → Contains old.rules.items r → Contains new.rules.items r = λ r h. subst (λ list. Has list r) (sym items) (Contains-append_left old.rules.items (rule ∷ []) r h) in
+      let kept : (r : Rule N S) → Contains old.rules.items r → Contains new.rules.items r =
+      λ r h. subst (λ list. Has list r) (sym items) (Contains-append_left old.rules.items (rule ∷ []) r h) in
       let last : Contains new.rules.items rule = subst (λ list. Has list rule) (sym items) (Contains-push old.rules.items rule) in
       record {
         marks = λ m h. ⊎_elim
@@ -32,12 +34,14 @@ module _ {N S : Type 0} (old new : Listing N S) where
       }
 
   -- one more rule
-  pub pushed : (rule : Rule N S) → HasMarks old → new.rules.items ≡ old.rules.items ++ rule ∷ [] → new.marked.keys ≡ old.marked.keys → AddsRules (λ st. st ≡ statement_of rule) old new
+  pub pushed : (rule : Rule N S) → HasMarks old → new.rules.items ≡ old.rules.items ++ rule ∷ [] → new.marked.keys ≡ old.marked.keys →
+      AddsRules (λ st. st ≡ statement_of rule) old new
   pushed rule marks items noted = let Has : List (Mark N S) → Mark N S → Type 0 = λ list m. Contains list m in
       pushed_with rule marks items (λ m h. inl (subst (λ list. Has list m) noted h))
 
   -- one more mark, which is noted
-  pub marked_first : (m : Mark N S) → HasMarks old → new.rules.items ≡ old.rules.items ++ OnePerPackage m.name m.instance ∷ [] → new.marked.keys ≡ old.marked.keys ++ m ∷ [] → AddsRules (λ st. st ≡ one_per_package m.name m.instance) old new
+  pub marked_first : (m : Mark N S) → HasMarks old → new.rules.items ≡ old.rules.items ++ OnePerPackage m.name m.instance ∷ [] →
+      new.marked.keys ≡ old.marked.keys ++ m ∷ [] → AddsRules (λ st. st ≡ one_per_package m.name m.instance) old new
   marked_first m marks items noted =
       let Has : List (Mark N S) → Mark N S → Type 0 = λ list q. Contains list q in
       let Of : Mark N S → Statement N S = λ q. one_per_package q.name q.instance in
@@ -47,7 +51,8 @@ module _ {N S : Type 0} (old new : Listing N S) where
       (Contains-push_cases old.marked.keys m q (subst (λ list. Has list q) noted h)))
 
   -- the same statements in other words
-  pub added_same : (P Q : Statement N S → Type 0) → ((st : Statement N S) → P st → Q st) → ((st : Statement N S) → Q st → P st) → AddsRules P old new → AddsRules Q old new
+  pub added_same : (P Q : Statement N S → Type 0) → ((st : Statement N S) → P st → Q st) → ((st : Statement N S) → Q st → P st) → AddsRules P old new →
+      AddsRules Q old new
   added_same P Q there back adds = record {
     marks = adds.marks;
     kept = adds.kept;
@@ -56,11 +61,13 @@ module _ {N S : Type 0} (old new : Listing N S) where
   }
 
   -- all of a list were added
-  pub added_done : {X : Type 0} (xs : List X) (i : ℕ) (Says : X → Statement N S → Type 0) → length xs ≤ i → AddsRules (SomeOf (take i xs) Says) old new → AddsRules (SomeOf xs Says) old new
+  pub added_done : {X : Type 0} (xs : List X) (i : ℕ) (Says : X → Statement N S → Type 0) → length xs ≤ i → AddsRules (SomeOf (take i xs) Says) old new →
+      AddsRules (SomeOf xs Says) old new
   added_done {X} xs i Says end adds = let Adds : List X → Type 0 = λ list. AddsRules (SomeOf list Says) old new in subst Adds (take_all i xs end) adds
 
   -- rules of a list, and of one more
-  pub rules_next : {X : Type 0} (xs : List X) (x : X) (Says : X → Statement N S → Type 0) → AreRulesOf (SomeOf xs Says) old.rules.items → AddsRules (Says x) old new → AreRulesOf (SomeOf (xs ++ x ∷ []) Says) new.rules.items
+  pub rules_next : {X : Type 0} (xs : List X) (x : X) (Says : X → Statement N S → Type 0) → AreRulesOf (SomeOf xs Says) old.rules.items →
+      AddsRules (Says x) old new → AreRulesOf (SomeOf (xs ++ x ∷ []) Says) new.rules.items
   rules_next {X} xs x Says are adds = record {
     listed = λ st h. ⊎_elim
         (λ a. let w = are.listed st (h.0, a, h.2) in (w.0, adds.kept w.0 w.1, w.2))
@@ -115,7 +122,8 @@ module _ {N S : Type 0} (old mid new : Listing N S) where
   }
 
   -- rules of a list, and then of one more
-  pub added_next : {X : Type 0} (xs : List X) (x : X) (Says : X → Statement N S → Type 0) → AddsRules (SomeOf xs Says) old mid → AddsRules (Says x) mid new → AddsRules (SomeOf (xs ++ x ∷ []) Says) old new
+  pub added_next : {X : Type 0} (xs : List X) (x : X) (Says : X → Statement N S → Type 0) → AddsRules (SomeOf xs Says) old mid → AddsRules (Says x) mid new →
+      AddsRules (SomeOf (xs ++ x ∷ []) Says) old new
   added_next {X} xs x Says first second = added_same old new (λ st. SomeOf xs Says st ⊎ Says x st) (SomeOf (xs ++ x ∷ []) Says)
       (λ st h. ⊎_elim (λ a. (a.0, Contains-append_left xs (x ∷ []) a.0 a.1, a.2)) (λ b. (x, Contains-push xs x, b)) h)
       (λ st h. ⊎_elim
@@ -125,7 +133,8 @@ module _ {N S : Type 0} (old mid new : Listing N S) where
       (added_both (SomeOf xs Says) (Says x) first second)
 
   -- the same of the element at hand
-  pub added_item : {X : Type 0} (xs : List X) (i : ℕ) (x : X) (Says : X → Statement N S → Type 0) → i < length xs → x ≡ get_or xs i x → AddsRules (SomeOf (take i xs) Says) old mid → AddsRules (Says x) mid new → AddsRules (SomeOf (take (i + 1) xs) Says) old new
+  pub added_item : {X : Type 0} (xs : List X) (i : ℕ) (x : X) (Says : X → Statement N S → Type 0) → i < length xs → x ≡ get_or xs i x →
+      AddsRules (SomeOf (take i xs) Says) old mid → AddsRules (Says x) mid new → AddsRules (SomeOf (take (i + 1) xs) Says) old new
   added_item {X} xs i x Says below is first second =
       let Adds : List X → Type 0 = λ list. AddsRules (SomeOf list Says) old new in
       let more : take (i + 1) xs ≡ take i xs ++ x ∷ [] = take_more xs i x below ∙ ap (λ y. take i xs ++ y ∷ []) (sym is) in

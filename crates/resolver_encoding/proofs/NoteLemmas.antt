@@ -1,14 +1,17 @@
 -- Steps that note a clause of a plain kind, a variable, a solvable, a package or a helper.
-use Rattle.std.proofs.Common.{◌≡◌, ◌≢◌, ◌⊎◌, ℕ, ◌+◌, ◌<◌, length, get_or, take, List, [], ◌∷◌, ◌++◌, refl, sym, ◌∙◌, subst, ⊎_elim, inl, inr, Contains, All, Bool, true, false}
+use Rattle.std.proofs.Common.{◌≡◌, ◌≢◌, ◌⊎◌, ℕ, ◌+◌, ◌<◌, length, get_or, take, List, [], ◌∷◌, ◌++◌, refl, sym, ◌∙◌, subst, ⊎_elim, inl, inr, Contains, All}
+use Rattle.std.proofs.Common.{Bool, true, false}
 use Rattle.std.specs.Prelude.{Option, Some, None, ⊤}
 use Rattle.std.proofs.lemmas.Bool.{true≢false}
-use Rattle.std.proofs.lemmas.List.Elements.{All-contains, All-contains_itself, All-get_or, All-more, All-weaker, Contains-append_left, Contains-push, Contains-push_cases}
+use Rattle.std.proofs.lemmas.List.Elements.{All-contains, All-contains_itself, All-get_or, All-more, All-weaker, Contains-append_left, Contains-push}
+use Rattle.std.proofs.lemmas.List.Elements.{Contains-push_cases}
 use Rattle.resolver_clause_store.specs.Laws.{IsIdentity}
 use Rattle.resolver_clause_store.specs.Lists.{IsWithin}
 use Rattle.resolver_clause_store.specs.Universe.{Universe, Demands, Package}
 use Rattle.resolver_clause_store.specs.Candidates.{matching, others}
 use Rattle.resolver_clause_store.specs.declared.ClauseKind.{ClauseKind}
-use Rattle.resolver_clause_store.specs.declared.ClauseKind.TheVariants.{InstallRoot, Requires, AnyOf, GateRequires, Constrains, ConstrainsExcluded, ConstrainsParent, HasBit, Lock, Excluded}
+use Rattle.resolver_clause_store.specs.declared.ClauseKind.TheVariants.{InstallRoot, Requires, AnyOf, GateRequires, Constrains, ConstrainsExcluded}
+use Rattle.resolver_clause_store.specs.declared.ClauseKind.TheVariants.{ConstrainsParent, HasBit, Lock, Excluded}
 use Rattle.resolver_clause_store.specs.declared.Origin.{Origin}
 use Rattle.resolver_clause_store.specs.declared.Origin.TheVariants.{Root, Solvable, ConditionHelper}
 use Rattle.resolver_clause_store.specs.declared.Requirement.{Requirement}
@@ -18,16 +21,20 @@ use Rattle.resolver_clause_store.proofs.PlaceLemmas.{Keeps-same, place_in, place
 use Rattle.resolver_clause_store.proofs.SetLemmas.{All-next}
 use Rattle.resolver_encoding.specs.Atoms.{atoms_of}
 use Rattle.resolver_encoding.specs.Called.{Call, IsAsking, IsNamedBy, IsSeeing, IsSeeingEach, to_ask, to_see}
-use Rattle.resolver_encoding.specs.Encodings.{AddsClause, AsksForCandidates, Doing, Extends, Grows, HasUsualHelper, IsAskStep, IsEncodingWhile, IsFollowed, IsLockRead, IsStep, IsStepWhile, Notes, asking_for, idle}
+use Rattle.resolver_encoding.specs.Encodings.{AddsClause, AsksForCandidates, Doing, Extends, Grows, HasUsualHelper, IsAskStep, IsEncodingWhile, IsFollowed}
+use Rattle.resolver_encoding.specs.Encodings.{IsLockRead, IsStep, IsStepWhile, Notes, asking_for, idle}
 use Rattle.resolver_encoding.specs.Truth.{AreDue, IsTrueClause}
 use Rattle.resolver_encoding.proofs.Lists.{cons_cases, here, there}
-use Rattle.resolver_encoding.proofs.EncodingLemmas.{AreEncoded-keeps, Extends-same, HasCodes, IsClauseOf-zip, IsDue, IsPrepared, IsStep-clause, IsWithin-push, IsWithin-same}
+use Rattle.resolver_encoding.proofs.EncodingLemmas.{AreEncoded-keeps, Extends-same, HasCodes, IsClauseOf-zip, IsDue, IsPrepared, IsStep-clause, IsWithin-push}
+use Rattle.resolver_encoding.proofs.EncodingLemmas.{IsWithin-same}
 
 -- one more element of a list, by facts that grew
-pub All-grown : {X : Type 0} (P P' : X → Type 0) (xs : List X) (i : ℕ) (x : X) → ((y : X) → P y → P' y) → i < length xs → x ≡ get_or xs i x → All P (take i xs) → P' x → All P' (take (i + 1) xs)
+pub All-grown : {X : Type 0} (P P' : X → Type 0) (xs : List X) (i : ℕ) (x : X) → ((y : X) → P y → P' y) → i < length xs → x ≡ get_or xs i x →
+    All P (take i xs) → P' x → All P' (take (i + 1) xs)
 All-grown P P' xs i x grown below is all here = All-next P' xs i x below is (All-weaker P P' grown (take i xs) all) here
 
-pub All-grown_at : {X : Type 0} (P P' : X → Type 0) (xs : List X) (i : ℕ) (d : X) → ((y : X) → P y → P' y) → i < length xs → All P (take i xs) → P' (get_or xs i d) → All P' (take (i + 1) xs)
+pub All-grown_at : {X : Type 0} (P P' : X → Type 0) (xs : List X) (i : ℕ) (d : X) → ((y : X) → P y → P' y) → i < length xs → All P (take i xs) →
+    P' (get_or xs i d) → All P' (take (i + 1) xs)
 All-grown_at P P' xs i d grown below all here = All-more P' xs i d below (All-weaker P P' grown (take i xs) all) here
 
 -- two that the test tells apart are not the same
@@ -60,25 +67,39 @@ asking_same n m same (to_ask q) asking = sym same ∙ asking
 asking_same n m same (to_see s) asking = asking
 
 -- an element of a list
-pub seen_here : {N S : Type 0} (list : List S) (i : ℕ) (s : S) → i < length list → s ≡ get_or list i s → (call : Call N S) → IsSeeing s call → IsSeeingEach list call
+pub seen_here : {N S : Type 0} (list : List S) (i : ℕ) (s : S) → i < length list → s ≡ get_or list i s → (call : Call N S) → IsSeeing s call →
+    IsSeeingEach list call
 seen_here list i s below is (to_ask n) seeing = seeing
-seen_here {N} {S} list i s below is (to_see t) same = let Has : S → Type 0 = λ x. Contains list x in subst Has same (subst Has (sym is) (All-get_or (Contains list) list i s below (All-contains_itself list)))
+seen_here {N} {S} list i s below is (to_see t) same = let Has : S → Type 0 = λ x. Contains list x in
+    subst Has same (subst Has (sym is) (All-get_or (Contains list) list i s below (All-contains_itself list)))
 
 module _ {N S : Type 0} (u : Universe N S) where
   -- the package of an element of a list
-  pub named_here : (list : List VersionSetId) (i : ℕ) (d : VersionSetId) (n : N) (call : Call N S) → i < length list → n ≡ u.version_set_name (get_or list i d) → IsAsking n call → IsNamedBy u list call
+  pub named_here : (list : List VersionSetId) (i : ℕ) (d : VersionSetId) (n : N) (call : Call N S) → i < length list →
+      n ≡ u.version_set_name (get_or list i d) → IsAsking n call → IsNamedBy u list call
   named_here list i d n (to_ask m) below is same = (get_or list i d, All-get_or (Contains list) list i d below (All-contains_itself list), sym is ∙ same)
   named_here list i d n (to_see s) below is asking = asking
 
   -- one more clause of a plain kind
-  pub IsStep-plain : (doing : Doing N S) (Premise : Demands → Type 0) (old new : Notes N S) (kind : ClauseKind N S) → AddsClause old new kind (atoms_of u kind) → IsPlain kind →
-      ((root : Demands) → Premise root → IsEncodingWhile u doing root old → (codes : N → ℕ → S → Bool) → HasCodes u doing old codes → IsTrueClause u codes root kind) → HasUsualHelper kind → IsDue u (doing.asking ++ old.asked) old.exempt kind → IsPrepared u doing old kind → IsStepWhile u doing Premise old new
+  pub IsStep-plain : (doing : Doing N S) (Premise : Demands → Type 0) (old new : Notes N S) (kind : ClauseKind N S) →
+      AddsClause old new kind (atoms_of u kind) → IsPlain kind →
+      ((root : Demands) → Premise root → IsEncodingWhile u doing root old → (codes : N → ℕ → S → Bool) → HasCodes u doing old codes →
+      IsTrueClause u codes root kind) → HasUsualHelper kind → IsDue u (doing.asking ++ old.asked) old.exempt kind → IsPrepared u doing old kind →
+      IsStepWhile u doing Premise old new
   IsStep-plain doing Premise old new kind adds plain is_true usual due prepared =
       IsStep-clause u doing Premise old new kind (atoms_of u kind) adds (asks_not kind plain)
-      (λ root premise before. record { clause = IsClauseOf-zip u new.origins adds.literals.items kind adds.are; is_true = is_true root premise before; usual = usual; due = due; prepared = prepared })
+      (λ root premise before. record {
+        clause = IsClauseOf-zip u new.origins adds.literals.items kind adds.are;
+        is_true = is_true root premise before;
+        usual = usual;
+        due = due;
+        prepared = prepared;
+      })
 
   -- variables were added
-  pub IsStep-origins : (doing : Doing N S) (Premise : Demands → Type 0) (old new : Notes N S) (origins : List (Origin N S)) (limit : ℕ) → Grows old.origins origins → limit ≡ old.variable_limit → new ≡ record old { origins = origins; variable_limit = limit } → IsStepWhile u doing Premise old new
+  pub IsStep-origins : (doing : Doing N S) (Premise : Demands → Type 0) (old new : Notes N S) (origins : List (Origin N S)) (limit : ℕ) →
+      Grows old.origins origins → limit ≡ old.variable_limit → new ≡ record old { origins = origins; variable_limit = limit } →
+      IsStepWhile u doing Premise old new
   IsStep-origins doing Premise old new origins limit grows same is =
       let Step : Notes N S → Type 0 = λ n. IsStepWhile u doing Premise old n in
       subst Step (sym (is ∙ (λ i. record old { origins = origins; variable_limit = same i }))) (record {
@@ -118,7 +139,8 @@ module _ {N S : Type 0} (u : Universe N S) where
           follow = before.follow;
           locks = before.locks;
           exclusions = before.exclusions;
-          registered = λ s h. let at = place_of_member old.origins (Solvable s) (before.registered s h) in place_in origins at.0 (Solvable s) (grows.keeps.kept at.0 (Solvable s) at.1);
+          registered = λ s h. let at = place_of_member old.origins (Solvable s) (before.registered s h) in
+              place_in origins at.0 (Solvable s) (grows.keeps.kept at.0 (Solvable s) at.1);
           placed = before.placed;
           coding = before.coding;
           coded = before.coded;
@@ -137,12 +159,14 @@ module _ {N S : Type 0} (u : Universe N S) where
     pub lock : IsLockRead kinds exempt p.locked p.listed
     pub exclusions : All (λ e. (Contains exempt e.0 → ⊥) → Contains kinds (Excluded e.0 e.1)) p.excluded
 
-  lock_of : (kinds : List (ClauseKind N S)) (exempt listed : List S) (locked : Option S) (s t : S) → IsLockRead kinds exempt locked listed → locked ≡ Some t → Contains listed s → s ≢ t → (Contains exempt s → ⊥) → Contains kinds (Lock t s)
+  lock_of : (kinds : List (ClauseKind N S)) (exempt listed : List S) (locked : Option S) (s t : S) → IsLockRead kinds exempt locked listed → locked ≡ Some t →
+      Contains listed s → s ≢ t → (Contains exempt s → ⊥) → Contains kinds (Lock t s)
   lock_of kinds exempt listed locked s t read is inside differ free =
       let Read : Option S → Type 0 = λ o. IsLockRead kinds exempt o listed in
       All-contains (λ r. (r ≡ t → ⊥) → (Contains exempt r → ⊥) → Contains kinds (Lock t r)) listed s (subst Read is read) inside differ free
 
-  AreDue-within : (asked more : List N) (exempt : List S) (kinds : List (ClauseKind N S)) → IsWithin asked more → AreDue u asked exempt kinds → AreDue u more exempt kinds
+  AreDue-within : (asked more : List N) (exempt : List S) (kinds : List (ClauseKind N S)) → IsWithin asked more → AreDue u asked exempt kinds →
+      AreDue u more exempt kinds
   AreDue-within asked more exempt kinds within due = record {
     locks = λ s t h. let w = due.locks s t h in (within _ w.0, w.1);
     exclusions = λ s reason h. ⊎_elim (λ w. inl (within _ w.0, w.1)) (λ e. inr e) (due.exclusions s reason h);
@@ -187,12 +211,15 @@ module _ {N S : Type 0} (u : Universe N S) where
   }
 
   -- of a package that is noted as asked, and of nothing else
-  asked_alone : (old mid : Notes N S) (n : N) → mid.asked ≡ old.asked → mid.seen ≡ old.seen → (call : Call N S) → IsFollowed (record mid { asked = mid.asked ++ n ∷ [] }) call → IsFollowed old call ⊎ IsAsking n call
-  asked_alone old mid n asked seen (to_ask m) h = let Has : List N → Type 0 = λ list. Contains list m in ⊎_elim (λ (earlier : Contains mid.asked m). inl (subst Has asked earlier)) (λ (is : n ≡ m). inr is) (Contains-push_cases mid.asked n m h)
+  asked_alone : (old mid : Notes N S) (n : N) → mid.asked ≡ old.asked → mid.seen ≡ old.seen → (call : Call N S) →
+      IsFollowed (record mid { asked = mid.asked ++ n ∷ [] }) call → IsFollowed old call ⊎ IsAsking n call
+  asked_alone old mid n asked seen (to_ask m) h = let Has : List N → Type 0 = λ list. Contains list m in
+      ⊎_elim (λ (earlier : Contains mid.asked m). inl (subst Has asked earlier)) (λ (is : n ≡ m). inr is) (Contains-push_cases mid.asked n m h)
   asked_alone old mid n asked seen (to_see s) h = let Has : List S → Type 0 = λ list. Contains list s in inl (subst Has seen h)
 
   -- a package is asked: its locks and exclusions are made, and then it is noted
-  pub IsStep-asked : (old mid new : Notes N S) (n : N) → IsStepWhile u (asking_for n) (λ root. ⊤) old mid → mid.asked ≡ old.asked → new ≡ record mid { asked = mid.asked ++ n ∷ [] } → IsPackageRead mid.kinds mid.exempt (u.package_named n) → IsAskStep u (IsAsking n) (λ root. ⊤) old new
+  pub IsStep-asked : (old mid new : Notes N S) (n : N) → IsStepWhile u (asking_for n) (λ root. ⊤) old mid → mid.asked ≡ old.asked →
+      new ≡ record mid { asked = mid.asked ++ n ∷ [] } → IsPackageRead mid.kinds mid.exempt (u.package_named n) → IsAskStep u (IsAsking n) (λ root. ⊤) old new
   IsStep-asked old mid new n step same e read =
       let Step : Notes N S → Type 0 = λ m. IsAskStep u (IsAsking n) (λ root. ⊤) old m in
       let Seen : List S → Type 0 = λ list. Extends old.seen list in
@@ -202,7 +229,8 @@ module _ {N S : Type 0} (u : Universe N S) where
         kinds = step.kinds;
         requirements = step.requirements;
         seen = subst Seen (sym step.seen) (Extends-same old.seen);
-        asked = let Asked : List N → Type 0 = λ list. IsWithin old.asked (list ++ n ∷ []) in subst Asked (sym same) (λ m h. Contains-append_left old.asked (n ∷ []) m h);
+        asked = let Asked : List N → Type 0 = λ list. IsWithin old.asked (list ++ n ∷ []) in
+            subst Asked (sym same) (λ m h. Contains-append_left old.asked (n ∷ []) m h);
         called = asked_alone old mid n same step.seen;
         read = step.read;
         deferred = step.deferred;
@@ -247,7 +275,8 @@ module _ {N S : Type 0} (u : Universe N S) where
                   (λ (is : n ≡ u.name s).
                   let P : N → Type 0 = λ m. IsPackageRead mid.kinds mid.exempt (u.package_named m) in
                   let r : IsPackageRead mid.kinds mid.exempt (u.package_named (u.name s)) = subst P is read in
-                  All-contains (λ x. (Contains mid.exempt x.0 → ⊥) → Contains mid.kinds (Excluded x.0 x.1)) (u.package_named (u.name s)).excluded (s, reason) r.exclusions inside free)
+                  All-contains (λ x. (Contains mid.exempt x.0 → ⊥) → Contains mid.kinds (Excluded x.0 x.1)) (u.package_named (u.name s)).excluded
+                  (s, reason) r.exclusions inside free)
                   (Contains-push_cases mid.asked n (u.name s) h);
               registered = before.registered;
               placed = before.placed;
@@ -264,7 +293,8 @@ module _ {N S : Type 0} (u : Universe N S) where
       })
 
   -- a package's lists, as they were found
-  pub IsPackageRead-found : (kinds more : List (ClauseKind N S)) (exempt exempt' : List S) → IsWithin kinds more → exempt' ≡ exempt → (p : Package S) (listed : List S) (locked : Option S) (excluded : List (S × StringId)) → listed ≡ p.listed → locked ≡ p.locked → excluded ≡ p.excluded →
+  pub IsPackageRead-found : (kinds more : List (ClauseKind N S)) (exempt exempt' : List S) → IsWithin kinds more → exempt' ≡ exempt →
+      (p : Package S) (listed : List S) (locked : Option S) (excluded : List (S × StringId)) → listed ≡ p.listed → locked ≡ p.locked → excluded ≡ p.excluded →
       IsLockRead kinds exempt locked listed → All (λ e. (Contains exempt' e.0 → ⊥) → Contains more (Excluded e.0 e.1)) excluded → IsPackageRead more exempt' p
   IsPackageRead-found kinds more exempt exempt' within same p listed locked excluded are lock forbids lock_read exclusions =
       let Lock_read : List S → Type 0 = λ xs. IsLockRead more exempt' p.locked xs in
@@ -278,10 +308,12 @@ module _ {N S : Type 0} (u : Universe N S) where
     where
       grown : (o : Option S) → IsLockRead kinds exempt o listed → IsLockRead more exempt o listed
       grown None h = tt
-      grown (Some t) h = All-weaker (λ s. (s ≡ t → ⊥) → (Contains exempt s → ⊥) → Contains kinds (Lock t s)) (λ s. (s ≡ t → ⊥) → (Contains exempt s → ⊥) → Contains more (Lock t s)) (λ s k apart free. within (Lock t s) (k apart free)) listed h
+      grown (Some t) h = All-weaker (λ s. (s ≡ t → ⊥) → (Contains exempt s → ⊥) → Contains kinds (Lock t s)) (λ s.
+          (s ≡ t → ⊥) → (Contains exempt s → ⊥) → Contains more (Lock t s)) (λ s k apart free. within (Lock t s) (k apart free)) listed h
 
   -- one more helper, which follows from each that matches
-  pub IsStep-helped : (old new : Notes N S) (v : VersionSetId) → new ≡ record old { helped = old.helped ++ v ∷ [] } → ((s : S) → Contains (matching u v) s → Contains old.kinds (AnyOf (ConditionHelper v) s)) → IsStep u (λ root. ⊤) old new
+  pub IsStep-helped : (old new : Notes N S) (v : VersionSetId) → new ≡ record old { helped = old.helped ++ v ∷ [] } →
+      ((s : S) → Contains (matching u v) s → Contains old.kinds (AnyOf (ConditionHelper v) s)) → IsStep u (λ root. ⊤) old new
   IsStep-helped old new v e follows =
       let Step : Notes N S → Type 0 = λ m. IsStep u (λ root. ⊤) old m in
       subst Step (sym e) (record {
@@ -320,7 +352,8 @@ module _ {N S : Type 0} (u : Universe N S) where
           excluded = before.excluded;
           follow = λ w h s m. ⊎_elim
               (λ (earlier : Contains old.helped w). before.follow w earlier s m)
-              (λ (is : v ≡ w). let Follows : VersionSetId → Type 0 = λ x. (t : S) → Contains (matching u x) t → Contains old.kinds (AnyOf (ConditionHelper x) t) in subst Follows is follows s m)
+              (λ (is : v ≡ w). let Follows : VersionSetId → Type 0 = λ x. (t : S) → Contains (matching u x) t →
+              Contains old.kinds (AnyOf (ConditionHelper x) t) in subst Follows is follows s m)
               (Contains-push_cases old.helped v w h);
           locks = before.locks;
           exclusions = before.exclusions;
@@ -339,7 +372,8 @@ module _ {N S : Type 0} (u : Universe N S) where
       })
 
   -- one more gate, whose clause is there
-  pub IsStep-gated : (old new : Notes N S) (r : Requirement) → new ≡ record old { gates = old.gates ++ r ∷ [] } → Contains old.kinds (GateRequires r) → IsStep u (λ root. ⊤) old new
+  pub IsStep-gated : (old new : Notes N S) (r : Requirement) → new ≡ record old { gates = old.gates ++ r ∷ [] } → Contains old.kinds (GateRequires r) →
+      IsStep u (λ root. ⊤) old new
   IsStep-gated old new r e has =
       let Step : Notes N S → Type 0 = λ m. IsStep u (λ root. ⊤) old m in
       subst Step (sym e) (record {
@@ -397,7 +431,8 @@ module _ {N S : Type 0} (u : Universe N S) where
       })
 
   -- one more helper of a constraint, which follows from each that it forbids
-  pub IsStep-constrained : (old new : Notes N S) (v : VersionSetId) → new ≡ record old { constrained = old.constrained ++ v ∷ [] } → ((s : S) → Contains (others u v) s → Contains old.kinds (ConstrainsExcluded s v)) → IsStep u (λ root. ⊤) old new
+  pub IsStep-constrained : (old new : Notes N S) (v : VersionSetId) → new ≡ record old { constrained = old.constrained ++ v ∷ [] } →
+      ((s : S) → Contains (others u v) s → Contains old.kinds (ConstrainsExcluded s v)) → IsStep u (λ root. ⊤) old new
   IsStep-constrained old new v e follows =
       let Step : Notes N S → Type 0 = λ m. IsStep u (λ root. ⊤) old m in
       subst Step (sym e) (record {
@@ -435,7 +470,8 @@ module _ {N S : Type 0} (u : Universe N S) where
           gated = before.gated;
           excluded = λ w h s m. ⊎_elim
               (λ (earlier : Contains old.constrained w). before.excluded w earlier s m)
-              (λ (is : v ≡ w). let Follows : VersionSetId → Type 0 = λ x. (t : S) → Contains (others u x) t → Contains old.kinds (ConstrainsExcluded t x) in subst Follows is follows s m)
+              (λ (is : v ≡ w). let Follows : VersionSetId → Type 0 = λ x. (t : S) → Contains (others u x) t → Contains old.kinds (ConstrainsExcluded t x) in
+              subst Follows is follows s m)
               (Contains-push_cases old.constrained v w h);
           follow = before.follow;
           locks = before.locks;

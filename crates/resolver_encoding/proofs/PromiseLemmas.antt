@@ -32,7 +32,8 @@ use Rattle.resolver_encoding.specs.Encodings.{Notes}
 use Rattle.resolver_encoding.specs.ReadState.{AreSeeds}
 use Rattle.resolver_encoding.specs.SoFar.{IsReadSoFar}
 use Rattle.resolver_clause_store.specs.Statements.{AllMeet}
-use Rattle.resolver_encoding.specs.TrailAtoms.{IsEntailed, IsFirstOpen, IsBecause, needed, needed_gate, seeded, left_out, forced, IsTrail, begun, went_on, IsChosen}
+use Rattle.resolver_encoding.specs.TrailAtoms.{IsEntailed, IsFirstOpen, IsBecause, needed, needed_gate, seeded, left_out, forced, IsTrail, begun, went_on}
+use Rattle.resolver_encoding.specs.TrailAtoms.{IsChosen}
 use Rattle.resolver_encoding.specs.Trails.{AreAssumed, atoms_before, solvables_before}
 use Rattle.resolver_encoding.specs.Truth.{AreCodes, HasLawfulSolvables, is_plain, follows, IsTrueClause, Spares}
 use Rattle.resolver_encoding.proofs.Bridge.{finished_is_valid, is_chosen, is_trail}
@@ -68,7 +69,8 @@ first_is {X} (x ∷ more) after s f xs e h =
 
 module _ {N S : Type 0} (u : Universe N S) (root : Demands) (lawful : HasLawfulSolvables u) (firsts : List S) (promised : IsPromised u root firsts) where
   first_in : (s : S) → IsFirstNext u root (Contains firsts) s → Contains firsts s
-  first_in s h = (promised.members s).1 (IsFirst-closed u root s (IsFirstNext-within u root (Contains firsts) (IsFirst u root) (λ t i. (promised.members t).0 i) s h))
+  first_in s h = (promised.members s).1
+      (IsFirst-closed u root s (IsFirstNext-within u root (Contains firsts) (IsFirst u root) (λ t i. (promised.members t).0 i) s h))
 
   -- an active requirement is of one version set, and its first choice is there
   record IsMet (r : Requirement) : Type 0 where
@@ -78,7 +80,8 @@ module _ {N S : Type 0} (u : Universe N S) (root : Demands) (lawful : HasLawfulS
     choice : first_choice u v ≡ Some s
     inside : Contains firsts s
 
-  met_of : (r : ConditionalRequirement) (q : Requirement) → r.requirement ≡ q → valid.Requires u root (Contains firsts) r → IsActive u (Contains firsts) r → IsMet q
+  met_of : (r : ConditionalRequirement) (q : Requirement) → r.requirement ≡ q → valid.Requires u root (Contains firsts) r → IsActive u (Contains firsts) r →
+      IsMet q
   met_of r (Single v) e requires active =
       let HasMember : Requirement → Type 0 = λ p. Meets (requirement_candidates u p) firsts in
       let m = subst HasMember e (promised.valid.required r requires active) in
@@ -102,7 +105,8 @@ module _ {N S : Type 0} (u : Universe N S) (root : Demands) (lawful : HasLawfulS
     of_firsts s inside = has-contains u (follows u codes) lawful.same_solvable firsts s inside
 
     -- the first candidate that is not false is the first of all
-    decided : (earlier : List (Atom N S)) → Agrees earlier → (r : ConditionalRequirement) (q : Requirement) (s : S) → r.requirement ≡ q → valid.Requires u root (Contains firsts) r → IsActive u (Contains firsts) r → IsFirstOpen u earlier q s → Contains firsts s
+    decided : (earlier : List (Atom N S)) → Agrees earlier → (r : ConditionalRequirement) (q : Requirement) (s : S) → r.requirement ≡ q →
+        valid.Requires u root (Contains firsts) r → IsActive u (Contains firsts) r → IsFirstOpen u earlier q s → Contains firsts s
     decided earlier before r q s e requires active it =
         let met = met_of r q e requires active in
         let First : List S → Type 0 = λ xs. slice_get xs 0 ≡ Some met.s in
@@ -116,7 +120,8 @@ module _ {N S : Type 0} (u : Universe N S) (root : Demands) (lawful : HasLawfulS
     because earlier before a (needed by disjunct r s clause parent helpers open_one) =
         let here_is = present u (follows u codes) lawful.same_solvable firsts by (before _ parent) in
         let meets : AllMeet firsts (map (matching u) disjunct.items) = All-map (λ xs. Meets xs firsts) (matching u) disjunct.items
-        (λ k d below. helper_meets u (follows u codes) lawful.same_solvable firsts kinds (defines u root kinds codes are_codes are_true lawful.same_solvable) _ (before _ (helpers k d below))) in
+        (λ k d below. helper_meets u (follows u codes) lawful.same_solvable firsts kinds (defines u root kinds codes are_codes are_true lawful.same_solvable) _
+        (before _ (helpers k d below))) in
         let t = All-contains (IsTrueClause u codes root) kinds (Requires by disjunct r) are_true clause in
         of_firsts s (decided earlier before t.0 r s t.2 (requires_by u root firsts by t.0 here_is t.1) (active_by u firsts _ t.0.condition t.3 meets) open_one)
     because earlier before a (needed_gate r s clause gate open_one) =
@@ -144,7 +149,8 @@ module _ {N S : Type 0} (u : Universe N S) (root : Demands) (lawful : HasLawfulS
         (cons_cases b earlier a inside)
 
     chosen_within : (trail : List (Atom N S)) (chosen : List S) → IsTrail u kinds [] [] trail → IsChosen trail chosen → IsWithin chosen firsts
-    chosen_within trail chosen trailed are s inside = contains-has u (follows u codes) lawful.same_solvable firsts s (agrees trail trailed (atom (Solvable s) true) (are.each_true s inside))
+    chosen_within trail chosen trailed are s inside =
+        contains-has u (follows u codes) lawful.same_solvable firsts s (agrees trail trailed (atom (Solvable s) true) (are.each_true s inside))
 
   -- an answer of first choices has all of them
   module _ (packages : HasLawfulPackages u) (chosen exempt : List S) (within : IsWithin chosen firsts) (ok : IsValid u root chosen exempt) where
@@ -157,21 +163,25 @@ module _ {N S : Type 0} (u : Universe N S) (root : Demands) (lawful : HasLawfulS
         let m = subst HasMember single (ok.required r requires active) in
         let inside = first_in s (IsFirstNext-within u root (Contains chosen) (Contains firsts) within s (r, v, requires, active, single, choice)) in
         let In : S → Type 0 = λ x. Contains chosen x in
-        subst In (promised.valid.one_each m.shared s (within m.shared m.in_second) inside (named v m.shared m.in_first ∙ sym (named v s (first_listed (sorted_candidates u v) s choice)))) m.in_second
+        subst In (promised.valid.one_each m.shared s (within m.shared m.in_second) inside
+        (named v m.shared m.in_first ∙ sym (named v s (first_listed (sorted_candidates u v) s choice)))) m.in_second
 
     all_firsts : HaveSameMembers chosen firsts
     all_firsts = record { left_within = within; right_within = λ s inside. IsFirst-least u root (Contains chosen) step s ((promised.members s).0 inside) }
 
 -- a finished search on whose trail nothing was assumed answers the first choices
 pub finished_is_first : {N S : Type 0} (u : Universe N S) (root : Demands) (notes : Notes N S) (requirements : List RequirementClause) (trail : Trail) →
-    HasLawfulSolvables u → HasLawfulPackages u → IsReadSoFar u root (solvables_before notes.origins trail (length_of trail)) notes → AreAssumed notes.origins [] [] trail →
-    map (λ (r : RequirementClause). r.number) requirements ≡ notes.requirements → variable_count trail ≡ length notes.origins → IsFinished notes.table requirements trail →
+    HasLawfulSolvables u → HasLawfulPackages u → IsReadSoFar u root (solvables_before notes.origins trail (length_of trail)) notes →
+    AreAssumed notes.origins [] [] trail →
+    map (λ (r : RequirementClause). r.number) requirements ≡ notes.requirements → variable_count trail ≡ length notes.origins →
+    IsFinished notes.table requirements trail →
     TakesFirstChoices u root (solvables_before notes.origins trail (length_of trail))
 finished_is_first {N} {S} u root notes requirements trail lawful packages so_far assumed numbers size finished firsts promised =
     let encoding = so_far.half.encoding in
     let chosen : List S = solvables_before notes.origins trail (length_of trail) in
     let atoms : List (Atom N S) = atoms_before notes.origins trail (length_of trail) in
-    let seeds : AreSeeds u [] chosen notes.asked notes.seen notes.exempt = record { seed_chosen = λ s h. absurd (none_in s h); seed_registered = λ s h. absurd (none_in s h); seed_free = λ s h. absurd (none_in s h) } in
+    let seeds : AreSeeds u [] chosen notes.asked notes.seen notes.exempt =
+    record { seed_chosen = λ s h. absurd (none_in s h); seed_registered = λ s h. absurd (none_in s h); seed_free = λ s h. absurd (none_in s h) } in
     let answer = finished_is_valid u root notes requirements trail [] [] lawful packages so_far assumed seeds numbers size finished in
     all_firsts u root lawful firsts promised packages chosen notes.exempt
     (chosen_within u root lawful firsts promised notes.kinds encoding.codes encoding.own_codes encoding.each_true atoms chosen

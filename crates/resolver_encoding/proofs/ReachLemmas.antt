@@ -1,5 +1,6 @@
 -- How far reading goes: what is demanded in a set that is near is near, too.
-use Rattle.std.proofs.Common.{◌≡◌, ◌⊎◌, ◌<◌, true, false, List, [], ◌∷◌, ◌++◌, arith, refl, sym, ap, ◌∙◌, subst, ⊎_elim, inl, inr, length, map, get_or, Contains, All, Vec, Global}
+use Rattle.std.proofs.Common.{◌≡◌, ◌⊎◌, ◌<◌, true, false, List, [], ◌∷◌, ◌++◌, arith, refl, sym, ap, ◌∙◌, subst, ⊎_elim, inl, inr, length, map, get_or}
+use Rattle.std.proofs.Common.{Contains, All, Vec, Global}
 use Rattle.std.specs.Option.{option_map_or}
 use Rattle.std.proofs.lemmas.Bool.{true≢false}
 use Rattle.std.proofs.lemmas.Option.{get_or_from_slice_get, slice_get-get_or, slice_get_within}
@@ -14,7 +15,9 @@ use Rattle.resolver_clause_store.specs.Valid.{Constrains, Requires}
 use Rattle.resolver_clause_store.specs.declared.By.{By}
 use Rattle.resolver_clause_store.specs.declared.By.TheVariants.{Root as ByRoot, Solvable as BySolvable}
 use Rattle.resolver_clause_store.specs.declared.ClauseKind.{ClauseKind}
-use Rattle.resolver_clause_store.specs.declared.ClauseKind.TheVariants.{InstallRoot, Requires as RequiresKind, AnyOf, GateRequires, Constrains as ConstrainsKind, ConstrainsExcluded, ConstrainsParent, HasBit, Lock, Excluded}
+use Rattle.resolver_clause_store.specs.declared.ClauseKind.TheVariants.{InstallRoot, Requires as RequiresKind, AnyOf, GateRequires}
+use Rattle.resolver_clause_store.specs.declared.ClauseKind.TheVariants.{Constrains as ConstrainsKind, ConstrainsExcluded, ConstrainsParent, HasBit, Lock}
+use Rattle.resolver_clause_store.specs.declared.ClauseKind.TheVariants.{Excluded}
 use Rattle.resolver_clause_store.specs.declared.ConditionalRequirement.{ConditionalRequirement}
 use Rattle.resolver_clause_store.specs.declared.Literal.{Literal}
 use Rattle.resolver_clause_store.specs.declared.Origin.{Origin}
@@ -45,11 +48,13 @@ module _ {N S : Type 0} (u : Universe N S) (root : Demands) (seeds : List S) (pa
   IsLed (to_ask n) = IsNamed u root Near n ⊎ Contains packages n
   IsLed (to_see s) = Near s
 
-  requires_by : (by : By S) (read : List S) → IsPresent by read → ((s : S) → Contains read s → Near s) → (r : ConditionalRequirement) → Contains (demands_by u root by).requirements r → Requires u root Near r
+  requires_by : (by : By S) (read : List S) → IsPresent by read → ((s : S) → Contains read s → Near s) → (r : ConditionalRequirement) →
+      Contains (demands_by u root by).requirements r → Requires u root Near r
   requires_by ByRoot read present near r asks = inl asks
   requires_by (BySolvable s) read present near r asks = inr (s, near s present, asks)
 
-  constrains_by : (by : By S) (read : List S) → IsPresent by read → ((s : S) → Contains read s → Near s) → (v : VersionSetId) → Contains (demands_by u root by).constraints v → Constrains u root Near v
+  constrains_by : (by : By S) (read : List S) → IsPresent by read → ((s : S) → Contains read s → Near s) → (v : VersionSetId) →
+      Contains (demands_by u root by).constraints v → Constrains u root Near v
   constrains_by ByRoot read present near v asks = inl asks
   constrains_by (BySolvable s) read present near v asks = inr (s, near s present, asks)
 
@@ -58,42 +63,50 @@ module _ {N S : Type 0} (u : Universe N S) (root : Demands) (seeds : List S) (pa
   wanted_led r asked active (to_ask n) named = inl (inr (r, named.0, asked, active, named.1, named.2))
   wanted_led r asked active (to_see s) listed = IsNear-closed u root seeds s (r, asked, active, listed)
 
-  named_led : (list : List VersionSetId) → ((v : VersionSetId) → Contains list v → Constrains u root Near v) → (call : Call N S) → IsNamedBy u list call → IsLed call
+  named_led : (list : List VersionSetId) → ((v : VersionSetId) → Contains list v → Constrains u root Near v) → (call : Call N S) → IsNamedBy u list call →
+      IsLed call
   named_led list constrains (to_ask n) named = inl (inl (named.0, constrains named.0 named.1, named.2))
   named_led list constrains (to_see s) named = absurd named
 
   -- nor does what the root, or what was read, demands in a set
-  demanded_led : (set read : List S) → ((s : S) → Contains set s → Near s) → ((s : S) → Contains read s → Near s) → (by : By S) → IsPresent by read → (call : Call N S) → IsDemanded u set (demands_by u root by) call → IsLed call
+  demanded_led : (set read : List S) → ((s : S) → Contains set s → Near s) → ((s : S) → Contains read s → Near s) → (by : By S) → IsPresent by read →
+      (call : Call N S) → IsDemanded u set (demands_by u root by) call → IsLed call
   demanded_led set read set_near near by present call demanded = ⊎_elim
-      (λ w. wanted_led w.0 (requires_by by read present near w.0 w.1) (OptionalConditionHolds-within u (Contains set) Near set_near w.0.condition w.2.0) call w.2.1)
+      (λ w. wanted_led w.0 (requires_by by read present near w.0 w.1)
+      (OptionalConditionHolds-within u (Contains set) Near set_near w.0.condition w.2.0) call w.2.1)
       (λ named. named_led (demands_by u root by).constraints (constrains_by by read present near) call named)
       demanded
 
   -- nor does a disjunct that was put off, and is met in the set
-  entry_led : (set read : List S) → ((s : S) → Contains set s → Near s) → ((s : S) → Contains read s → Near s) → (e : Deferred S) → IsTrueEntry u root e → IsPresent e.by read → AllMeet set (map (matching u) e.disjunct) → (call : Call N S) → IsWantedBy u e.requirement call → IsLed call
+  entry_led : (set read : List S) → ((s : S) → Contains set s → Near s) → ((s : S) → Contains read s → Near s) → (e : Deferred S) → IsTrueEntry u root e →
+      IsPresent e.by read → AllMeet set (map (matching u) e.disjunct) → (call : Call N S) → IsWantedBy u e.requirement call → IsLed call
   entry_led set read set_near near e entry present met call wanted =
       let is_true = entry.is_true in
       let Wanted : Requirement → Type 0 = λ r. IsWantedBy u r call in
       wanted_led is_true.0 (requires_by e.by read present near is_true.0 is_true.1)
-      (OptionalConditionHolds-within u (Contains set) Near set_near is_true.0.condition (active_where u set (map (matching u) e.disjunct) is_true.0.condition is_true.3 met))
+      (OptionalConditionHolds-within u (Contains set) Near set_near is_true.0.condition
+      (active_where u set (map (matching u) e.disjunct) is_true.0.condition is_true.3 met))
       call (subst Wanted (sym is_true.2) wanted)
 
   followed_led : (notes : Notes N S) → AreNear u root seeds packages notes → (call : Call N S) → IsFollowed notes call → IsLed call
   followed_led notes near (to_ask n) h = near.asked n h
   followed_led notes near (to_see s) h = near.seen s h
 
-  near_where : (notes : Notes N S) → ((s : S) → Contains notes.read s → Near s) → ((call : Call N S) → IsFollowed notes call → IsLed call) → AreNear u root seeds packages notes
+  near_where : (notes : Notes N S) → ((s : S) → Contains notes.read s → Near s) → ((call : Call N S) → IsFollowed notes call → IsLed call) →
+      AreNear u root seeds packages notes
   near_where notes read led = record { seen = λ s h. led (to_see s) h; read = read; asked = λ n h. led (to_ask n) h }
 
   -- after a step that goes no farther
-  pub AreNear-called : (Called : Call N S → Type 0) (Premise : Demands → Type 0) (old new : Notes N S) → IsAskStep u Called Premise old new → ((call : Call N S) → Called call → IsLed call) → AreNear u root seeds packages old → AreNear u root seeds packages new
+  pub AreNear-called : (Called : Call N S → Type 0) (Premise : Demands → Type 0) (old new : Notes N S) → IsAskStep u Called Premise old new →
+      ((call : Call N S) → Called call → IsLed call) → AreNear u root seeds packages old → AreNear u root seeds packages new
   AreNear-called Called Premise old new step led near =
       let Has : S → List S → Type 0 = λ s list. Contains list s in
       near_where new (λ s h. near.read s (subst (Has s) step.read h))
       (λ call h. ⊎_elim (λ earlier. followed_led old near call earlier) (λ called. led call called) (step.called call h))
 
   -- after one more was registered that is near itself
-  pub AreNear-seen : (s : S) (Premise : Demands → Type 0) (old new : Notes N S) → IsAskStep u (IsSeeing s) Premise old new → IsNear u root seeds s → AreNear u root seeds packages old → AreNear u root seeds packages new
+  pub AreNear-seen : (s : S) (Premise : Demands → Type 0) (old new : Notes N S) → IsAskStep u (IsSeeing s) Premise old new → IsNear u root seeds s →
+      AreNear u root seeds packages old → AreNear u root seeds packages new
   AreNear-seen s Premise old new step here near = AreNear-called (IsSeeing s) Premise old new step led near
     where
       led : (call : Call N S) → IsSeeing s call → IsLed call
@@ -101,7 +114,8 @@ module _ {N S : Type 0} (u : Universe N S) (root : Demands) (seeds : List S) (pa
       led (to_see t) same = subst Near same here
 
   -- after what is near was read, in a set that is near
-  pub near_read : (set : List S) (Reads : S → Type 0) (old new : Notes N S) → IsReadingOf u set Reads old new → AreNear u root seeds packages old → All (IsNear u root seeds) set → ((s : S) → Reads s → IsNear u root seeds s) → AreNear u root seeds packages new
+  pub near_read : (set : List S) (Reads : S → Type 0) (old new : Notes N S) → IsReadingOf u set Reads old new → AreNear u root seeds packages old →
+      All (IsNear u root seeds) set → ((s : S) → Reads s → IsNear u root seeds s) → AreNear u root seeds packages new
   near_read set Reads old new reading near all reads =
       let set_near : (s : S) → Contains set s → Near s = λ s h. All-contains (IsNear u root seeds) set s all h in
       let new_near : (s : S) → Contains new.read s → Near s = λ s h. ⊎_elim (λ earlier. near.read s earlier) (λ may. reads s may) (reading.reads s h) in
@@ -112,7 +126,8 @@ module _ {N S : Type 0} (u : Universe N S) (root : Demands) (seeds : List S) (pa
       (reading.called call h))
 
   -- after one more reading of a set that is near
-  pub near_after : (set : List S) (old mid new : Notes N S) → IsReadingOf u set (Contains set) old mid → IsFiring u set mid new → IsHalfRead u root old → AreNear u root seeds packages old → All (IsNear u root seeds) set → AreNear u root seeds packages new
+  pub near_after : (set : List S) (old mid new : Notes N S) → IsReadingOf u set (Contains set) old mid → IsFiring u set mid new → IsHalfRead u root old →
+      AreNear u root seeds packages old → All (IsNear u root seeds) set → AreNear u root seeds packages new
   near_after set old mid new reading firing before near all =
       let set_near : (s : S) → Contains set s → Near s = λ s h. All-contains (IsNear u root seeds) set s all h in
       let here : AreNear u root seeds packages mid = near_read set (Contains set) old mid reading near all set_near in
@@ -126,13 +141,15 @@ module _ {N S : Type 0} (u : Universe N S) (root : Demands) (seeds : List S) (pa
       (firing.called call h))
 
   -- what is near stays so with more seeds, and more packages
-  pub AreNear-more : (more : List S) (others : List N) → IsWithin seeds more → IsWithin packages others → (notes : Notes N S) → AreNear u root seeds packages notes → AreNear u root more others notes
+  pub AreNear-more : (more : List S) (others : List N) → IsWithin seeds more → IsWithin packages others → (notes : Notes N S) →
+      AreNear u root seeds packages notes → AreNear u root more others notes
   AreNear-more more others within besides notes near =
       let on : (s : S) → IsNear u root seeds s → IsNear u root more s = IsNear-more u root seeds more within in
       record {
         seen = λ s h. on s (near.seen s h);
         read = λ s h. on s (near.read s h);
-        asked = λ n h. ⊎_elim (λ named. inl (IsNamed-within u root (IsNear u root seeds) (IsNear u root more) on n named)) (λ own. inr (besides n own)) (near.asked n h);
+        asked = λ n h. ⊎_elim (λ named. inl (IsNamed-within u root (IsNear u root seeds) (IsNear u root more) on n named)) (λ own. inr (besides n own))
+            (near.asked n h);
       }
 
 -- the root alone leads to what it demands without a condition
@@ -153,7 +170,8 @@ module _ {N S : Type 0} (u : Universe N S) (root : Demands) (seeds : List S) (pa
       (step.called call h))
 
 -- what the root and a set that was read name was asked
-pub asked_named : {N S : Type 0} (u : Universe N S) (root : Demands) (set : List S) (notes : Notes N S) → IsReadSoFar u root set notes → (n : N) → IsNamed u root (Contains set) n → Contains notes.asked n
+pub asked_named : {N S : Type 0} (u : Universe N S) (root : Demands) (set : List S) (notes : Notes N S) → IsReadSoFar u root set notes → (n : N) →
+    IsNamed u root (Contains set) n → Contains notes.asked n
 asked_named u root set notes so n named = ⊎_elim
     (λ w. ⊎_elim
     (λ asks. demanded_asked u set root notes so.half so.none ByRoot tt n (inr (w.0, asks, w.2)))
@@ -200,7 +218,8 @@ module _ {N S : Type 0} (u : Universe N S) (s : S) where
   only_atom a b h it = ⊎_elim (λ (is : a ≡ b). subst IsIt (sym is) it) (λ (none : Contains [] b). absurd (none_in b none)) (cons_cases a [] b h)
 
   one_of_two : (a b c : Atom N S) → Contains (a ∷ b ∷ []) c → IsIt c → IsIt a ⊎ IsIt b
-  one_of_two a b c h it = ⊎_elim (λ (is : a ≡ c). inl (subst IsIt (sym is) it)) (λ (later : Contains (b ∷ []) c). inr (only_atom b c later it)) (cons_cases a (b ∷ []) c h)
+  one_of_two a b c h it = ⊎_elim (λ (is : a ≡ c). inl (subst IsIt (sym is) it)) (λ (later : Contains (b ∷ []) c). inr (only_atom b c later it))
+      (cons_cases a (b ∷ []) c h)
 
   neither : (a b c : Atom N S) → (IsIt a → ⊥) → (IsIt b → ⊥) → Contains (a ∷ b ∷ []) c → IsIt c → ⊥
   neither a b c first second h it = ⊎_elim first second (one_of_two a b c h it)
@@ -228,15 +247,20 @@ module _ {N S : Type 0} (u : Universe N S) (s : S) where
   asks_for_it (AnyOf (Bit n i) t) usual a h it = usual
   asks_for_it (AnyOf (ConstraintHelper v) t) usual a h it = usual
   asks_for_it (AnyOf (Gate r) t) usual a h it = neither (atom (Gate r) true) (atom (Solvable t) false) a (λ i. cc) (λ i. true≢false (sym i.0)) h it
-  asks_for_it (AnyOf (ConditionHelper v) t) usual a h it = neither (atom (ConditionHelper v) true) (atom (Solvable t) false) a (λ i. cc) (λ i. true≢false (sym i.0)) h it
-  asks_for_it (ConstrainsKind by v t) usual a h it = neither (atom (origin_by by) false) (atom (Solvable t) false) a (by_not by) (λ i. true≢false (sym i.0)) h it
-  asks_for_it (ConstrainsExcluded t v) usual a h it = neither (atom (Solvable t) false) (atom (ConstraintHelper v) true) a (λ i. true≢false (sym i.0)) (λ i. cc) h it
-  asks_for_it (ConstrainsParent by v) usual a h it = neither (atom (origin_by by) false) (atom (ConstraintHelper v) false) a (by_not by) (λ i. true≢false (sym i.0)) h it
+  asks_for_it (AnyOf (ConditionHelper v) t) usual a h it =
+      neither (atom (ConditionHelper v) true) (atom (Solvable t) false) a (λ i. cc) (λ i. true≢false (sym i.0)) h it
+  asks_for_it (ConstrainsKind by v t) usual a h it =
+      neither (atom (origin_by by) false) (atom (Solvable t) false) a (by_not by) (λ i. true≢false (sym i.0)) h it
+  asks_for_it (ConstrainsExcluded t v) usual a h it =
+      neither (atom (Solvable t) false) (atom (ConstraintHelper v) true) a (λ i. true≢false (sym i.0)) (λ i. cc) h it
+  asks_for_it (ConstrainsParent by v) usual a h it =
+      neither (atom (origin_by by) false) (atom (ConstraintHelper v) false) a (by_not by) (λ i. true≢false (sym i.0)) h it
   asks_for_it (HasBit n t i b) usual a h it = neither (atom (Solvable t) false) (atom (Bit n i) b) a (λ j. true≢false (sym j.0)) (λ j. cc) h it
   asks_for_it (Lock t q) usual a h it = neither (atom Root false) (atom (Solvable q) false) a (λ i. true≢false (sym i.0)) (λ i. true≢false (sym i.0)) h it
   asks_for_it (Excluded t reason) usual a h it = true≢false (sym (only_atom (atom (Solvable t) false) a h it).0)
 
-  asked_seen : (root : Demands) (notes : Notes N S) → IsEncoding u root notes → (kind : ClauseKind N S) → Contains notes.kinds kind → AsksForIt kind → Contains notes.seen s
+  asked_seen : (root : Demands) (notes : Notes N S) → IsEncoding u root notes → (kind : ClauseKind N S) → Contains notes.kinds kind → AsksForIt kind →
+      Contains notes.seen s
   asked_seen root notes encoding (RequiresKind by disjunct r) inside asks = encoding.candidates by disjunct r inside s asks
   asked_seen root notes encoding (GateRequires r) inside asks = encoding.gate_candidates r inside s asks
   asked_seen root notes encoding InstallRoot inside asks = absurd asks
@@ -249,7 +273,8 @@ module _ {N S : Type 0} (u : Universe N S) (s : S) where
   asked_seen root notes encoding (Excluded t reason) inside asks = absurd asks
 
 -- what a clause asks for was seen
-pub positives_seen : {N S : Type 0} (u : Universe N S) (root : Demands) (notes : Notes N S) → IsEncoding u root notes → (clause : Vec Literal Global) → Contains notes.table clause → (l : Literal) → Contains clause.items l →
+pub positives_seen : {N S : Type 0} (u : Universe N S) (root : Demands) (notes : Notes N S) → IsEncoding u root notes → (clause : Vec Literal Global) →
+    Contains notes.table clause → (l : Literal) → Contains clause.items l →
     l.positive ≡ true → (s : S) → origin_at notes.origins l.variable ≡ Solvable s → Contains notes.seen s
 positives_seen {N} {S} u root notes encoding clause listed l inside positive s stands =
     let at = place_of_member notes.table clause listed in
@@ -262,4 +287,5 @@ positives_seen {N} {S} u root notes encoding clause listed l inside positive s s
     let Has : List Literal → Type 0 = λ list. Contains list l in
     let a = (encoding.encoded.each number kind kind_at).atoms.each_literal l (subst Has (sym items) inside) in
     let origin : a.0.origin ≡ Solvable s = sym (get_or_from_slice_get notes.origins l.variable a.0.origin Root a.2.origin) ∙ stands in
-    asked_seen u s root notes encoding kind has_kind (asks_for_it u s kind (All-contains HasUsualHelper notes.kinds kind encoding.each_usual has_kind) a.0 a.1 (sym a.2.positive ∙ positive, origin))
+    asked_seen u s root notes encoding kind has_kind
+    (asks_for_it u s kind (All-contains HasUsualHelper notes.kinds kind encoding.each_usual has_kind) a.0 a.1 (sym a.2.positive ∙ positive, origin))

@@ -25,7 +25,8 @@ use Rattle.resolver_clause_store.specs.declared.ConditionId.{ConditionId}
 use Rattle.resolver_encoding.specs.Atoms.{Atom, atom, atoms_of, is_on, is_satisfied}
 use Rattle.resolver_encoding.specs.Truth.{AreCodes, is_plain, follows, IsTrueClause, Spares}
 use Rattle.resolver_encoding.specs.Read.{IsSettled, IsClosedPart}
-use Rattle.resolver_encoding.specs.TrailAtoms.{IsFirstOpen, IsBecause, needed, needed_gate, seeded, left_out, forced, IsTrail, begun, went_on, Takes, IsChosen, CoversReached, IsAnswerBy}
+use Rattle.resolver_encoding.specs.TrailAtoms.{IsFirstOpen, IsBecause, needed, needed_gate, seeded, left_out, forced, IsTrail, begun, went_on, Takes, IsChosen}
+use Rattle.resolver_encoding.specs.TrailAtoms.{CoversReached, IsAnswerBy}
 use Rattle.resolver_encoding.proofs.Lists.{here, there, cons_cases, none_in, list_any-witness, beq-true}
 use Rattle.resolver_encoding.proofs.Satisfied.{has-contains, contains-has, present, helper_meets, satisfied}
 use Rattle.resolver_encoding.proofs.Sound.{is_plain-parts, active_by, defines, valid_obeys}
@@ -36,28 +37,35 @@ not_same : (b : Bool) → b ≡ not b → ⊥
 not_same true e = false≢true (sym e)
 not_same false e = false≢true e
 
-pub first_open_candidate : {N S : Type 0} (u : Universe N S) (earlier : List (Atom N S)) (r : Requirement) (s : S) → IsFirstOpen u earlier r s → Contains (requirement_candidates u r) s
+pub first_open_candidate : {N S : Type 0} (u : Universe N S) (earlier : List (Atom N S)) (r : Requirement) (s : S) → IsFirstOpen u earlier r s →
+    Contains (requirement_candidates u r) s
 first_open_candidate {N} {S} u earlier r s it =
     let Has : List S → Type 0 = λ xs. Contains xs s in subst Has (sym it.is) (Contains-append_right it.before (s ∷ it.after) s (here s it.after))
 
-module _ {N S : Type 0} (u : Universe N S) (root : Demands) (lawful : HasLawfulSolvables u) (kinds : List (ClauseKind N S)) (codes : N → ℕ → S → Bool) (are_codes : AreCodes u codes) (are_true : All (IsTrueClause u codes root) kinds)
-    (seeds refused exempt : List S) (spares : Spares u exempt kinds) (trail : List (Atom N S)) (settled : IsSettled u kinds (Takes trail)) (chosen : List S) (is_chosen : IsChosen trail chosen)
+module _ {N S : Type 0} (u : Universe N S) (root : Demands) (lawful : HasLawfulSolvables u) (kinds : List (ClauseKind N S)) (codes : N → ℕ → S → Bool)
+    (are_codes : AreCodes u codes) (are_true : All (IsTrueClause u codes root) kinds)
+    (seeds refused exempt : List S) (spares : Spares u exempt kinds) (trail : List (Atom N S)) (settled : IsSettled u kinds (Takes trail)) (chosen : List S)
+    (is_chosen : IsChosen trail chosen)
     (covers : CoversReached u root kinds chosen seeds exempt) where
   c : Closure u root lawful chosen seeds
   c = closure u root lawful chosen seeds
 
-  next_by : (by : By S) (r : ConditionalRequirement) (s : S) (part : List S) → IsPresent by part → Contains (demands_by u root by).requirements r → IsActive u (Contains chosen) r → Contains (requirement_candidates u r.requirement) s → Next u root lawful chosen seeds part s
+  next_by : (by : By S) (r : ConditionalRequirement) (s : S) (part : List S) → IsPresent by part → Contains (demands_by u root by).requirements r →
+      IsActive u (Contains chosen) r → Contains (requirement_candidates u r.requirement) s → Next u root lawful chosen seeds part s
   next_by ByRoot r s part h listed active candidate = inr (inl (record { r = r; listed = listed; active = active; candidate = candidate }))
-  next_by (BySolvable t) r s part h listed active candidate = inr (inr (record { by = t; among = h; asks = record { r = r; listed = listed; active = active; candidate = candidate } }))
+  next_by (BySolvable t) r s part h listed active candidate =
+      inr (inr (record { by = t; among = h; asks = record { r = r; listed = listed; active = active; candidate = candidate } }))
 
   -- what a gate needs that follows from one of the part
-  gate_closed : (cl : Closure u root lawful chosen seeds) (t : S) (r : Requirement) (s : S) → Contains cl.part t → follows u codes (Gate r) t ≡ true → Contains (requirement_candidates u r) s → Contains trail (atom (Solvable s) true) → Contains cl.part s
+  gate_closed : (cl : Closure u root lawful chosen seeds) (t : S) (r : Requirement) (s : S) → Contains cl.part t → follows u codes (Gate r) t ≡ true →
+      Contains (requirement_candidates u r) s → Contains trail (atom (Solvable s) true) → Contains cl.part s
   gate_closed cl t r s inside e candidate taken =
       let w = list_any-witness (is_plain r) (demands_of (u.needs t)).requirements e in
       let plain = is_plain-parts r w.0 w.2 in
       let Active : Option ConditionId → Type 0 = λ c. OptionalConditionHolds u (Contains chosen) c in
       let Candidate : Requirement → Type 0 = λ q. Contains (requirement_candidates u q) s in
-      cl.closed s (is_chosen.each_chosen s taken) (next_by (BySolvable t) w.0 s cl.part inside w.1 (subst Active (sym plain.0) tt) (subst Candidate (sym plain.1) candidate))
+      cl.closed s (is_chosen.each_chosen s taken)
+      (next_by (BySolvable t) w.0 s cl.part inside w.1 (subst Active (sym plain.0) tt) (subst Candidate (sym plain.1) candidate))
 
   part_of : (cl : Closure u root lawful chosen seeds) → IsClosedPart u kinds (Takes trail) cl.part
   part_of cl = record {
@@ -67,7 +75,8 @@ module _ {N S : Type 0} (u : Universe N S) (root : Demands) (lawful : HasLawfulS
         let active = active_more u (Contains cl.part) (Contains chosen) cl.within t.0.condition (active_by u cl.part _ t.0.condition t.3 meets) in
         let Candidate : Requirement → Type 0 = λ q. Contains (requirement_candidates u q) s in
         cl.closed s (is_chosen.each_chosen s taken) (next_by by t.0 s cl.part here_is t.1 active (subst Candidate (sym t.2) candidate));
-    closed_gate = λ t r s clause inside implied candidate taken. gate_closed cl t r s inside (All-contains (IsTrueClause u codes root) kinds (AnyOf (Gate r) t) are_true implied).1 candidate taken;
+    closed_gate = λ t r s clause inside implied candidate taken. gate_closed cl t r s inside
+        (All-contains (IsTrueClause u codes root) kinds (AnyOf (Gate r) t) are_true implied).1 candidate taken;
   }
 
   module _ (cl : Closure u root lawful chosen seeds) where
@@ -78,23 +87,27 @@ module _ {N S : Type 0} (u : Universe N S) (root : Demands) (lawful : HasLawfulS
     value o = is_on u (follows u codes) cl.part o
 
     holds : (k : ClauseKind N S) → Contains kinds k → is_satisfied value (atoms_of u k) ≡ true
-    holds k inside = satisfied u (follows u codes) lawful.same_solvable cl.part kinds (defines u root kinds codes are_codes are_true lawful.same_solvable) (valid_obeys u root kinds codes are_codes are_true lawful.same_solvable cl.part exempt valid spares) k inside
+    holds k inside = satisfied u (follows u codes) lawful.same_solvable cl.part kinds (defines u root kinds codes are_codes are_true lawful.same_solvable)
+        (valid_obeys u root kinds codes are_codes are_true lawful.same_solvable cl.part exempt valid spares) k inside
 
     of_part : (s : S) → Contains cl.part s → value (Solvable s) ≡ true
     of_part s inside = has-contains u (follows u codes) lawful.same_solvable cl.part s inside
 
-    because : (earlier : List (Atom N S)) → ((a : Atom N S) → Contains earlier a → value a.origin ≡ a.positive) → (a : Atom N S) → Contains trail a → IsBecause u kinds seeds refused earlier a → value a.origin ≡ a.positive
+    because : (earlier : List (Atom N S)) → ((a : Atom N S) → Contains earlier a → value a.origin ≡ a.positive) → (a : Atom N S) → Contains trail a →
+        IsBecause u kinds seeds refused earlier a → value a.origin ≡ a.positive
     because earlier before a on_trail (needed by disjunct r s clause parent helpers candidate) =
         let here_is = present u (follows u codes) lawful.same_solvable cl.part by (before _ parent) in
         let meets : AllMeet cl.part (map (matching u) disjunct.items) = All-map (λ xs. Meets xs cl.part) (matching u) disjunct.items
-        (λ k d below. helper_meets u (follows u codes) lawful.same_solvable cl.part kinds (defines u root kinds codes are_codes are_true lawful.same_solvable) _ (before _ (helpers k d below))) in
+        (λ k d below. helper_meets u (follows u codes) lawful.same_solvable cl.part kinds (defines u root kinds codes are_codes are_true lawful.same_solvable) _
+        (before _ (helpers k d below))) in
         of_part s ((part_of cl).closed by disjunct r s clause here_is meets (first_open_candidate u earlier r s candidate) on_trail)
     because earlier before a on_trail (needed_gate r s clause gate candidate) =
         let w = list_any-witness (follows u codes (Gate r)) cl.part (before _ gate) in
         of_part s (gate_closed cl w.0 r s w.1 w.2 (first_open_candidate u earlier r s candidate) on_trail)
     because earlier before a on_trail (seeded s seed) = of_part s (cl.closed s (is_chosen.each_chosen s on_trail) (inl seed))
     because earlier before a on_trail (left_out s listed) = ⊎_elim
-        (λ e. absurd (settled.apart (Solvable s) (is_chosen.each_true s (cl.within s (contains-has u (follows u codes) lawful.same_solvable cl.part s e))) on_trail))
+        (λ e. absurd (settled.apart (Solvable s)
+        (is_chosen.each_true s (cl.within s (contains-has u (follows u codes) lawful.same_solvable cl.part s e))) on_trail))
         (λ e. e)
         (cases_Bool (value (Solvable s)))
     because earlier before a on_trail (forced clause a' entailed others) =
@@ -106,7 +119,8 @@ module _ {N S : Type 0} (u : Universe N S) (root : Demands) (lawful : HasLawfulS
         (λ off. absurd (not_same w.0.positive (sym same ∙ before _ off)))
         (others w.0 w.1)
 
-    agrees : (part : List (Atom N S)) → IsTrail u kinds seeds refused part → IsWithin part trail → (a : Atom N S) → Contains part a → value a.origin ≡ a.positive
+    agrees : (part : List (Atom N S)) → IsTrail u kinds seeds refused part → IsWithin part trail → (a : Atom N S) → Contains part a →
+        value a.origin ≡ a.positive
     agrees part begun within a inside = absurd (none_in a inside)
     agrees part (went_on {earlier} b rest why) within a inside = ⊎_elim
         (λ e. let Agrees : Atom N S → Type 0 = λ b. value b.origin ≡ b.positive in
@@ -115,7 +129,9 @@ module _ {N S : Type 0} (u : Universe N S) (root : Demands) (lawful : HasLawfulS
         (cons_cases b earlier a inside)
 
     chosen_in_part : IsTrail u kinds seeds refused trail → IsWithin chosen cl.part
-    chosen_in_part is_trail s inside = contains-has u (follows u codes) lawful.same_solvable cl.part s (agrees trail is_trail (λ x h. h) (atom (Solvable s) true) (is_chosen.each_true s inside))
+    chosen_in_part is_trail s inside =
+        contains-has u (follows u codes) lawful.same_solvable cl.part s
+        (agrees trail is_trail (λ x h. h) (atom (Solvable s) true) (is_chosen.each_true s inside))
 
   -- each chosen one is there by need
   pub all_reached : IsTrail u kinds seeds refused trail → AllReached u root chosen seeds
@@ -124,10 +140,16 @@ module _ {N S : Type 0} (u : Universe N S) (root : Demands) (lawful : HasLawfulS
   -- the chosen ones are an answer
   pub chosen_is_valid : IsTrail u kinds seeds refused trail → IsValid u root chosen exempt
   chosen_is_valid is_trail = closed_part_is_valid u root kinds (Takes trail) settled lawful chosen exempt (covers chosen (λ x h. h) (all_reached is_trail))
-      (record { taken = is_chosen.each_true; closed = λ by disjunct r s clause here_is meets candidate taken. is_chosen.each_chosen s taken; closed_gate = λ t r s clause inside implied candidate taken. is_chosen.each_chosen s taken })
+      (record {
+        taken = is_chosen.each_true;
+        closed = λ by disjunct r s clause here_is meets candidate taken. is_chosen.each_chosen s taken;
+        closed_gate = λ t r s clause inside implied candidate taken. is_chosen.each_chosen s taken;
+      })
 
-pub finished_is_answer : {N S : Type 0} (u : Universe N S) (codes : N → ℕ → S → Bool) (root : Demands) (kinds : List (ClauseKind N S)) (trail : List (Atom N S)) (chosen seeds refused exempt : List S) →
-    HasLawfulSolvables u → AreCodes u codes → All (IsTrueClause u codes root) kinds → Spares u exempt kinds → IsTrail u kinds seeds refused trail → IsSettled u kinds (Takes trail) → IsChosen trail chosen → CoversReached u root kinds chosen seeds exempt →
+pub finished_is_answer : {N S : Type 0} (u : Universe N S) (codes : N → ℕ → S → Bool) (root : Demands) (kinds : List (ClauseKind N S)) (trail : List (Atom N S))
+    (chosen seeds refused exempt : List S) →
+    HasLawfulSolvables u → AreCodes u codes → All (IsTrueClause u codes root) kinds → Spares u exempt kinds → IsTrail u kinds seeds refused trail →
+    IsSettled u kinds (Takes trail) → IsChosen trail chosen → CoversReached u root kinds chosen seeds exempt →
     IsAnswerBy u root chosen seeds exempt
 finished_is_answer u codes root kinds trail chosen seeds refused exempt lawful are_codes are_true spares is_trail settled is_chosen covers = record {
   valid = chosen_is_valid u root lawful kinds codes are_codes are_true seeds refused exempt spares trail settled chosen is_chosen covers is_trail;

@@ -1,5 +1,6 @@
 -- What was read stays read, and when all was.
-use Rattle.std.proofs.Common.{◌≡◌, ℕ, ◌+◌, ◌<◌, ◌≤◌, length, take, get_or, List, [], ◌∷◌, ◌++◌, refl, sym, ap, ◌∙◌, subst, ⊎_elim, inl, inr, arith, Contains, All, Vec, Global, Bool, true, ◌⊎◌}
+use Rattle.std.proofs.Common.{◌≡◌, ℕ, ◌+◌, ◌<◌, ◌≤◌, length, take, get_or, List, [], ◌∷◌, ◌++◌, refl, sym, ap, ◌∙◌, subst, ⊎_elim, inl, inr, arith, Contains}
+use Rattle.std.proofs.Common.{All, Vec, Global, Bool, true, ◌⊎◌}
 use Rattle.std.specs.Prelude.{Some, slice_get}
 use Rattle.std.specs.Cmp.{IsEquivalence}
 use Rattle.std.specs.List.{IsDistinct}
@@ -27,7 +28,8 @@ use Rattle.resolver_clause_store.specs.declared.VersionSetId.{VersionSetId}
 use Rattle.resolver_clause_store.specs.Statements.{IsPresent}
 use Rattle.resolver_clause_store.specs.TrueRules.{demands_by}
 use Rattle.resolver_encoding.specs.Atoms.{atom}
-use Rattle.resolver_encoding.specs.Encodings.{AsksForCandidates, AreDemandsRead, AreNeedsRead, Extends, HasUsualHelper, IsConstraintRead, IsEncoding, IsLeft, IsUnread, Notes}
+use Rattle.resolver_encoding.specs.Encodings.{AsksForCandidates, AreDemandsRead, AreNeedsRead, Extends, HasUsualHelper, IsConstraintRead, IsEncoding, IsLeft}
+use Rattle.resolver_encoding.specs.Encodings.{IsUnread, Notes}
 use Rattle.resolver_encoding.specs.Groups.{IsAt, IsNamed, group_at}
 use Rattle.resolver_encoding.specs.declared.groups.Groups.{Groups}
 use Rattle.resolver_encoding.specs.Read.{IsForbidden}
@@ -47,7 +49,8 @@ module _ {N S : Type 0} (u : Universe N S) (kinds more : List (ClauseKind N S)) 
   HasClause-within by list r (has_direct disjunct is h) = has_direct disjunct is (within _ h)
   HasClause-within by list r (has_gate s is none h k) = has_gate s is none (within _ h) (within _ k)
 
-  pub IsReadRequirement-within : (Left More : Deferred S → Type 0) → ((e : Deferred S) → Left e → More e) → (by : By S) (r : ConditionalRequirement) → IsReadRequirement u kinds Left by r → IsReadRequirement u more More by r
+  pub IsReadRequirement-within : (Left More : Deferred S → Type 0) → ((e : Deferred S) → Left e → More e) → (by : By S) (r : ConditionalRequirement) →
+      IsReadRequirement u kinds Left by r → IsReadRequirement u more More by r
   IsReadRequirement-within Left More stays by r h = record {
     disjuncts = h.disjuncts;
     complete = h.complete;
@@ -55,15 +58,20 @@ module _ {N S : Type 0} (u : Universe N S) (kinds more : List (ClauseKind N S)) 
   }
 
   pub IsConstraintRead-within : (by : By S) (v : VersionSetId) → IsConstraintRead u kinds by v → IsConstraintRead u more by v
-  IsConstraintRead-within by v h = All-weaker (IsForbidden kinds by v) (IsForbidden more by v) (λ s k. IsForbidden-within kinds more within by v s k) (others u v) h
+  IsConstraintRead-within by v h =
+      All-weaker (IsForbidden kinds by v) (IsForbidden more by v) (λ s k. IsForbidden-within kinds more within by v s k) (others u v) h
 
 -- what was read stays read when the notes grow
-module _ {N S : Type 0} (u : Universe N S) (old new : Notes N S) (kinds : IsWithin old.kinds new.kinds) (left : (e : Deferred S) → IsLeft old e → IsLeft new e) (asked : IsWithin old.asked new.asked) where
+module _ {N S : Type 0} (u : Universe N S) (old new : Notes N S) (kinds : IsWithin old.kinds new.kinds) (left : (e : Deferred S) → IsLeft old e → IsLeft new e)
+    (asked : IsWithin old.asked new.asked) where
   pub AreDemandsRead-grown : (by : By S) (demands : Demands) → AreDemandsRead u old by demands → AreDemandsRead u new by demands
   AreDemandsRead-grown by demands h = record {
-    requirements = All-weaker (IsReadRequirement u old.kinds (IsLeft old) by) (IsReadRequirement u new.kinds (IsLeft new) by) (λ r k. IsReadRequirement-within u old.kinds new.kinds kinds (IsLeft old) (IsLeft new) left by r k) demands.requirements h.requirements;
-    constraints = All-weaker (IsConstraintRead u old.kinds by) (IsConstraintRead u new.kinds by) (λ v k. IsConstraintRead-within u old.kinds new.kinds kinds by v k) demands.constraints h.constraints;
-    packages = All-weaker (λ v. Contains old.asked (u.version_set_name v)) (λ v. Contains new.asked (u.version_set_name v)) (λ v k. asked _ k) demands.constraints h.packages;
+    requirements = All-weaker (IsReadRequirement u old.kinds (IsLeft old) by) (IsReadRequirement u new.kinds (IsLeft new) by) (λ r k.
+        IsReadRequirement-within u old.kinds new.kinds kinds (IsLeft old) (IsLeft new) left by r k) demands.requirements h.requirements;
+    constraints = All-weaker (IsConstraintRead u old.kinds by) (IsConstraintRead u new.kinds by) (λ v k.
+        IsConstraintRead-within u old.kinds new.kinds kinds by v k) demands.constraints h.constraints;
+    packages = All-weaker (λ v. Contains old.asked (u.version_set_name v)) (λ v. Contains new.asked (u.version_set_name v)) (λ v k.
+        asked _ k) demands.constraints h.packages;
   }
 
   pub AreNeedsRead-grown : (s : S) (needs : Needs) → AreNeedsRead u old s needs → AreNeedsRead u new s needs
@@ -71,7 +79,8 @@ module _ {N S : Type 0} (u : Universe N S) (old new : Notes N S) (kinds : IsWith
   AreNeedsRead-grown s (unknown reason) h = kinds (Excluded s reason) h
 
 -- one more element of a list that grew
-pub All-worked : {X : Type 0} (P P' : X → Type 0) (xs ys : List X) (i : ℕ) (x : X) → ((y : X) → P y → P' y) → Extends xs ys → i < length xs → x ≡ get_or xs i x → All P (take i xs) → P' x → All P' (take (i + 1) ys)
+pub All-worked : {X : Type 0} (P P' : X → Type 0) (xs ys : List X) (i : ℕ) (x : X) → ((y : X) → P y → P' y) → Extends xs ys → i < length xs →
+    x ≡ get_or xs i x → All P (take i xs) → P' x → All P' (take (i + 1) ys)
 All-worked P P' xs ys i x grown more below is all now =
     let same : take (i + 1) ys ≡ take (i + 1) xs = ap (take (i + 1)) more.is ∙ take-append-le (i + 1) xs more.more (omega (arith, below)) in
     All-same P' _ _ same (All-grown P P' xs i x grown below is all now)
@@ -98,19 +107,29 @@ module _ {N S : Type 0} where
   solvable_in : (os : List (Origin N S)) (s : S) → Contains os (Solvable s) → Contains (solvables_in os) s
   solvable_in [] s h = absurd (none_in (Solvable s) h)
   solvable_in (Solvable t ∷ os) s h = ⊎_elim
-      (λ (is : Solvable t ≡ Solvable s). let same : t ≡ s = cc in let Has : S → Type 0 = λ q. Contains (t ∷ solvables_in os) q in subst Has same (here t (solvables_in os)))
+      (λ (is : Solvable t ≡ Solvable s).
+      let same : t ≡ s = cc in let Has : S → Type 0 = λ q. Contains (t ∷ solvables_in os) q in subst Has same (here t (solvables_in os)))
       (λ (later : Contains os (Solvable s)). there t (solvables_in os) s (solvable_in os s later))
       (cons_cases (Solvable t) os (Solvable s) h)
-  solvable_in (Root ∷ os) s h = ⊎_elim (λ (is : Root ≡ Solvable s). absurd cc) (λ (later : Contains os (Solvable s)). solvable_in os s later) (cons_cases Root os (Solvable s) h)
-  solvable_in (Bit n i ∷ os) s h = ⊎_elim (λ (is : Bit n i ≡ Solvable s). absurd cc) (λ (later : Contains os (Solvable s)). solvable_in os s later) (cons_cases (Bit n i) os (Solvable s) h)
-  solvable_in (Gate r ∷ os) s h = ⊎_elim (λ (is : Gate r ≡ Solvable s). absurd cc) (λ (later : Contains os (Solvable s)). solvable_in os s later) (cons_cases (Gate r) os (Solvable s) h)
-  solvable_in (ConstraintHelper v ∷ os) s h = ⊎_elim (λ (is : ConstraintHelper v ≡ Solvable s). absurd cc) (λ (later : Contains os (Solvable s)). solvable_in os s later) (cons_cases (ConstraintHelper v) os (Solvable s) h)
-  solvable_in (ConditionHelper v ∷ os) s h = ⊎_elim (λ (is : ConditionHelper v ≡ Solvable s). absurd cc) (λ (later : Contains os (Solvable s)). solvable_in os s later) (cons_cases (ConditionHelper v) os (Solvable s) h)
+  solvable_in (Root ∷ os) s h = ⊎_elim (λ (is : Root ≡ Solvable s). absurd cc) (λ (later : Contains os (Solvable s)). solvable_in os s later)
+      (cons_cases Root os (Solvable s) h)
+  solvable_in (Bit n i ∷ os) s h =
+      ⊎_elim (λ (is : Bit n i ≡ Solvable s). absurd cc) (λ (later : Contains os (Solvable s)). solvable_in os s later) (cons_cases (Bit n i) os (Solvable s) h)
+  solvable_in (Gate r ∷ os) s h =
+      ⊎_elim (λ (is : Gate r ≡ Solvable s). absurd cc) (λ (later : Contains os (Solvable s)). solvable_in os s later) (cons_cases (Gate r) os (Solvable s) h)
+  solvable_in (ConstraintHelper v ∷ os) s h =
+      ⊎_elim (λ (is : ConstraintHelper v ≡ Solvable s). absurd cc) (λ (later : Contains os (Solvable s)). solvable_in os s later)
+      (cons_cases (ConstraintHelper v) os (Solvable s) h)
+  solvable_in (ConditionHelper v ∷ os) s h =
+      ⊎_elim (λ (is : ConditionHelper v ≡ Solvable s). absurd cc) (λ (later : Contains os (Solvable s)). solvable_in os s later)
+      (cons_cases (ConditionHelper v) os (Solvable s) h)
 
   -- there are no more solvables than variables, where each has one
-  pub seen_fit : (same : S → S → Bool) → IsIdentity same → IsEquivalence same → (seen : List S) (os : List (Origin N S)) → IsDistinct same seen → ((s : S) → Contains seen s → Contains os (Solvable s)) → length seen ≤ length os
+  pub seen_fit : (same : S → S → Bool) → IsIdentity same → IsEquivalence same → (seen : List S) (os : List (Origin N S)) → IsDistinct same seen →
+      ((s : S) → Contains seen s → Contains os (Solvable s)) → length seen ≤ length os
   seen_fit same identity laws seen os distinct each =
-      let fit = length-le_from_is_member laws seen (solvables_in os) distinct (λ q h. list_any-from_Contains laws q (solvables_in os) (solvable_in os q (each q (Contains-from_any identity.alone q seen h)))) in
+      let fit = length-le_from_is_member laws seen (solvables_in os) distinct (λ q h.
+      list_any-from_Contains laws q (solvables_in os) (solvable_in os q (each q (Contains-from_any identity.alone q seen h)))) in
       omega (arith, fit, no_more os)
 
 -- a solvable with a number is one of the name
@@ -120,28 +139,40 @@ IsNamed-at g n k s at = record { place = at.place; named = at.named; inside = Co
 module _ {N S : Type 0} (u : Universe N S) where
   needs_demanded : (notes : Notes N S) (s : S) (needs : Needs) → AreNeedsRead u notes s needs → AreDemandsRead u notes (BySolvable s) (demands_of needs)
   needs_demanded notes s (known d) h = h
-  needs_demanded notes s (unknown reason) h = record { requirements = All-nil (IsReadRequirement u notes.kinds (IsLeft notes) (BySolvable s)); constraints = All-nil (IsConstraintRead u notes.kinds (BySolvable s)); packages = All-nil (λ v. Contains notes.asked (u.version_set_name v)) }
+  needs_demanded notes s (unknown reason) h =
+      record {
+        requirements = All-nil (IsReadRequirement u notes.kinds (IsLeft notes) (BySolvable s));
+        constraints = All-nil (IsConstraintRead u notes.kinds (BySolvable s));
+        packages = All-nil (λ v. Contains notes.asked (u.version_set_name v));
+      }
 
-  pub demands_read : (root : Demands) (notes : Notes N S) → IsHalfRead u root notes → (by : By S) → IsPresent by notes.read → AreDemandsRead u notes by (demands_by u root by)
+  pub demands_read : (root : Demands) (notes : Notes N S) → IsHalfRead u root notes → (by : By S) → IsPresent by notes.read →
+      AreDemandsRead u notes by (demands_by u root by)
   demands_read root notes half ByRoot present = half.root_read
   demands_read root notes half (BySolvable s) present = needs_demanded notes s (u.needs s) (half.each_read s present)
 
-  pub packages_of : (root : Demands) (notes : Notes N S) → IsEncoding u root notes → (by : By S) (list : List VersionSetId) (r : Requirement) → HasClause notes.kinds by list r → (v : VersionSetId) → Contains (version_sets u r) v → Contains notes.asked (u.version_set_name v)
+  pub packages_of : (root : Demands) (notes : Notes N S) → IsEncoding u root notes → (by : By S) (list : List VersionSetId) (r : Requirement) →
+      HasClause notes.kinds by list r → (v : VersionSetId) → Contains (version_sets u r) v → Contains notes.asked (u.version_set_name v)
   packages_of root notes encoding by list r (has_direct disjunct is h) v k = encoding.packages by disjunct r h v k
   packages_of root notes encoding by list r (has_gate s is none h g) v k = encoding.gate_packages r g v k
 
-  candidates_of : (root : Demands) (notes : Notes N S) → IsEncoding u root notes → (by : By S) (list : List VersionSetId) (r : Requirement) → HasClause notes.kinds by list r → (s : S) → Contains (requirement_candidates u r) s → Contains notes.seen s
+  candidates_of : (root : Demands) (notes : Notes N S) → IsEncoding u root notes → (by : By S) (list : List VersionSetId) (r : Requirement) →
+      HasClause notes.kinds by list r → (s : S) → Contains (requirement_candidates u r) s → Contains notes.seen s
   candidates_of root notes encoding by list r (has_direct disjunct is h) s k = encoding.candidates by disjunct r h s k
   candidates_of root notes encoding by list r (has_gate t is none h g) s k = encoding.gate_candidates r g s k
 
   -- the clauses say all that is asked of what was read, but for what is put off
-  pub so_far_read : (root : Demands) (notes : Notes N S) → IsHalfRead u root notes → IsRead u root notes.kinds (IsLeft notes) notes.read notes.asked notes.seen notes.exempt
+  pub so_far_read : (root : Demands) (notes : Notes N S) → IsHalfRead u root notes →
+      IsRead u root notes.kinds (IsLeft notes) notes.read notes.asked notes.seen notes.exempt
   so_far_read root notes half =
       let encoding = half.encoding in
       record {
         installs = encoding.installs;
-        requirements = λ by r present asks. All-contains (IsReadRequirement u notes.kinds (IsLeft notes) by) (demands_by u root by).requirements r (demands_read root notes half by present).requirements asks;
-        constraints = λ by v s present asks other. All-contains (IsForbidden notes.kinds by v) (others u v) s (All-contains (IsConstraintRead u notes.kinds by) (demands_by u root by).constraints v (demands_read root notes half by present).constraints asks) other;
+        requirements = λ by r present asks. All-contains (IsReadRequirement u notes.kinds (IsLeft notes) by) (demands_by u root by).requirements r
+            (demands_read root notes half by present).requirements asks;
+        constraints = λ by v s present asks other. All-contains (IsForbidden notes.kinds by v) (others u v) s
+            (All-contains (IsConstraintRead u notes.kinds by) (demands_by u root by).constraints v
+            (demands_read root notes half by present).constraints asks) other;
         unknowns = λ s reason h is. let Read : Needs → Type 0 = λ n. AreNeedsRead u notes s n in subst Read is (half.each_read s h);
         helpers = λ by disjunct r h v k s m. encoding.follow v (encoding.helpers by disjunct r h v k) s m;
         packages = λ by list r h v k. packages_of root notes encoding by list r h v k;
@@ -158,29 +189,39 @@ module _ {N S : Type 0} (u : Universe N S) where
   none {X} xs x e h = let Has : List X → Type 0 = λ list. Contains list x in none_in x (subst Has e h)
 
   -- the root alone
-  pub installed : (old new : Notes N S) (limit : ℕ) (literals : Vec Literal Global) (l : Literal) → IsUnread old → IsAtom {N = N} {S = S} (Root ∷ []) l (atom Root true) → literals.items ≡ l ∷ [] →
-      new ≡ record old { origins = Root ∷ []; variable_limit = limit; table = literals ∷ []; kinds = InstallRoot ∷ [] } → (root : Demands) → IsEncoding u root new
+  pub installed : (old new : Notes N S) (limit : ℕ) (literals : Vec Literal Global) (l : Literal) → IsUnread old →
+      IsAtom {N = N} {S = S} (Root ∷ []) l (atom Root true) → literals.items ≡ l ∷ [] →
+      new ≡ record old { origins = Root ∷ []; variable_limit = limit; table = literals ∷ []; kinds = InstallRoot ∷ [] } → (root : Demands) →
+      IsEncoding u root new
   installed old new limit literals l unread is items e root =
       let Right : Notes N S → Type 0 = λ n. IsEncoding u root n in
       let Literals : List Literal → Type 0 = λ ls. IsClauseOf {N = N} {S = S} u (Root ∷ []) ls InstallRoot in
       let InNoSeen : List S → Type 0 = λ xs. All (λ s. Contains xs s → ⊥) xs in
       subst Right (sym e) (record {
         root_first = refl;
-        distinct = record { same = λ i k x one other. let below_i : i < 1 = slice_get_within (Root ∷ []) i x one in let below_k : k < 1 = slice_get_within (Root ∷ []) k x other in omega (arith, below_i, below_k) };
+        distinct = record {
+          same = λ i k x one other. let below_i : i < 1 = slice_get_within (Root ∷ []) i x one in
+              let below_k : k < 1 = slice_get_within (Root ∷ []) k x other in omega (arith, below_i, below_k);
+        };
         encoded = record {
           count = refl;
           each = λ n kind at.
               let w = is_install n kind at in
               let At : ℕ → ClauseKind N S → Type 0 = λ m k. IsClauseOf u (Root ∷ []) (clause_at (literals ∷ []) m) k in
-              subst (λ k. At n k) w.1 (subst (λ m. At m InstallRoot) (sym w.0) (subst Literals (sym items) (IsClauseOf-zip u (Root ∷ []) (l ∷ []) InstallRoot (is, tt))));
+              subst (λ k. At n k) w.1 (subst (λ m. At m InstallRoot) (sym w.0)
+              (subst Literals (sym items) (IsClauseOf-zip u (Root ∷ []) (l ∷ []) InstallRoot (is, tt))));
         };
         codes = no_codes;
         own_codes = record { named = λ n i s e. absurd (false≢true e) };
         each_true = All-cons (IsTrueClause u no_codes root) InstallRoot [] tt (All-nil (IsTrueClause u no_codes root));
         each_usual = All-cons HasUsualHelper InstallRoot [] tt (All-nil HasUsualHelper);
-        due = record { locks = λ s t h. absurd (not_there (Lock s t) (λ q. cc) h); exclusions = λ s reason h. absurd (not_there (Excluded s reason) (λ q. cc) h) };
+        due = record {
+          locks = λ s t h. absurd (not_there (Lock s t) (λ q. cc) h);
+          exclusions = λ s reason h. absurd (not_there (Excluded s reason) (λ q. cc) h);
+        };
         installs = here InstallRoot [];
-        listed = λ n kind at asks. let Asks : ClauseKind N S → Type 0 = λ k. AsksForCandidates k in absurd (asks_not {N = N} {S = S} InstallRoot tt (subst Asks (sym (is_install n kind at).1) asks));
+        listed = λ n kind at asks. let Asks : ClauseKind N S → Type 0 = λ k. AsksForCandidates k in
+            absurd (asks_not {N = N} {S = S} InstallRoot tt (subst Asks (sym (is_install n kind at).1) asks));
         ask = λ n h. absurd (none old.requirements n unread.no_requirements h);
         helpers = λ by disjunct r h. absurd (not_there (Requires by disjunct r) (λ q. cc) h);
         packages = λ by disjunct r h. absurd (not_there (Requires by disjunct r) (λ q. cc) h);
@@ -207,7 +248,8 @@ module _ {N S : Type 0} (u : Universe N S) where
       })
     where
       not_there : (kind : ClauseKind N S) → (InstallRoot ≡ kind → ⊥) → Contains (InstallRoot ∷ []) kind → ⊥
-      not_there kind differ h = ⊎_elim (λ (e : InstallRoot ≡ kind). differ e) (λ (later : Contains [] kind). none_in kind later) (cons_cases InstallRoot [] kind h)
+      not_there kind differ h = ⊎_elim (λ (e : InstallRoot ≡ kind). differ e) (λ (later : Contains [] kind). none_in kind later)
+          (cons_cases InstallRoot [] kind h)
 
       is_install : (n : ℕ) (kind : ClauseKind N S) → slice_get (InstallRoot ∷ []) n ≡ Some kind → (n ≡ 0) × (InstallRoot ≡ kind)
       is_install n kind at = ⊎_elim
@@ -216,7 +258,8 @@ module _ {N S : Type 0} (u : Universe N S) where
           (place_cases [] InstallRoot n kind at)
 
 -- the first variable is the only one
-pub alone : {N S : Type 0} (old new : List (Origin N S)) (v : ℕ) → old ≡ [] → (new ≡ old) ⊎ (new ≡ old ++ Root ∷ []) → slice_get new v ≡ Some Root → new ≡ Root ∷ []
+pub alone : {N S : Type 0} (old new : List (Origin N S)) (v : ℕ) → old ≡ [] → (new ≡ old) ⊎ (new ≡ old ++ Root ∷ []) → slice_get new v ≡ Some Root →
+    new ≡ Root ∷ []
 alone old new v none added here = ⊎_elim
     (λ same. let nothing : length new ≡ 0 = ap length (same ∙ none) in absurd (omega (arith, nothing, slice_get_within new v Root here)))
     (λ more. more ∙ ap (λ list. list ++ Root ∷ []) none)

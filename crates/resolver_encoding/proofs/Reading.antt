@@ -30,7 +30,8 @@ Contains-filter : {X : Type 0} (p : X → Bool) (xs : List X) (x : X) → Contai
 Contains-filter p [] x h = h
 Contains-filter {X} p (y ∷ ys) x h = ⊎_elim
     (λ e. let Has : Bool → Type 0 = λ b. Contains (cond b (y ∷ filter p ys) (filter p ys)) x in
-    ⊎_elim (λ is. let P : X → Type 0 = λ q. Contains (y ∷ ys) q in subst P is (here y ys)) (λ t. there y ys x (Contains-filter p ys x t)) (cons_cases y (filter p ys) x (subst Has e h)))
+    ⊎_elim (λ is. let P : X → Type 0 = λ q. Contains (y ∷ ys) q in subst P is (here y ys)) (λ t. there y ys x (Contains-filter p ys x t))
+    (cons_cases y (filter p ys) x (subst Has e h)))
     (λ e. let Has : Bool → Type 0 = λ b. Contains (cond b (y ∷ filter p ys) (filter p ys)) x in there y ys x (Contains-filter p ys x (subst Has e h)))
     (cases_Bool (p y))
 
@@ -65,14 +66,16 @@ Contains-cut (cut_right {x = y} {xs = xs} rest) x h = there y xs x (Contains-cut
 module _ {N S : Type 0} (u : Universe N S) (ids : HasLawfulSolvables u) (packages : HasLawfulPackages u) where
   -- what matches a version set bears its name
   pub name_matching : (v : VersionSetId) (s : S) → Contains (matching u v) s → u.name s ≡ u.version_set_name v
-  name_matching v s h = (packages.packages (u.version_set_name v)).listed s (Contains-cut (packages.filter_splits (u.package_named (u.version_set_name v)).listed v).cut s h)
+  name_matching v s h = (packages.packages (u.version_set_name v)).listed s
+      (Contains-cut (packages.filter_splits (u.package_named (u.version_set_name v)).listed v).cut s h)
 
   favored_back : (o : Option S) (xs : List S) (s : S) → Contains (favored_first u o xs) s → Contains xs s
   favored_back None xs s h = h
   favored_back (Some f) xs s h = Contains-front u.same_solvable ids.same_solvable f xs s h
 
   pub sorted_back : (v : VersionSetId) (s : S) → Contains (sorted_candidates u v) s → Contains (matching u v) s
-  sorted_back v s h = Contains-permutation (u.sorted_of (matching u v)) (matching u v) s (IsPermutation-sym (matching u v) (u.sorted_of (matching u v)) (packages.sort_permutes (matching u v)))
+  sorted_back v s h = Contains-permutation (u.sorted_of (matching u v)) (matching u v) s
+      (IsPermutation-sym (matching u v) (u.sorted_of (matching u v)) (packages.sort_permutes (matching u v)))
       (favored_back (u.package_named (u.version_set_name v)).favored (u.sorted_of (matching u v)) s h)
 
   in_order_back : (vs : List VersionSetId) (s : S) → Contains (sorted_in_order u vs) s → (v : VersionSetId) × Contains vs v × Contains (matching u v) s
@@ -83,14 +86,18 @@ module _ {N S : Type 0} (u : Universe N S) (ids : HasLawfulSolvables u) (package
       (Contains-append_cases (sorted_candidates u v) (sorted_in_order u vs) s h)
 
   -- a candidate matches a version set of the requirement
-  pub candidate_matches : (r : Requirement) (s : S) → Contains (requirement_candidates u r) s → (v : VersionSetId) × Contains (version_sets u r) v × Contains (matching u v) s
+  pub candidate_matches : (r : Requirement) (s : S) → Contains (requirement_candidates u r) s → (v : VersionSetId) × Contains (version_sets u r) v ×
+      Contains (matching u v) s
   candidate_matches (Single v) s h = (v, here v [], sorted_back v s h)
   candidate_matches (Union m) s h = in_order_back (u.union_members m) s (Contains-repeats u.same_solvable (sorted_in_order u (u.union_members m)) s h)
 
-  module _ (root : Demands) (kinds : List (ClauseKind N S)) (IsLeft : Deferred S → Type 0) (read : List S) (asked : List N) (registered exempt : List S) (state : IsRead u root kinds IsLeft read asked registered exempt)
-      (chosen seeds : List S) (seeded : AreSeeds u seeds chosen asked registered exempt) (all_read : (s : S) → Contains chosen s → Contains registered s → Contains read s) (quiet : NoneFires u IsLeft chosen) where
+  module _ (root : Demands) (kinds : List (ClauseKind N S)) (IsLeft : Deferred S → Type 0) (read : List S) (asked : List N) (registered exempt : List S)
+      (state : IsRead u root kinds IsLeft read asked registered exempt)
+      (chosen seeds : List S) (seeded : AreSeeds u seeds chosen asked registered exempt)
+      (all_read : (s : S) → Contains chosen s → Contains registered s → Contains read s) (quiet : NoneFires u IsLeft chosen) where
     -- an active requirement has its clauses under a disjunct that holds
-    has_clause : (part : List S) → IsWithin part chosen → (by : By S) (r : ConditionalRequirement) → IsPresent by read → Contains (demands_by u root by).requirements r → IsActive u (Contains part) r →
+    has_clause : (part : List S) → IsWithin part chosen → (by : By S) (r : ConditionalRequirement) → IsPresent by read →
+        Contains (demands_by u root by).requirements r → IsActive u (Contains part) r →
         (list : List VersionSetId) × AllMeet part (map (matching u) list) × HasClause kinds by list r.requirement
     has_clause part within by r present asks active =
         let it = state.requirements by r present asks in
@@ -98,13 +105,15 @@ module _ {N S : Type 0} (u : Universe N S) (ids : HasLawfulSolvables u) (package
         ⊎_elim
         (λ clause. (w.0, w.2, clause))
         (λ waits. absurd (quiet.none (record { by = by; disjunct = w.0; requirement = r.requirement }) waits
-        (All-weaker (λ xs. Meets xs part) (λ xs. Meets xs chosen) (λ xs m. record { shared = m.shared; in_first = m.in_first; in_second = within m.shared m.in_second }) (map (matching u) w.0) w.2)))
+        (All-weaker (λ xs. Meets xs part) (λ xs. Meets xs chosen) (λ xs m.
+        record { shared = m.shared; in_first = m.in_first; in_second = within m.shared m.in_second }) (map (matching u) w.0) w.2)))
         (it.each w.0 w.1)
 
     abbrev Reached : S → Type 0
     Reached s = IsReached u root chosen seeds s
 
-    of_clause : (by : By S) (r : ConditionalRequirement) (s : S) → IsPresent by read → Contains (demands_by u root by).requirements r → IsActive u (Contains chosen) r → Contains (requirement_candidates u r.requirement) s →
+    of_clause : (by : By S) (r : ConditionalRequirement) (s : S) → IsPresent by read → Contains (demands_by u root by).requirements r →
+        IsActive u (Contains chosen) r → Contains (requirement_candidates u r.requirement) s →
         Contains registered s × Contains asked (u.name s)
     of_clause by r s present asks active candidate =
         let w = has_clause chosen (λ x h. h) by r present asks active in
@@ -131,7 +140,8 @@ module _ {N S : Type 0} (u : Universe N S) (ids : HasLawfulSolvables u) (package
     present_read part within reached ByRoot h = tt
     present_read part within reached (BySolvable s) h = all_read s (within s h) (reached_is s (reached s h)).0
 
-    is_made : (part : List S) (by : By S) (r : Requirement) (list : List VersionSetId) → AllMeet part (map (matching u) list) → HasClause kinds by list r → IsMade u kinds part by r
+    is_made : (part : List S) (by : By S) (r : Requirement) (list : List VersionSetId) → AllMeet part (map (matching u) list) → HasClause kinds by list r →
+        IsMade u kinds part by r
     is_made part by r list meets (has_direct disjunct is clause) =
         let Meet : List VersionSetId → Type 0 = λ vs. AllMeet part (map (matching u) vs) in made_direct disjunct (subst Meet (sym is) meets) clause
     is_made part by r list meets (has_gate s is none implied clause) = made_gated s is implied clause

@@ -1,5 +1,6 @@
 -- Requirements that were read.
-use Rattle.std.proofs.Common.{◌≡◌, ◌⊎◌, ◌<◌, length, get_or, ℕ, Bool, true, List, [], ◌∷◌, refl, sym, ap, subst, ⊎_elim, inl, inr, arith, Contains, All, Vec, Global, map}
+use Rattle.std.proofs.Common.{◌≡◌, ◌⊎◌, ◌<◌, length, get_or, ℕ, Bool, true, List, [], ◌∷◌, refl, sym, ap, subst, ⊎_elim, inl, inr, arith, Contains, All, Vec}
+use Rattle.std.proofs.Common.{Global, map}
 use Rattle.std.specs.Prelude.{MatchBool, Option, Some, None, false}
 use Rattle.std.proofs.lemmas.List.Elements.{All-cons, All-contains, All-contains_itself, All-get_or, All-head, All-map, All-nil, All-tail, All-weaker}
 use Rattle.resolver_clause_store.specs.Lists.{HaveSameMembers, IsWithin, Meets}
@@ -19,7 +20,8 @@ use Rattle.resolver_clause_store.specs.declared.Origin.TheVariants.{Gate}
 use Rattle.resolver_clause_store.specs.declared.Requirement.{Requirement}
 use Rattle.resolver_clause_store.specs.declared.VersionSetId.{VersionSetId}
 use Rattle.resolver_encoding.specs.Called.{Call, IsCalledBy, IsCalledByEach, IsNamedBy, IsPlainlyNamed, IsSeeingEach, IsWantedBy, to_ask, to_see}
-use Rattle.resolver_encoding.specs.Encodings.{AreDisjuncts, AsksFor, AsksWithin, IsAskStep, IsConstraintRead, IsDisjunctRead, IsEncodingOf, IsLeft, IsReadStep, IsStep, Notes}
+use Rattle.resolver_encoding.specs.Encodings.{AreDisjuncts, AsksFor, AsksWithin, IsAskStep, IsConstraintRead, IsDisjunctRead, IsEncodingOf, IsLeft, IsReadStep}
+use Rattle.resolver_encoding.specs.Encodings.{IsStep, Notes}
 use Rattle.resolver_encoding.specs.Read.{IsForbidden, forbidden_helped}
 use Rattle.resolver_encoding.specs.ReadState.{Deferred, HasClause, has_gate, IsReadRequirement}
 use Rattle.resolver_clause_store.specs.Statements.{AllMeet}
@@ -57,10 +59,12 @@ module _ {N S : Type 0} (u : Universe N S) where
   met_of set v it = record { shared = it.taken; in_first = it.listed; in_second = it.inside }
 
   all_taken : (set : List S) (list : List VersionSetId) → AllMeet set (map (matching u) list) → All (IsTaken u (Contains set)) list
-  all_taken set list meet = All-weaker (λ v. Meets (matching u v) set) (IsTaken u (Contains set)) (taken_of set) list (All-unmap (λ xs. Meets xs set) (matching u) list meet)
+  all_taken set list meet = All-weaker (λ v. Meets (matching u v) set) (IsTaken u (Contains set)) (taken_of set) list
+      (All-unmap (λ xs. Meets xs set) (matching u) list meet)
 
   all_met : (set : List S) (list : List VersionSetId) → All (IsTaken u (Contains set)) list → AllMeet set (map (matching u) list)
-  all_met set list taken = All-map (λ xs. Meets xs set) (matching u) list (All-weaker (IsTaken u (Contains set)) (λ v. Meets (matching u v) set) (met_of set) list taken)
+  all_met set list taken = All-map (λ xs. Meets xs set) (matching u) list
+      (All-weaker (IsTaken u (Contains set)) (λ v. Meets (matching u v) set) (met_of set) list taken)
 
   only_one : (disjunct : List VersionSetId) (lists : List (List VersionSetId)) → lists ≡ [] ∷ [] → Contains lists disjunct → disjunct ≡ []
   only_one disjunct lists are listed =
@@ -68,15 +72,22 @@ module _ {N S : Type 0} (u : Universe N S) where
       All-contains (λ d. d ≡ []) lists disjunct (subst AllNone (sym are) (All-cons (λ d. d ≡ []) [] [] refl (All-nil (λ d. d ≡ [])))) listed
 
   -- where each version set of a disjunct is met, its condition holds
-  pub disjunct_implies : (c : Option ConditionId) (lists : List (List VersionSetId)) (disjunct list : List VersionSetId) → AreDisjuncts u c lists → Contains lists disjunct → HaveSameMembers list disjunct → Implies u (map (matching u) list) c
+  pub disjunct_implies : (c : Option ConditionId) (lists : List (List VersionSetId)) (disjunct list : List VersionSetId) → AreDisjuncts u c lists →
+      Contains lists disjunct → HaveSameMembers list disjunct → Implies u (map (matching u) list) c
   disjunct_implies None lists disjunct list are listed same =
       let Within : List VersionSetId → Type 0 = λ d. IsWithin list d in
       ap (map (matching u)) (nothing_within list (subst Within (only_one disjunct lists are listed) same.left_within))
   disjunct_implies (Some c) lists disjunct list are listed same = λ set meet.
-      condition_holds u (Contains set) c lists are (record { disjunct = disjunct; listed = listed; all_taken = All-within (IsTaken u (Contains set)) list disjunct same.right_within (all_taken set list meet) })
+      condition_holds u (Contains set) c lists are
+      (record {
+        disjunct = disjunct;
+        listed = listed;
+        all_taken = All-within (IsTaken u (Contains set)) list disjunct same.right_within (all_taken set list meet);
+      })
 
   -- where the condition holds, a disjunct is met
-  disjunct_met : (set : List S) (c : Option ConditionId) (lists : List (List VersionSetId)) → AreDisjuncts u c lists → OptionalConditionHolds u (Contains set) c → SomeHolds u (Contains set) lists
+  disjunct_met : (set : List S) (c : Option ConditionId) (lists : List (List VersionSetId)) → AreDisjuncts u c lists →
+      OptionalConditionHolds u (Contains set) c → SomeHolds u (Contains set) lists
   disjunct_met set None lists are holds =
       let Some_holds : List (List VersionSetId) → Type 0 = λ ds. SomeHolds u (Contains set) ds in
       subst Some_holds (sym are) (record { disjunct = []; listed = (0, omega arith, refl); all_taken = All-nil (IsTaken u (Contains set)) })
@@ -96,7 +107,8 @@ module _ {N S : Type 0} (u : Universe N S) where
     abbrev Either : List VersionSetId → Type 0
     Either list = HasClause notes.kinds by list requirement ⊎ IsLeft notes (record { by = by; disjunct = list; requirement = requirement })
 
-    chosen_each : (lists : List (List VersionSetId)) (all : All (IsDisjunctRead notes by requirement) lists) (list : List VersionSetId) → Contains (chosen lists all) list → Either list
+    chosen_each : (lists : List (List VersionSetId)) (all : All (IsDisjunctRead notes by requirement) lists) (list : List VersionSetId) →
+        Contains (chosen lists all) list → Either list
     chosen_each [] all list h = absurd (none_in list h)
     chosen_each (one ∷ lists) all list h =
         let first : IsDisjunctRead notes by requirement one = All-head (IsDisjunctRead notes by requirement) one lists all in
@@ -107,7 +119,8 @@ module _ {N S : Type 0} (u : Universe N S) where
         (λ (later : Contains (chosen lists rest) list). chosen_each lists rest list later)
         (cons_cases first.kept (chosen lists rest) list h)
 
-    chosen_of : (lists : List (List VersionSetId)) (all : All (IsDisjunctRead notes by requirement) lists) (list : List VersionSetId) → Contains lists list → (mine : List VersionSetId) × Contains (chosen lists all) mine × HaveSameMembers mine list
+    chosen_of : (lists : List (List VersionSetId)) (all : All (IsDisjunctRead notes by requirement) lists) (list : List VersionSetId) → Contains lists list →
+        (mine : List VersionSetId) × Contains (chosen lists all) mine × HaveSameMembers mine list
     chosen_of [] all list h = absurd (none_in list h)
     chosen_of (one ∷ lists) all list h =
         let first : IsDisjunctRead notes by requirement one = All-head (IsDisjunctRead notes by requirement) one lists all in
@@ -119,7 +132,8 @@ module _ {N S : Type 0} (u : Universe N S) where
         (cons_cases one lists list h)
 
   -- a requirement each of whose disjuncts has a clause or is put off
-  pub requirement_read : (notes : Notes N S) (by : By S) (r : ConditionalRequirement) (lists : List (List VersionSetId)) → AreDisjuncts u r.condition lists → All (IsDisjunctRead notes by r.requirement) lists → IsReadRequirement u notes.kinds (IsLeft notes) by r
+  pub requirement_read : (notes : Notes N S) (by : By S) (r : ConditionalRequirement) (lists : List (List VersionSetId)) → AreDisjuncts u r.condition lists →
+      All (IsDisjunctRead notes by r.requirement) lists → IsReadRequirement u notes.kinds (IsLeft notes) by r
   requirement_read notes by r lists are all = record {
     disjuncts = chosen notes by r.requirement lists all;
     complete = λ set active.
@@ -130,7 +144,8 @@ module _ {N S : Type 0} (u : Universe N S) where
   }
 
   -- a disjunct's clause or its place among what is put off stays when the notes grow
-  pub IsDisjunctRead-grown : (old new : Notes N S) → IsWithin old.kinds new.kinds → ((e : Deferred S) → IsLeft old e → IsLeft new e) → (by : By S) (r : Requirement) (list : List VersionSetId) → IsDisjunctRead old by r list → IsDisjunctRead new by r list
+  pub IsDisjunctRead-grown : (old new : Notes N S) → IsWithin old.kinds new.kinds → ((e : Deferred S) → IsLeft old e → IsLeft new e) →
+      (by : By S) (r : Requirement) (list : List VersionSetId) → IsDisjunctRead old by r list → IsDisjunctRead new by r list
   IsDisjunctRead-grown old new kinds left by r list h = record {
     kept = h.kept;
     same = h.same;
@@ -138,7 +153,8 @@ module _ {N S : Type 0} (u : Universe N S) where
   }
 
   -- a requirement without a condition that has its clauses
-  pub plain_read : (kinds : List (ClauseKind N S)) (Left : Deferred S → Type 0) (by : By S) (r : ConditionalRequirement) → HasClause kinds by [] r.requirement → IsReadRequirement u kinds Left by r
+  pub plain_read : (kinds : List (ClauseKind N S)) (Left : Deferred S → Type 0) (by : By S) (r : ConditionalRequirement) → HasClause kinds by [] r.requirement →
+      IsReadRequirement u kinds Left by r
   plain_read kinds Left by r has =
       let Has : List VersionSetId → Type 0 = λ list. HasClause kinds by list r.requirement in
       record {
@@ -148,10 +164,12 @@ module _ {N S : Type 0} (u : Universe N S) where
       }
 
   -- what one of the requirements calls for
-  pub called_here : (set : List S) (list : List ConditionalRequirement) (i : ℕ) (d : ConditionalRequirement) (call : Call N S) → i < length list → IsCalledBy u set (get_or list i d) call → IsCalledByEach u set list call
+  pub called_here : (set : List S) (list : List ConditionalRequirement) (i : ℕ) (d : ConditionalRequirement) (call : Call N S) → i < length list →
+      IsCalledBy u set (get_or list i d) call → IsCalledByEach u set list call
   called_here set list i d call below called = (get_or list i d, All-get_or (Contains list) list i d below (All-contains_itself list), called)
 
-  pub plainly_here : (list : List ConditionalRequirement) (i : ℕ) (d : ConditionalRequirement) (call : Call N S) → i < length list → IsPlainlyNamed u (get_or list i d) call → (r : ConditionalRequirement) × Contains list r × IsPlainlyNamed u r call
+  pub plainly_here : (list : List ConditionalRequirement) (i : ℕ) (d : ConditionalRequirement) (call : Call N S) → i < length list →
+      IsPlainlyNamed u (get_or list i d) call → (r : ConditionalRequirement) × Contains list r × IsPlainlyNamed u r call
   plainly_here list i d call below named = (get_or list i d, All-get_or (Contains list) list i d below (All-contains_itself list), named)
 
   -- what a requirement wants: that the packages be asked that it names, and that its candidates be registered
@@ -164,34 +182,41 @@ module _ {N S : Type 0} (u : Universe N S) where
   listed_wanted r list same (to_see s) listed = let Has : List S → Type 0 = λ xs. Contains xs s in subst Has same listed
 
   -- a requirement without a condition is active
-  pub plainly_called : (set : List S) (requirements : List ConditionalRequirement) (call : Call N S) → (r : ConditionalRequirement) × Contains requirements r × IsPlainlyNamed u r call → IsCalledByEach u set requirements call
+  pub plainly_called : (set : List S) (requirements : List ConditionalRequirement) (call : Call N S) → (r : ConditionalRequirement) × Contains requirements r ×
+      IsPlainlyNamed u r call → IsCalledByEach u set requirements call
   plainly_called set requirements call (r, listed, plain) =
       let Holds : Option ConditionId → Type 0 = λ c. OptionalConditionHolds u (Contains set) c in
       (r, listed, (subst Holds (sym plain.0) tt, named_wanted r.requirement call plain.1))
 
   -- the same for a requirement of a solvable
-  pub plain_has : (kinds : List (ClauseKind N S)) (Left : Deferred S → Type 0) (by : By S) (requirer : S) (r : ConditionalRequirement) → by ≡ BySolvable requirer → HasClause kinds (BySolvable requirer) [] r.requirement → IsReadRequirement u kinds Left by r
+  pub plain_has : (kinds : List (ClauseKind N S)) (Left : Deferred S → Type 0) (by : By S) (requirer : S) (r : ConditionalRequirement) →
+      by ≡ BySolvable requirer → HasClause kinds (BySolvable requirer) [] r.requirement → IsReadRequirement u kinds Left by r
   plain_has kinds Left by requirer r same has =
       let Read : By S → Type 0 = λ b. IsReadRequirement u kinds Left b r in
       subst Read (sym same) (plain_read kinds Left (BySolvable requirer) r has)
 
-  pub plain_step : (Defers : Deferred S → Type 0) (set : List S) (by : By S) (requirer : S) (r : ConditionalRequirement) (old new : Notes N S) → by ≡ BySolvable requirer → r.condition ≡ None →
-      IsAskStep u (IsWantedBy u r.requirement) (AsksFor u (BySolvable requirer) (record { condition = None; requirement = r.requirement })) old new → IsReadStep u Defers (IsCalledBy u set r) (AsksFor u by r) old new
+  pub plain_step : (Defers : Deferred S → Type 0) (set : List S) (by : By S) (requirer : S) (r : ConditionalRequirement) (old new : Notes N S) →
+      by ≡ BySolvable requirer → r.condition ≡ None →
+      IsAskStep u (IsWantedBy u r.requirement) (AsksFor u (BySolvable requirer) (record { condition = None; requirement = r.requirement })) old new →
+      IsReadStep u Defers (IsCalledBy u set r) (AsksFor u by r) old new
   plain_step Defers set by requirer r old new same none step =
       let Holds : Option ConditionId → Type 0 = λ c. OptionalConditionHolds u (Contains set) c in
       let plain : r ≡ record { condition = None; requirement = r.requirement } = λ i. record { condition = none i; requirement = r.requirement } in
       let Asks : By S → ConditionalRequirement → Demands → Type 0 = λ b q root. AsksFor u b q root in
       IsReadStep-of u Defers (IsCalledBy u set r) (AsksFor u by r) old new
       (IsAskStep-weaker u (IsWantedBy u r.requirement) (IsCalledBy u set r) (λ call wanted. (subst Holds (sym none) tt, wanted))
-      (AsksFor u (BySolvable requirer) (record { condition = None; requirement = r.requirement })) (AsksFor u by r) (λ root asks. subst (λ q. Asks (BySolvable requirer) q root) plain (subst (λ b. Asks b r root) same asks)) old new step)
+      (AsksFor u (BySolvable requirer) (record { condition = None; requirement = r.requirement })) (AsksFor u by r) (λ root asks.
+      subst (λ q. Asks (BySolvable requirer) q root) plain (subst (λ b. Asks b r root) same asks)) old new step)
 
   -- a condition holds where a disjunct of it is met
-  pub active_where : (set : List S) (when : List (List S)) (c : Option ConditionId) → Implies u when c → AllMeet set when → OptionalConditionHolds u (Contains set) c
+  pub active_where : (set : List S) (when : List (List S)) (c : Option ConditionId) → Implies u when c → AllMeet set when →
+      OptionalConditionHolds u (Contains set) c
   active_where set when None implies met = tt
   active_where set when (Some c) implies met = implies set met
 
   -- a gate follows from a solvable that asks for its requirement
-  pub gate_follows : (codes : N → ℕ → S → Bool) (s : S) (r : Requirement) → Contains (demands_of (u.needs s)).requirements (record { condition = None; requirement = r }) → follows u codes (Gate r) s ≡ true
+  pub gate_follows : (codes : N → ℕ → S → Bool) (s : S) (r : Requirement) →
+      Contains (demands_of (u.needs s)).requirements (record { condition = None; requirement = r }) → follows u codes (Gate r) s ≡ true
   gate_follows codes s r asks =
       let plain : ConditionalRequirement = record { condition = None; requirement = r } in
       list_any-contains (is_plain r) (demands_of (u.needs s)).requirements plain asks (same_requirement-same r)
@@ -208,7 +233,8 @@ module _ {N S : Type 0} (u : Universe N S) where
       Contains new.constrained v → Contains new.kinds (ConstrainsParent by v) → IsConstraintRead u new.kinds by v
   constraint_read old new by v before step helped parent =
       let now = IsEncodingOf-step u (AsksWithin u by v) old new before step in
-      All-weaker (Contains (others u v)) (IsForbidden new.kinds by v) (λ s h. forbidden_helped parent (now.encoding.excluded v helped s h)) (others u v) (All-contains_itself (others u v))
+      All-weaker (Contains (others u v)) (IsForbidden new.kinds by v) (λ s h. forbidden_helped parent (now.encoding.excluded v helped s h)) (others u v)
+      (All-contains_itself (others u v))
 
 -- the list in a vector
 abbrev pub items_of : {X : Type 0} → Vec X Global → List X

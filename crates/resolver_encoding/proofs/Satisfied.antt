@@ -16,8 +16,10 @@ use Rattle.resolver_clause_store.specs.Statements.{IsPresent, AllMeet, ObeysAll}
 use Rattle.resolver_clause_store.specs.declared.Origin.{Origin}
 use Rattle.resolver_clause_store.specs.declared.Origin.TheVariants.{Root, Solvable, Bit, Gate, ConstraintHelper, ConditionHelper}
 use Rattle.resolver_clause_store.specs.declared.ClauseKind.{ClauseKind}
-use Rattle.resolver_clause_store.specs.declared.ClauseKind.TheVariants.{InstallRoot, Requires, AnyOf, Constrains, GateRequires, ConstrainsExcluded, ConstrainsParent, HasBit, Lock, Excluded}
-use Rattle.resolver_encoding.specs.Atoms.{Atom, atom, origin_by, atoms_of, has, is_on, IsHelper, is_satisfied, IsStated, states_requires, states_constrains, states_gated, states_helped, states_coded, states_bit, states_lock, states_excluded, Defines}
+use Rattle.resolver_clause_store.specs.declared.ClauseKind.TheVariants.{InstallRoot, Requires, AnyOf, Constrains, GateRequires, ConstrainsExcluded}
+use Rattle.resolver_clause_store.specs.declared.ClauseKind.TheVariants.{ConstrainsParent, HasBit, Lock, Excluded}
+use Rattle.resolver_encoding.specs.Atoms.{Atom, atom, origin_by, atoms_of, has, is_on, IsHelper, is_satisfied, IsStated, states_requires, states_constrains}
+use Rattle.resolver_encoding.specs.Atoms.{states_gated, states_helped, states_coded, states_bit, states_lock, states_excluded, Defines}
 use Rattle.resolver_encoding.proofs.Lists.{In, first, later, on_left, on_right, mapped, list_any-contains, list_any-none, list_any-witness, true_if, beq-false}
 
 module _ {N S : Type 0} (u : Universe N S) (implies : Origin N S → S → Bool) (same : IsIdentity u.same_solvable) (set : List S) where
@@ -60,28 +62,39 @@ module _ {N S : Type 0} (u : Universe N S) (implies : Origin N S → S → Bool)
     refuted obeys (Requires by disjunct requirement) inside wrong =
         let on : (v : VersionSetId) → Contains disjunct.items v → Meets (matching u v) set = λ v c.
         helper_meets v (wrong.each (ConditionHelper v) false (later (on_left _ (mapped (λ w. atom (ConditionHelper w) false) disjunct.items v c)))) in
-        let meets : AllMeet set (map (matching u) disjunct.items) = All-map (λ xs. Meets xs set) (matching u) disjunct.items (λ k d below. on _ (Contains-get_or disjunct.items k d below)) in
+        let meets : AllMeet set (map (matching u) disjunct.items) =
+        All-map (λ xs. Meets xs set) (matching u) disjunct.items (λ k d below. on _ (Contains-get_or disjunct.items k d below)) in
         let met = obeys.each _ (states_requires by disjunct requirement inside) (present by (wrong.each (origin_by by) false first)) meets in
-        both_ways _ (wrong.each (Solvable met.shared) true (later (on_right _ (mapped (λ s. atom (Solvable s) true) (requirement_candidates u requirement) met.shared met.in_first)))) (has-contains met.shared met.in_second)
+        both_ways _ (wrong.each (Solvable met.shared) true
+        (later (on_right _ (mapped (λ s. atom (Solvable s) true) (requirement_candidates u requirement) met.shared met.in_first))))
+        (has-contains met.shared met.in_second)
     refuted obeys (AnyOf helper candidate) inside wrong =
         let chosen = contains-has candidate (wrong.each (Solvable candidate) false (later first)) in
-        both_ways _ (sym (on-helper helper (defines.helper helper candidate inside)) ∙ wrong.each helper true first) (list_any-contains (implies helper) set candidate chosen (defines.defined helper candidate inside))
+        both_ways _ (sym (on-helper helper (defines.helper helper candidate inside)) ∙ wrong.each helper true first)
+        (list_any-contains (implies helper) set candidate chosen (defines.defined helper candidate inside))
     refuted obeys (Constrains by version_set candidate) inside wrong =
-        obeys.each _ (states_constrains by version_set candidate inside) (present by (wrong.each (origin_by by) false first)) (contains-has candidate (wrong.each (Solvable candidate) false (later first)))
+        obeys.each _ (states_constrains by version_set candidate inside) (present by (wrong.each (origin_by by) false first))
+        (contains-has candidate (wrong.each (Solvable candidate) false (later first)))
     refuted obeys (GateRequires requirement) inside wrong =
         let x = list_any-witness (implies (Gate requirement)) set (wrong.each (Gate requirement) false first) in
         let met = obeys.each _ (states_gated x.0 requirement inside x.2) x.1 (λ k d below. absurd (omega arith)) in
-        both_ways _ (wrong.each (Solvable met.shared) true (later (mapped (λ s. atom (Solvable s) true) (requirement_candidates u requirement) met.shared met.in_first))) (has-contains met.shared met.in_second)
+        both_ways _ (wrong.each (Solvable met.shared) true
+        (later (mapped (λ s. atom (Solvable s) true) (requirement_candidates u requirement) met.shared met.in_first)))
+        (has-contains met.shared met.in_second)
     refuted obeys (ConstrainsExcluded candidate version_set) inside wrong =
-        both_ways _ (wrong.each (ConstraintHelper version_set) true (later first)) (list_any-contains (implies (ConstraintHelper version_set)) set candidate (contains-has candidate (wrong.each (Solvable candidate) false first)) (defines.helped version_set candidate inside))
+        both_ways _ (wrong.each (ConstraintHelper version_set) true (later first))
+        (list_any-contains (implies (ConstraintHelper version_set)) set candidate (contains-has candidate (wrong.each (Solvable candidate) false first))
+        (defines.helped version_set candidate inside))
     refuted obeys (ConstrainsParent by version_set) inside wrong =
         let x = list_any-witness (implies (ConstraintHelper version_set)) set (wrong.each (ConstraintHelper version_set) false (later first)) in
         obeys.each _ (states_helped by version_set x.0 inside x.2) (present by (wrong.each (origin_by by) false first)) x.1
     refuted obeys (HasBit name s index true) inside wrong =
-        both_ways _ (wrong.each (Bit name index) true (later first)) (list_any-contains (implies (Bit name index)) set s (contains-has s (wrong.each (Solvable s) false first)) (defines.coded name s index true inside))
+        both_ways _ (wrong.each (Bit name index) true (later first))
+        (list_any-contains (implies (Bit name index)) set s (contains-has s (wrong.each (Solvable s) false first)) (defines.coded name s index true inside))
     refuted obeys (HasBit name s index false) inside wrong =
         let x = list_any-witness (implies (Bit name index)) set (wrong.each (Bit name index) false (later first)) in
-        let same : x.0 ≡ s = obeys.one_each name x.0 s (states_bit name x.0 index x.2) (states_coded name s index false inside) x.1 (contains-has s (wrong.each (Solvable s) false first)) in
+        let same : x.0 ≡ s = obeys.one_each name x.0 s (states_bit name x.0 index x.2) (states_coded name s index false inside) x.1
+        (contains-has s (wrong.each (Solvable s) false first)) in
         both_ways _ (defines.coded name s index false inside) (sym (ap (implies (Bit name index)) same) ∙ x.2)
     refuted obeys (Lock locked forbidden) inside wrong =
         obeys.each _ (states_lock locked forbidden inside) (contains-has forbidden (wrong.each (Solvable forbidden) false (later first)))

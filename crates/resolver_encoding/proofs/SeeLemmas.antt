@@ -1,5 +1,6 @@
 -- A solvable gets its code, and is then noted.
-use Rattle.std.proofs.Common.{◌≡◌, ◌≢◌, ◌⊎◌, ℕ, ◌+◌, ◌-◌, ◌^◌, ◌<◌, ◌≤◌, length, List, [], ◌∷◌, ◌++◌, arith, refl, sym, ap, ◌∙◌, subst, ⊎_elim, inl, inr, Contains, All, Bool, true, false, get_or}
+use Rattle.std.proofs.Common.{◌≡◌, ◌≢◌, ◌⊎◌, ℕ, ◌+◌, ◌-◌, ◌^◌, ◌<◌, ◌≤◌, length, List, [], ◌∷◌, ◌++◌, arith, refl, sym, ap, ◌∙◌, subst, ⊎_elim, inl, inr}
+use Rattle.std.proofs.Common.{Contains, All, Bool, true, false, get_or}
 use Rattle.std.specs.Prelude.{Some, slice_get, map, ⊤}
 use Rattle.std.proofs.lemmas.Bool.{cases_Bool, cases_eq}
 use Rattle.std.proofs.lemmas.Option.{slice_get-get_or}
@@ -8,12 +9,14 @@ use Rattle.resolver_clause_store.specs.Laws.{IsIdentity}
 use Rattle.resolver_clause_store.specs.Lists.{IsWithin}
 use Rattle.resolver_clause_store.specs.Universe.{Universe, Demands}
 use Rattle.resolver_clause_store.specs.declared.ClauseKind.{ClauseKind}
-use Rattle.resolver_clause_store.specs.declared.ClauseKind.TheVariants.{InstallRoot, Requires, AnyOf, GateRequires, Constrains, ConstrainsExcluded, ConstrainsParent, HasBit, Lock, Excluded}
+use Rattle.resolver_clause_store.specs.declared.ClauseKind.TheVariants.{InstallRoot, Requires, AnyOf, GateRequires, Constrains, ConstrainsExcluded}
+use Rattle.resolver_clause_store.specs.declared.ClauseKind.TheVariants.{ConstrainsParent, HasBit, Lock, Excluded}
 use Rattle.resolver_clause_store.specs.declared.Origin.TheVariants.{Root, Solvable, Bit, Gate, ConstraintHelper, ConditionHelper}
 use Rattle.resolver_clause_store.proofs.PlaceLemmas.{place_in}
 use Rattle.resolver_encoding.specs.Called.{Call, IsSeeing, to_ask, to_see}
 use Rattle.resolver_encoding.specs.Codes.{bit}
-use Rattle.resolver_encoding.specs.Encodings.{AddsClause, Coding, Extends, HasUsualHelper, IsAskStep, IsEncoding, IsEncodingWhile, IsFollowed, IsStepWhile, Notes, coding_for}
+use Rattle.resolver_encoding.specs.Encodings.{AddsClause, Coding, Extends, HasUsualHelper, IsAskStep, IsEncoding, IsEncodingWhile, IsFollowed, IsStepWhile}
+use Rattle.resolver_encoding.specs.Encodings.{Notes, coding_for}
 use Rattle.resolver_encoding.specs.Groups.{AddsNamed, AreGroups, IsAt, IsNamed}
 use Rattle.resolver_encoding.specs.declared.groups.Groups.{Groups}
 use Rattle.resolver_encoding.specs.Truth.{AreCodes, IsTrueClause}
@@ -41,15 +44,18 @@ pub place_of_item : {X : Type 0} (xs : List X) (i : ℕ) (x : X) → i < length 
 place_of_item xs i x below is = slice_get-get_or xs i x below ∙ ap Some (sym is)
 
 -- each one of a list has the digit that begins with the number
-pub digit_begun : {N S : Type 0} (kinds : List (ClauseKind N S)) (n : N) (list : List S) (number index i k : ℕ) (t : S) → All (λ r. Contains kinds (HasBit n r index false)) list → number ≡ 2 ^ index → number ≡ 2 ^ i →
+pub digit_begun : {N S : Type 0} (kinds : List (ClauseKind N S)) (n : N) (list : List S) (number index i k : ℕ) (t : S) →
+    All (λ r. Contains kinds (HasBit n r index false)) list → number ≡ 2 ^ index → number ≡ 2 ^ i →
     slice_get list k ≡ Some t → k < number → Contains kinds (HasBit n t i (bit k i))
 digit_begun {N} {S} kinds n list number index i k t all one other at below =
     let Has : ℕ → Bool → Type 0 = λ j b. Contains kinds (HasBit n t j b) in
     let same : index ≡ i = pow_same index i (sym one ∙ other) in
-    subst (λ b. Has i b) (sym (no_digit k i (omega (arith, below, other)))) (subst (λ j. Has j false) same (All-contains (λ r. Contains kinds (HasBit n r index false)) list t all (place_in list k t at)))
+    subst (λ b. Has i b) (sym (no_digit k i (omega (arith, below, other))))
+    (subst (λ j. Has j false) same (All-contains (λ r. Contains kinds (HasBit n r index false)) list t all (place_in list k t at)))
 
 -- one more digit has its clause
-pub more_digits : {N S : Type 0} (kinds more : List (ClauseKind N S)) (n : N) (k : ℕ) (s : S) (count : ℕ) (b : Bool) → IsWithin kinds more → ((i : ℕ) → i < count → Contains kinds (HasBit n s i (bit k i))) →
+pub more_digits : {N S : Type 0} (kinds more : List (ClauseKind N S)) (n : N) (k : ℕ) (s : S) (count : ℕ) (b : Bool) → IsWithin kinds more →
+    ((i : ℕ) → i < count → Contains kinds (HasBit n s i (bit k i))) →
     b ≡ bit k count → Contains more (HasBit n s count b) → (i : ℕ) → i < count + 1 → Contains more (HasBit n s i (bit k i))
 more_digits {N} {S} kinds more n k s count b within before is added i below =
     let Has : ℕ → Bool → Type 0 = λ j d. Contains more (HasBit n s j d) in
@@ -59,7 +65,8 @@ more_digits {N} {S} kinds more n k s count b within before is added i below =
     (cases_eq i count)
 
 module _ {N S : Type 0} (u : Universe N S) where
-  module _ (same_name : N → N → Bool) (same_solvable : S → S → Bool) (names : IsIdentity same_name) (solvables : IsIdentity same_solvable) (n : N) (k : ℕ) (s : S) where
+  module _ (same_name : N → N → Bool) (same_solvable : S → S → Bool) (names : IsIdentity same_name) (solvables : IsIdentity same_solvable) (n : N) (k : ℕ)
+      (s : S) where
     -- the codes, with one for one more solvable
     abbrev coded_also : (N → ℕ → S → Bool) → N → ℕ → S → Bool
     coded_also codes m i t = pick (same_name m n) (pick (same_solvable t s) (bit k i) (codes m i t)) (codes m i t)
@@ -69,7 +76,9 @@ module _ {N S : Type 0} (u : Universe N S) where
 
     coded_as_before : (codes : N → ℕ → S → Bool) (m : N) (i : ℕ) (t : S) → (t ≡ s → ⊥) → coded_also codes m i t ≡ codes m i t
     coded_as_before codes m i t differ =
-        let other : same_solvable t s ≡ false = ⊎_elim (λ (e : same_solvable t s ≡ true). absurd (differ (solvables.alone t s e))) (λ (e : same_solvable t s ≡ false). e) (cases_Bool (same_solvable t s)) in
+        let other : same_solvable t s ≡ false =
+        ⊎_elim (λ (e : same_solvable t s ≡ true). absurd (differ (solvables.alone t s e))) (λ (e : same_solvable t s ≡ false). e)
+        (cases_Bool (same_solvable t s)) in
         ⊎_elim
         (λ (e : same_name m n ≡ true). pick_first (same_name m n) _ _ e ∙ pick_second (same_solvable t s) _ _ other)
         (λ (e : same_name m n ≡ false). pick_second (same_name m n) _ _ e)
@@ -87,7 +96,8 @@ module _ {N S : Type 0} (u : Universe N S) where
     }
 
     -- a clause that says nothing of the solvable's bits is still true
-    still_true : (codes : N → ℕ → S → Bool) (root : Demands) (kind : ClauseKind N S) → HasUsualHelper kind → ((m : N) (t : S) (i : ℕ) (b : Bool) → kind ≡ HasBit m t i b → t ≡ s → ⊥) → IsTrueClause u codes root kind → IsTrueClause u (coded_also codes) root kind
+    still_true : (codes : N → ℕ → S → Bool) (root : Demands) (kind : ClauseKind N S) → HasUsualHelper kind →
+        ((m : N) (t : S) (i : ℕ) (b : Bool) → kind ≡ HasBit m t i b → t ≡ s → ⊥) → IsTrueClause u codes root kind → IsTrueClause u (coded_also codes) root kind
     still_true codes root InstallRoot usual apart h = tt
     still_true codes root (Requires by disjunct r) usual apart h = h
     still_true codes root (AnyOf (ConditionHelper v) t) usual apart h = h
@@ -105,7 +115,8 @@ module _ {N S : Type 0} (u : Universe N S) where
     still_true codes root (Excluded t reason) usual apart h = h
 
     -- a solvable that is going to get its code
-    pub coding_opened : (root : Demands) (old : Notes N S) → u.name s ≡ n → (Contains old.seen s → ⊥) → IsEncoding u root old → IsEncodingWhile u (coding_for n k s) root old
+    pub coding_opened : (root : Demands) (old : Notes N S) → u.name s ≡ n → (Contains old.seen s → ⊥) → IsEncoding u root old →
+        IsEncodingWhile u (coding_for n k s) root old
     coding_opened root old name absent start =
         let Seen : S → Type 0 = λ t. Contains old.seen t in
         record {
@@ -164,14 +175,16 @@ module _ {N S : Type 0} (u : Universe N S) where
         }
 
     -- one more clause of the solvable's code
-    pub IsStep-own : (old new : Notes N S) (i : ℕ) (b : Bool) → AddsClause old new (HasBit n s i b) (atoms_of u (HasBit n s i b)) → u.name s ≡ n → b ≡ bit k i → IsStepWhile u (coding_for n k s) (λ root. ⊤) old new
+    pub IsStep-own : (old new : Notes N S) (i : ℕ) (b : Bool) → AddsClause old new (HasBit n s i b) (atoms_of u (HasBit n s i b)) → u.name s ≡ n → b ≡ bit k i →
+        IsStepWhile u (coding_for n k s) (λ root. ⊤) old new
     IsStep-own old new i b adds name is =
         let one : Coding N S = record { name = n; number = k; instance = s } in
         IsStep-plain u (coding_for n k s) (λ root. ⊤) old new (HasBit n s i b) adds tt
         (λ root _ before codes has. (name, has.coding one (here one []) i ∙ sym is)) tt tt (inr (here s []))
 
     -- an earlier one has the digit that begins with the solvable's number, and it is not set
-    pub IsStep-begun : (old new : Notes N S) (i j : ℕ) (t : S) → AddsClause old new (HasBit n t i false) (atoms_of u (HasBit n t i false)) → k ≡ 2 ^ i → (AreGroups old.groups → j < k) → IsAt old.groups n j t → IsStepWhile u (coding_for n k s) (λ root. ⊤) old new
+    pub IsStep-begun : (old new : Notes N S) (i j : ℕ) (t : S) → AddsClause old new (HasBit n t i false) (atoms_of u (HasBit n t i false)) → k ≡ 2 ^ i →
+        (AreGroups old.groups → j < k) → IsAt old.groups n j t → IsStepWhile u (coding_for n k s) (λ root. ⊤) old new
     IsStep-begun old new i j t adds begins below at =
         let kind : ClauseKind N S = HasBit n t i false in
         IsStep-clause u (coding_for n k s) (λ root. ⊤) old new kind (atoms_of u kind) adds (asks_not kind tt)
@@ -187,16 +200,22 @@ module _ {N S : Type 0} (u : Universe N S) where
         })
 
     -- of a solvable that is noted as seen, and of nothing else
-    seen_alone : (old mid : Notes N S) (groups : Groups N S) → mid.asked ≡ old.asked → mid.seen ≡ old.seen → (call : Call N S) → IsFollowed (record mid { seen = mid.seen ++ s ∷ []; groups = groups }) call → IsFollowed old call ⊎ IsSeeing s call
+    seen_alone : (old mid : Notes N S) (groups : Groups N S) → mid.asked ≡ old.asked → mid.seen ≡ old.seen → (call : Call N S) →
+        IsFollowed (record mid { seen = mid.seen ++ s ∷ []; groups = groups }) call → IsFollowed old call ⊎ IsSeeing s call
     seen_alone old mid groups asked seen (to_ask m) h = let Has : List N → Type 0 = λ list. Contains list m in inl (subst Has asked h)
-    seen_alone old mid groups asked seen (to_see t) h = let Has : List S → Type 0 = λ list. Contains list t in ⊎_elim (λ (earlier : Contains mid.seen t). inl (subst Has seen earlier)) (λ (is : s ≡ t). inr is) (Contains-push_cases mid.seen s t h)
+    seen_alone old mid groups asked seen (to_see t) h = let Has : List S → Type 0 = λ list. Contains list t in
+        ⊎_elim (λ (earlier : Contains mid.seen t). inl (subst Has seen earlier)) (λ (is : s ≡ t). inr is) (Contains-push_cases mid.seen s t h)
 
     -- A solvable gets its code while no others come, and is then noted. The list has those of its name, by their numbers.
     pub IsStep-seen : (old mid new : Notes N S) (groups : Groups N S) (list : List S) → u.name s ≡ n → (Contains old.seen s → ⊥) →
-        IsStepWhile u (coding_for n k s) (λ root. ⊤) old mid → mid.groups ≡ old.groups → mid.seen ≡ old.seen → new ≡ record mid { seen = mid.seen ++ s ∷ []; groups = groups } →
+        IsStepWhile u (coding_for n k s) (λ root. ⊤) old mid → mid.groups ≡ old.groups → mid.seen ≡ old.seen →
+        new ≡ record mid { seen = mid.seen ++ s ∷ []; groups = groups } →
         (AreGroups mid.groups → AddsNamed mid.groups groups n s) → Contains mid.origins (Solvable s) →
-        ((j : ℕ) (t : S) → slice_get list j ≡ Some t → IsAt old.groups n j t) → (AreGroups old.groups → (j : ℕ) (t : S) → IsAt old.groups n j t → slice_get list j ≡ Some t) → k ≡ length list →
-        ((i : ℕ) → 2 ^ i ≤ k → Contains mid.kinds (HasBit n s i (bit k i))) → ((i : ℕ) → k ≡ 2 ^ i → AreGroups old.groups → (j : ℕ) (t : S) → IsAt old.groups n j t → Contains mid.kinds (HasBit n t i (bit j i))) → IsAskStep u (IsSeeing s) (λ root. ⊤) old new
+        ((j : ℕ) (t : S) → slice_get list j ≡ Some t → IsAt old.groups n j t) →
+        (AreGroups old.groups → (j : ℕ) (t : S) → IsAt old.groups n j t → slice_get list j ≡ Some t) → k ≡ length list →
+        ((i : ℕ) → 2 ^ i ≤ k → Contains mid.kinds (HasBit n s i (bit k i))) →
+        ((i : ℕ) → k ≡ 2 ^ i → AreGroups old.groups → (j : ℕ) (t : S) → IsAt old.groups n j t → Contains mid.kinds (HasBit n t i (bit j i))) →
+        IsAskStep u (IsSeeing s) (λ root. ⊤) old new
     IsStep-seen old mid new groups list name absent step same_groups same_seen e adds has each every count own begun =
         let Step : Notes N S → Type 0 = λ m. IsAskStep u (IsSeeing s) (λ root. ⊤) old m in
         let Longer : List S → Type 0 = λ list. Extends old.seen (list ++ s ∷ []) in
@@ -251,7 +270,8 @@ module _ {N S : Type 0} (u : Universe N S) where
                     (λ (earlier : IsAt mid.groups m j t). before.placed m j t earlier i)
                     (λ (is : (m ≡ n) × (j ≡ added.number) × (t ≡ s)).
                     let Coded : N → ℕ → S → Type 0 = λ q a r. before.codes q i r ≡ bit a i in
-                    let here_coded : before.codes n i s ≡ bit k i = before.coding (record { name = n; number = k; instance = s }) (here (record { name = n; number = k; instance = s }) []) i in
+                    let here_coded : before.codes n i s ≡ bit k i =
+                    before.coding (record { name = n; number = k; instance = s }) (here (record { name = n; number = k; instance = s }) []) i in
                     subst (λ q. Coded q j t) (sym is.0) (subst (λ a. Coded n a t) (sym (is.1 ∙ number)) (subst (λ r. Coded n k r) (sym is.2) here_coded)))
                     (added.only_at m j t at);
                 coding = λ c h i. absurd (none_in c h);
@@ -273,19 +293,23 @@ module _ {N S : Type 0} (u : Universe N S) where
                     (λ (is : (m ≡ n) × (j ≡ added.number) × (t ≡ s)).
                     let Has : N → ℕ → S → Type 0 = λ q a x. Contains mid.kinds (HasBit q x i (bit a i)) in
                     let largest : p ≤ k = ⊎_elim
-                    (λ (r_before : IsAt mid.groups m p r). let less : p < added.number = added.below p r (subst (λ q. At mid.groups q p r) is.0 r_before) in omega (arith, less, number))
+                    (λ (r_before : IsAt mid.groups m p r). let less : p < added.number = added.below p r (subst (λ q. At mid.groups q p r) is.0 r_before) in
+                    omega (arith, less, number))
                     (λ (last : (m ≡ n) × (p ≡ added.number) × (r ≡ s)). omega (arith, last.1, number))
                     (added.only_at m p r to) in
-                    subst (λ q. Has q j t) (sym is.0) (subst (λ a. Has n a t) (sym (is.1 ∙ number)) (subst (λ x. Has n k x) (sym is.2) (own i (omega (arith, reached, largest))))))
+                    subst (λ q. Has q j t) (sym is.0)
+                    (subst (λ a. Has n a t) (sym (is.1 ∙ number)) (subst (λ x. Has n k x) (sym is.2) (own i (omega (arith, reached, largest))))))
                     (added.only_at m j t at);
                 sound_groups = added.sound;
                 grouped = λ t h. ⊎_elim
                     (λ (earlier : Contains mid.seen t). added.earlier (u.name t) t (before.grouped t earlier))
-                    (λ (is : s ≡ t). let Named : S → Type 0 = λ q. IsNamed groups (u.name q) q in let Of : N → Type 0 = λ m. IsNamed groups m s in subst Named is (subst Of (sym name) added.here))
+                    (λ (is : s ≡ t). let Named : S → Type 0 = λ q. IsNamed groups (u.name q) q in let Of : N → Type 0 = λ m. IsNamed groups m s in
+                    subst Named is (subst Of (sym name) added.here))
                     (Contains-push_cases mid.seen s t h);
                 members = λ m t h. ⊎_elim
                     (λ (earlier : IsNamed mid.groups m t). let w = before.members m t earlier in (w.0, Contains-append_left mid.seen (s ∷ []) t w.1))
-                    (λ (is : (m ≡ n) × (t ≡ s)). let Has : S → Type 0 = λ q. Contains (mid.seen ++ s ∷ []) q in (ap u.name is.1 ∙ name ∙ sym is.0, subst Has (sym is.1) (Contains-push mid.seen s)))
+                    (λ (is : (m ≡ n) × (t ≡ s)). let Has : S → Type 0 = λ q. Contains (mid.seen ++ s ∷ []) q in
+                    (ap u.name is.1 ∙ name ∙ sym is.0, subst Has (sym is.1) (Contains-push mid.seen s)))
                     (added.only m t h);
                 left_true = before.left_true;
                 indexed = before.indexed;
@@ -300,13 +324,15 @@ module _ {N S : Type 0} (u : Universe N S) where
         Sound gs = AreGroups gs
 
         -- an earlier one has the digits of the new one's number: the digit began with it, or was there before
-        earlier_digit : {root : Demands} → IsEncodingWhile u (coding_for n k s) root mid → (j : ℕ) (t : S) → IsAt mid.groups n j t → (i : ℕ) → 2 ^ i ≤ k → Contains mid.kinds (HasBit n t i (bit j i))
+        earlier_digit : {root : Demands} → IsEncodingWhile u (coding_for n k s) root mid → (j : ℕ) (t : S) → IsAt mid.groups n j t → (i : ℕ) → 2 ^ i ≤ k →
+            Contains mid.kinds (HasBit n t i (bit j i))
         earlier_digit before j t at i reached =
             let sound : AreGroups old.groups = subst (λ gs. AreGroups gs) same_groups before.sound_groups in
             ⊎_elim
             (λ (begins : k ≡ 2 ^ i). begun i begins sound j t (subst (λ gs. IsAt gs n j t) same_groups at))
             (λ (differ : k ≢ 2 ^ i).
             let less : k - 1 < length list = omega (arith, count, reached, differ) in
-            let last : IsAt mid.groups n (k - 1) (get_or list (k - 1) s) = subst (λ gs. IsAt gs n (k - 1) (get_or list (k - 1) s)) (sym same_groups) (each (k - 1) _ (slice_get-get_or list (k - 1) s less)) in
+            let last : IsAt mid.groups n (k - 1) (get_or list (k - 1) s) =
+            subst (λ gs. IsAt gs n (k - 1) (get_or list (k - 1) s)) (sym same_groups) (each (k - 1) _ (slice_get-get_or list (k - 1) s less)) in
             before.digits n j (k - 1) t (get_or list (k - 1) s) at last i (omega (arith, reached, differ)))
             (cases_eq k (2 ^ i))

@@ -1,10 +1,12 @@
 -- One more reading: its two halves, what they leave of what was put off, and which packages they asked for.
-use Rattle.std.proofs.Common.{◌≡◌, ◌⊎◌, ℕ, ◌+◌, ◌<◌, Bool, true, false, length, length-append, take, drop, map, List, [], ◌∷◌, ◌++◌, refl, sym, ap, ◌∙◌, subst, ⊎_elim, inl, inr, arith, Contains, All}
+use Rattle.std.proofs.Common.{◌≡◌, ◌⊎◌, ℕ, ◌+◌, ◌<◌, Bool, true, false, length, length-append, take, drop, map, List, [], ◌∷◌, ◌++◌, refl, sym, ap, ◌∙◌, subst}
+use Rattle.std.proofs.Common.{⊎_elim, inl, inr, arith, Contains, All}
 use Rattle.std.specs.Prelude.{◌||◌, Some, slice_get, ⊤}
 use Rattle.std.proofs.Common.{◌≢◌, ◌-◌, ◌≤◌, get_or}
 use Rattle.std.proofs.lemmas.Bool.{cases_eq, cases_lt}
 use Rattle.std.proofs.lemmas.List.{get_or-drop, get_or_default, length-drop, take-append-drop}
-use Rattle.std.proofs.lemmas.List.Elements.{All-cons, All-contains, All-head, All-nil, All-tail, All-weaker, Contains-append_cases, Contains-append_left, Contains-push, Contains-push_cases}
+use Rattle.std.proofs.lemmas.List.Elements.{All-cons, All-contains, All-head, All-nil, All-tail, All-weaker, Contains-append_cases, Contains-append_left}
+use Rattle.std.proofs.lemmas.List.Elements.{Contains-push, Contains-push_cases}
 use Rattle.resolver_clause_store.specs.Laws.{HasLawfulIds, HasLawfulPackages, IsIdentity}
 use Rattle.resolver_clause_store.specs.Lists.{IsWithin, Meets}
 use Rattle.resolver_clause_store.specs.Universe.{Universe, Demands, Needs, known, unknown}
@@ -25,7 +27,8 @@ use Rattle.resolver_encoding.specs.Called.{AreAsked, IsCalledFor, IsDemanded, Is
 use Rattle.resolver_encoding.specs.Encodings.{AreDemandsRead, AreNeedsRead, Extends, IsConstraintRead, IsEncoding, IsLeft, IsReadStep, IsUnmet, Notes}
 use Rattle.resolver_encoding.specs.Groups.{IsNamed}
 use Rattle.resolver_encoding.specs.ReadState.{Deferred, HasClause, IsReadRequirement, NoneFires}
-use Rattle.resolver_encoding.specs.SoFar.{HasFired, HasRead, IsBare, IsFiring, IsHalfRead, IsMoreOrSame, IsProgress, IsQuietUnder, IsReadMore, IsReadSoFar, IsReadingOf, left_count, progress_by}
+use Rattle.resolver_encoding.specs.SoFar.{HasFired, HasRead, IsBare, IsFiring, IsHalfRead, IsMoreOrSame, IsProgress, IsQuietUnder, IsReadMore, IsReadSoFar}
+use Rattle.resolver_encoding.specs.SoFar.{IsReadingOf, left_count, progress_by}
 use Rattle.resolver_encoding.specs.Truth.{HasLawfulSolvables}
 use Rattle.resolver_encoding.proofs.EncodingLemmas.{Extends-same, Extends-trans, Extends-within, IsWithin-same, IsWithin-trans}
 use Rattle.resolver_encoding.proofs.Lists.{here, none_in, there}
@@ -57,8 +60,10 @@ met_in_parts {N} {S} u first second (v ∷ vs) met =
     let at : Meets (matching u v) (first ++ second) = All-head (λ xs. Meets xs (first ++ second)) (matching u v) rest met in
     ⊎_elim
     (λ (before : Contains first at.shared). ⊎_elim
-    (λ (all : AllMeet first rest). inl (All-cons (λ xs. Meets xs first) (matching u v) rest (record { shared = at.shared; in_first = at.in_first; in_second = before }) all))
-    (λ (one : (w : VersionSetId) × Contains vs w × (s : S) × Contains second s × Contains (matching u w) s). inr (one.0, there v vs one.0 one.1, one.2, one.3, one.4))
+    (λ (all : AllMeet first rest).
+    inl (All-cons (λ xs. Meets xs first) (matching u v) rest (record { shared = at.shared; in_first = at.in_first; in_second = before }) all))
+    (λ (one : (w : VersionSetId) × Contains vs w × (s : S) × Contains second s × Contains (matching u w) s).
+    inr (one.0, there v vs one.0 one.1, one.2, one.3, one.4))
     (met_in_parts u first second vs (All-tail (λ xs. Meets xs (first ++ second)) (matching u v) rest met)))
     (λ (behind : Contains second at.shared). inr (v, here v vs, at.shared, behind, at.in_first))
     (Contains-append_cases first second at.shared at.in_second)
@@ -80,7 +85,8 @@ module _ {N S : Type 0} (u : Universe N S) (set : List S) where
     keeps = λ root before. before;
   }
 
-  pub IsReadingOf-trans : (Reads : S → Type 0) (one two three : Notes N S) → IsReadingOf u set Reads one two → IsReadingOf u set Reads two three → IsReadingOf u set Reads one three
+  pub IsReadingOf-trans : (Reads : S → Type 0) (one two three : Notes N S) → IsReadingOf u set Reads one two → IsReadingOf u set Reads two three →
+      IsReadingOf u set Reads one three
   IsReadingOf-trans Reads one two three first second = record {
     origins = Keeps-trans one.origins two.origins three.origins first.origins second.origins;
     table = Extends-trans one.table two.table three.table first.table second.table;
@@ -99,7 +105,8 @@ module _ {N S : Type 0} (u : Universe N S) (set : List S) where
     keeps = λ root before. second.keeps root (first.keeps root before);
   }
 
-  pub IsReadingOf-weaker : (Reads More : S → Type 0) → ((s : S) → Reads s → More s) → (old new : Notes N S) → IsReadingOf u set Reads old new → IsReadingOf u set More old new
+  pub IsReadingOf-weaker : (Reads More : S → Type 0) → ((s : S) → Reads s → More s) → (old new : Notes N S) → IsReadingOf u set Reads old new →
+      IsReadingOf u set More old new
   IsReadingOf-weaker Reads More weaker old new h = record {
     origins = h.origins;
     table = h.table;
@@ -130,7 +137,8 @@ module _ {N S : Type 0} (u : Universe N S) (set : List S) where
         (λ fired. inr fired.1)
         (firing.taken at.0 e at.1)
 
-    requirement_fired : (by : By S) (r : ConditionalRequirement) → IsReadRequirement u mid.kinds (IsLeft mid) by r → IsReadRequirement u new.kinds (IsLeft new) by r
+    requirement_fired : (by : By S) (r : ConditionalRequirement) → IsReadRequirement u mid.kinds (IsLeft mid) by r →
+        IsReadRequirement u new.kinds (IsLeft new) by r
     requirement_fired by r h = record {
       disjuncts = h.disjuncts;
       complete = h.complete;
@@ -142,9 +150,12 @@ module _ {N S : Type 0} (u : Universe N S) (set : List S) where
 
     demands_fired : (by : By S) (demands : Demands) → AreDemandsRead u mid by demands → AreDemandsRead u new by demands
     demands_fired by demands h = record {
-      requirements = All-weaker (IsReadRequirement u mid.kinds (IsLeft mid) by) (IsReadRequirement u new.kinds (IsLeft new) by) (requirement_fired by) demands.requirements h.requirements;
-      constraints = All-weaker (IsConstraintRead u mid.kinds by) (IsConstraintRead u new.kinds by) (λ v k. IsConstraintRead-within u mid.kinds new.kinds firing.kinds by v k) demands.constraints h.constraints;
-      packages = All-weaker (λ v. Contains mid.asked (u.version_set_name v)) (λ v. Contains new.asked (u.version_set_name v)) (λ v k. firing.asked (u.version_set_name v) k) demands.constraints h.packages;
+      requirements = All-weaker (IsReadRequirement u mid.kinds (IsLeft mid) by) (IsReadRequirement u new.kinds (IsLeft new) by)
+          (requirement_fired by) demands.requirements h.requirements;
+      constraints = All-weaker (IsConstraintRead u mid.kinds by) (IsConstraintRead u new.kinds by) (λ v k.
+          IsConstraintRead-within u mid.kinds new.kinds firing.kinds by v k) demands.constraints h.constraints;
+      packages = All-weaker (λ v. Contains mid.asked (u.version_set_name v)) (λ v. Contains new.asked (u.version_set_name v)) (λ v k.
+          firing.asked (u.version_set_name v) k) demands.constraints h.packages;
     }
 
     needs_fired : (s : S) (needs : Needs) → AreNeedsRead u mid s needs → AreNeedsRead u new s needs
@@ -164,7 +175,8 @@ module _ {N S : Type 0} (u : Universe N S) (set : List S) where
     }
 
   -- what is demanded was asked for
-  pub demanded_asked : (root : Demands) (notes : Notes N S) → IsHalfRead u root notes → NoneFires u (IsLeft notes) set → (by : By S) → IsPresent by notes.read → (n : N) → IsDemanded u set (demands_by u root by) (to_ask n) → Contains notes.asked n
+  pub demanded_asked : (root : Demands) (notes : Notes N S) → IsHalfRead u root notes → NoneFires u (IsLeft notes) set → (by : By S) → IsPresent by notes.read →
+      (n : N) → IsDemanded u set (demands_by u root by) (to_ask n) → Contains notes.asked n
   demanded_asked root notes half quiet by present n demanded =
       let demands : Demands = demands_by u root by in
       let read : AreDemandsRead u notes by demands = demands_read u root notes half by present in
@@ -172,14 +184,17 @@ module _ {N S : Type 0} (u : Universe N S) (set : List S) where
       ⊎_elim
       (λ w.
       let r : ConditionalRequirement = w.0 in
-      let mine : IsReadRequirement u notes.kinds (IsLeft notes) by r = All-contains (IsReadRequirement u notes.kinds (IsLeft notes) by) demands.requirements r read.requirements w.1 in
+      let mine : IsReadRequirement u notes.kinds (IsLeft notes) by r =
+      All-contains (IsReadRequirement u notes.kinds (IsLeft notes) by) demands.requirements r read.requirements w.1 in
       let active = mine.complete set w.2.0 in
       let named : IsNamedIn u (version_sets u r.requirement) n = w.2.1 in
       ⊎_elim
-      (λ (has : HasClause notes.kinds by active.0 r.requirement). subst Asked named.2 (packages_of u root notes half.encoding by active.0 r.requirement has named.0 named.1))
+      (λ (has : HasClause notes.kinds by active.0 r.requirement). subst Asked named.2
+      (packages_of u root notes half.encoding by active.0 r.requirement has named.0 named.1))
       (λ left. absurd (quiet.none (record { by = by; disjunct = active.0; requirement = r.requirement }) left active.2))
       (mine.each active.0 active.1))
-      (λ (named : IsNamedIn u demands.constraints n). subst Asked named.2 (All-contains (λ v. Contains notes.asked (u.version_set_name v)) demands.constraints named.0 read.packages named.1))
+      (λ (named : IsNamedIn u demands.constraints n). subst Asked named.2
+      (All-contains (λ v. Contains notes.asked (u.version_set_name v)) demands.constraints named.0 read.packages named.1))
       demanded
 
   -- solvables were read, and then disjuncts taken out
@@ -192,11 +207,13 @@ module _ {N S : Type 0} (u : Universe N S) (set : List S) where
       seen = Extends-trans old.seen mid.seen new.seen reading.seen firing.seen;
       read = record { more = reading.read.more; is = firing.read ∙ reading.read.is };
       reads = λ s h. ⊎_elim (λ before. inl before) (λ chosen. inr (inl chosen)) (reading.reads s (IsWithin-equal new.read mid.read (sym firing.read) s h));
-      taken = λ i e at. ⊎_elim (λ still. inl still) (λ fired. inr fired.0) (firing.taken i e (place_on old.deferred mid.deferred reading.deferred i (Some e) at));
+      taken = λ i e at. ⊎_elim (λ still. inl still) (λ fired. inr fired.0)
+          (firing.taken i e (place_on old.deferred mid.deferred reading.deferred i (Some e) at));
       exempt = firing.exempt ∙ reading.exempt;
     }
 
-    module _ (root : Demands) (from : ℕ) (so : IsReadSoFar u root (take from set) old) (rest_read : All (Contains mid.read) (drop from set)) (quiet : All (λ s. IsQuietUnder u set new (u.name s)) (drop from set))
+    module _ (root : Demands) (from : ℕ) (so : IsReadSoFar u root (take from set) old) (rest_read : All (Contains mid.read) (drop from set))
+        (quiet : All (λ s. IsQuietUnder u set new (u.name s)) (drop from set))
         (ids : HasLawfulSolvables u) (packages : HasLawfulPackages u) where
       pub half_after : IsHalfRead u root new
       half_after = firing_half mid new firing root (reading.keeps root so.half)
@@ -208,10 +225,12 @@ module _ {N S : Type 0} (u : Universe N S) (set : List S) where
           (Contains-append_cases (take from set) (drop from set) s (IsWithin-equal set (take from set ++ drop from set) (take-append-drop from set) s h)))
 
       -- one that was left before, of which a version set is met behind the first part
-      quiet_behind : (i : ℕ) (e : Deferred S) → slice_get new.deferred i ≡ Some (Some e) → AllMeet set (map (matching u) e.disjunct) → (v : VersionSetId) → Contains e.disjunct v → (s : S) → Contains (drop from set) s → Contains (matching u v) s → ⊥
+      quiet_behind : (i : ℕ) (e : Deferred S) → slice_get new.deferred i ≡ Some (Some e) → AllMeet set (map (matching u) e.disjunct) → (v : VersionSetId) →
+          Contains e.disjunct v → (s : S) → Contains (drop from set) s → Contains (matching u v) s → ⊥
       quiet_behind i e at met v inside s behind matches =
           let Named : N → Type 0 = λ n. IsNamed new.waiting n i in
-          let named : IsNamed new.waiting (u.name s) i = subst Named (sym (name_matching u ids packages v s matches)) (half_after.encoding.indexed i e at v inside) in
+          let named : IsNamed new.waiting (u.name s) i =
+          subst Named (sym (name_matching u ids packages v s matches)) (half_after.encoding.indexed i e at v inside) in
           let here_quiet : IsQuietUnder u set new (u.name s) = All-contains (λ t. IsQuietUnder u set new (u.name t)) (drop from set) s quiet behind in
           (here_quiet.quiet i named).quiet e at met
 
@@ -243,7 +262,18 @@ module _ {N S : Type 0} (u : Universe N S) (set : List S) where
           let e : Deferred S = w.0 in
           let is_true = (before.encoding.left_true e w.1).is_true in
           let Named : Requirement → Type 0 = λ r. IsNamedIn u (version_sets u r) n in
-          inr (e.by, IsPresent-within e.by mid.read new.read later (before.left_read e w.1), inl (is_true.0, is_true.1, (active_where u set (map (matching u) e.disjunct) is_true.0.condition is_true.3 w.2, subst Named (sym is_true.2) w.3))))
+          inr (
+            e.by,
+            IsPresent-within e.by mid.read new.read later (before.left_read e w.1),
+            inl (
+              is_true.0,
+              is_true.1,
+              (
+                active_where u set (map (matching u) e.disjunct) is_true.0.condition is_true.3 w.2,
+                subst Named (sym is_true.2) w.3,
+              ),
+            ),
+          ))
           (firing.called (to_ask n) h)
 
       pub all_asked : AreAsked (IsCalledFor u root new.read set) old.asked new.asked
@@ -254,9 +284,11 @@ module _ {N S : Type 0} (u : Universe N S) (set : List S) where
       }
 
   -- what changed by both
-  pub progress : (old mid new : Notes N S) (read fired : Bool) → HasRead old mid read → HasFired mid new fired → IsFiring u set mid new → IsProgress old new (progress_by read fired)
+  pub progress : (old mid new : Notes N S) (read fired : Bool) → HasRead old mid read → HasFired mid new fired → IsFiring u set mid new →
+      IsProgress old new (progress_by read fired)
   progress old mid new true true read fired firing = let Longer : List S → Type 0 = λ list. length old.read < length list in subst Longer (sym firing.read) read
-  progress old mid new true false read fired firing = let Longer : List S → Type 0 = λ list. length old.read < length list in subst Longer (sym firing.read) read
+  progress old mid new true false read fired firing = let Longer : List S → Type 0 = λ list. length old.read < length list in
+      subst Longer (sym firing.read) read
   progress old mid new false true read fired firing =
       let Fewer : Notes N S → Type 0 = λ n. left_count new < left_count n in
       (firing.read ∙ ap (λ (n : Notes N S). n.read) read, subst Fewer read fired)
@@ -265,12 +297,15 @@ module _ {N S : Type 0} (u : Universe N S) (set : List S) where
 -- after one reading and another
 pub HasRead-trans : {N S : Type 0} (one two three : Notes N S) (a b : Bool) → HasRead one two a → HasRead two three b → HasRead one three (a || b)
 HasRead-trans one two three true true first second = omega (arith, first, second)
-HasRead-trans {N} {S} one two three true false first second = let Longer : Notes N S → Type 0 = λ n. length one.read < length n.read in subst Longer (sym second) first
-HasRead-trans {N} {S} one two three false true first second = let Longer : Notes N S → Type 0 = λ n. length n.read < length three.read in subst Longer first second
+HasRead-trans {N} {S} one two three true false first second = let Longer : Notes N S → Type 0 = λ n. length one.read < length n.read in
+    subst Longer (sym second) first
+HasRead-trans {N} {S} one two three false true first second = let Longer : Notes N S → Type 0 = λ n. length n.read < length three.read in
+    subst Longer first second
 HasRead-trans one two three false false first second = second ∙ first
 
 -- an encoding says nothing of what was read
-pub IsEncoding-read : {N S : Type 0} (u : Universe N S) (root : Demands) (notes : Notes N S) (read : List S) → IsEncoding u root notes → IsEncoding u root (record notes { read = read })
+pub IsEncoding-read : {N S : Type 0} (u : Universe N S) (root : Demands) (notes : Notes N S) (read : List S) → IsEncoding u root notes →
+    IsEncoding u root (record notes { read = read })
 IsEncoding-read u root notes read before = record {
   root_first = before.root_first;
   distinct = before.distinct;
@@ -328,7 +363,8 @@ module _ {N S : Type 0} (u : Universe N S) (set : List S) (s : S) (old mid new :
     encoding = IsEncoding-read u root mid (mid.read ++ s ∷ []) (step.keeps root tt half.encoding);
     root_read = AreDemandsRead-grown u old noted step.kinds left_on step.asked ByRoot root half.root_read;
     each_read = λ t h. ⊎_elim
-        (λ (before : Contains mid.read t). AreNeedsRead-grown u old noted step.kinds left_on step.asked t (u.needs t) (half.each_read t (earlier_read t before)))
+        (λ (before : Contains mid.read t). AreNeedsRead-grown u old noted step.kinds left_on step.asked t (u.needs t)
+        (half.each_read t (earlier_read t before)))
         (λ (last : s ≡ t).
         let Needed : S → Type 0 = λ q. AreNeedsRead u noted q (u.needs q) in
         subst Needed last (AreNeedsRead-grown u mid noted (IsWithin-same mid.kinds) (λ e k. k) (IsWithin-same mid.asked) s (u.needs s) needs))
@@ -339,7 +375,8 @@ module _ {N S : Type 0} (u : Universe N S) (set : List S) (s : S) (old mid new :
         (Contains-push_cases mid.read s t h));
     left_read = λ e h. ⊎_elim
         (λ (before : IsLeft old e). IsPresent-within e.by old.read (mid.read ++ s ∷ []) read_on (half.left_read e before))
-        (λ (unmet : IsUnmet u set (BySolvable s) e). let Present : By S → Type 0 = λ by. IsPresent by (mid.read ++ s ∷ []) in subst Present (sym unmet.of) (Contains-push mid.read s))
+        (λ (unmet : IsUnmet u set (BySolvable s) e).
+        let Present : By S → Type 0 = λ by. IsPresent by (mid.read ++ s ∷ []) in subst Present (sym unmet.of) (Contains-push mid.read s))
         (step.defers e h);
   }
 
@@ -399,8 +436,10 @@ module _ {N S : Type 0} (u : Universe N S) (root : Demands) (bare new : Notes N 
   pub root_asked : AreAsked (IsCalledFor u root [] []) [] new.asked
   root_asked = record {
     stays = λ n h. absurd (none_in n h);
-    only = λ n h. ⊎_elim (λ (before : Contains bare.asked n). absurd (not_in bare.asked n nothing.none_asked before)) (λ demanded. inr (ByRoot, tt, demanded)) (step.called (to_ask n) h);
-    all = λ n called. demanded_asked u [] root new root_half root_so_far.none called.0 (IsPresent-within called.0 [] new.read (λ s h. absurd (none_in s h)) called.1) n called.2;
+    only = λ n h. ⊎_elim (λ (before : Contains bare.asked n). absurd (not_in bare.asked n nothing.none_asked before)) (λ demanded. inr (ByRoot, tt, demanded))
+        (step.called (to_ask n) h);
+    all = λ n called. demanded_asked u [] root new root_half root_so_far.none called.0
+        (IsPresent-within called.0 [] new.read (λ s h. absurd (none_in s h)) called.1) n called.2;
   }
 
 -- the elements between two places
@@ -410,7 +449,8 @@ pub record AreEach {X : Type 0} (P : X → Type 0) (xs : List X) (from place : �
 pub AreEach-none : {X : Type 0} (P : X → Type 0) (xs : List X) (from : ℕ) → AreEach P xs from from
 AreEach-none P xs from = record { each = λ k d low high. absurd (omega (arith, low, high)) }
 
-pub AreEach-more : {X : Type 0} (P P' : X → Type 0) (xs : List X) (from place : ℕ) (x : X) → ((y : X) → P y → P' y) → place < length xs → x ≡ get_or xs place x → AreEach P xs from place → P' x → AreEach P' xs from (place + 1)
+pub AreEach-more : {X : Type 0} (P P' : X → Type 0) (xs : List X) (from place : ℕ) (x : X) → ((y : X) → P y → P' y) → place < length xs →
+    x ≡ get_or xs place x → AreEach P xs from place → P' x → AreEach P' xs from (place + 1)
 AreEach-more {X} P P' xs from place x grown below is before here = record {
   each = λ k d low high. ⊎_elim
       (λ (same : k ≡ place).

@@ -19,26 +19,32 @@ use Rattle.resolver_clause_store.specs.declared.Requirement.TheVariants.{Single,
 use Rattle.resolver_clause_store.specs.declared.By.{By}
 use Rattle.resolver_clause_store.specs.declared.By.TheVariants.{Root as ByRoot, Solvable as BySolvable}
 use Rattle.resolver_clause_store.specs.declared.Rule.{Rule}
-use Rattle.resolver_clause_store.specs.declared.Rule.TheVariants.{Requires as RuleRequires, Constrains as RuleConstrains, Lock as RuleLock, Excluded as RuleExcluded, OnePerPackage}
+use Rattle.resolver_clause_store.specs.declared.Rule.TheVariants.{Requires as RuleRequires, Constrains as RuleConstrains, Lock as RuleLock}
+use Rattle.resolver_clause_store.specs.declared.Rule.TheVariants.{Excluded as RuleExcluded, OnePerPackage}
 use Rattle.resolver_clause_store.specs.Statements.{IsPresent, Statement, one_per_package, AllMeet, ObeysAlone, ObeysAll, statement_of}
 use Rattle.resolver_clause_store.specs.Rules.{Obeys}
 use Rattle.resolver_clause_store.specs.TrueRules.{demands_by, Implies}
 use Rattle.resolver_clause_store.specs.declared.Origin.{Origin}
 use Rattle.resolver_clause_store.specs.declared.ClauseKind.{ClauseKind}
-use Rattle.resolver_clause_store.specs.declared.ClauseKind.TheVariants.{Requires, AnyOf, Constrains, ConstrainsExcluded, ConstrainsParent, HasBit, Lock, Excluded}
-use Rattle.resolver_encoding.specs.Atoms.{IsStated, states_requires, states_constrains, states_gated, states_helped, states_coded, states_bit, states_lock, states_excluded, Defines}
+use Rattle.resolver_clause_store.specs.declared.ClauseKind.TheVariants.{Requires, AnyOf, Constrains, ConstrainsExcluded, ConstrainsParent, HasBit, Lock}
+use Rattle.resolver_clause_store.specs.declared.ClauseKind.TheVariants.{Excluded}
+use Rattle.resolver_encoding.specs.Atoms.{IsStated, states_requires, states_constrains, states_gated, states_helped, states_coded, states_bit, states_lock}
+use Rattle.resolver_encoding.specs.Atoms.{states_excluded, Defines}
 use Rattle.resolver_encoding.proofs.Lists.{Contains-map, list_any-contains, list_any-witness}
 use Rattle.resolver_encoding.specs.Truth.{same_requirement, is_plain, AreCodes, follows, IsTrueClause, Spares, AreListed}
 
-pub requires_by : {N S : Type 0} (u : Universe N S) (root : Demands) (set : List S) (by : By S) (r : ConditionalRequirement) → IsPresent by set → Contains (demands_by u root by).requirements r → valid.Requires u root (Contains set) r
+pub requires_by : {N S : Type 0} (u : Universe N S) (root : Demands) (set : List S) (by : By S) (r : ConditionalRequirement) → IsPresent by set →
+    Contains (demands_by u root by).requirements r → valid.Requires u root (Contains set) r
 requires_by u root set ByRoot r here asked = inl asked
 requires_by u root set (BySolvable s) r here asked = inr (s, here, asked)
 
-pub constrains_by : {N S : Type 0} (u : Universe N S) (root : Demands) (set : List S) (by : By S) (v : VersionSetId) → IsPresent by set → Contains (demands_by u root by).constraints v → valid.Constrains u root (Contains set) v
+pub constrains_by : {N S : Type 0} (u : Universe N S) (root : Demands) (set : List S) (by : By S) (v : VersionSetId) → IsPresent by set →
+    Contains (demands_by u root by).constraints v → valid.Constrains u root (Contains set) v
 constrains_by u root set ByRoot v here asked = inl asked
 constrains_by u root set (BySolvable s) v here asked = inr (s, here, asked)
 
-pub active_by : {N S : Type 0} (u : Universe N S) (set : List S) (when : List (List S)) (c : Option ConditionId) → Implies u when c → AllMeet set when → OptionalConditionHolds u (Contains set) c
+pub active_by : {N S : Type 0} (u : Universe N S) (set : List S) (when : List (List S)) (c : Option ConditionId) → Implies u when c → AllMeet set when →
+    OptionalConditionHolds u (Contains set) c
 active_by u set when None implied meets = tt
 active_by u set when (Some c) implied meets = implied set meets
 
@@ -77,7 +83,8 @@ and_right false b e = cc
 pub is_plain-parts : (r : Requirement) (q : ConditionalRequirement) → is_plain r q ≡ true → (q.condition ≡ None) × (q.requirement ≡ r)
 is_plain-parts r q e = (none_is q.condition (and_left _ _ e), same_requirement-true q.requirement r (and_right _ _ e))
 
-module _ {N S : Type 0} (u : Universe N S) (root : Demands) (kinds : List (ClauseKind N S)) (codes : N → ℕ → S → Bool) (are_codes : AreCodes u codes) (are_true : All (IsTrueClause u codes root) kinds) where
+module _ {N S : Type 0} (u : Universe N S) (root : Demands) (kinds : List (ClauseKind N S)) (codes : N → ℕ → S → Bool) (are_codes : AreCodes u codes)
+    (are_true : All (IsTrueClause u codes root) kinds) where
   truth : (kind : ClauseKind N S) → Contains kinds kind → IsTrueClause u codes root kind
   truth kind inside = All-contains (IsTrueClause u codes root) kinds kind are_true inside
 
@@ -112,7 +119,8 @@ module _ {N S : Type 0} (u : Universe N S) (root : Demands) (kinds : List (Claus
         let HasMember : List S → Type 0 = λ xs. Meets xs set in
         subst HasMember (ap (requirement_candidates u) plain.1) met
     obeys_alone st (states_helped by v s inside e) = λ here chosen.
-        ok.constrained v (constrains_by u root set by v here (truth (ConstrainsParent by v) inside)) s chosen (Contains-from_any {K = S} {eq = u.same_solvable} same.alone s (others u v) e)
+        ok.constrained v (constrains_by u root set by v here (truth (ConstrainsParent by v) inside)) s chosen
+        (Contains-from_any {K = S} {eq = u.same_solvable} same.alone s (others u v) e)
     obeys_alone st (states_coded n s i b inside) = tt
     obeys_alone st (states_bit n s i e) = tt
     obeys_alone st (states_lock s t inside) = λ chosen.
@@ -131,7 +139,8 @@ module _ {N S : Type 0} (u : Universe N S) (root : Demands) (kinds : List (Claus
       one_each = λ n s t first second in_set in_set'. ok.one_each s t in_set in_set' (name_of n s first ∙ sym (name_of n t second));
     }
 
-module _ {N S : Type 0} (u : Universe N S) (implies : Origin N S → S → Bool) (kinds : List (ClauseKind N S)) (rules : List (Rule N S)) (set : List S) (obeys : Obeys set rules) where
+module _ {N S : Type 0} (u : Universe N S) (implies : Origin N S → S → Bool) (kinds : List (ClauseKind N S)) (rules : List (Rule N S)) (set : List S)
+    (obeys : Obeys set rules) where
   is_mark : (rule : Rule N S) (n : N) (s : S) → statement_of rule ≡ one_per_package n s → rule ≡ OnePerPackage n s
   is_mark (RuleRequires by requirement candidates when) n s e = absurd cc
   is_mark (RuleConstrains by v t) n s e = absurd cc

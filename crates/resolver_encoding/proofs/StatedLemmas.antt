@@ -7,11 +7,13 @@ use Rattle.resolver_clause_store.specs.Outcomes.{IsCore}
 use Rattle.resolver_clause_store.specs.Universe.{Universe, Demands}
 use Rattle.resolver_clause_store.specs.declared.Literal.{Literal}
 use Rattle.resolver_clause_store.specs.declared.ClauseKind.{ClauseKind}
-use Rattle.resolver_clause_store.specs.declared.ClauseKind.TheVariants.{InstallRoot, Requires, AnyOf, Constrains, GateRequires, ConstrainsExcluded, ConstrainsParent, HasBit, Lock, Excluded}
+use Rattle.resolver_clause_store.specs.declared.ClauseKind.TheVariants.{InstallRoot, Requires, AnyOf, Constrains, GateRequires, ConstrainsExcluded}
+use Rattle.resolver_clause_store.specs.declared.ClauseKind.TheVariants.{ConstrainsParent, HasBit, Lock, Excluded}
 use Rattle.resolver_clause_store.specs.declared.Origin.{Origin}
 use Rattle.resolver_clause_store.specs.declared.Origin.TheVariants.{Root, Solvable, Bit, Gate, ConstraintHelper, ConditionHelper}
 use Rattle.resolver_clause_store.specs.declared.Rule.{Rule}
-use Rattle.resolver_encoding.specs.Atoms.{IsStated, states_requires, states_constrains, states_gated, states_helped, states_coded, states_bit, states_lock, states_excluded}
+use Rattle.resolver_encoding.specs.Atoms.{IsStated, states_requires, states_constrains, states_gated, states_helped, states_coded, states_bit, states_lock}
+use Rattle.resolver_encoding.specs.Atoms.{states_excluded}
 use Rattle.resolver_encoding.specs.Core.{IsExplained, implied_in}
 use Rattle.resolver_encoding.specs.Encodings.{IsEncoding, Notes}
 use Rattle.resolver_encoding.specs.Listing.{AreRulesOf, MarksBit, SomeOf, States}
@@ -23,7 +25,8 @@ use Rattle.resolver_encoding.specs.Values.{AreEncoded, kinds_at}
 use Rattle.resolver_encoding.proofs.CoreLemmas.{implied-any, implied-bit, implied-excluded, implied-gate, implied-helper}
 use Rattle.resolver_encoding.proofs.CoreRules.{core_contradicts, core_explained, core_true}
 
-module _ {N S : Type 0} (u : Universe N S) (same_name : N → N → Bool) (names : IsIdentity same_name) (same : IsIdentity u.same_solvable) (kinds : List (ClauseKind N S)) (sources : Sources S) (are : AreSources kinds sources) where
+module _ {N S : Type 0} (u : Universe N S) (same_name : N → N → Bool) (names : IsIdentity same_name) (same : IsIdentity u.same_solvable)
+    (kinds : List (ClauseKind N S)) (sources : Sources S) (are : AreSources kinds sources) where
   abbrev implies : Origin N S → S → Bool
   implies o s = implied_in u same_name kinds o s
 
@@ -63,8 +66,10 @@ module _ {N S : Type 0} (u : Universe N S) (same_name : N → N → Bool) (names
   has_statement : (st : Statement N S) → IsStated u implies kinds st → SomeOf kinds (States u sources) st
   has_statement st (states_requires by disjunct r inside) = (Requires by disjunct r, inside, inl refl)
   has_statement st (states_constrains by v s inside) = (Constrains by v s, inside, inl refl)
-  has_statement st (states_gated s r inside e) = (GateRequires r, inside, inl (s, are.every_requirer r s (implied-gate u same_name names same kinds r s e), refl))
-  has_statement st (states_helped by v s inside e) = (ConstrainsParent by v, inside, inl (s, are.every_excluded v s (implied-helper u same_name names same kinds v s e), refl))
+  has_statement st (states_gated s r inside e) =
+      (GateRequires r, inside, inl (s, are.every_requirer r s (implied-gate u same_name names same kinds r s e), refl))
+  has_statement st (states_helped by v s inside e) =
+      (ConstrainsParent by v, inside, inl (s, are.every_excluded v s (implied-helper u same_name names same kinds v s e), refl))
   has_statement st (states_coded n s i b inside) = (HasBit n s i b, inside, inr refl)
   has_statement st (states_bit n s i e) = ⊎_elim
       (λ a. (HasBit n s i true, a, inr refl))
@@ -81,17 +86,25 @@ module _ {N S : Type 0} (u : Universe N S) (same_name : N → N → Bool) (names
     all_stated rule inside = let w = stating.only rule inside in kind_states w.0 w.1 (statement_of rule) w.2
 
 -- the rules that the clauses of a core state
-pub numbered_core_explained : {N S : Type 0} (u : Universe N S) (same_name : N → N → Bool) (codes : N → ℕ → S → Bool) (root : Demands) (origins : List (Origin N S)) (table : List (Vec Literal Global)) (kinds : List (ClauseKind N S)) (numbers : List ℕ) (rules : List (Rule N S)) →
-    HasLawfulSolvables u → IsIdentity same_name → AreCodes u codes → AreEncoded u origins table kinds → All (IsTrueClause u codes root) kinds → IsCore table numbers →
-    AreListed u (implied_in u same_name (kinds_at kinds numbers)) (kinds_at kinds numbers) rules → AreStated u (implied_in u same_name (kinds_at kinds numbers)) (kinds_at kinds numbers) rules → IsExplained u root rules
+pub numbered_core_explained : {N S : Type 0} (u : Universe N S) (same_name : N → N → Bool) (codes : N → ℕ → S → Bool) (root : Demands)
+    (origins : List (Origin N S)) (table : List (Vec Literal Global)) (kinds : List (ClauseKind N S)) (numbers : List ℕ) (rules : List (Rule N S)) →
+    HasLawfulSolvables u → IsIdentity same_name → AreCodes u codes → AreEncoded u origins table kinds → All (IsTrueClause u codes root) kinds →
+    IsCore table numbers →
+    AreListed u (implied_in u same_name (kinds_at kinds numbers)) (kinds_at kinds numbers) rules →
+    AreStated u (implied_in u same_name (kinds_at kinds numbers)) (kinds_at kinds numbers) rules → IsExplained u root rules
 numbered_core_explained u same_name codes root origins table kinds numbers rules lawful names are_codes encoded are_true core listed stated =
-    let within : All (λ n. n < length kinds) numbers = λ k d below. let Below : ℕ → Type 0 = λ m. get_or numbers k d < m in subst Below encoded.count (core.within k d below) in
-    core_explained u same_name codes root (kinds_at kinds numbers) rules lawful names are_codes (core_true u codes root kinds numbers within are_true) listed stated
+    let within : All (λ n. n < length kinds) numbers = λ k d below. let Below : ℕ → Type 0 = λ m. get_or numbers k d < m in
+    subst Below encoded.count (core.within k d below) in
+    core_explained u same_name codes root (kinds_at kinds numbers) rules lawful names are_codes
+    (core_true u codes root kinds numbers within are_true) listed stated
     (core_contradicts u origins table kinds numbers encoded within core.refuted)
 
 -- the same of an encoding
-pub encoding_core_explained : {N S : Type 0} (u : Universe N S) (same_name : N → N → Bool) (root : Demands) (notes : Notes N S) (numbers : List ℕ) (rules : List (Rule N S)) →
+pub encoding_core_explained : {N S : Type 0} (u : Universe N S) (same_name : N → N → Bool) (root : Demands) (notes : Notes N S) (numbers : List ℕ)
+    (rules : List (Rule N S)) →
     HasLawfulSolvables u → IsIdentity same_name → IsEncoding u root notes → IsCore notes.table numbers →
-    AreListed u (implied_in u same_name (kinds_at notes.kinds numbers)) (kinds_at notes.kinds numbers) rules → AreStated u (implied_in u same_name (kinds_at notes.kinds numbers)) (kinds_at notes.kinds numbers) rules → IsExplained u root rules
+    AreListed u (implied_in u same_name (kinds_at notes.kinds numbers)) (kinds_at notes.kinds numbers) rules →
+    AreStated u (implied_in u same_name (kinds_at notes.kinds numbers)) (kinds_at notes.kinds numbers) rules → IsExplained u root rules
 encoding_core_explained u same_name root notes numbers rules lawful names encoding core listed stated =
-    numbered_core_explained u same_name encoding.codes root notes.origins notes.table notes.kinds numbers rules lawful names encoding.own_codes encoding.encoded encoding.each_true core listed stated
+    numbered_core_explained u same_name encoding.codes root notes.origins notes.table notes.kinds numbers rules lawful names encoding.own_codes encoding.encoded
+    encoding.each_true core listed stated

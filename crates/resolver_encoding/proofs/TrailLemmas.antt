@@ -1,5 +1,6 @@
 -- What a variable stands for, looked up, and a list of chosen solvables that follows a trail.
-use Rattle.std.proofs.Common.{◌≡◌, ℕ, zero, suc, ◌+◌, ◌<◌, ◌≤◌, List, [], ◌∷◌, ◌++◌, length, Option, Some, None, Bool, arith, refl, sym, ap, ◌∙◌, subst, ⊎_elim, Contains, take, append-nil, true, false}
+use Rattle.std.proofs.Common.{◌≡◌, ℕ, zero, suc, ◌+◌, ◌<◌, ◌≤◌, List, [], ◌∷◌, ◌++◌, length, Option, Some, None, Bool, arith, refl, sym, ap, ◌∙◌, subst, ⊎_elim}
+use Rattle.std.proofs.Common.{Contains, take, append-nil, true, false}
 use Rattle.std.specs.Prelude.{slice_get, if◌then◌else◌}
 use Rattle.std.specs.Option.{option_map, option_map_or, option_to_list}
 use Rattle.std.proofs.lemmas.Option.{same_Some, slice_get-get_or, get_or_from_slice_get}
@@ -20,7 +21,8 @@ use Rattle.resolver_encoding.proofs.EncodingLemmas.{Extends-same, Extends-trans}
 use Rattle.resolver_encoding.proofs.Lists.{here}
 
 -- what the look-up of a variable's origin found
-found_some : {N S : Type 0} (origins : List (Origin N S)) (x : ℕ) (s : S) → solvable_found (slice_get origins x) ≡ Some s → solvable_if (origin_at origins x) true ≡ s ∷ []
+found_some : {N S : Type 0} (origins : List (Origin N S)) (x : ℕ) (s : S) → solvable_found (slice_get origins x) ≡ Some s →
+    solvable_if (origin_at origins x) true ≡ s ∷ []
 found_some [] x s e = absurd cc
 found_some (Solvable t ∷ os) zero s e = ap (λ y. y ∷ []) (same_Some t s e)
 found_some (Root ∷ os) zero s e = absurd cc
@@ -30,7 +32,8 @@ found_some (ConstraintHelper v ∷ os) zero s e = absurd cc
 found_some (ConditionHelper v ∷ os) zero s e = absurd cc
 found_some (o ∷ os) (suc x) s e = found_some os x s e
 
-found_none : {N S : Type 0} (origins : List (Origin N S)) (x : ℕ) (b : Bool) → solvable_found (slice_get origins x) ≡ None → solvable_if (origin_at origins x) b ≡ []
+found_none : {N S : Type 0} (origins : List (Origin N S)) (x : ℕ) (b : Bool) → solvable_found (slice_get origins x) ≡ None →
+    solvable_if (origin_at origins x) b ≡ []
 found_none [] x b e = refl
 found_none (Solvable t ∷ os) zero b e = absurd cc
 found_none (Root ∷ os) zero b e = refl
@@ -41,7 +44,8 @@ found_none (ConditionHelper v ∷ os) zero b e = refl
 found_none (o ∷ os) (suc x) b e = found_none os x b e
 
 -- what a true variable stands for, and what a false one gives
-pub found_at : {N S : Type 0} (origins : List (Origin N S)) (x : ℕ) (b : Bool) (o : Option S) → b ≡ true → o ≡ solvable_found (slice_get origins x) → option_to_list o ≡ solvable_if (origin_at origins x) b
+pub found_at : {N S : Type 0} (origins : List (Origin N S)) (x : ℕ) (b : Bool) (o : Option S) → b ≡ true → o ≡ solvable_found (slice_get origins x) →
+    option_to_list o ≡ solvable_if (origin_at origins x) b
 found_at origins x b None on e = sym (found_none origins x b (sym e))
 found_at origins x b (Some s) on e = sym (ap (solvable_if (origin_at origins x)) on ∙ found_some origins x s (sym e))
 
@@ -94,9 +98,11 @@ module _ {N S : Type 0} (origins : List (Origin N S)) (trail : Trail) where
   before_extends k zero h = let same : k ≡ zero = omega (arith, h) in
       let P : ℕ → Type 0 = λ j. Extends (solvables_before origins trail j) [] in subst P (sym same) (Extends-same [])
   before_extends k (suc n) h = ⊎_elim
-      (λ (less : k < suc n). Extends-trans (solvables_before origins trail k) (solvables_before origins trail n) (solvables_before origins trail (suc n)) (before_extends k n (omega (arith, less)))
+      (λ (less : k < suc n). Extends-trans (solvables_before origins trail k) (solvables_before origins trail n) (solvables_before origins trail (suc n))
+      (before_extends k n (omega (arith, less)))
       (record { more = solvable_if (origin_at origins (variable_at trail n)) (value_of trail (variable_at trail n)); is = refl }))
-      (λ (same : k ≡ suc n). let P : ℕ → Type 0 = λ j. Extends (solvables_before origins trail j) (solvables_before origins trail (suc n)) in subst P (sym same) (Extends-same (solvables_before origins trail (suc n))))
+      (λ (same : k ≡ suc n). let P : ℕ → Type 0 = λ j. Extends (solvables_before origins trail j) (solvables_before origins trail (suc n)) in
+      subst P (sym same) (Extends-same (solvables_before origins trail (suc n))))
       (below_or (suc n) k h)
 
   -- what a place makes true was not there
@@ -104,7 +110,8 @@ module _ {N S : Type 0} (origins : List (Origin N S)) (trail : Trail) where
       (s : S) → Contains (solvable_if (origin_at origins (variable_at trail n)) (value_of trail (variable_at trail n))) s → Contains (chosen_in c) s → ⊥
   absent_before distinct size c n below follows s here inside =
       let Among : List S → Type 0 = λ list. Contains list s in
-      not_before origins trail distinct size n s below (solvable_of origins trail (origin_at origins (variable_at trail n)) (value_of trail (variable_at trail n)) s here) (subst Among follows.is inside)
+      not_before origins trail distinct size n s below
+      (solvable_of origins trail (origin_at origins (variable_at trail n)) (value_of trail (variable_at trail n)) s here) (subst Among follows.is inside)
 
   -- no place
   pub followed_none : (c : Chosen S) → chosen_in c ≡ [] → c.counts.items ≡ [] → Follows c origins trail 0
@@ -126,8 +133,10 @@ module _ {N S : Type 0} (origins : List (Origin N S)) (trail : Trail) where
   length_next (c ∷ cs) x zero e = absurd (omega (arith, e))
   length_next (c ∷ cs) x (suc n) e = ap suc (length_next cs x n (omega (arith, e)))
 
-  pub followed_next : (old new : Chosen S) (n : ℕ) → n < length_of trail → Follows old origins trail n → new.counts.items ≡ old.counts.items ++ length (chosen_in old) ∷ [] →
-      chosen_in new ≡ chosen_in old ++ solvable_if (origin_at origins (variable_at trail n)) (value_of trail (variable_at trail n)) → Follows new origins trail (n + 1)
+  pub followed_next : (old new : Chosen S) (n : ℕ) → n < length_of trail → Follows old origins trail n → new.counts.items ≡ old.counts.items ++
+      length (chosen_in old) ∷ [] →
+      chosen_in new ≡ chosen_in old ++ solvable_if (origin_at origins (variable_at trail n)) (value_of trail (variable_at trail n)) →
+      Follows new origins trail (n + 1)
   followed_next old new n below follows counts keys =
       let x : ℕ = length (solvables_before origins trail n) in
       let items : new.counts.items ≡ old.counts.items ++ x ∷ [] = counts ∙ ap (λ list. old.counts.items ++ length list ∷ []) follows.is in
@@ -161,24 +170,29 @@ module _ {N S : Type 0} (origins : List (Origin N S)) (trail : Trail) where
       let P : ℕ → Type 0 = λ j. Follows c origins trail j in subst P same follows
 
 -- where the first places of a trail stay, and each variable stands for what it did
-module _ {N S : Type 0} (origins more : List (Origin N S)) (old new : Trail) (count : ℕ) (keeps : Keeps origins more) (size : variable_count old ≤ length origins) (stay : KeepsPlaces old new count) where
+module _ {N S : Type 0} (origins more : List (Origin N S)) (old new : Trail) (count : ℕ) (keeps : Keeps origins more)
+    (size : variable_count old ≤ length origins) (stay : KeepsPlaces old new count) where
   pub same_origin : (x : ℕ) → x < length origins → origin_at more x ≡ origin_at origins x
   same_origin x below = get_or_from_slice_get more x (origin_at origins x) Root (keeps.kept x (origin_at origins x) (slice_get-get_or origins x Root below))
 
-  same_place : (k : ℕ) → k < count → solvable_if (origin_at more (variable_at new k)) (value_of new (variable_at new k)) ≡ solvable_if (origin_at origins (variable_at old k)) (value_of old (variable_at old k))
+  same_place : (k : ℕ) → k < count →
+      solvable_if (origin_at more (variable_at new k)) (value_of new (variable_at new k)) ≡ solvable_if (origin_at origins (variable_at old k))
+      (value_of old (variable_at old k))
   same_place k below =
       let x : ℕ = variable_at old k in
       let slot = slot_placed _ k (old.placed k (omega (arith, below, stay.were))) in
       let inside : x < variable_count old = slot-within _ x slot.0.place (ap (option_map (λ (s : Slot). s.place)) slot.1) in
       let later : slot_of new x ≡ Some slot.0 = stay.slots x slot.0 slot.1 (omega (arith, below, slot.2)) in
       let value : value_of new x ≡ value_of old x = ap (λ o. option_map_or (λ (s : Slot). s.value) o false) (later ∙ sym slot.1) in
-      ap (λ y. solvable_if (origin_at more y) (value_of new y)) (stay.variables k below) ∙ ap (λ o. solvable_if o (value_of new x)) (same_origin x (omega (arith, inside, size))) ∙ ap (solvable_if (origin_at origins x)) value
+      ap (λ y. solvable_if (origin_at more y) (value_of new y)) (stay.variables k below) ∙
+      ap (λ o. solvable_if o (value_of new x)) (same_origin x (omega (arith, inside, size))) ∙ ap (solvable_if (origin_at origins x)) value
 
   pub same_before : (n : ℕ) → n ≤ count → solvables_before more new n ≡ solvables_before origins old n
   same_before zero h = refl
   same_before (suc n) h =
       let earlier = same_before n (omega (arith, h)) in
-      ap (λ list. list ++ solvable_if (origin_at more (variable_at new n)) (value_of new (variable_at new n))) earlier ∙ ap (λ list. solvables_before origins old n ++ list) (same_place n (omega (arith, h)))
+      ap (λ list. list ++ solvable_if (origin_at more (variable_at new n)) (value_of new (variable_at new n))) earlier ∙
+      ap (λ list. solvables_before origins old n ++ list) (same_place n (omega (arith, h)))
 
   pub follows_still : (c : Chosen S) → Follows c origins old count → Follows c more new count
   follows_still c follows = record {

@@ -27,7 +27,8 @@ use Rattle.resolver_encoding.proofs.SoFarLemmas.{Contains-kept, IsPresent-within
 
 module _ {N S : Type 0} (u : Universe N S) where
   -- what was read stays read where clauses are added, and nothing is read or put off
-  module _ (old new : Notes N S) (origins : Keeps old.origins new.origins) (kinds : IsWithin old.kinds new.kinds) (asked_on : IsWithin old.asked new.asked) (read : new.read ≡ old.read) (deferred : new.deferred ≡ old.deferred)
+  module _ (old new : Notes N S) (origins : Keeps old.origins new.origins) (kinds : IsWithin old.kinds new.kinds) (asked_on : IsWithin old.asked new.asked)
+      (read : new.read ≡ old.read) (deferred : new.deferred ≡ old.deferred)
       (keeps : (root : Demands) → IsEncoding u root old → IsEncoding u root new) where
     left_on : (e : Deferred S) → IsLeft old e → IsLeft new e
     left_on e h = IsWithin-equal old.deferred new.deferred deferred (Some e) h
@@ -61,7 +62,8 @@ module _ {N S : Type 0} (u : Universe N S) where
   StaysRead-same notes = record { half = λ root h. h; so_far = λ root set h. h }
 
   -- a step that saw one solvable
-  pub IsRegistered-of : (s : S) (old new : Notes N S) → IsAskStep u (IsSeeing s) (λ root. ⊤) old new → Contains new.seen s → ((t : S) → Contains new.seen t → Contains old.seen t ⊎ (t ≡ s)) → new.requirements ≡ old.requirements → new.asked ≡ old.asked → IsRegistered u s old new
+  pub IsRegistered-of : (s : S) (old new : Notes N S) → IsAskStep u (IsSeeing s) (λ root. ⊤) old new → Contains new.seen s →
+      ((t : S) → Contains new.seen t → Contains old.seen t ⊎ (t ≡ s)) → new.requirements ≡ old.requirements → new.asked ≡ old.asked → IsRegistered u s old new
   IsRegistered-of s old new step seen only plain asked = record {
     origins = step.origins;
     table = step.table;
@@ -75,11 +77,13 @@ module _ {N S : Type 0} (u : Universe N S) where
     deferred = step.deferred;
     waiting = step.waiting;
     exempt = step.exempt;
-    stays = StaysRead-of old new step.origins step.kinds (IsWithin-equal old.asked new.asked asked) step.read step.deferred (λ root before. step.keeps root tt before);
+    stays = StaysRead-of old new step.origins step.kinds (IsWithin-equal old.asked new.asked asked) step.read step.deferred (λ root before.
+        step.keeps root tt before);
   }
 
   -- other exemptions, of which the clauses make nothing wrong
-  with_exempt : (root : Demands) (old : Notes N S) (exempt : List S) → AreDue u old.asked exempt old.kinds → ((t : S) → Contains old.exempt t → Contains exempt t) → IsEncoding u root old → IsEncoding u root (record old { exempt = exempt })
+  with_exempt : (root : Demands) (old : Notes N S) (exempt : List S) → AreDue u old.asked exempt old.kinds →
+      ((t : S) → Contains old.exempt t → Contains exempt t) → IsEncoding u root old → IsEncoding u root (record old { exempt = exempt })
   with_exempt root old exempt due wider start = record {
     root_first = start.root_first;
     distinct = start.distinct;
@@ -117,7 +121,8 @@ module _ {N S : Type 0} (u : Universe N S) where
   }
 
   -- of a package that was not asked no lock and no exclusion speaks
-  AreDue-exempting : (asked : List N) (exempt : List S) (kinds : List (ClauseKind N S)) (s : S) → (Contains asked (u.name s) → ⊥) → AreDue u asked exempt kinds → AreDue u asked (exempt ++ s ∷ []) kinds
+  AreDue-exempting : (asked : List N) (exempt : List S) (kinds : List (ClauseKind N S)) (s : S) → (Contains asked (u.name s) → ⊥) →
+      AreDue u asked exempt kinds → AreDue u asked (exempt ++ s ∷ []) kinds
   AreDue-exempting asked exempt kinds s unasked due =
       let Asked : S → Type 0 = λ t. Contains asked (u.name t) → ⊥ in
       let free : (t : S) → Contains asked (u.name t) → (Contains exempt t → ⊥) → Contains (exempt ++ s ∷ []) t → ⊥ =
@@ -128,11 +133,14 @@ module _ {N S : Type 0} (u : Universe N S) where
       }
 
   -- a solvable becomes exempt whose package was not asked
-  pub StaysRead-exempting : (s : S) (old new : Notes N S) → (Contains old.asked (u.name s) → ⊥) → new ≡ record old { exempt = old.exempt ++ s ∷ [] } → StaysRead u old new
+  pub StaysRead-exempting : (s : S) (old new : Notes N S) → (Contains old.asked (u.name s) → ⊥) → new ≡ record old { exempt = old.exempt ++ s ∷ [] } →
+      StaysRead u old new
   StaysRead-exempting s old new unasked is =
       let Stays : Notes N S → Type 0 = λ n. StaysRead u old n in
-      subst Stays (sym is) (StaysRead-of old (record old { exempt = old.exempt ++ s ∷ [] }) (Keeps-same old.origins) (IsWithin-same old.kinds) (IsWithin-same old.asked) refl refl
-      (λ root start. with_exempt root old (old.exempt ++ s ∷ []) (AreDue-exempting old.asked old.exempt old.kinds s unasked start.due) (λ t h. Contains-append_left old.exempt (s ∷ []) t h) start))
+      subst Stays (sym is) (StaysRead-of old (record old { exempt = old.exempt ++ s ∷ [] }) (Keeps-same old.origins) (IsWithin-same old.kinds)
+      (IsWithin-same old.asked) refl refl
+      (λ root start. with_exempt root old (old.exempt ++ s ∷ []) (AreDue-exempting old.asked old.exempt old.kinds s unasked start.due) (λ t h.
+      Contains-append_left old.exempt (s ∷ []) t h) start))
 
   -- the last exempt one is exempt no longer, and its clauses are owed
   module _ (s : S) (old : Notes N S) (shorter : List S) (last : old.exempt ≡ shorter ++ s ∷ []) where
@@ -193,10 +201,12 @@ module _ {N S : Type 0} (u : Universe N S) where
     -- the clauses were made
     module _ (same : S → S → Bool) (solvables : IsIdentity same) (new : Notes N S) (paid : IsPaid u s new) where
       abbrev LockOf : S → S → Type 0
-      LockOf t r = Contains new.asked (u.name r) → (Contains new.exempt r → ⊥) → (u.package_named (u.name r)).locked ≡ Some t → Contains (u.package_named (u.name r)).listed r → r ≢ t → Contains new.kinds (Lock t r)
+      LockOf t r = Contains new.asked (u.name r) → (Contains new.exempt r → ⊥) → (u.package_named (u.name r)).locked ≡ Some t →
+          Contains (u.package_named (u.name r)).listed r → r ≢ t → Contains new.kinds (Lock t r)
 
       abbrev ExclusionOf : StringId → S → Type 0
-      ExclusionOf reason r = Contains new.asked (u.name r) → (Contains new.exempt r → ⊥) → Contains (u.package_named (u.name r)).excluded (r, reason) → Contains new.kinds (Excluded r reason)
+      ExclusionOf reason r = Contains new.asked (u.name r) → (Contains new.exempt r → ⊥) → Contains (u.package_named (u.name r)).excluded (r, reason) →
+          Contains new.kinds (Excluded r reason)
 
       not_owed : (r : S) → same s r ≡ false → (Contains new.exempt r → ⊥) → Contains (s ∷ new.exempt) r → ⊥
       not_owed r differ free h =
@@ -260,11 +270,13 @@ module _ {N S : Type 0} (u : Universe N S) where
         read = step.read;
         deferred = step.deferred;
         waiting = step.waiting;
-        stays = StaysRead-of old new step.origins step.kinds (IsWithin-equal old.asked new.asked step.asked) step.read step.deferred (λ root before. owing_closed root (step.keeps root tt (owing_opened root before)));
+        stays = StaysRead-of old new step.origins step.kinds (IsWithin-equal old.asked new.asked step.asked) step.read step.deferred (λ root before.
+            owing_closed root (step.keeps root tt (owing_opened root before)));
       }
 
   -- what a package lists, locks and excludes, as it was found
-  pub IsPaid-found : (s : S) (old mid new : Notes N S) (n : N) → n ≡ u.name s → IsWithin mid.kinds new.kinds → mid.exempt ≡ old.exempt → new.exempt ≡ mid.exempt → (listed : List S) (locked : Option S) (excluded : List (S × StringId)) →
+  pub IsPaid-found : (s : S) (old mid new : Notes N S) (n : N) → n ≡ u.name s → IsWithin mid.kinds new.kinds → mid.exempt ≡ old.exempt →
+      new.exempt ≡ mid.exempt → (listed : List S) (locked : Option S) (excluded : List (S × StringId)) →
       listed ≡ (u.package_named n).listed → locked ≡ (u.package_named n).locked → excluded ≡ (u.package_named n).excluded →
       ((t : S) → locked ≡ Some t → Contains listed s → s ≢ t → (Contains old.exempt s → ⊥) → Contains mid.kinds (Lock t s)) →
       All (λ e. e.0 ≡ s → (Contains mid.exempt s → ⊥) → Contains new.kinds (Excluded e.0 e.1)) excluded → IsPaid u s new
@@ -272,7 +284,8 @@ module _ {N S : Type 0} (u : Universe N S) where
     lock = λ t asked free is inside differ. within (Lock t s) (lock t (locks ∙ ap (λ m. (u.package_named m).locked) named ∙ is)
         (IsWithin-equal (u.package_named (u.name s)).listed listed (lists ∙ ap (λ m. (u.package_named m).listed) named) s inside) differ
         (λ k. free (IsWithin-equal old.exempt new.exempt (same_new ∙ same_mid) s k)));
-    exclusions = λ reason asked free inside. All-contains (λ e. e.0 ≡ s → (Contains mid.exempt s → ⊥) → Contains new.kinds (Excluded e.0 e.1)) excluded (s, reason) exclusions
+    exclusions = λ reason asked free inside. All-contains (λ e. e.0 ≡ s → (Contains mid.exempt s → ⊥) → Contains new.kinds (Excluded e.0 e.1)) excluded
+        (s, reason) exclusions
         (IsWithin-equal (u.package_named (u.name s)).excluded excluded (excludes ∙ ap (λ m. (u.package_named m).excluded) named) (s, reason) inside) refl
         (λ k. free (IsWithin-equal mid.exempt new.exempt same_new s k));
   }
@@ -290,14 +303,20 @@ module _ {N S : Type 0} (u : Universe N S) where
   AddsPlainly-trans one two three first second = record { requirements = second.requirements ∙ first.requirements; seen = second.seen ∙ first.seen }
 
   pub AddsPlainly-clause : (old new : Notes N S) (kind : ClauseKind N S) (atoms : List (Atom N S)) → AddsClause old new kind atoms → AddsPlainly old new
-  AddsPlainly-clause old new kind atoms adds = record { requirements = ap (λ (n : Notes N S). n.requirements) adds.is; seen = ap (λ (n : Notes N S). n.seen) adds.is }
+  AddsPlainly-clause old new kind atoms adds =
+      record { requirements = ap (λ (n : Notes N S). n.requirements) adds.is; seen = ap (λ (n : Notes N S). n.seen) adds.is }
 
   -- a step that asked one package
-  pub AsksOnly-of : (n : N) (old new : Notes N S) → IsAskStep u (IsAsking n) (λ root. ⊤) old new → Contains new.asked n → AddsPlainly old new → AsksOnly u n old new
+  pub AsksOnly-of : (n : N) (old new : Notes N S) → IsAskStep u (IsAsking n) (λ root. ⊤) old new → Contains new.asked n → AddsPlainly old new →
+      AsksOnly u n old new
   AsksOnly-of n old new step here plain =
       let Asked : N → Type 0 = λ m. Contains new.asked m in
       record {
-        asked = record { stays = step.asked; only = λ m h. ⊎_elim (λ was. inl was) (λ is. inr (sym is)) (step.called (to_ask m) h); all = λ m is. subst Asked (sym is) here };
+        asked = record {
+          stays = step.asked;
+          only = λ m h. ⊎_elim (λ was. inl was) (λ is. inr (sym is)) (step.called (to_ask m) h);
+          all = λ m is. subst Asked (sym is) here;
+        };
         origins = step.origins;
         table = step.table;
         kinds = step.kinds;

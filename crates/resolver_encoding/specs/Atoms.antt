@@ -11,7 +11,8 @@ use Rattle.resolver_clause_store.specs.declared.By.TheVariants.{Root as ByRoot, 
 use Rattle.resolver_clause_store.specs.declared.Origin.{Origin}
 use Rattle.resolver_clause_store.specs.declared.Origin.TheVariants.{Root, Solvable, Bit, Gate, ConstraintHelper, ConditionHelper}
 use Rattle.resolver_clause_store.specs.declared.ClauseKind.{ClauseKind}
-use Rattle.resolver_clause_store.specs.declared.ClauseKind.TheVariants.{InstallRoot, Requires, AnyOf, Constrains, GateRequires, ConstrainsExcluded, ConstrainsParent, HasBit, Lock, Excluded}
+use Rattle.resolver_clause_store.specs.declared.ClauseKind.TheVariants.{InstallRoot, Requires, AnyOf, Constrains, GateRequires, ConstrainsExcluded}
+use Rattle.resolver_clause_store.specs.declared.ClauseKind.TheVariants.{ConstrainsParent, HasBit, Lock, Excluded}
 use Rattle.resolver_clause_store.specs.Statements.{Statement, requires, constrains, lock, excluded, one_per_package}
 
 pub record Atom (N S : Type 0) : Type 0 where
@@ -29,7 +30,8 @@ origin_by (BySolvable s) = Solvable s
 -- the atoms of a clause, by its kind
 abbrev pub atoms_of : {N S : Type 0} → Universe N S → ClauseKind N S → List (Atom N S)
 atoms_of u InstallRoot = atom Root true ∷ []
-atoms_of u (Requires parent disjunct requirement) = atom (origin_by parent) false ∷ (map (λ v. atom (ConditionHelper v) false) disjunct.items ++ map (λ s. atom (Solvable s) true) (requirement_candidates u requirement))
+atoms_of u (Requires parent disjunct requirement) = atom (origin_by parent) false ∷
+    (map (λ v. atom (ConditionHelper v) false) disjunct.items ++ map (λ s. atom (Solvable s) true) (requirement_candidates u requirement))
 atoms_of u (AnyOf helper candidate) = atom helper true ∷ atom (Solvable candidate) false ∷ []
 atoms_of u (Constrains parent version_set candidate) = atom (origin_by parent) false ∷ atom (Solvable candidate) false ∷ []
 atoms_of u (GateRequires requirement) = atom (Gate requirement) false ∷ map (λ s. atom (Solvable s) true) (requirement_candidates u requirement)
@@ -73,7 +75,8 @@ pub data IsStated {N S : Type 0} (u : Universe N S) (implies : Origin N S → S 
   -- of a gate: the requirement of each solvable from which it follows
   states_gated : (s : S) (requirement : Requirement) → Contains kinds (GateRequires requirement) → implies (Gate requirement) s ≡ true →
       IsStated u implies kinds (requires (BySolvable s) requirement (requirement_candidates u requirement) [])
-  states_helped : (by : By S) (v : VersionSetId) (s : S) → Contains kinds (ConstrainsParent by v) → implies (ConstraintHelper v) s ≡ true → IsStated u implies kinds (constrains by v s)
+  states_helped : (by : By S) (v : VersionSetId) (s : S) → Contains kinds (ConstrainsParent by v) → implies (ConstraintHelper v) s ≡ true →
+      IsStated u implies kinds (constrains by v s)
   states_coded : (n : N) (s : S) (i : ℕ) (b : Bool) → Contains kinds (HasBit n s i b) → IsStated u implies kinds (one_per_package n s)
   states_bit : (n : N) (s : S) (i : ℕ) → implies (Bit n i) s ≡ true → IsStated u implies kinds (one_per_package n s)
   states_lock : (s t : S) → Contains kinds (Lock s t) → IsStated u implies kinds (lock s t)

@@ -11,7 +11,8 @@ use Rattle.resolver_clause_store.specs.declared.ConditionId.{ConditionId}
 use Rattle.resolver_clause_store.specs.declared.By.{By}
 use Rattle.resolver_clause_store.specs.declared.By.TheVariants.{Solvable as BySolvable}
 use Rattle.resolver_clause_store.specs.declared.ClauseKind.{ClauseKind}
-use Rattle.resolver_clause_store.specs.declared.ClauseKind.TheVariants.{InstallRoot, Requires, AnyOf, GateRequires, Constrains, ConstrainsExcluded, ConstrainsParent, HasBit, Lock, Excluded}
+use Rattle.resolver_clause_store.specs.declared.ClauseKind.TheVariants.{InstallRoot, Requires, AnyOf, GateRequires, Constrains, ConstrainsExcluded}
+use Rattle.resolver_clause_store.specs.declared.ClauseKind.TheVariants.{ConstrainsParent, HasBit, Lock, Excluded}
 use Rattle.resolver_clause_store.specs.declared.ConditionalRequirement.{ConditionalRequirement}
 use Rattle.resolver_clause_store.specs.declared.Literal.{Literal}
 use Rattle.resolver_clause_store.specs.declared.Origin.{Origin}
@@ -62,7 +63,8 @@ IsLeft notes e = Contains notes.deferred (Some e)
 -- a requirement with a condition that holds where the disjunct is met
 abbrev pub IsTrueUnder : {N S : Type 0} → Universe N S → By S → List VersionSetId → Requirement → Demands → Type 0
 IsTrueUnder u by disjunct requirement root =
-    (r : ConditionalRequirement) × Contains (demands_by u root by).requirements r × (r.requirement ≡ requirement) × Implies u (map (matching u) disjunct) r.condition
+    (r : ConditionalRequirement) × Contains (demands_by u root by).requirements r × (r.requirement ≡ requirement) ×
+    Implies u (map (matching u) disjunct) r.condition
 
 -- what a disjunct that is put off stands for
 pub record IsTrueEntry {N S : Type 0} (u : Universe N S) (root : Demands) (e : Deferred S) : Type 0 where
@@ -71,7 +73,8 @@ pub record IsTrueEntry {N S : Type 0} (u : Universe N S) (root : Demands) (e : D
 
 -- the clause asks for candidates
 abbrev pub AsksForCandidates : {N S : Type 0} → ClauseKind N S → Type 0
-AsksForCandidates {N} {S} kind = ((by : By S) × (disjunct : Vec VersionSetId Global) × (r : Requirement) × (kind ≡ Requires by disjunct r)) ⊎ ((r : Requirement) × (kind ≡ GateRequires r))
+AsksForCandidates {N} {S} kind = ((by : By S) × (disjunct : Vec VersionSetId Global) × (r : Requirement) × (kind ≡ Requires by disjunct r)) ⊎
+    ((r : Requirement) × (kind ≡ GateRequires r))
 
 -- what follows from a solvable here is a gate or the helper of a condition
 abbrev pub HasUsualHelper : {N S : Type 0} → ClauseKind N S → Type 0
@@ -132,12 +135,16 @@ pub record IsEncodingWhile {N S : Type 0} (u : Universe N S) (doing : Doing N S)
   pub listed : (n : ℕ) (kind : ClauseKind N S) → slice_get notes.kinds n ≡ Some kind → AsksForCandidates kind → Contains notes.requirements n
   pub ask : (n : ℕ) → Contains notes.requirements n → (kind : ClauseKind N S) × (slice_get notes.kinds n ≡ Some kind) × AsksForCandidates kind
   -- of each requirement that has its clause
-  pub helpers : (by : By S) (disjunct : Vec VersionSetId Global) (r : Requirement) → Contains notes.kinds (Requires by disjunct r) → (v : VersionSetId) → Contains disjunct.items v → Contains notes.helped v
-  pub packages : (by : By S) (disjunct : Vec VersionSetId Global) (r : Requirement) → Contains notes.kinds (Requires by disjunct r) → (v : VersionSetId) → Contains (version_sets u r) v → Contains notes.asked (u.version_set_name v)
-  pub candidates : (by : By S) (disjunct : Vec VersionSetId Global) (r : Requirement) → Contains notes.kinds (Requires by disjunct r) → (s : S) → Contains (requirement_candidates u r) s → Contains notes.seen s
+  pub helpers : (by : By S) (disjunct : Vec VersionSetId Global) (r : Requirement) → Contains notes.kinds (Requires by disjunct r) → (v : VersionSetId) →
+      Contains disjunct.items v → Contains notes.helped v
+  pub packages : (by : By S) (disjunct : Vec VersionSetId Global) (r : Requirement) → Contains notes.kinds (Requires by disjunct r) → (v : VersionSetId) →
+      Contains (version_sets u r) v → Contains notes.asked (u.version_set_name v)
+  pub candidates : (by : By S) (disjunct : Vec VersionSetId Global) (r : Requirement) → Contains notes.kinds (Requires by disjunct r) → (s : S) →
+      Contains (requirement_candidates u r) s → Contains notes.seen s
   pub once : (by : By S) (disjunct : Vec VersionSetId Global) (r : Requirement) → Contains notes.kinds (Requires by disjunct r) → AreDistinct disjunct.items
   -- of each gate
-  pub gate_packages : (r : Requirement) → Contains notes.kinds (GateRequires r) → (v : VersionSetId) → Contains (version_sets u r) v → Contains notes.asked (u.version_set_name v)
+  pub gate_packages : (r : Requirement) → Contains notes.kinds (GateRequires r) → (v : VersionSetId) → Contains (version_sets u r) v →
+      Contains notes.asked (u.version_set_name v)
   pub gate_candidates : (r : Requirement) → Contains notes.kinds (GateRequires r) → (s : S) → Contains (requirement_candidates u r) s → Contains notes.seen s
   pub gated : (r : Requirement) → Contains notes.gates r → Contains notes.kinds (GateRequires r)
   -- of each version set of a constraint that has its helper
@@ -145,22 +152,27 @@ pub record IsEncodingWhile {N S : Type 0} (u : Universe N S) (doing : Doing N S)
   -- of each version set of a condition that has its helper
   pub follow : (v : VersionSetId) → Contains notes.helped v → (s : S) → Contains (matching u v) s → Contains notes.kinds (AnyOf (ConditionHelper v) s)
   -- of each package that was asked for
-  pub locks : (s t : S) → Contains notes.asked (u.name s) → (Contains (doing.owing ++ notes.exempt) s → ⊥) → (u.package_named (u.name s)).locked ≡ Some t → Contains (u.package_named (u.name s)).listed s → s ≢ t → Contains notes.kinds (Lock t s)
-  pub exclusions : (s : S) (reason : StringId) → Contains notes.asked (u.name s) → (Contains (doing.owing ++ notes.exempt) s → ⊥) → Contains (u.package_named (u.name s)).excluded (s, reason) → Contains notes.kinds (Excluded s reason)
+  pub locks : (s t : S) → Contains notes.asked (u.name s) → (Contains (doing.owing ++ notes.exempt) s → ⊥) → (u.package_named (u.name s)).locked ≡ Some t →
+      Contains (u.package_named (u.name s)).listed s → s ≢ t → Contains notes.kinds (Lock t s)
+  pub exclusions : (s : S) (reason : StringId) → Contains notes.asked (u.name s) → (Contains (doing.owing ++ notes.exempt) s → ⊥) →
+      Contains (u.package_named (u.name s)).excluded (s, reason) → Contains notes.kinds (Excluded s reason)
   -- of each that was met
   pub registered : (s : S) → Contains notes.seen s → Contains notes.origins (Solvable s)
   -- the code of a solvable is its number under its name, and it has a clause for each digit that some number there has
   pub placed : (n : N) (k : ℕ) (s : S) → IsAt notes.groups n k s → (i : ℕ) → codes n i s ≡ bit k i
   pub coding : (c : Coding N S) → Contains doing.coding c → (i : ℕ) → codes c.name i c.instance ≡ bit c.number i
-  pub coded : (n : N) (s : S) (i : ℕ) (b : Bool) → Contains notes.kinds (HasBit n s i b) → Contains notes.seen s ⊎ Contains (map (λ (c : Coding N S). c.instance) doing.coding) s
-  pub digits : (n : N) (j k : ℕ) (s t : S) → IsAt notes.groups n j s → IsAt notes.groups n k t → (i : ℕ) → 2 ^ i ≤ k → Contains notes.kinds (HasBit n s i (bit j i))
+  pub coded : (n : N) (s : S) (i : ℕ) (b : Bool) → Contains notes.kinds (HasBit n s i b) → Contains notes.seen s ⊎
+      Contains (map (λ (c : Coding N S). c.instance) doing.coding) s
+  pub digits : (n : N) (j k : ℕ) (s t : S) → IsAt notes.groups n j s → IsAt notes.groups n k t → (i : ℕ) → 2 ^ i ≤ k →
+      Contains notes.kinds (HasBit n s i (bit j i))
   -- those that were met stand under their names, and no others
   pub sound_groups : AreGroups notes.groups
   pub grouped : (s : S) → Contains notes.seen s → IsNamed notes.groups (u.name s) s
   pub members : (n : N) (s : S) → IsNamed notes.groups n s → (u.name s ≡ n) × Contains notes.seen s
   -- of each disjunct that is put off
   pub left_true : (e : Deferred S) → IsLeft notes e → IsTrueEntry u root e
-  pub indexed : (i : ℕ) (e : Deferred S) → slice_get notes.deferred i ≡ Some (Some e) → (v : VersionSetId) → Contains e.disjunct v → IsNamed notes.waiting (u.version_set_name v) i
+  pub indexed : (i : ℕ) (e : Deferred S) → slice_get notes.deferred i ≡ Some (Some e) → (v : VersionSetId) → Contains e.disjunct v →
+      IsNamed notes.waiting (u.version_set_name v) i
   pub sound_waiting : AreGroups notes.waiting
 
 -- nothing is in progress
@@ -225,7 +237,8 @@ pub record IsUnmet {N S : Type 0} (u : Universe N S) (set : List S) (by : By S) 
   pub never : AllMeet set (map (matching u) e.disjunct) → ⊥
 
 -- The notes grew, only called packages were asked and called candidates registered, and only such disjuncts were put off.
-pub record IsReadStep {N S : Type 0} (u : Universe N S) (Defers : Deferred S → Type 0) (Called : Call N S → Type 0) (Premise : Demands → Type 0) (old new : Notes N S) : Type 0 where
+pub record IsReadStep {N S : Type 0} (u : Universe N S) (Defers : Deferred S → Type 0) (Called : Call N S → Type 0) (Premise : Demands → Type 0)
+    (old new : Notes N S) : Type 0 where
   pub origins : Keeps old.origins new.origins
   pub table : Extends old.table new.table
   pub kinds : IsWithin old.kinds new.kinds
@@ -288,7 +301,13 @@ pub record AddsRequirement {N S : Type 0} (old new : Notes N S) (kind : ClauseKi
   pub origins : Grows old.origins new.origins
   pub literals : Vec Literal Global
   pub are : AllZip (IsAtom new.origins) literals.items atoms
-  pub is : new ≡ record old { origins = new.origins; table = old.table ++ literals ∷ []; kinds = old.kinds ++ kind ∷ []; requirements = old.requirements ++ length old.kinds ∷ [] }
+  pub is : new ≡ record old {
+    origins = new.origins;
+    table = old.table ++ literals ∷ [];
+    kinds = old.kinds ++ kind ∷ [];
+    requirements = old.requirements ++
+        length old.kinds ∷ [];
+  }
 
 -- what is read of a requirement, of a constraint, of the root or a solvable
 module _ {N S : Type 0} (u : Universe N S) (kinds : List (ClauseKind N S)) where

@@ -16,7 +16,8 @@ use Rattle.resolver_clause_store.specs.TrueRules.{demands_by}
 use Rattle.resolver_clause_store.specs.declared.Origin.{Origin}
 use Rattle.resolver_clause_store.specs.declared.Origin.TheVariants.{Root, Solvable, Gate, ConditionHelper}
 use Rattle.resolver_clause_store.specs.declared.ClauseKind.{ClauseKind}
-use Rattle.resolver_clause_store.specs.declared.ClauseKind.TheVariants.{InstallRoot, Requires, AnyOf, Constrains, GateRequires, ConstrainsExcluded, ConstrainsParent, HasBit, Lock, Excluded}
+use Rattle.resolver_clause_store.specs.declared.ClauseKind.TheVariants.{InstallRoot, Requires, AnyOf, Constrains, GateRequires, ConstrainsExcluded}
+use Rattle.resolver_clause_store.specs.declared.ClauseKind.TheVariants.{ConstrainsParent, HasBit, Lock, Excluded}
 use Rattle.resolver_encoding.specs.Atoms.{IsHelper, Atom, origin_by, atoms_of}
 
 -- some values, where an origin may have none: no clause is false, none has a last atom to set, and no requirement is left to decide
@@ -29,11 +30,13 @@ pub record IsSettled {N S : Type 0} (u : Universe N S) (kinds : List (ClauseKind
       ((b : Atom N S) → Contains (atoms_of u k) b → (b ≡ a) ⊎ Takes b.origin (not b.positive)) → Takes a.origin a.positive
   pub decided : (by : By S) (disjunct : Vec VersionSetId Global) (r : Requirement) → Contains kinds (Requires by disjunct r) → Takes (origin_by by) true →
       All (λ v. Takes (ConditionHelper v) true) disjunct.items → (s : S) × Contains (requirement_candidates u r) s × Takes (Solvable s) true
-  pub decided_gate : (r : Requirement) → Contains kinds (GateRequires r) → Takes (Gate r) true → (s : S) × Contains (requirement_candidates u r) s × Takes (Solvable s) true
+  pub decided_gate : (r : Requirement) → Contains kinds (GateRequires r) → Takes (Gate r) true → (s : S) × Contains (requirement_candidates u r) s ×
+      Takes (Solvable s) true
 
 -- the clauses of a requirement that holds in the set: one of its own, or those of its gate
 pub data IsMade {N S : Type 0} (u : Universe N S) (kinds : List (ClauseKind N S)) (chosen : List S) (by : By S) (r : Requirement) : Type 0 where
-  made_direct : (disjunct : Vec VersionSetId Global) → AllMeet chosen (map (matching u) disjunct.items) → Contains kinds (Requires by disjunct r) → IsMade u kinds chosen by r
+  made_direct : (disjunct : Vec VersionSetId Global) → AllMeet chosen (map (matching u) disjunct.items) → Contains kinds (Requires by disjunct r) →
+      IsMade u kinds chosen by r
   made_gated : (s : S) → by ≡ BySolvable s → Contains kinds (AnyOf (Gate r) s) → Contains kinds (GateRequires r) → IsMade u kinds chosen by r
 
 -- the clauses of a constraint and of one that it forbids
@@ -49,17 +52,21 @@ pub data AreApart {N S : Type 0} (kinds : List (ClauseKind N S)) (n : N) (s t : 
 pub record Covers {N S : Type 0} (u : Universe N S) (root : Demands) (kinds : List (ClauseKind N S)) (chosen exempt : List S) : Type 0 where
   pub installs : Contains kinds InstallRoot
   -- each active requirement has the clause of some disjunct that holds
-  pub requirements : (by : By S) (r : ConditionalRequirement) → IsPresent by chosen → Contains (demands_by u root by).requirements r → IsActive u (Contains chosen) r →
+  pub requirements : (by : By S) (r : ConditionalRequirement) → IsPresent by chosen → Contains (demands_by u root by).requirements r →
+      IsActive u (Contains chosen) r →
       IsMade u kinds chosen by r.requirement
   -- each helper of a condition follows from all that matches
-  pub helpers : (by : By S) (disjunct : Vec VersionSetId Global) (r : Requirement) → Contains kinds (Requires by disjunct r) → (v : VersionSetId) → Contains disjunct.items v →
+  pub helpers : (by : By S) (disjunct : Vec VersionSetId Global) (r : Requirement) → Contains kinds (Requires by disjunct r) → (v : VersionSetId) →
+      Contains disjunct.items v →
       (s : S) → Contains (matching u v) s → Contains kinds (AnyOf (ConditionHelper v) s)
-  pub constraints : (by : By S) (v : VersionSetId) (s : S) → IsPresent by chosen → Contains (demands_by u root by).constraints v → Contains (others u v) s → Contains chosen s →
+  pub constraints : (by : By S) (v : VersionSetId) (s : S) → IsPresent by chosen → Contains (demands_by u root by).constraints v → Contains (others u v) s →
+      Contains chosen s →
       IsForbidden kinds by v s
   pub instances : (s t : S) → Contains chosen s → Contains chosen t → u.name s ≡ u.name t → s ≢ t →
       AreApart kinds (u.name s) s t
   pub locks : (s : S) → Contains chosen s → (Contains exempt s → ⊥) → IsLockedOut u s → (t : S) × Contains kinds (Lock t s)
-  pub exclusions : (s : S) (reason : StringId) → Contains chosen s → (Contains exempt s → ⊥) → Contains (u.package_named (u.name s)).excluded (s, reason) → Contains kinds (Excluded s reason)
+  pub exclusions : (s : S) (reason : StringId) → Contains chosen s → (Contains exempt s → ⊥) → Contains (u.package_named (u.name s)).excluded (s, reason) →
+      Contains kinds (Excluded s reason)
   pub unknowns : (s : S) (reason : StringId) → Contains chosen s → u.needs s ≡ unknown reason → Contains kinds (Excluded s reason)
 
 -- the chosen ones have the value true, and so has no other candidate of a requirement of theirs that is active
@@ -67,4 +74,5 @@ pub record IsClosedPart {N S : Type 0} (u : Universe N S) (kinds : List (ClauseK
   pub taken : (s : S) → Contains chosen s → Takes (Solvable s) true
   pub closed : (by : By S) (disjunct : Vec VersionSetId Global) (r : Requirement) (s : S) → Contains kinds (Requires by disjunct r) → IsPresent by chosen →
       AllMeet chosen (map (matching u) disjunct.items) → Contains (requirement_candidates u r) s → Takes (Solvable s) true → Contains chosen s
-  pub closed_gate : (t : S) (r : Requirement) (s : S) → Contains kinds (GateRequires r) → Contains chosen t → Contains kinds (AnyOf (Gate r) t) → Contains (requirement_candidates u r) s → Takes (Solvable s) true → Contains chosen s
+  pub closed_gate : (t : S) (r : Requirement) (s : S) → Contains kinds (GateRequires r) → Contains chosen t → Contains kinds (AnyOf (Gate r) t) →
+      Contains (requirement_candidates u r) s → Takes (Solvable s) true → Contains chosen s

@@ -29,27 +29,36 @@ pub data HasClause {N S : Type 0} (kinds : List (ClauseKind N S)) (by : By S) (l
   has_gate : (s : S) → by ≡ BySolvable s → list ≡ [] → Contains kinds (AnyOf (Gate r) s) → Contains kinds (GateRequires r) → HasClause kinds by list r
 
 -- the disjuncts of a requirement's condition, each with its clauses or deferred
-pub record IsReadRequirement {N S : Type 0} (u : Universe N S) (kinds : List (ClauseKind N S)) (IsLeft : Deferred S → Type 0) (by : By S) (r : ConditionalRequirement) : Type 0 where
+pub record IsReadRequirement {N S : Type 0} (u : Universe N S) (kinds : List (ClauseKind N S)) (IsLeft : Deferred S → Type 0) (by : By S)
+    (r : ConditionalRequirement) : Type 0 where
   pub disjuncts : List (List VersionSetId)
   pub complete : (set : List S) → IsActive u (Contains set) r → (list : List VersionSetId) × Contains disjuncts list × AllMeet set (map (matching u) list)
   pub each : (list : List VersionSetId) → Contains disjuncts list →
       HasClause kinds by list r.requirement ⊎ IsLeft (record { by = by; disjunct = list; requirement = r.requirement })
 
 -- the clauses are all that the rules ask of the root and of what was read
-pub record IsRead {N S : Type 0} (u : Universe N S) (root : Demands) (kinds : List (ClauseKind N S)) (IsLeft : Deferred S → Type 0) (read : List S) (asked : List N) (registered exempt : List S) : Type 0 where
+pub record IsRead {N S : Type 0} (u : Universe N S) (root : Demands) (kinds : List (ClauseKind N S)) (IsLeft : Deferred S → Type 0) (read : List S)
+    (asked : List N) (registered exempt : List S) : Type 0 where
   pub installs : Contains kinds InstallRoot
   -- of each solvable that was read
-  pub requirements : (by : By S) (r : ConditionalRequirement) → IsPresent by read → Contains (demands_by u root by).requirements r → IsReadRequirement u kinds IsLeft by r
-  pub constraints : (by : By S) (v : VersionSetId) (s : S) → IsPresent by read → Contains (demands_by u root by).constraints v → Contains (others u v) s → IsForbidden kinds by v s
+  pub requirements : (by : By S) (r : ConditionalRequirement) → IsPresent by read → Contains (demands_by u root by).requirements r →
+      IsReadRequirement u kinds IsLeft by r
+  pub constraints : (by : By S) (v : VersionSetId) (s : S) → IsPresent by read → Contains (demands_by u root by).constraints v → Contains (others u v) s →
+      IsForbidden kinds by v s
   pub unknowns : (s : S) (reason : StringId) → Contains read s → u.needs s ≡ unknown reason → Contains kinds (Excluded s reason)
   -- of each requirement that has its clauses
-  pub helpers : (by : By S) (disjunct : Vec VersionSetId Global) (r : Requirement) → Contains kinds (Requires by disjunct r) → (v : VersionSetId) → Contains disjunct.items v →
+  pub helpers : (by : By S) (disjunct : Vec VersionSetId Global) (r : Requirement) → Contains kinds (Requires by disjunct r) → (v : VersionSetId) →
+      Contains disjunct.items v →
       (s : S) → Contains (matching u v) s → Contains kinds (AnyOf (ConditionHelper v) s)
-  pub packages : (by : By S) (list : List VersionSetId) (r : Requirement) → HasClause kinds by list r → (v : VersionSetId) → Contains (version_sets u r) v → Contains asked (u.version_set_name v)
-  pub candidates : (by : By S) (list : List VersionSetId) (r : Requirement) → HasClause kinds by list r → (s : S) → Contains (requirement_candidates u r) s → Contains registered s
+  pub packages : (by : By S) (list : List VersionSetId) (r : Requirement) → HasClause kinds by list r → (v : VersionSetId) → Contains (version_sets u r) v →
+      Contains asked (u.version_set_name v)
+  pub candidates : (by : By S) (list : List VersionSetId) (r : Requirement) → HasClause kinds by list r → (s : S) → Contains (requirement_candidates u r) s →
+      Contains registered s
   -- of each package that was asked for
-  pub locks : (s t : S) → Contains asked (u.name s) → (Contains exempt s → ⊥) → (u.package_named (u.name s)).locked ≡ Some t → Contains (u.package_named (u.name s)).listed s → s ≢ t → Contains kinds (Lock t s)
-  pub exclusions : (s : S) (reason : StringId) → Contains asked (u.name s) → (Contains exempt s → ⊥) → Contains (u.package_named (u.name s)).excluded (s, reason) → Contains kinds (Excluded s reason)
+  pub locks : (s t : S) → Contains asked (u.name s) → (Contains exempt s → ⊥) → (u.package_named (u.name s)).locked ≡ Some t →
+      Contains (u.package_named (u.name s)).listed s → s ≢ t → Contains kinds (Lock t s)
+  pub exclusions : (s : S) (reason : StringId) → Contains asked (u.name s) → (Contains exempt s → ⊥) →
+      Contains (u.package_named (u.name s)).excluded (s, reason) → Contains kinds (Excluded s reason)
   -- of each two that are registered
   pub instances : (s t : S) → Contains registered s → Contains registered t → u.name s ≡ u.name t → s ≢ t → AreApart kinds (u.name s) s t
 

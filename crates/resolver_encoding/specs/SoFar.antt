@@ -1,5 +1,6 @@
 -- What was read so far, and what one more reading does.
-use Rattle.std.specs.Prelude.{Bool, true, false, ℕ, ◌≡◌, ◌<◌, ◌⊎◌, ◌∷◌, ◌++◌, [], All, Contains, List, None, Some, count_by, is_some, length, map, slice_get, slice_set}
+use Rattle.std.specs.Prelude.{Bool, true, false, ℕ, ◌≡◌, ◌<◌, ◌⊎◌, ◌∷◌, ◌++◌, [], All, Contains, List, None, Some, count_by, is_some, length, map, slice_get}
+use Rattle.std.specs.Prelude.{slice_set}
 use Rattle.resolver_clause_store.specs.Universe.{Universe, Demands}
 use Rattle.resolver_clause_store.specs.Candidates.{matching}
 use Rattle.resolver_clause_store.specs.Lists.{IsWithin}
@@ -56,7 +57,8 @@ pub record IsReadMore {N S : Type 0} (u : Universe N S) (set : List S) (old new 
   pub seen : Extends old.seen new.seen
   pub read : Extends old.read new.read
   pub reads : (s : S) → Contains new.read s → Contains old.read s ⊎ (Contains set s ⊎ IsListedFrom new (length old.requirements) s)
-  pub taken : (i : ℕ) (e : Deferred S) → slice_get old.deferred i ≡ Some (Some e) → (slice_get new.deferred i ≡ Some (Some e)) ⊎ AllMeet set (map (matching u) e.disjunct)
+  pub taken : (i : ℕ) (e : Deferred S) → slice_get old.deferred i ≡ Some (Some e) → (slice_get new.deferred i ≡ Some (Some e)) ⊎
+      AllMeet set (map (matching u) e.disjunct)
   pub exempt : new.exempt ≡ old.exempt
 
 -- whether solvables were read; whether disjuncts were taken out; if not, nothing changed
@@ -127,11 +129,13 @@ pub record IsFiring {N S : Type 0} (u : Universe N S) (set : List S) (old new : 
   pub requirements : Extends old.requirements new.requirements
   pub seen : Extends old.seen new.seen
   pub asked : IsWithin old.asked new.asked
-  pub called : (call : Call N S) → IsFollowed new call → IsFollowed old call ⊎ ((e : Deferred S) × IsLeft old e × AllMeet set (map (matching u) e.disjunct) × IsWantedBy u e.requirement call)
+  pub called : (call : Call N S) → IsFollowed new call → IsFollowed old call ⊎
+      ((e : Deferred S) × IsLeft old e × AllMeet set (map (matching u) e.disjunct) × IsWantedBy u e.requirement call)
   pub read : new.read ≡ old.read
   pub waiting : new.waiting ≡ old.waiting
   pub stays : (i : ℕ) (e : Deferred S) → slice_get new.deferred i ≡ Some (Some e) → slice_get old.deferred i ≡ Some (Some e)
-  pub taken : (i : ℕ) (e : Deferred S) → slice_get old.deferred i ≡ Some (Some e) → (slice_get new.deferred i ≡ Some (Some e)) ⊎ (AllMeet set (map (matching u) e.disjunct) × HasClause new.kinds e.by e.disjunct e.requirement)
+  pub taken : (i : ℕ) (e : Deferred S) → slice_get old.deferred i ≡ Some (Some e) → (slice_get new.deferred i ≡ Some (Some e)) ⊎
+      (AllMeet set (map (matching u) e.disjunct) × HasClause new.kinds e.by e.disjunct e.requirement)
   pub exempt : new.exempt ≡ old.exempt
   pub keeps : (root : Demands) → IsEncoding u root old → IsEncoding u root new
 
@@ -161,4 +165,5 @@ pub record IsBare {N S : Type 0} (notes : Notes N S) : Type 0 where
 -- Candidates of clauses from this place on were read. What was near stays so, with a set that is near.
 pub record IsHintedReading {N S : Type 0} (u : Universe N S) (set : List S) (from : ℕ) (old new : Notes N S) : Type 0 where
   pub reading : IsReadingOf u set (IsListedFrom new from) old new
-  pub near : (root : Demands) (seeds : List S) (packages : List N) → AreNear u root seeds packages old → All (IsNear u root seeds) set → AreNear u root seeds packages new
+  pub near : (root : Demands) (seeds : List S) (packages : List N) → AreNear u root seeds packages old → All (IsNear u root seeds) set →
+      AreNear u root seeds packages new

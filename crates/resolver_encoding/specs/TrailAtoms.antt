@@ -18,7 +18,8 @@ use Rattle.resolver_encoding.specs.Read.{Covers}
 
 -- the clause is true wherever all clauses are
 pub record IsEntailed {N S : Type 0} (u : Universe N S) (kinds : List (ClauseKind N S)) (clause : List (Atom N S)) : Type 0 where
-  pub holds : (value : Origin N S → Bool) → ((k : ClauseKind N S) → Contains kinds k → is_satisfied value (atoms_of u k) ≡ true) → is_satisfied value clause ≡ true
+  pub holds : (value : Origin N S → Bool) → ((k : ClauseKind N S) → Contains kinds k → is_satisfied value (atoms_of u k) ≡ true) →
+      is_satisfied value clause ≡ true
 
 -- it is the first of the requirement's candidates that is not false
 pub record IsFirstOpen {N S : Type 0} (u : Universe N S) (earlier : List (Atom N S)) (r : Requirement) (s : S) : Type 0 where
@@ -28,12 +29,16 @@ pub record IsFirstOpen {N S : Type 0} (u : Universe N S) (earlier : List (Atom N
   pub closed : (x : S) → Contains before x → Contains earlier (atom (Solvable x) false)
 
 -- why the atom stands on the trail behind these
-pub data IsBecause {N S : Type 0} (u : Universe N S) (kinds : List (ClauseKind N S)) (seeds refused : List S) (earlier : List (Atom N S)) : Atom N S → Type 0 where
+pub data IsBecause {N S : Type 0} (u : Universe N S) (kinds : List (ClauseKind N S)) (seeds refused : List S) (earlier : List (Atom N S)) : Atom N S →
+    Type 0 where
   -- a candidate of a requirement that is active
-  needed : (by : By S) (disjunct : Vec VersionSetId Global) (r : Requirement) (s : S) → Contains kinds (Requires by disjunct r) → Contains earlier (atom (origin_by by) true) →
-      All (λ v. Contains earlier (atom (ConditionHelper v) true)) disjunct.items → IsFirstOpen u earlier r s → IsBecause u kinds seeds refused earlier (atom (Solvable s) true)
+  needed : (by : By S) (disjunct : Vec VersionSetId Global) (r : Requirement) (s : S) → Contains kinds (Requires by disjunct r) →
+      Contains earlier (atom (origin_by by) true) →
+      All (λ v. Contains earlier (atom (ConditionHelper v) true)) disjunct.items → IsFirstOpen u earlier r s →
+      IsBecause u kinds seeds refused earlier (atom (Solvable s) true)
   -- a candidate of a gate's requirement
-  needed_gate : (r : Requirement) (s : S) → Contains kinds (GateRequires r) → Contains earlier (atom (Gate r) true) → IsFirstOpen u earlier r s → IsBecause u kinds seeds refused earlier (atom (Solvable s) true)
+  needed_gate : (r : Requirement) (s : S) → Contains kinds (GateRequires r) → Contains earlier (atom (Gate r) true) → IsFirstOpen u earlier r s →
+      IsBecause u kinds seeds refused earlier (atom (Solvable s) true)
   -- a soft requirement, taken or left
   seeded : (s : S) → Contains seeds s → IsBecause u kinds seeds refused earlier (atom (Solvable s) true)
   left_out : (s : S) → Contains refused s → IsBecause u kinds seeds refused earlier (atom (Solvable s) false)
@@ -43,7 +48,8 @@ pub data IsBecause {N S : Type 0} (u : Universe N S) (kinds : List (ClauseKind N
 
 pub data IsTrail {N S : Type 0} (u : Universe N S) (kinds : List (ClauseKind N S)) (seeds refused : List S) : List (Atom N S) → Type 0 where
   begun : IsTrail u kinds seeds refused []
-  went_on : {earlier : List (Atom N S)} (a : Atom N S) → IsTrail u kinds seeds refused earlier → IsBecause u kinds seeds refused earlier a → IsTrail u kinds seeds refused (a ∷ earlier)
+  went_on : {earlier : List (Atom N S)} (a : Atom N S) → IsTrail u kinds seeds refused earlier → IsBecause u kinds seeds refused earlier a →
+      IsTrail u kinds seeds refused (a ∷ earlier)
 
 -- what the trail makes true
 abbrev pub Takes : {N S : Type 0} → List (Atom N S) → Origin N S → Bool → Type 0

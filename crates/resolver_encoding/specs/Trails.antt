@@ -1,5 +1,6 @@
 -- A trail of variables as a trail of what they stand for.
-use Rattle.std.specs.Prelude.{ℕ, zero, suc, ◌≡◌, ◌<◌, ◌≤◌, Bool, true, false, List, [], ◌∷◌, ◌++◌, Contains, length, slice_get, slice_index_or, map, Option, Some, None}
+use Rattle.std.specs.Prelude.{ℕ, zero, suc, ◌≡◌, ◌<◌, ◌≤◌, Bool, true, false, List, [], ◌∷◌, ◌++◌, Contains, length, slice_get, slice_index_or, map, Option}
+use Rattle.std.specs.Prelude.{Some, None}
 use Rattle.std.specs.Option.{option_map_or}
 use Rattle.resolver_clause_store.specs.TrailView.{length_of, slot_of, variable_at}
 use Rattle.resolver_clause_store.specs.declared.Literal.{Literal}
@@ -30,8 +31,10 @@ atoms_before origins trail (suc place) = entry_at origins trail place ∷ atoms_
 
 -- each variable that was assumed is a solvable: one of the seeds where it is true, and a refused one where it is false
 pub record AreAssumed {N S : Type 0} (origins : List (Origin N S)) (seeds refused : List S) (trail : Trail) : Type 0 where
-  pub taken : (variable : ℕ) (slot : Slot) → slot_of trail variable ≡ Some slot → slot.reason ≡ Assumed → slot.value ≡ true → (s : S) × (origin_at origins variable ≡ Solvable s) × Contains seeds s
-  pub left_out : (variable : ℕ) (slot : Slot) → slot_of trail variable ≡ Some slot → slot.reason ≡ Assumed → slot.value ≡ false → (s : S) × (origin_at origins variable ≡ Solvable s) × Contains refused s
+  pub taken : (variable : ℕ) (slot : Slot) → slot_of trail variable ≡ Some slot → slot.reason ≡ Assumed → slot.value ≡ true → (s : S) ×
+      (origin_at origins variable ≡ Solvable s) × Contains seeds s
+  pub left_out : (variable : ℕ) (slot : Slot) → slot_of trail variable ≡ Some slot → slot.reason ≡ Assumed → slot.value ≡ false → (s : S) ×
+      (origin_at origins variable ≡ Solvable s) × Contains refused s
 
 -- what the literals of a clause stand for
 abbrev pub atoms_by : {N S : Type 0} → List (Origin N S) → List Literal → List (Atom N S)
@@ -50,7 +53,8 @@ solvable_found o = None
 -- the solvables that the first places make true, in the order of the trail
 abbrev pub solvables_before : {N S : Type 0} → List (Origin N S) → Trail → ℕ → List S
 solvables_before origins trail zero = []
-solvables_before origins trail (suc place) = solvables_before origins trail place ++ solvable_if (origin_at origins (variable_at trail place)) (value_of trail (variable_at trail place))
+solvables_before origins trail (suc place) = solvables_before origins trail place ++
+    solvable_if (origin_at origins (variable_at trail place)) (value_of trail (variable_at trail place))
 
 -- the solvables in a list of chosen ones
 abbrev pub chosen_in : {S : Type 0} → Chosen S → List S

@@ -14,7 +14,8 @@ use Rattle.resolver_clause_store.specs.TrueRules.{demands_by, Implies}
 use Rattle.resolver_clause_store.specs.declared.Origin.{Origin}
 use Rattle.resolver_clause_store.specs.declared.Origin.TheVariants.{Root, Solvable, Bit, Gate, ConstraintHelper, ConditionHelper}
 use Rattle.resolver_clause_store.specs.declared.ClauseKind.{ClauseKind}
-use Rattle.resolver_clause_store.specs.declared.ClauseKind.TheVariants.{InstallRoot, Requires, AnyOf, Constrains, GateRequires, ConstrainsExcluded, ConstrainsParent, HasBit, Lock, Excluded}
+use Rattle.resolver_clause_store.specs.declared.ClauseKind.TheVariants.{InstallRoot, Requires, AnyOf, Constrains, GateRequires, ConstrainsExcluded}
+use Rattle.resolver_clause_store.specs.declared.ClauseKind.TheVariants.{ConstrainsParent, HasBit, Lock, Excluded}
 use Rattle.resolver_encoding.specs.Atoms.{has, IsHelper, IsStated}
 
 -- conditions are well-founded, and solvables that compare equal are one
@@ -53,15 +54,19 @@ pub record AreCodes {N S : Type 0} (u : Universe N S) (codes : N → ℕ → S �
 abbrev pub IsTrueClause : {N S : Type 0} → Universe N S → (N → ℕ → S → Bool) → Demands → ClauseKind N S → Type 0
 IsTrueClause u codes root InstallRoot = ⊤
 IsTrueClause u codes root (Requires by disjunct requirement) =
-    (r : ConditionalRequirement) × Contains (demands_by u root by).requirements r × (r.requirement ≡ requirement) × Implies u (map (matching u) disjunct.items) r.condition
+    (r : ConditionalRequirement) × Contains (demands_by u root by).requirements r × (r.requirement ≡ requirement) ×
+    Implies u (map (matching u) disjunct.items) r.condition
 IsTrueClause u codes root (AnyOf helper candidate) = IsHelper helper × (follows u codes helper candidate ≡ true)
-IsTrueClause u codes root (Constrains by version_set candidate) = Contains (demands_by u root by).constraints version_set × Contains (others u version_set) candidate
+IsTrueClause u codes root (Constrains by version_set candidate) = Contains (demands_by u root by).constraints version_set ×
+    Contains (others u version_set) candidate
 IsTrueClause u codes root (GateRequires requirement) = ⊤
 IsTrueClause u codes root (ConstrainsExcluded candidate version_set) = Contains (others u version_set) candidate
 IsTrueClause u codes root (ConstrainsParent by version_set) = Contains (demands_by u root by).constraints version_set
 IsTrueClause u codes root (HasBit name instance index value) = (u.name instance ≡ name) × (codes name index instance ≡ value)
-IsTrueClause u codes root (Lock locked forbidden) = ((u.package_named (u.name forbidden)).locked ≡ Some locked) × Contains (u.package_named (u.name forbidden)).listed forbidden × (forbidden ≢ locked)
-IsTrueClause u codes root (Excluded solvable reason) = Contains (u.package_named (u.name solvable)).excluded (solvable, reason) ⊎ (u.needs solvable ≡ unknown reason)
+IsTrueClause u codes root (Lock locked forbidden) = ((u.package_named (u.name forbidden)).locked ≡ Some locked) ×
+    Contains (u.package_named (u.name forbidden)).listed forbidden × (forbidden ≢ locked)
+IsTrueClause u codes root (Excluded solvable reason) = Contains (u.package_named (u.name solvable)).excluded (solvable, reason) ⊎
+    (u.needs solvable ≡ unknown reason)
 
 -- no lock and no exclusion says anything of these
 pub record Spares {N S : Type 0} (u : Universe N S) (exempt : List S) (kinds : List (ClauseKind N S)) : Type 0 where
@@ -70,7 +75,8 @@ pub record Spares {N S : Type 0} (u : Universe N S) (exempt : List S) (kinds : L
 
 -- the rules state all that the clauses state
 abbrev pub AreListed : {N S : Type 0} → Universe N S → (Origin N S → S → Bool) → List (ClauseKind N S) → List (Rule N S) → Type 0
-AreListed {N} {S} u implies kinds rules = (st : Statement N S) → IsStated u implies kinds st → (rule : Rule N S) × Contains rules rule × (statement_of rule ≡ st)
+AreListed {N} {S} u implies kinds rules = (st : Statement N S) → IsStated u implies kinds st → (rule : Rule N S) × Contains rules rule ×
+    (statement_of rule ≡ st)
 
 -- each rule states what the clauses state
 abbrev pub AreStated : {N S : Type 0} → Universe N S → (Origin N S → S → Bool) → List (ClauseKind N S) → List (Rule N S) → Type 0
@@ -79,4 +85,5 @@ AreStated {N} {S} u implies kinds rules = (rule : Rule N S) → Contains rules r
 -- locks and exclusions are made for packages that were asked for, and for none that is exempt
 pub record AreDue {N S : Type 0} (u : Universe N S) (asked : List N) (exempt : List S) (kinds : List (ClauseKind N S)) : Type 0 where
   pub locks : (s t : S) → Contains kinds (Lock s t) → Contains asked (u.name t) × (Contains exempt t → ⊥)
-  pub exclusions : (s : S) (reason : _) → Contains kinds (Excluded s reason) → (Contains asked (u.name s) × (Contains exempt s → ⊥)) ⊎ (u.needs s ≡ unknown reason)
+  pub exclusions : (s : S) (reason : _) → Contains kinds (Excluded s reason) → (Contains asked (u.name s) × (Contains exempt s → ⊥)) ⊎
+      (u.needs s ≡ unknown reason)

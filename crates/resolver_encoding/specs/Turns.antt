@@ -32,8 +32,10 @@ pub record IsRegistered {N S : Type 0} (u : Universe N S) (s : S) (old new : Not
 
 -- The solvable, unless it is exempt, has the clauses of the lock and the exclusions of its package, if that was asked.
 pub record IsPaid {N S : Type 0} (u : Universe N S) (s : S) (notes : Notes N S) : Type 0 where
-  pub lock : (t : S) → Contains notes.asked (u.name s) → (Contains notes.exempt s → ⊥) → (u.package_named (u.name s)).locked ≡ Some t → Contains (u.package_named (u.name s)).listed s → s ≢ t → Contains notes.kinds (Lock t s)
-  pub exclusions : (reason : StringId) → Contains notes.asked (u.name s) → (Contains notes.exempt s → ⊥) → Contains (u.package_named (u.name s)).excluded (s, reason) → Contains notes.kinds (Excluded s reason)
+  pub lock : (t : S) → Contains notes.asked (u.name s) → (Contains notes.exempt s → ⊥) → (u.package_named (u.name s)).locked ≡ Some t →
+      Contains (u.package_named (u.name s)).listed s → s ≢ t → Contains notes.kinds (Lock t s)
+  pub exclusions : (reason : StringId) → Contains notes.asked (u.name s) → (Contains notes.exempt s → ⊥) →
+      Contains (u.package_named (u.name s)).excluded (s, reason) → Contains notes.kinds (Excluded s reason)
 
 -- no clause was added that asks for candidates, and no solvable registered
 pub record AddsPlainly {N S : Type 0} (old new : Notes N S) : Type 0 where

@@ -50,7 +50,8 @@ fn solvable_at<N: Copy + Eq + Hash + Drop, S: Copy + Eq + Hash + Drop>(
     place: usize,
 ) -> Option<S>
     requires { place < length_of trail.now }
-    ensures { option_to_list result ≡ solvable_if (origin_at (origins_in variables.now) (variable_at trail.now place)) (value_of trail.now (variable_at trail.now place)) }
+    ensures { option_to_list result ≡ solvable_if (origin_at (origins_in variables.now) (variable_at trail.now place))
+        (value_of trail.now (variable_at trail.now place)) }
 {
     if !is_true_at(trail, place) {
         return None;
@@ -75,7 +76,8 @@ fn put_found<T: Copy + Eq + Hash + Drop>(
     found: Option<T>,
 ) -> Result<(), Exhausted>
     requires { IsIdentity T.eq }
-    ensures last { OnOk result (((t : T) → Contains (option_to_list found) t → Contains set.old.keys t → ⊥) → set.new.keys ≡ set.old.keys ++ option_to_list found) }
+    ensures last { OnOk result (((t : T) → Contains (option_to_list found) t → Contains set.old.keys t → ⊥) → set.new.keys ≡ set.old.keys ++
+        option_to_list found) }
     ensures more { OnOk result (Extends set.old.keys set.new.keys) }
     ensures memory { IfErr result (λ e. e ≡ Exhausted.Memory) }
 {
@@ -144,7 +146,8 @@ impl<S: Copy + Eq + Hash + Drop> Chosen<S> {
 
     /// Forgets what stands at this place and behind it.
     pub fn cut<N>(&mut self, kept: usize)
-        ensures { (origins : List (OriginOf N S)) (trail : TrailOf) (count : ℕ) → Follows self.old origins trail count → kept ≤ count → Follows self.new origins trail kept }
+        ensures { (origins : List (OriginOf N S)) (trail : TrailOf) (count : ℕ) → Follows self.old origins trail count → kept ≤ count →
+            Follows self.new origins trail kept }
     {
         if kept >= self.counts.len() {
             return;
@@ -165,7 +168,8 @@ impl<S: Copy + Eq + Hash + Drop> Chosen<S> {
         requires distinct { AreDistinct (origins_in variables.now) }
         requires size { variable_count trail.now ≡ length (origins_in variables.now) }
         requires inside { place < length_of trail.now }
-        ensures follows { OnOk result (Follows self.old (origins_in variables.now) trail.now place → Follows self.new (origins_in variables.now) trail.now (place + 1)) }
+        ensures follows { OnOk result (Follows self.old (origins_in variables.now) trail.now place →
+            Follows self.new (origins_in variables.now) trail.now (place + 1)) }
         ensures more { OnOk result (Extends (chosen_in self.old) (chosen_in self.new)) }
         ensures memory { IfErr result (λ e. e ≡ Exhausted.Memory) }
     {
@@ -185,7 +189,8 @@ impl<S: Copy + Eq + Hash + Drop> Chosen<S> {
         requires identity { IsIdentity S.eq }
         requires distinct { AreDistinct (origins_in variables.now) }
         requires size { variable_count trail.now ≡ length (origins_in variables.now) }
-        ensures follows { OnOk result ((count : ℕ) → Follows self.old (origins_in variables.now) trail.now count → Follows self.new (origins_in variables.now) trail.now (length_of trail.now)) }
+        ensures follows { OnOk result ((count : ℕ) → Follows self.old (origins_in variables.now) trail.now count →
+            Follows self.new (origins_in variables.now) trail.now (length_of trail.now)) }
         ensures more { OnOk result (Extends (chosen_in self.old) (chosen_in self.new)) }
         ensures memory { IfErr result (λ e. e ≡ Exhausted.Memory) }
     {

@@ -90,7 +90,10 @@ impl<N: Copy + Eq + Hash + Drop, S: Copy + Eq + Hash + Drop> Encoding<N, S> {
     ) -> Result<(), Exhausted>
         requires bounded { IsBounded self.old }
         ensures bounded { IsBounded self.new }
-        ensures added { OnOk result (notes_in self.new ≡ record (notes_in self.old) { table = (notes_in self.old).table ++ literals ∷ []; kinds = (notes_in self.old).kinds ++ kind ∷ [] }) }
+        ensures added { OnOk result (notes_in self.new ≡ record (notes_in self.old) {
+          table = (notes_in self.old).table ++ literals ∷ [];
+          kinds = (notes_in self.old).kinds ++ kind ∷ [];
+        }) }
         ensures unchanged { OnErr result (notes_in self.new ≡ notes_in self.old) }
         ensures limits { KeepsLimits (notes_in self.old) (notes_in self.new) }
         ensures refusal { IfErr result (IsShortage (IsFull (notes_in self.new))) }

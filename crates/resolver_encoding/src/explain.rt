@@ -54,7 +54,9 @@ fn add_requirement<D: DependencyProvider>(
     requires is_true { IsTrueCache (D.universe provider.now) cache.old }
     requires marks { HasMarks listing.old }
     ensures is_true { IsTrueCache (D.universe provider.now) cache.new }
-    ensures added { OnOk result (AddsRules (λ st. st ≡ requires by requirement (candidates_of (D.universe provider.now) requirement) (map (matching (D.universe provider.now)) disjunct.now)) listing.old listing.new) }
+    ensures added { OnOk result (AddsRules (λ st.
+        st ≡ requires by requirement (candidates_of (D.universe provider.now) requirement)
+        (map (matching (D.universe provider.now)) disjunct.now)) listing.old listing.new) }
     ensures refusal { IfErr result (IsInterruption (D.may_cancel provider.now)) }
 {
     let candidates = requirement_candidates(cache, provider, requirement)?;
@@ -71,7 +73,8 @@ fn require_each<N: Copy + Eq + Hash + Drop, S: Copy + Eq + Hash + Drop>(
     candidates: &[S],
 ) -> Result<(), Exhausted>
     requires { HasMarks listing.old }
-    ensures added { OnOk result (AddsRules (SomeOf requirers.now (λ s st. st ≡ requires (BySolvable s) requirement candidates.now [])) listing.old listing.new) }
+    ensures added { OnOk result (AddsRules
+        (SomeOf requirers.now (λ s st. st ≡ requires (BySolvable s) requirement candidates.now [])) listing.old listing.new) }
     ensures memory { IfErr result (λ e. e ≡ Exhausted.Memory) }
 {
     let alloc = listing.allocator();
@@ -93,7 +96,9 @@ fn add_gate<D: DependencyProvider>(
     requires is_true { IsTrueCache (D.universe provider.now) cache.old }
     requires marks { HasMarks listing.old }
     ensures is_true { IsTrueCache (D.universe provider.now) cache.new }
-    ensures added { OnOk result (AddsRules (SomeOf requirers.now (λ s st. st ≡ requires (BySolvable s) requirement (candidates_of (D.universe provider.now) requirement) [])) listing.old listing.new) }
+    ensures added { OnOk result (AddsRules
+        (SomeOf requirers.now (λ s st.
+        st ≡ requires (BySolvable s) requirement (candidates_of (D.universe provider.now) requirement) [])) listing.old listing.new) }
     ensures refusal { IfErr result (IsInterruption (D.may_cancel provider.now)) }
 {
     let candidates = requirement_candidates(cache, provider, requirement)?;

@@ -60,7 +60,8 @@ impl<N: Copy + Eq + Hash + Drop, S: Copy + Drop> Groups<N, S> {
         ensures names { self.new.names.keys ≡ self.old.names.keys }
         ensures count { length self.new.members.items ≡ length self.old.members.items }
         ensures others { (k : ℕ) → k ≢ place → group_at self.new.members.items k ≡ group_at self.old.members.items k }
-        ensures here { OnOk result (place < length self.old.members.items → group_at self.new.members.items place ≡ group_at self.old.members.items place ++ solvable ∷ []) }
+        ensures here { OnOk result (place < length self.old.members.items → group_at self.new.members.items place ≡ group_at self.old.members.items place ++
+            solvable ∷ []) }
         ensures memory { IfErr result (λ e. e ≡ Exhausted.Memory) }
     {
         if place >= self.members.len() {

@@ -34,7 +34,8 @@ ghost use Rattle.resolver_encoding.specs.Values.{AreEncoded, extension, kinds_at
 /// The extension gives each variable the value that a set stands for: a solvable's is whether it is in the set, and a
 /// helper's whether it follows from a member. The call does nothing: its contract is the law.
 pub fn answers_satisfy_true_clauses<N, S>()
-    ensures { (u : Universe N S) (codes : N → ℕ → S → Bool) (root : Demands) (origins : List (Origin N S)) (table : List (Vec Literal Global)) (kinds : List (ClauseKind N S)) (set exempt : List S) →
+    ensures { (u : Universe N S) (codes : N → ℕ → S → Bool) (root : Demands) (origins : List (Origin N S)) (table : List (Vec Literal Global))
+        (kinds : List (ClauseKind N S)) (set exempt : List S) →
         HasLawfulSolvables u → AreCodes u codes → AreEncoded u origins table kinds → All (IsTrueClause u codes root) kinds →
         Spares u exempt kinds → IsValid u root set exempt →
         Satisfies (extension u (follows u codes) origins set) table }
@@ -45,9 +46,12 @@ pub fn answers_satisfy_true_clauses<N, S>()
 ///
 /// The call does nothing: its contract is the law.
 pub fn core_rules_explain<N, S>()
-    ensures { (u : Universe N S) (same_name : N → N → Bool) (codes : N → ℕ → S → Bool) (root : Demands) (origins : List (Origin N S)) (table : List (Vec Literal Global)) (kinds : List (ClauseKind N S)) (numbers : List ℕ) (rules : List (Rule N S)) →
-        HasLawfulSolvables u → IsIdentity same_name → AreCodes u codes → AreEncoded u origins table kinds → All (IsTrueClause u codes root) kinds → All (λ n. n < length kinds) numbers →
-        AreListed u (implied_in u same_name (kinds_at kinds numbers)) (kinds_at kinds numbers) rules → AreStated u (implied_in u same_name (kinds_at kinds numbers)) (kinds_at kinds numbers) rules →
+    ensures { (u : Universe N S) (same_name : N → N → Bool) (codes : N → ℕ → S → Bool) (root : Demands) (origins : List (Origin N S))
+        (table : List (Vec Literal Global)) (kinds : List (ClauseKind N S)) (numbers : List ℕ) (rules : List (Rule N S)) →
+        HasLawfulSolvables u → IsIdentity same_name → AreCodes u codes → AreEncoded u origins table kinds → All (IsTrueClause u codes root) kinds →
+        All (λ n. n < length kinds) numbers →
+        AreListed u (implied_in u same_name (kinds_at kinds numbers)) (kinds_at kinds numbers) rules →
+        AreStated u (implied_in u same_name (kinds_at kinds numbers)) (kinds_at kinds numbers) rules →
         ((values : ℕ → Bool) → MakesTrue values table numbers → ⊥) →
         IsExplained u root rules }
 {}
@@ -56,7 +60,8 @@ pub fn core_rules_explain<N, S>()
 ///
 /// The call does nothing: its contract is the law.
 pub fn finished_trails_are_answers<N, S>()
-    ensures { (u : Universe N S) (codes : N → ℕ → S → Bool) (root : Demands) (kinds : List (ClauseKind N S)) (trail : List (Atom N S)) (chosen seeds refused exempt : List S) →
+    ensures { (u : Universe N S) (codes : N → ℕ → S → Bool) (root : Demands) (kinds : List (ClauseKind N S)) (trail : List (Atom N S))
+        (chosen seeds refused exempt : List S) →
         HasLawfulSolvables u → AreCodes u codes → All (IsTrueClause u codes root) kinds → Spares u exempt kinds →
         IsTrail u kinds seeds refused trail → IsSettled u kinds (Takes trail) → IsChosen trail chosen → CoversReached u root kinds chosen seeds exempt →
         IsAnswerBy u root chosen seeds exempt }
@@ -66,9 +71,11 @@ pub fn finished_trails_are_answers<N, S>()
 ///
 /// The call does nothing: its contract is the law.
 pub fn read_trails_are_answers<N, S>()
-    ensures { (u : Universe N S) (codes : N → ℕ → S → Bool) (root : Demands) (kinds : List (ClauseKind N S)) (deferred : List (Deferred S)) (read : List S) (asked : List N) (registered exempt : List S) (trail : List (Atom N S)) (chosen seeds refused : List S) →
+    ensures { (u : Universe N S) (codes : N → ℕ → S → Bool) (root : Demands) (kinds : List (ClauseKind N S)) (deferred : List (Deferred S)) (read : List S)
+        (asked : List N) (registered exempt : List S) (trail : List (Atom N S)) (chosen seeds refused : List S) →
         HasLawfulSolvables u → HasLawfulPackages u → AreCodes u codes → All (IsTrueClause u codes root) kinds → Spares u exempt kinds →
-        IsRead u root kinds (Contains deferred) read asked registered exempt → AreSeeds u seeds chosen asked registered exempt → ((s : S) → Contains chosen s → Contains registered s → Contains read s) → NoneFires u (Contains deferred) chosen →
+        IsRead u root kinds (Contains deferred) read asked registered exempt → AreSeeds u seeds chosen asked registered exempt →
+        ((s : S) → Contains chosen s → Contains registered s → Contains read s) → NoneFires u (Contains deferred) chosen →
         IsTrail u kinds seeds refused trail → IsSettled u kinds (Takes trail) → IsChosen trail chosen →
         IsAnswerBy u root chosen seeds exempt }
 {}
@@ -80,7 +87,8 @@ pub fn read_trails_are_answers<N, S>()
 /// The call does nothing: its contract is the law.
 pub fn finished_searches_are_answers<N, S>()
     ensures answer { (u : Universe N S) (root : Demands) (notes : Notes N S) (requirements : List RequirementClause) (trail : Trail) (seeds refused : List S) →
-        HasLawfulSolvables u → HasLawfulPackages u → IsReadSoFar u root (solvables_before notes.origins trail (length_of trail)) notes → AreAssumed notes.origins seeds refused trail →
+        HasLawfulSolvables u → HasLawfulPackages u → IsReadSoFar u root (solvables_before notes.origins trail (length_of trail)) notes →
+        AreAssumed notes.origins seeds refused trail →
         AreSeeds u seeds (solvables_before notes.origins trail (length_of trail)) notes.asked notes.seen notes.exempt →
         map (λ r. r.number) requirements ≡ notes.requirements → variable_count trail ≡ length notes.origins → IsFinished notes.table requirements trail →
         IsAnswerBy u root (solvables_before notes.origins trail (length_of trail)) seeds notes.exempt }
@@ -94,7 +102,8 @@ pub fn finished_searches_are_answers<N, S>()
 /// The call does nothing: its contract is the law.
 pub fn finished_searches_answer_first_choices<N, S>()
     ensures { (u : Universe N S) (root : Demands) (notes : Notes N S) (requirements : List RequirementClause) (trail : Trail) →
-        HasLawfulSolvables u → HasLawfulPackages u → IsReadSoFar u root (solvables_before notes.origins trail (length_of trail)) notes → AreAssumed notes.origins [] [] trail →
+        HasLawfulSolvables u → HasLawfulPackages u → IsReadSoFar u root (solvables_before notes.origins trail (length_of trail)) notes →
+        AreAssumed notes.origins [] [] trail →
         map (λ r. r.number) requirements ≡ notes.requirements → variable_count trail ≡ length notes.origins → IsFinished notes.table requirements trail →
         TakesFirstChoices u root (solvables_before notes.origins trail (length_of trail)) }
 {}
@@ -106,7 +115,8 @@ pub fn finished_searches_answer_first_choices<N, S>()
 pub fn cores_of_encodings_explain<N, S>()
     ensures { (u : Universe N S) (same_name : N → N → Bool) (root : Demands) (notes : Notes N S) (numbers : List ℕ) (rules : List (Rule N S)) →
         HasLawfulSolvables u → IsIdentity same_name → IsEncoding u root notes → IsCore notes.table numbers →
-        AreListed u (implied_in u same_name (kinds_at notes.kinds numbers)) (kinds_at notes.kinds numbers) rules → AreStated u (implied_in u same_name (kinds_at notes.kinds numbers)) (kinds_at notes.kinds numbers) rules →
+        AreListed u (implied_in u same_name (kinds_at notes.kinds numbers)) (kinds_at notes.kinds numbers) rules →
+        AreStated u (implied_in u same_name (kinds_at notes.kinds numbers)) (kinds_at notes.kinds numbers) rules →
         IsExplained u root rules }
 {}
 

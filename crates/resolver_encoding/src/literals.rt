@@ -66,7 +66,8 @@ pub(crate) fn push_helpers<N: Copy + Eq + Hash + Drop, S: Copy + Eq + Hash + Dro
     ensures bounded { IsBounded variables.new }
     ensures limit { limit_in variables.new ≡ limit_in variables.old }
     ensures grows { Grows (origins_in variables.old) (origins_in variables.new) }
-    ensures added { OnOk result (Adds (origins_in variables.new) literals.old.items literals.new.items (map (λ v. atom (ConditionHelper v) false) disjunct.now)) }
+    ensures added { OnOk result (Adds (origins_in variables.new) literals.old.items literals.new.items
+        (map (λ v. atom (ConditionHelper v) false) disjunct.now)) }
     ensures refusal { IfErr result (IsShortage (AreFull variables.new)) }
 {
     for version_set in disjunct {

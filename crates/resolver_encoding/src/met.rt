@@ -36,7 +36,9 @@ fn is_matched<D: DependencyProvider>(
 ) -> Result<bool, Interrupted<D::Cancel>>
     requires is_true { IsTrueCache (D.universe provider.now) cache.old }
     ensures is_true { IsTrueCache (D.universe provider.now) cache.new }
-    ensures matched { IfOk result (λ met. MatchBool met (Meets (matching (D.universe provider.now) version_set) chosen.now.keys) (Meets (matching (D.universe provider.now) version_set) chosen.now.keys → ⊥)) }
+    ensures matched { IfOk result (λ met.
+        MatchBool met (Meets (matching (D.universe provider.now) version_set) chosen.now.keys)
+        (Meets (matching (D.universe provider.now) version_set) chosen.now.keys → ⊥)) }
     ensures refusal { IfErr result (IsInterruption (D.may_cancel provider.now)) }
 {
     cache.ask_matching(provider, version_set)?;
@@ -68,7 +70,9 @@ pub(crate) fn is_met<D: DependencyProvider>(
 ) -> Result<bool, Interrupted<D::Cancel>>
     requires is_true { IsTrueCache (D.universe provider.now) cache.old }
     ensures is_true { IsTrueCache (D.universe provider.now) cache.new }
-    ensures met { IfOk result (λ met. MatchBool met (AllMeet chosen.now.keys (map (matching (D.universe provider.now)) disjunct.now)) (AllMeet chosen.now.keys (map (matching (D.universe provider.now)) disjunct.now) → ⊥)) }
+    ensures met { IfOk result (λ met.
+        MatchBool met (AllMeet chosen.now.keys (map (matching (D.universe provider.now)) disjunct.now))
+        (AllMeet chosen.now.keys (map (matching (D.universe provider.now)) disjunct.now) → ⊥)) }
     ensures refusal { IfErr result (IsInterruption (D.may_cancel provider.now)) }
 {
     read_candidates(provider, cache, disjunct)?;

@@ -9,7 +9,8 @@ use Rattle.resolver_clause_store.specs.declared.Requirement.{Requirement}
 use Rattle.resolver_clause_store.specs.declared.Requirement.TheVariants.{Single, Union}
 use Rattle.resolver_report.specs.declared.parts.Side.{Side}
 use Rattle.resolver_report.specs.Same.{same_requirement}
-use Rattle.resolver_report.specs.Merging.{same_required, same_side, has_count, same_counts, same_texts, Key, are_alike, are_alike_if_there, class_in, first_of_two}
+use Rattle.resolver_report.specs.Merging.{same_required, same_side, has_count, same_counts, same_texts, Key, are_alike, are_alike_if_there, class_in}
+use Rattle.resolver_report.specs.Merging.{first_of_two}
 
 pub and_left : (a b : Bool) → (a && b) ≡ true → a ≡ true
 and_left true b e = refl
@@ -57,9 +58,11 @@ module _ {X : Type 0} (same : X → X → Bool) (alone : (a b : X) → same a b 
   -- among these x does not stand, or it stands as often in both lists
   counted : (x : X) (zs : List X) → list_all (has_count same xs ys) zs ≡ true → (count_by (same x) zs ≡ 0) ⊎ (has_count same xs ys x ≡ true)
   counted x [] h = inl refl
-  counted x (z ∷ zs) h = rw (sum_by-cons (λ y. cond (same x y) 1 0) z zs) (at_test (same x z) refl (counted x zs (and_right (has_count same xs ys z) (list_all (has_count same xs ys) zs) h)))
+  counted x (z ∷ zs) h = rw (sum_by-cons (λ y. cond (same x y) 1 0) z zs)
+      (at_test (same x z) refl (counted x zs (and_right (has_count same xs ys z) (list_all (has_count same xs ys) zs) h)))
     where
-      at_test : (b : Bool) → same x z ≡ b → (count_by (same x) zs ≡ 0) ⊎ (has_count same xs ys x ≡ true) → (cond b 1 0 + count_by (same x) zs ≡ 0) ⊎ (has_count same xs ys x ≡ true)
+      at_test : (b : Bool) → same x z ≡ b → (count_by (same x) zs ≡ 0) ⊎ (has_count same xs ys x ≡ true) → (cond b 1 0 + count_by (same x) zs ≡ 0) ⊎
+          (has_count same xs ys x ≡ true)
       at_test true e k = inr (ap (has_count same xs ys) (alone x z e) ∙ and_left (has_count same xs ys z) (list_all (has_count same xs ys) zs) h)
       at_test false e (inl k) = inl (omega (arith, k))
       at_test false e (inr k) = inr k
@@ -70,20 +73,23 @@ module _ {X : Type 0} (same : X → X → Bool) (alone : (a b : X) → same a b 
       let there = counted x ys (and_right (list_all (has_count same xs ys) xs) (list_all (has_count same xs ys) ys) h) in
       at_both here there
     where
-      at_both : (count_by (same x) xs ≡ 0) ⊎ (has_count same xs ys x ≡ true) → (count_by (same x) ys ≡ 0) ⊎ (has_count same xs ys x ≡ true) → count_by (same x) xs ≡ count_by (same x) ys
+      at_both : (count_by (same x) xs ≡ 0) ⊎ (has_count same xs ys x ≡ true) → (count_by (same x) ys ≡ 0) ⊎ (has_count same xs ys x ≡ true) →
+          count_by (same x) xs ≡ count_by (same x) ys
       at_both (inl e) (inl f) = e ∙ sym f
       at_both (inl e) (inr f) = same_numbers (count_by (same x) xs) (count_by (same x) ys) f
       at_both (inr e) f = same_numbers (count_by (same x) xs) (count_by (same x) ys) e
 
   all_agree : ((x : X) → count_by (same x) xs ≡ count_by (same x) ys) → (zs : List X) → list_all (has_count same xs ys) zs ≡ true
   all_agree agree [] = refl
-  all_agree agree (z ∷ zs) = both_true (has_count same xs ys z) (list_all (has_count same xs ys) zs) (ap (λ n. n == count_by (same z) ys) (agree z) ∙ itself_number (count_by (same z) ys)) (all_agree agree zs)
+  all_agree agree (z ∷ zs) = both_true (has_count same xs ys z) (list_all (has_count same xs ys) zs)
+      (ap (λ n. n == count_by (same z) ys) (agree z) ∙ itself_number (count_by (same z) ys)) (all_agree agree zs)
 
   pub agree_counts : ((x : X) → count_by (same x) xs ≡ count_by (same x) ys) → same_counts same xs ys ≡ true
   agree_counts agree = both_true (list_all (has_count same xs ys) xs) (list_all (has_count same xs ys) ys) (all_agree agree xs) (all_agree agree ys)
 
 -- lists with the same counts have the same counts as a third
-counts_alike : {X : Type 0} (same : X → X → Bool) (alone : (a b : X) → same a b ≡ true → a ≡ b) (xs ys zs : List X) → same_counts same xs ys ≡ true → same_counts same xs zs ≡ same_counts same ys zs
+counts_alike : {X : Type 0} (same : X → X → Bool) (alone : (a b : X) → same a b ≡ true → a ≡ b) (xs ys zs : List X) → same_counts same xs ys ≡ true →
+    same_counts same xs zs ≡ same_counts same ys zs
 counts_alike same alone xs ys zs h =
     same_bool (same_counts same xs zs) (same_counts same ys zs)
     (λ k. agree_counts same alone ys zs (λ x. sym (counts_agree same alone xs ys h x) ∙ counts_agree same alone xs zs k x))
@@ -110,8 +116,10 @@ keys_alike k l z h =
     let ins : Bool = same_counts same_side k.sides_in l.sides_in in
     let outs : Bool = same_counts same_side k.sides_out l.sides_out in
     let name : k.name ≡ l.name = texts_alone k.name l.name (and_left texts ins (and_left (texts && ins) outs h)) in
-    let sides_in : same_counts same_side k.sides_in z.sides_in ≡ same_counts same_side l.sides_in z.sides_in = counts_alike same_side side_alone k.sides_in l.sides_in z.sides_in (and_right texts ins (and_left (texts && ins) outs h)) in
-    let sides_out : same_counts same_side k.sides_out z.sides_out ≡ same_counts same_side l.sides_out z.sides_out = counts_alike same_side side_alone k.sides_out l.sides_out z.sides_out (and_right (texts && ins) outs h) in
+    let sides_in : same_counts same_side k.sides_in z.sides_in ≡ same_counts same_side l.sides_in z.sides_in =
+    counts_alike same_side side_alone k.sides_in l.sides_in z.sides_in (and_right texts ins (and_left (texts && ins) outs h)) in
+    let sides_out : same_counts same_side k.sides_out z.sides_out ≡ same_counts same_side l.sides_out z.sides_out =
+    counts_alike same_side side_alone k.sides_out l.sides_out z.sides_out (and_right (texts && ins) outs h) in
     λ i. same_texts (name i) z.name && sides_in i && sides_out i
 
 there_alike : (k l z : Option Key) → are_alike_if_there k l ≡ true → are_alike_if_there k z ≡ are_alike_if_there l z
@@ -133,7 +141,8 @@ first_passes p (x ∷ xs) m e = at_test (p x) refl e (first_passes p xs m)
     first_is [] f = absurd cc
     first_is (y ∷ ys) f = cc
 
-    at_test : (b : Bool) → p x ≡ b → first_of_two (cond b (x ∷ filter p xs) (filter p xs)) ≡ Some m → (first_of_two (filter p xs) ≡ Some m → p m ≡ true) → p m ≡ true
+    at_test : (b : Bool) → p x ≡ b → first_of_two (cond b (x ∷ filter p xs) (filter p xs)) ≡ Some m → (first_of_two (filter p xs) ≡ Some m → p m ≡ true) →
+        p m ≡ true
     at_test true f g h = let here : x ≡ m = first_is (filter p xs) g in rw here at f
     at_test false f g h = h g
 

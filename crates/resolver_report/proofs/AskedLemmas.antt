@@ -6,10 +6,12 @@ use Rattle.std.proofs.lemmas.List.Elements.{Contains-append_left, Contains-appen
 use Rattle.std.proofs.lemmas.Grind.{flat_map-append}
 
 -- a list gathered from elements, and one element more
-pub flat_map_next : {X Y : Type 0} (f : X → List Y) (xs : List X) (found : List Y) (i : ℕ) (x : X) → i < length xs → x ≡ get_or xs i x → found ≡ flat_map f (take i xs) → found ++ f x ≡ flat_map f (take (i + 1) xs)
+pub flat_map_next : {X Y : Type 0} (f : X → List Y) (xs : List X) (found : List Y) (i : ℕ) (x : X) → i < length xs → x ≡ get_or xs i x →
+    found ≡ flat_map f (take i xs) → found ++ f x ≡ flat_map f (take (i + 1) xs)
 flat_map_next f xs found i x h is are =
     let next : take (i + 1) xs ≡ take i xs ++ x ∷ [] = take_more xs i x h ∙ ap (λ z. take i xs ++ z ∷ []) (sym is) in
-    ap (λ ys. ys ++ f x) are ∙ ap (λ ys. flat_map f (take i xs) ++ ys) (sym (append-nil (f x))) ∙ sym (flat_map-append f (take i xs) (x ∷ [])) ∙ ap (flat_map f) (sym next)
+    ap (λ ys. ys ++ f x) are ∙ ap (λ ys. flat_map f (take i xs) ++ ys) (sym (append-nil (f x))) ∙ sym (flat_map-append f (take i xs) (x ∷ [])) ∙
+    ap (flat_map f) (sym next)
 
 -- what one of the elements gives is gathered
 pub gathered : {X Y : Type 0} (f : X → List Y) (xs : List X) (x : X) (y : Y) → Contains xs x → Contains (f x) y → Contains (flat_map f xs) y
@@ -24,7 +26,8 @@ pub gathered_from : {X Y : Type 0} (f : X → List Y) (xs : List X) (y : Y) → 
 gathered_from f [] y h = absurd (omega (arith, h.1))
 gathered_from f (z ∷ zs) y h = by (Contains-append_cases (f z) (flat_map f zs) y h) (gathered_from f zs y)
   where
-    by : Contains (f z) y ⊎ Contains (flat_map f zs) y → (Contains (flat_map f zs) y → (x : _) × Contains zs x × Contains (f x) y) → (x : _) × Contains (z ∷ zs) x × Contains (f x) y
+    by : Contains (f z) y ⊎ Contains (flat_map f zs) y → (Contains (flat_map f zs) y → (x : _) × Contains zs x × Contains (f x) y) → (x : _) ×
+        Contains (z ∷ zs) x × Contains (f x) y
     by (inl here) rest = (z, (zero, omega arith, refl), here)
     by (inr later) rest = let found = rest later in (found.0, Contains-append_right (z ∷ []) zs found.0 found.1, found.2)
 

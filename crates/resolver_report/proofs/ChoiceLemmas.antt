@@ -1,5 +1,6 @@
 -- Steps of the plain search.
-use Rattle.std.proofs.Common.{◌≡◌, ℕ, zero, suc, ◌+◌, ◌-◌, ◌*◌, ◌<◌, ◌≤◌, Bool, List, [], ◌∷◌, ◌++◌, length, map, take, refl, sym, ◌∙◌, ap, subst, arith, Contains, All}
+use Rattle.std.proofs.Common.{◌≡◌, ℕ, zero, suc, ◌+◌, ◌-◌, ◌*◌, ◌<◌, ◌≤◌, Bool, List, [], ◌∷◌, ◌++◌, length, map, take, refl, sym, ◌∙◌, ap, subst, arith}
+use Rattle.std.proofs.Common.{Contains, All}
 use Rattle.std.proofs.lemmas.List.{length-append, length-take-le, reverse-append, take-append-le, take-take, take_all}
 use Rattle.std.proofs.lemmas.List.Elements.{All-cons, All-contains_itself, All-head, All-nil, All-tail, All-weaker}
 use Rattle.std.proofs.lemmas.Nat.{mul-le}
@@ -10,7 +11,8 @@ use Rattle.resolver_clause_store.specs.declared.Rule.TheVariants.{Requires, Cons
 use Rattle.resolver_report.specs.Plain.{IsOpen, IsRefutedFrom, IsUnmet}
 use Rattle.resolver_report.specs.declared.plain.Step.{Step}
 use Rattle.resolver_report.specs.declared.plain.Step.TheVariants.{GoesOn, Found, Refuted}
-use Rattle.resolver_report.specs.Searching.{AllUntried, IsChoice, IsChosen, IsRefutedWith, IsSearching, IsStep, all_candidates, candidates_in, choice_work, count_outside, search_work, untried_view, work_at, work_of_choice}
+use Rattle.resolver_report.specs.Searching.{AllUntried, IsChoice, IsChosen, IsRefutedWith, IsSearching, IsStep, all_candidates, candidates_in, choice_work}
+use Rattle.resolver_report.specs.Searching.{count_outside, search_work, untried_view, work_at, work_of_choice}
 use Rattle.resolver_report.proofs.SearchLemmas.{AllNeeded-nil, AllNeeded-push, HasNoRepeats-nil, HasNoRepeats-push, IsOpen-refuted, count_outside-falls}
 
 -- a list is put on the others
@@ -18,13 +20,15 @@ pub untried_pushed : {S : Type 0} (us : List (Untried S)) (u : Untried S) → un
 untried_pushed {S} us u = ap (map (λ (x : Untried S). x.candidates.now)) (reverse-append us (u ∷ []))
 
 -- what was said of a set holds of one that has the same choices up to there
-AllUntried-same : {S : Type 0} (P : List S → S → Type 0) (set other : List S) (n : ℕ) (lists : List (List S)) → length lists ≤ suc n → ((i : ℕ) → i ≤ n → take i set ≡ take i other) → AllUntried P set lists → AllUntried P other lists
+AllUntried-same : {S : Type 0} (P : List S → S → Type 0) (set other : List S) (n : ℕ) (lists : List (List S)) → length lists ≤ suc n →
+    ((i : ℕ) → i ≤ n → take i set ≡ take i other) → AllUntried P set lists → AllUntried P other lists
 AllUntried-same P set other n [] below same h = tt
 AllUntried-same {S} P set other n (list ∷ lists) below same (h, hs) =
     let Each : List S → Type 0 = λ x. All (P x) list in
     (subst Each (same (length lists) (omega (arith, below))) h, AllUntried-same P set other n lists (omega (arith, below)) same hs)
 
-search_work-same : {N S : Type 0} (equal : S → S → Bool) (rules : List (Rule N S)) (set other : List S) (n : ℕ) (lists : List (List S)) → length lists ≤ suc n → ((i : ℕ) → i ≤ n → take i set ≡ take i other) → search_work equal rules set lists ≡ search_work equal rules other lists
+search_work-same : {N S : Type 0} (equal : S → S → Bool) (rules : List (Rule N S)) (set other : List S) (n : ℕ) (lists : List (List S)) → length lists ≤ suc n →
+    ((i : ℕ) → i ≤ n → take i set ≡ take i other) → search_work equal rules set lists ≡ search_work equal rules other lists
 search_work-same equal rules set other n [] below same = refl
 search_work-same equal rules set other n (list ∷ lists) below same =
     let here = same (length lists) (omega (arith, below)) in
@@ -46,13 +50,15 @@ candidates_fit : {N S : Type 0} (rules : List (Rule N S)) (rule : Rule N S) → 
 candidates_fit [] rule h = absurd (omega (arith, h.1))
 candidates_fit {N} {S} (r ∷ rules) rule (zero, below, is) =
     let Fits : Rule N S → Type 0 = λ x. length (candidates_in x) ≤ length (candidates_in r ++ all_candidates rules) in
-    let first : length (candidates_in r) ≤ length (candidates_in r ++ all_candidates rules) = rw (length-append (candidates_in r) (all_candidates rules)) (omega arith) in
+    let first : length (candidates_in r) ≤ length (candidates_in r ++ all_candidates rules) =
+    rw (length-append (candidates_in r) (all_candidates rules)) (omega arith) in
     subst Fits is first
 candidates_fit (r ∷ rules) rule (suc k, below, is) =
     let rest : length (candidates_in rule) ≤ length (all_candidates rules) = candidates_fit rules rule (k, omega (arith, below), is) in
     rw (length-append (candidates_in r) (all_candidates rules)) (omega (arith, rest))
 
-unmet_fits : {N S : Type 0} (rules : List (Rule N S)) (rule : Rule N S) (set wanted : List S) → Contains rules rule → IsUnmet set wanted rule → length wanted ≤ length (all_candidates rules)
+unmet_fits : {N S : Type 0} (rules : List (Rule N S)) (rule : Rule N S) (set wanted : List S) → Contains rules rule → IsUnmet set wanted rule →
+    length wanted ≤ length (all_candidates rules)
 unmet_fits {N} {S} rules (Requires by requirement candidates when) set wanted listed h =
     let Fits : List S → Type 0 = λ x. length x ≤ length (all_candidates rules) in
     subst Fits (sym h.3) (candidates_fit rules (Requires by requirement candidates when) listed)
@@ -68,7 +74,8 @@ choice_work_some width (suc n) = omega arith
 choice_work_grows : (width n : ℕ) → choice_work width n ≤ choice_work width (suc n)
 choice_work_grows width zero = omega arith
 choice_work_grows width (suc n) =
-    let more : width * choice_work width n ≤ width * choice_work width (suc n) = mul-le width (choice_work width n) width (choice_work width (suc n)) (omega arith) (choice_work_grows width n) in
+    let more : width * choice_work width n ≤ width * choice_work width (suc n) =
+    mul-le width (choice_work width n) width (choice_work width (suc n)) (omega arith) (choice_work_grows width n) in
     omega (arith, more)
 
 choice_work-le : (width m n : ℕ) → m ≤ n → choice_work width m ≤ choice_work width n
@@ -76,7 +83,8 @@ choice_work-le width zero zero below = omega arith
 choice_work-le width zero (suc n) below = omega (arith, choice_work_some width (suc n))
 choice_work-le width (suc m) zero below = absurd (omega (arith, below))
 choice_work-le width (suc m) (suc n) below =
-    let more : width * choice_work width m ≤ width * choice_work width n = mul-le width (choice_work width m) width (choice_work width n) (omega arith) (choice_work-le width m n (omega (arith, below))) in
+    let more : width * choice_work width m ≤ width * choice_work width n =
+    mul-le width (choice_work width m) width (choice_work width n) (omega arith) (choice_work-le width m n (omega (arith, below))) in
     omega (arith, more)
 
 module _ {N S : Type 0} (equal : S → S → Bool) (rules : List (Rule N S)) where
@@ -90,7 +98,8 @@ module _ {N S : Type 0} (equal : S → S → Bool) (rules : List (Rule N S)) whe
   }
 
   -- the set obeys nothing: its last choice is taken back
-  pub enter_refuted : (set shorter : List S) (lists : List (List S)) → IsChosen rules set lists → IsRefutedFrom set rules → shorter ≡ take (length set - 1) set →
+  pub enter_refuted : (set shorter : List S) (lists : List (List S)) → IsChosen rules set lists → IsRefutedFrom set rules →
+      shorter ≡ take (length set - 1) set →
       IsSearching rules shorter lists × (search_work equal rules shorter lists < work_of_choice equal rules set lists)
   enter_refuted set shorter lists h refuted is =
       let n = length set - 1 in
@@ -111,12 +120,16 @@ module _ {N S : Type 0} (equal : S → S → Bool) (rules : List (Rule N S)) whe
       IsSearching rules set (wanted ∷ lists) × (search_work equal rules set (wanted ∷ lists) < work_of_choice equal rules set lists)
   enter_open set wanted lists h is_open =
       let whole : take (length lists) set ≡ set = take_all (length lists) set (omega (arith, h.depth)) in
-      let each : All (IsChoice rules set) wanted = All-weaker (Contains wanted) (IsChoice rules set) (λ s inside. record { wanted = wanted; open_there = is_open; listed = inside; needed = h.needed; once = h.once }) wanted (All-contains_itself wanted) in
+      let each : All (IsChoice rules set) wanted =
+      All-weaker (Contains wanted) (IsChoice rules set) (λ s inside.
+      record { wanted = wanted; open_there = is_open; listed = inside; needed = h.needed; once = h.once }) wanted (All-contains_itself wanted) in
       let Each : List S → Type 0 = λ x. All (IsChoice rules x) wanted in
       let Refuted : List S → Type 0 = λ x. All (IsRefutedWith rules x) wanted in
       let width = length (all_candidates rules) in
       let outside = count_outside equal set (all_candidates rules) in
-      let fits : length wanted * choice_work width outside ≤ width * choice_work width outside = mul-le (length wanted) (choice_work width outside) width (choice_work width outside) (unmet_fits rules is_open.rule set wanted is_open.listed is_open.unmet) (omega arith) in
+      let fits : length wanted * choice_work width outside ≤ width * choice_work width outside =
+      mul-le (length wanted) (choice_work width outside) width (choice_work width outside)
+      (unmet_fits rules is_open.rule set wanted is_open.listed is_open.unmet) (omega arith) in
       let here : work_at equal rules (take (length lists) set) ≡ choice_work width outside = ap (work_at equal rules) whole in (
         record {
           depth = omega (arith, h.depth);
@@ -133,18 +146,23 @@ module _ {N S : Type 0} (equal : S → S → Bool) (rules : List (Rule N S)) whe
       let n = length set - 1 in
       let few : length lists ≤ suc n = omega (arith, h.depth) in
       let same = before_last set shorter is in
-      let equal_work : search_work equal rules set lists ≡ search_work equal rules shorter lists = search_work-same equal rules set shorter n lists few same in (
+      let equal_work : search_work equal rules set lists ≡ search_work equal rules shorter lists =
+      search_work-same equal rules set shorter n lists few same in (
         record {
           depth = omega (arith, one_shorter set shorter is, h.depth);
           choices = AllUntried-same (IsChoice rules) set shorter n lists few same h.choices.1;
-          refuted = λ all. h.refuted (All-nil (IsRefutedWith rules (take (length lists) set)), AllUntried-same (IsRefutedWith rules) shorter set n lists few (λ i below. sym (same i below)) all);
+          refuted = λ all. h.refuted (
+            All-nil (IsRefutedWith rules (take (length lists) set)),
+            AllUntried-same (IsRefutedWith rules) shorter set n lists few (λ i below. sym (same i below)) all,
+          );
         },
         omega (arith, equal_work),
       )
 
   -- the next candidate is chosen
   pub advance_down : (set rest : List S) (s : S) (lists : List (List S)) → IsIdentity equal → IsSearching rules set ((s ∷ rest) ∷ lists) →
-      IsChosen rules (set ++ s ∷ []) (rest ∷ lists) × (work_of_choice equal rules (set ++ s ∷ []) (rest ∷ lists) ≤ search_work equal rules set ((s ∷ rest) ∷ lists))
+      IsChosen rules (set ++ s ∷ []) (rest ∷ lists) ×
+      (work_of_choice equal rules (set ++ s ∷ []) (rest ∷ lists) ≤ search_work equal rules set ((s ∷ rest) ∷ lists))
   advance_down set rest s lists identity h =
       let n = length set in
       let more = set ++ s ∷ [] in
@@ -167,7 +185,10 @@ module _ {N S : Type 0} (equal : S → S → Bool) (rules : List (Rule N S)) whe
       let equal_work : search_work equal rules set lists ≡ search_work equal rules more lists = search_work-same equal rules set more n lists few same in (
         record {
           depth = omega (arith, length-append set (s ∷ []), h.depth);
-          choices = (subst Each kept (All-tail (IsChoice rules (take (length lists) set)) s rest h.choices.0), AllUntried-same (IsChoice rules) set more n lists few same h.choices.1);
+          choices = (
+            subst Each kept (All-tail (IsChoice rules (take (length lists) set)) s rest h.choices.0),
+            AllUntried-same (IsChoice rules) set more n lists few same h.choices.1,
+          );
           refuted = λ refuted all. h.refuted (
             All-cons (IsRefutedWith rules (take (length lists) set)) s rest (subst RefutedHere (sym whole) refuted) (subst Refuted (sym kept) all.0),
             AllUntried-same (IsRefutedWith rules) more set n lists few (λ i below. sym (same i below)) all.1,
@@ -179,7 +200,8 @@ module _ {N S : Type 0} (equal : S → S → Bool) (rules : List (Rule N S)) whe
       )
 
   -- a step within a bound is one within a larger bound
-  pub step_within : (set : List S) (lists : List (List S)) (bound larger : ℕ) (step : Step) {middle : ℕ} → bound ≡ middle → middle ≤ larger → IsStep equal rules set lists bound step → IsStep equal rules set lists larger step
+  pub step_within : (set : List S) (lists : List (List S)) (bound larger : ℕ) (step : Step) {middle : ℕ} → bound ≡ middle → middle ≤ larger →
+      IsStep equal rules set lists bound step → IsStep equal rules set lists larger step
   step_within set lists bound larger GoesOn same below (searching, less) = (searching, omega (arith, same, below, less))
   step_within set lists bound larger Found same below h = h
   step_within set lists bound larger Refuted same below h = h

@@ -1,5 +1,6 @@
 -- What a loop over rules adds, and first mentions.
-use Rattle.std.proofs.Common.{◌≡◌, ◌≢◌, ℕ, suc, ◌+◌, ◌<◌, Bool, true, false, cond, not, ◌||◌, List, [], ◌∷◌, ◌++◌, length, map, reverse, refl, subst, sym, ◌∙◌, ap, arith, append_assoc, rules, All, Bor}
+use Rattle.std.proofs.Common.{◌≡◌, ◌≢◌, ℕ, suc, ◌+◌, ◌<◌, Bool, true, false, cond, not, ◌||◌, List, [], ◌∷◌, ◌++◌, length, map, reverse, refl, subst, sym, ◌∙◌}
+use Rattle.std.proofs.Common.{ap, arith, append_assoc, rules, All, Bor}
 use Rattle.std.specs.Prelude.{filter}
 use Rattle.std.specs.List.{list_any, position_or_len}
 use Rattle.std.proofs.lemmas.List.{reverse-append, append-nil, map-append}
@@ -15,13 +16,16 @@ use Rattle.resolver_clause_store.specs.declared.Rule.{Rule}
 use Rattle.resolver_report.specs.Same.{same_node}
 use Rattle.resolver_report.specs.Graphs.{links_of, links_after, links}
 
-links_after-push : {N S : Type 0} (same : N → N → Bool) (earlier xs : List (Rule N S)) (r : Rule N S) → links_after same earlier (xs ++ r ∷ []) ≡ links_after same earlier xs ++ links_of same (reverse xs ++ earlier) r
+links_after-push : {N S : Type 0} (same : N → N → Bool) (earlier xs : List (Rule N S)) (r : Rule N S) →
+    links_after same earlier (xs ++ r ∷ []) ≡ links_after same earlier xs ++ links_of same (reverse xs ++ earlier) r
 links_after-push same earlier [] r = append-nil (links_of same earlier r)
 links_after-push same earlier (x ∷ xs) r =
     let turned : reverse (x ∷ xs) ++ earlier ≡ reverse xs ++ x ∷ earlier = rw (reverse-append (x ∷ []) xs) (append_assoc (reverse xs) (x ∷ []) earlier) in
-    rw (links_after-push same (x ∷ earlier) xs r, turned) (sym (append_assoc (links_of same earlier x) (links_after same (x ∷ earlier) xs) (links_of same (reverse xs ++ x ∷ earlier) r)))
+    rw (links_after-push same (x ∷ earlier) xs r, turned)
+    (sym (append_assoc (links_of same earlier x) (links_after same (x ∷ earlier) xs) (links_of same (reverse xs ++ x ∷ earlier) r)))
 
-pub links-push : {N S : Type 0} (same : N → N → Bool) (xs : List (Rule N S)) (r : Rule N S) → links same (xs ++ r ∷ []) ≡ links same xs ++ links_of same (reverse xs) r
+pub links-push : {N S : Type 0} (same : N → N → Bool) (xs : List (Rule N S)) (r : Rule N S) → links same (xs ++ r ∷ []) ≡ links same xs ++
+    links_of same (reverse xs) r
 links-push same xs r = rw (← append-nil (reverse xs)) (links_after-push same [] xs r)
 
 -- an element passes the test, and stands before the end; or none does
@@ -38,7 +42,8 @@ pub finding : {X : Type 0} (test : X → Bool) (xs : List X) → IsFinding (list
 finding test [] = refl
 finding test (x ∷ xs) = finding_cons (test x) (list_any test xs) (position_or_len test xs) (length xs) (finding test xs)
 
-push_cons : {X : Type 0} (b c : Bool) (z x : X) (ys : List X) → cond b (z ∷ cond c ys (ys ++ x ∷ [])) (cond c ys (ys ++ x ∷ [])) ≡ cond c (cond b (z ∷ ys) ys) (cond b (z ∷ ys) ys ++ x ∷ [])
+push_cons : {X : Type 0} (b c : Bool) (z x : X) (ys : List X) →
+    cond b (z ∷ cond c ys (ys ++ x ∷ [])) (cond c ys (ys ++ x ∷ [])) ≡ cond c (cond b (z ∷ ys) ys) (cond b (z ∷ ys) ys ++ x ∷ [])
 push_cons true true z x ys = refl
 push_cons true false z x ys = refl
 push_cons false true z x ys = refl
@@ -79,22 +84,26 @@ module _ {X : Type 0} (same : X → X → Bool) (identity : IsIdentity same) whe
   others-push x y [] = elim (same x y) as (λ b. cond (not b) (x ∷ []) [] ≡ cond b [] (x ∷ [])) [ true ↦ refl | false ↦ refl ]
   others-push x y (z ∷ zs) = rw (others-push x y zs) (push_cons (not (same z y)) (same x y) z x (others y zs))
 
-  first_step : (x y : X) (ws : List X) (b h : Bool) → same x y ≡ b → has ws x ≡ h → y ∷ others y (unless_had h ws x) ≡ unless_had (same y x || has (others y ws) x) (y ∷ others y ws) x
+  first_step : (x y : X) (ws : List X) (b h : Bool) → same x y ≡ b → has ws x ≡ h → y ∷
+      others y (unless_had h ws x) ≡ unless_had (same y x || has (others y ws) x) (y ∷ others y ws) x
   first_step x y ws true true e f = rw (same_sym x y true e) refl
   first_step x y ws true false e f = rw (same_sym x y true e, others-push x y ws, e) refl
   first_step x y ws false true e f = rw (same_sym x y false e, has-others x y ws e, f) refl
   first_step x y ws false false e f = rw (same_sym x y false e, has-others x y ws e, f, others-push x y ws, e) refl
 
-  pub without_repeats-push : (xs : List X) (x : X) → without_repeats same (xs ++ x ∷ []) ≡ unless_had (has (without_repeats same xs) x) (without_repeats same xs) x
+  pub without_repeats-push : (xs : List X) (x : X) →
+      without_repeats same (xs ++ x ∷ []) ≡ unless_had (has (without_repeats same xs) x) (without_repeats same xs) x
   without_repeats-push [] x = refl
-  without_repeats-push (y ∷ ys) x = rw (without_repeats-push ys x) (first_step x y (without_repeats same ys) (same x y) (has (without_repeats same ys) x) refl refl)
+  without_repeats-push (y ∷ ys) x =
+      rw (without_repeats-push ys x) (first_step x y (without_repeats same ys) (same x y) (has (without_repeats same ys) x) refl refl)
 
   -- first mentions keep what is mentioned, and nothing stands twice
   pub has-without_repeats : (xs : List X) (x : X) → has (without_repeats same xs) x ≡ has xs x
   has-without_repeats [] x = refl
   has-without_repeats (y ∷ ys) x = at_test (same x y) refl (has-without_repeats ys x)
     where
-      at_test : (b : Bool) → same x y ≡ b → has (without_repeats same ys) x ≡ has ys x → (same y x || has (others y (without_repeats same ys)) x) ≡ (same y x || has ys x)
+      at_test : (b : Bool) → same x y ≡ b → has (without_repeats same ys) x ≡ has ys x →
+          (same y x || has (others y (without_repeats same ys)) x) ≡ (same y x || has ys x)
       at_test true e h = rw (same_sym x y true e) refl
       at_test false e h = rw (has-others x y (without_repeats same ys) e) (ap (λ b. same y x || b) h)
 
@@ -118,17 +127,20 @@ module _ {X : Type 0} (same : X → X → Bool) (identity : IsIdentity same) whe
     any_read x [] = refl
     any_read x (y ∷ ys) = λ i. agree y x i || any_read x ys i
 
-    next_first : (b : Bool) (found : List X) (x : Bor X) (later : List (Bor X)) → found ++ read (cond b [] (x ∷ []) ++ later) ≡ unless_had b found x.now ++ read later
+    next_first : (b : Bool) (found : List X) (x : Bor X) (later : List (Bor X)) → found ++ read (cond b [] (x ∷ []) ++ later) ≡ unless_had b found x.now ++
+        read later
     next_first true found x later = refl
     next_first false found x later = sym (append_assoc found (x.now ∷ []) (read later))
 
-    firsts_after : (earlier rest : List (Bor X)) → without_repeats same (read earlier) ++ read (firsts_from eq earlier rest) ≡ without_repeats same (read (earlier ++ rest))
+    firsts_after : (earlier rest : List (Bor X)) → without_repeats same (read earlier) ++
+        read (firsts_from eq earlier rest) ≡ without_repeats same (read (earlier ++ rest))
     firsts_after earlier [] = append-nil (without_repeats same (read earlier)) ∙ ap (λ rs. without_repeats same (read rs)) (sym (append-nil earlier))
     firsts_after earlier (x ∷ rest) =
         let found : List X = without_repeats same (read earlier) in
         let later : List (Bor X) = firsts_from eq (earlier ++ x ∷ []) rest in
         let told : list_any (λ y. eq y x) earlier ≡ has found x.now = any_read x earlier ∙ sym (has-without_repeats (read earlier) x.now) in
-        let pushed : unless_had (has found x.now) found x.now ≡ without_repeats same (read (earlier ++ x ∷ [])) = sym (without_repeats-push (read earlier) x.now) ∙ ap (without_repeats same) (sym (map-append (λ r. r.now) earlier (x ∷ []))) in
+        let pushed : unless_had (has found x.now) found x.now ≡ without_repeats same (read (earlier ++ x ∷ [])) =
+        sym (without_repeats-push (read earlier) x.now) ∙ ap (without_repeats same) (sym (map-append (λ r. r.now) earlier (x ∷ []))) in
         next_first (list_any (λ y. eq y x) earlier) found x later ∙ ap (λ b. unless_had b found x.now ++ read later) told ∙ ap (λ xs. xs ++ read later) pushed
         ∙ firsts_after (earlier ++ x ∷ []) rest ∙ ap (λ rs. without_repeats same (read rs)) (append_assoc earlier (x ∷ []) rest)
 

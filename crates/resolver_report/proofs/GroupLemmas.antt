@@ -1,5 +1,6 @@
 -- The first node of a group.
-use Rattle.std.proofs.Common.{◌≡◌, ◌⊎◌, ℕ, zero, suc, ◌+◌, ◌<◌, ◌≤◌, Bool, true, false, List, [], ◌∷◌, length, map, filter, refl, sym, ◌∙◌, ap, subst, inl, inr, arith, get_or}
+use Rattle.std.proofs.Common.{◌≡◌, ◌⊎◌, ℕ, zero, suc, ◌+◌, ◌<◌, ◌≤◌, Bool, true, false, List, [], ◌∷◌, length, map, filter, refl, sym, ◌∙◌, ap, subst, inl, inr}
+use Rattle.std.proofs.Common.{arith, get_or}
 use Rattle.std.specs.Prelude.{Option, Some, None, IsNone, MatchOption, slice_get}
 use Rattle.std.specs.List.{filter_map, range_with_len}
 use Rattle.std.specs.Option.{is_some, option_map}
@@ -20,7 +21,8 @@ use Rattle.resolver_report.proofs.AlikeLemmas.{first_passes}
 use Rattle.resolver_report.proofs.GraphLemmas.{same_node_is_identity}
 
 -- what a function makes of numbers in a row, at a place
-made_at : {X : Type 0} (f : ℕ → X) (a count n : ℕ) → (slice_get (map f (range_with_len a count)) n ≡ None) ⊎ (slice_get (map f (range_with_len a count)) n ≡ Some (f (a + n)))
+made_at : {X : Type 0} (f : ℕ → X) (a count n : ℕ) → (slice_get (map f (range_with_len a count)) n ≡ None) ⊎
+    (slice_get (map f (range_with_len a count)) n ≡ Some (f (a + n)))
 made_at f a zero n = inl refl
 made_at f a (suc count) zero = let same : a + 0 ≡ a = omega arith in inr (ap (λ k. Some (f k)) (sym same))
 made_at f a (suc count) (suc n) = let same : (a + 1) + n ≡ a + suc n = omega arith in rw same at (made_at f (a + 1) count n)
@@ -59,21 +61,26 @@ below (y ∷ ys) zero x e = omega arith
 below (y ∷ ys) (suc n) x e = let h : n < length ys = below ys n x e in omega (arith, h)
 
 -- a node's place is where it stands
-place_is : {S : Type 0} (same : S → S → Bool) → IsIdentity same → (ms : List (ConflictNode S)) → HasNoRepeats ms → (k : ℕ) (s : S) → slice_get ms k ≡ Some (Solvable s) → place_in same ms (Solvable s) ≡ k
-place_is {S} same identity ms once k s e = position_or_len_is (λ m. same_node same m (Solvable s)) ms k Root (omega (arith, lt)) (λ j h. apart j h (same_node same (get_or ms j Root) (Solvable s)) refl) (λ h. rw (here ms k (Solvable s) Root e) (identity.itself s))
+place_is : {S : Type 0} (same : S → S → Bool) → IsIdentity same → (ms : List (ConflictNode S)) → HasNoRepeats ms → (k : ℕ) (s : S) →
+    slice_get ms k ≡ Some (Solvable s) → place_in same ms (Solvable s) ≡ k
+place_is {S} same identity ms once k s e =
+    position_or_len_is (λ m. same_node same m (Solvable s)) ms k Root (omega (arith, lt)) (λ j h.
+    apart j h (same_node same (get_or ms j Root) (Solvable s)) refl) (λ h. rw (here ms k (Solvable s) Root e) (identity.itself s))
   where
     lt : k < length ms
     lt = below ms k (Solvable s) e
 
     apart : (j : ℕ) → j < k → (b : Bool) → same_node same (get_or ms j Root) (Solvable s) ≡ b → same_node same (get_or ms j Root) (Solvable s) ≡ false
-    apart j h true f = absurd (once j k Root h lt ((same_node_is_identity same identity).alone (get_or ms j Root) (Solvable s) f ∙ sym (here ms k (Solvable s) Root e)))
+    apart j h true f = absurd (once j k Root h lt
+        ((same_node_is_identity same identity).alone (get_or ms j Root) (Solvable s) f ∙ sym (here ms k (Solvable s) Root e)))
     apart j h false f = f
 
 not_empty : {X : Type 0} (x : X) (xs : List X) → length (x ∷ xs) ≡ 0 → ⊥
 not_empty x xs h = omega (arith, h)
 
 -- what is found for one thing, by a fact of another search
-pub match_found : {X R : Type 0} (r : Option R) (value : R → X) (o : Option X) (A : Type 0) (P : X → Type 0) → MatchOption r (o ≡ None) (λ x. o ≡ Some (value x)) → MatchOption o A P → MatchOption r A (λ x. P (value x))
+pub match_found : {X R : Type 0} (r : Option R) (value : R → X) (o : Option X) (A : Type 0) (P : X → Type 0) →
+    MatchOption r (o ≡ None) (λ x. o ≡ Some (value x)) → MatchOption o A P → MatchOption r A (λ x. P (value x))
 match_found {X} {R} None value o A P e m = let M : Option X → Type 0 = λ p. MatchOption p A P in subst M e m
 match_found {X} {R} (Some x) value o A P e m = let M : Option X → Type 0 = λ p. MatchOption p A P in subst M e m
 
@@ -99,7 +106,9 @@ module _ {N S : Type 0} (u : Universe N S) (g : Shape S) where
 
   -- what is no solvable has no group
   pub no_group : (n : ℕ) → solvable_at g n ≡ None → group_in (keys u g) n ≡ None
-  no_group n none = ap first_of_two (filter_none (λ m. are_alike_if_there (slice_get (keys u g) n) (slice_get (keys u g) m)) (range_with_len 0 (length (keys u g))) (λ m. nameless_left (slice_get (keys u g) n) (slice_get (keys u g) m) (nameless n none)))
+  no_group n none = ap first_of_two
+      (filter_none (λ m. are_alike_if_there (slice_get (keys u g) n) (slice_get (keys u g) m)) (range_with_len 0 (length (keys u g))) (λ m.
+      nameless_left (slice_get (keys u g) n) (slice_get (keys u g) m) (nameless n none)))
 
   -- the first node of a group is that of its first solvable
   pub record HasFirst (n : ℕ) (ids : List S) : Type 0 where
@@ -110,7 +119,8 @@ module _ {N S : Type 0} (u : Universe N S) (g : Shape S) where
     pub at_place : solvable_at g place ≡ Some solvable
     pub ids_are : ids ≡ solvable ∷ rest
 
-  several_have : (n : ℕ) (ids : List S) (class : List ℕ) → class_in (keys u g) n ≡ class → is_some (first_of_two class) ≡ true → ids ≡ solvables_at g class → HasFirst n ids
+  several_have : (n : ℕ) (ids : List S) (class : List ℕ) → class_in (keys u g) n ≡ class → is_some (first_of_two class) ≡ true → ids ≡ solvables_at g class →
+      HasFirst n ids
   several_have n ids [] e h f = absurd (false≢true h)
   several_have n ids (m ∷ []) e h f = absurd (false≢true h)
   several_have n ids (m ∷ k ∷ ms) e h f = at_solvable (solvable_at g m) refl
@@ -123,13 +133,22 @@ module _ {N S : Type 0} (u : Universe N S) (g : Shape S) where
 
       at_solvable : (o : Option S) → solvable_at g m ≡ o → HasFirst n ids
       at_solvable None none = absurd (true≢false (sym passes ∙ nameless_right (slice_get (keys u g) n) (slice_get (keys u g) m) (nameless m none)))
-      at_solvable (Some s) some = record { place = m; solvable = s; rest = filter_map (solvable_at g) (k ∷ ms); group = first; at_place = some; ids_are = f ∙ rw some refl }
+      at_solvable (Some s) some = record {
+        place = m;
+        solvable = s;
+        rest = filter_map (solvable_at g) (k ∷ ms);
+        group = first;
+        at_place = some;
+        ids_are = f ∙
+            rw some refl;
+      }
 
   pub has_first : (n : ℕ) (group : Group S) → IsGroupOf (keys u g) g n group → HasFirst n group.value.ids.items
   has_first n group is = several_have n group.value.ids.items (class_in (keys u g) n) refl is.several is.ids
 
   -- the group of a node, as it is found by the place of its first solvable
-  pub found_first : (same : S → S → Bool) → IsIdentity same → HasNoRepeats g.nodes → (n : ℕ) (group : Group S) (s : S) → IsGroupOf (keys u g) g n group → s ≡ get_or group.value.ids.items 0 s → Some (place_in same g.nodes (Solvable s)) ≡ group_in (keys u g) n
+  pub found_first : (same : S → S → Bool) → IsIdentity same → HasNoRepeats g.nodes → (n : ℕ) (group : Group S) (s : S) → IsGroupOf (keys u g) g n group →
+      s ≡ get_or group.value.ids.items 0 s → Some (place_in same g.nodes (Solvable s)) ≡ group_in (keys u g) n
   found_first same identity once n group s is e =
       let first = has_first n group is in
       let value : first.solvable ≡ s = sym (e ∙ ap (λ xs. get_or xs 0 s) first.ids_are) in
@@ -149,7 +168,8 @@ module _ {N S : Type 0} (u : Universe N S) (g : Shape S) where
       not_empty first.solvable first.rest (sym (ap length first.ids_are) ∙ e)
 
   -- the groups that are made for all nodes
-  pub made_groups : (made : List (Option ℕ)) (count : ℕ) → made ≡ map (group_in (keys u g)) (range_with_len 0 count) → length g.nodes ≤ count → (n : ℕ) → group_at made n ≡ group_in (keys u g) n
+  pub made_groups : (made : List (Option ℕ)) (count : ℕ) → made ≡ map (group_in (keys u g)) (range_with_len 0 count) → length g.nodes ≤ count → (n : ℕ) →
+      group_at made n ≡ group_in (keys u g) n
   made_groups made count are long n = ap (λ xs. group_at xs n) are ∙ at_made (made_at (group_in (keys u g)) 0 count n)
     where
       none_beyond : slice_get (map (group_in (keys u g)) (range_with_len 0 count)) n ≡ None → solvable_at g n ≡ None
@@ -157,7 +177,8 @@ module _ {N S : Type 0} (u : Universe N S) (g : Shape S) where
         where
           at_length : (n < length g.nodes) ⊎ (length g.nodes ≤ n) → length g.nodes ≤ n
           at_length (inl lt) =
-              let there : slice_get (map (group_in (keys u g)) (range_with_len 0 count)) n ≡ Some (group_in (keys u g) (0 + n)) = made_within (group_in (keys u g)) 0 count n (omega (arith, lt, long)) in
+              let there : slice_get (map (group_in (keys u g)) (range_with_len 0 count)) n ≡ Some (group_in (keys u g) (0 + n)) =
+              made_within (group_in (keys u g)) 0 count n (omega (arith, lt, long)) in
               let clash : None ≡ Some (group_in (keys u g) (0 + n)) = sym e ∙ there in
               absurd cc
           at_length (inr le) = le
@@ -167,6 +188,8 @@ module _ {N S : Type 0} (u : Universe N S) (g : Shape S) where
           beyond (m ∷ ms) zero h = absurd (omega (arith, h))
           beyond (m ∷ ms) (suc k) h = beyond ms k (omega (arith, h))
 
-      at_made : (slice_get (map (group_in (keys u g)) (range_with_len 0 count)) n ≡ None) ⊎ (slice_get (map (group_in (keys u g)) (range_with_len 0 count)) n ≡ Some (group_in (keys u g) (0 + n))) → known_group (slice_get (map (group_in (keys u g)) (range_with_len 0 count)) n) ≡ group_in (keys u g) n
+      at_made : (slice_get (map (group_in (keys u g)) (range_with_len 0 count)) n ≡ None) ⊎
+          (slice_get (map (group_in (keys u g)) (range_with_len 0 count)) n ≡ Some (group_in (keys u g) (0 + n))) →
+          known_group (slice_get (map (group_in (keys u g)) (range_with_len 0 count)) n) ≡ group_in (keys u g) n
       at_made (inl e) = ap known_group e ∙ sym (no_group n (none_beyond e))
       at_made (inr e) = let zeros : 0 + n ≡ n = omega arith in ap known_group e ∙ ap (group_in (keys u g)) zeros

@@ -1,5 +1,6 @@
 -- What the nodes of a graph imply is what the rules of marking say.
-use Rattle.std.proofs.Common.{◌≡◌, ◌≢◌, ◌⊎◌, ℕ, zero, suc, ◌+◌, ◌<◌, ◌≤◌, Bool, true, false, cond, not, ◌||◌, List, [], ◌∷◌, ◌++◌, length, map, refl, sym, ◌∙◌, ap, subst, inl, inr, arith, All}
+use Rattle.std.proofs.Common.{◌≡◌, ◌≢◌, ◌⊎◌, ℕ, zero, suc, ◌+◌, ◌<◌, ◌≤◌, Bool, true, false, cond, not, ◌||◌, List, [], ◌∷◌, ◌++◌, length, map, refl, sym, ◌∙◌}
+use Rattle.std.proofs.Common.{ap, subst, inl, inr, arith, All}
 use Rattle.std.specs.Prelude.{◌==◌, ◌&&◌}
 use Rattle.std.specs.List.{flat_map, list_all, list_any, range_with_len}
 use Rattle.std.proofs.Math.ListN as lists
@@ -11,7 +12,8 @@ use Rattle.resolver_report.specs.declared.implications.Implication.{Implication}
 use Rattle.resolver_report.specs.declared.parts.NodeId.{NodeId}
 use Rattle.resolver_report.specs.Causes.{has_conflict, has_exclusion}
 use Rattle.resolver_report.specs.Implications.{HasLeastMarks, Implied, each_marked, follows, implied, implies}
-use Rattle.resolver_report.specs.Marks.{IsClosed, IsLeastClosed, all_marked, can_be_installed, installable, is_marked, is_place, marked, marked_in, missing, must_be_missing, some_marked}
+use Rattle.resolver_report.specs.Marks.{IsClosed, IsLeastClosed, all_marked, can_be_installed, installable, is_marked, is_place, marked, marked_in, missing}
+use Rattle.resolver_report.specs.Marks.{must_be_missing, some_marked}
 use Rattle.resolver_report.specs.NodeImplications.{all_of_run, each_alone, installable_by, missing_by, of_each_node}
 use Rattle.resolver_report.specs.Runs.{Run, runs_of}
 use Rattle.resolver_report.specs.Shapes.{ConflictShape, incoming, outgoing}
@@ -21,7 +23,8 @@ use Rattle.resolver_report.proofs.ListLemmas.{range-next}
 use Rattle.resolver_report.proofs.MonotoneLemmas.{installable_monotone, missing_monotone}
 
 pub of_range_next : {X : Type 0} (f : ℕ → List X) (n : ℕ) → flat_map f (range_with_len 0 (n + 1)) ≡ flat_map f (range_with_len 0 n) ++ f n
-of_range_next f n = ap (flat_map f) (range-next n) ∙ flat_map-append f (range_with_len 0 n) (n ∷ []) ∙ ap (λ xs. flat_map f (range_with_len 0 n) ++ xs) (append-nil (f n))
+of_range_next f n = ap (flat_map f) (range-next n) ∙ flat_map-append f (range_with_len 0 n) (n ∷ []) ∙
+    ap (λ xs. flat_map f (range_with_len 0 n) ++ xs) (append-nil (f n))
 
 -- all of these imply marks of one node
 abbrev AreOf : ℕ → List Implied → Type 0
@@ -30,7 +33,10 @@ AreOf n is = All (λ (i : Implied). i.node ≡ n) is
 module _ (by : ℕ → List Implied) (own : (n : ℕ) → AreOf n (by n)) where
   nodes_within : (a many count : ℕ) → a + many ≤ count → All (λ (i : Implied). i.node < count) (flat_map by (range_with_len a many))
   nodes_within a zero count le = All-nil (λ (i : Implied). i.node < count)
-  nodes_within a (suc many) count le = All-append (λ (i : Implied). i.node < count) (by a) (flat_map by (range_with_len (a + 1) many)) (All-weaker (λ (i : Implied). i.node ≡ a) (λ (i : Implied). i.node < count) (λ i e. omega (arith, e, le)) (by a) (own a)) (nodes_within (a + 1) many count (omega (arith, le)))
+  nodes_within a (suc many) count le =
+      All-append (λ (i : Implied). i.node < count) (by a) (flat_map by (range_with_len (a + 1) many))
+      (All-weaker (λ (i : Implied). i.node ≡ a) (λ (i : Implied). i.node < count) (λ i e. omega (arith, e, le)) (by a) (own a))
+      (nodes_within (a + 1) many count (omega (arith, le)))
 
   module _ (marks : List Bool) (n : ℕ) where
     of_other : (m : ℕ) (is : List Implied) → AreOf m is → m ≢ n → follows is marks n ≡ false
@@ -55,19 +61,26 @@ module _ (by : ℕ → List Implied) (own : (n : ℕ) → AreOf n (by n)) where
 
     of_later : (a many : ℕ) → n < a → follows (flat_map by (range_with_len a many)) marks n ≡ false
     of_later a zero lt = refl
-    of_later a (suc many) lt = or_any (by a) (flat_map by (range_with_len (a + 1) many)) ∙ (λ i. of_other a (by a) (own a) (omega (arith, lt)) i || of_later (a + 1) many (omega (arith, lt)) i)
+    of_later a (suc many) lt = or_any (by a) (flat_map by (range_with_len (a + 1) many)) ∙
+        (λ i. of_other a (by a) (own a) (omega (arith, lt)) i || of_later (a + 1) many (omega (arith, lt)) i)
 
     of_node : (a many : ℕ) → a ≤ n → n < a + many → follows (flat_map by (range_with_len a many)) marks n ≡ follows (by n) marks n
     of_node a zero le lt = absurd (omega (arith, le, lt))
-    of_node a (suc many) le lt = or_any (by a) (flat_map by (range_with_len (a + 1) many)) ∙ at_place (cases_eq a n) (λ apart. of_node (a + 1) many (omega (arith, le, apart)) (omega (arith, lt)))
+    of_node a (suc many) le lt = or_any (by a) (flat_map by (range_with_len (a + 1) many)) ∙
+        at_place (cases_eq a n) (λ apart. of_node (a + 1) many (omega (arith, le, apart)) (omega (arith, lt)))
       where
-        at_place : (a ≡ n) ⊎ (a ≢ n) → (a ≢ n → follows (flat_map by (range_with_len (a + 1) many)) marks n ≡ follows (by n) marks n) → (follows (by a) marks n || follows (flat_map by (range_with_len (a + 1) many)) marks n) ≡ follows (by n) marks n
+        at_place : (a ≡ n) ⊎ (a ≢ n) → (a ≢ n → follows (flat_map by (range_with_len (a + 1) many)) marks n ≡ follows (by n) marks n) →
+            (follows (by a) marks n || follows (flat_map by (range_with_len (a + 1) many)) marks n) ≡ follows (by n) marks n
         at_place (inl same) rest = (λ i. follows (by (same i)) marks n || of_later (a + 1) many (omega (arith, same)) i) ∙ or_none (follows (by n) marks n)
         at_place (inr apart) rest = (λ i. of_other a (by a) (own a) apart i || rest apart i)
 
   -- the marks that are least by what the nodes imply are least by the rule that says the same
-  pub least_by : {S : Type 0} (g : ConflictShape S) (rule : List Bool → ℕ → Bool) (marks : List Bool) → ((ms : List Bool) (n : ℕ) → follows (by n) ms n ≡ rule ms n) → IsMonotone rule → HasLeastMarks (length g.shape.nodes) (of_each_node g by) marks → marks ≡ marked g.shape rule
-  least_by g rule marks told monotone h = same_marks marks (marked g.shape rule) (h.long ∙ sym (marked_long (length g.shape.nodes) refl)) (h.least.least (marked g.shape rule) (from_rule (marked g.shape rule) by_rounds.closed)) (by_rounds.least marks to_rule)
+  pub least_by : {S : Type 0} (g : ConflictShape S) (rule : List Bool → ℕ → Bool) (marks : List Bool) →
+      ((ms : List Bool) (n : ℕ) → follows (by n) ms n ≡ rule ms n) → IsMonotone rule → HasLeastMarks (length g.shape.nodes) (of_each_node g by) marks →
+      marks ≡ marked g.shape rule
+  least_by g rule marks told monotone h =
+      same_marks marks (marked g.shape rule) (h.long ∙ sym (marked_long (length g.shape.nodes) refl))
+      (h.least.least (marked g.shape rule) (from_rule (marked g.shape rule) by_rounds.closed)) (by_rounds.least marks to_rule)
     where
       by_rounds : IsLeastClosed (length g.shape.nodes) rule (marked g.shape rule)
       by_rounds = marked_least g.shape rule monotone
@@ -94,7 +107,8 @@ module _ (by : ℕ → List Implied) (own : (n : ℕ) → AreOf n (by n)) where
       same_marks (true ∷ xs) (false ∷ ys) e f b = absurd (false≢true (f 0 refl))
       same_marks (false ∷ xs) (true ∷ ys) e f b = absurd (false≢true (b 0 refl))
 
-  pub nodes_below : {S : Type 0} (g : ConflictShape S) (is : List Implication) → map implied is ≡ of_each_node g by → All (λ i. i.node.0 < length g.shape.nodes) is
+  pub nodes_below : {S : Type 0} (g : ConflictShape S) (is : List Implication) → map implied is ≡ of_each_node g by →
+      All (λ i. i.node.0 < length g.shape.nodes) is
   nodes_below g is are k d lt =
       let Below : Implied → Type 0 = λ i. i.node < length g.shape.nodes in
       let AllBelow : List Implied → Type 0 = λ xs. All Below xs in
@@ -150,7 +164,8 @@ module _ {S : Type 0} (g : ConflictShape S) where
         i : Implied
         i = record { groups = map (λ run. run.targets) (runs_of (outgoing g.shape.edges n)); node = n }
 
-        at_tests : (p x c : Bool) → follows (cond p [] (cond x [] (cond c [] (i ∷ [])))) marks n ≡ (not p && not x && not c && list_all (λ run. some_marked marks run.targets) (runs_of (outgoing g.shape.edges n)))
+        at_tests : (p x c : Bool) → follows (cond p [] (cond x [] (cond c [] (i ∷ [])))) marks n ≡
+            (not p && not x && not c && list_all (λ run. some_marked marks run.targets) (runs_of (outgoing g.shape.edges n)))
         at_tests true x c = refl
         at_tests false true c = refl
         at_tests false false true = refl
@@ -171,7 +186,9 @@ module _ {S : Type 0} (g : ConflictShape S) where
     pub missing_told : follows (missing_by g n) marks n ≡ must_be_missing g marks n
     missing_told = at_tests (is_place g.unresolved n) (has_conflict (outgoing g.shape.edges n))
       where
-        at_tests : (p c : Bool) → follows (cond p (record { groups = []; node = n } ∷ []) (cond c [] (map (all_of_run n) (runs_of (outgoing g.shape.edges n))))) marks n ≡ (p || (not c && list_any (λ run. all_marked marks run.targets) (runs_of (outgoing g.shape.edges n))))
+        at_tests : (p c : Bool) → follows
+            (cond p (record { groups = []; node = n } ∷ []) (cond c [] (map (all_of_run n) (runs_of (outgoing g.shape.edges n))))) marks n ≡
+            (p || (not c && list_any (λ run. all_marked marks run.targets) (runs_of (outgoing g.shape.edges n))))
         at_tests true c = alone []
         at_tests false true = refl
         at_tests false false = of_runs (runs_of (outgoing g.shape.edges n))

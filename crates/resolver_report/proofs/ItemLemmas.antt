@@ -18,25 +18,30 @@ use Rattle.resolver_report.specs.declared.parts.Side.{Side}
 use Rattle.resolver_report.specs.Keys.{IsInOrder}
 
 -- they are the list that the iterator yields
-pub items_of_run : {S A : Type 0} {steps : S → Option A → S → Type 0} {s : S} (p : Run steps) → p.from ≡ s → p.whole ≡ true → {all : List A} → YieldsList steps (λ x. x) s all → p.items ≡ all
+pub items_of_run : {S A : Type 0} {steps : S → Option A → S → Type 0} {s : S} (p : Run steps) → p.from ≡ s → p.whole ≡ true → {all : List A} →
+    YieldsList steps (λ x. x) s all → p.items ≡ all
 items_of_run p at whole road = sym (map-id p.items) ∙ items_from_whole_run road p at whole
 
 -- those of a vector, and of copies of what a vector of references lends
 pub items_of_vec : {X Z : Type 0} {s : IntoIter X Z} (p : Run (into_iter_steps {X = X} {Z = Z})) → p.from ≡ s → p.whole ≡ true → p.items ≡ into_iter_items s
 items_of_vec {s = s} p at whole = items_of_run p at whole (YieldsList-from_vec {s = s} (into_iter_items s) refl s.rest.ok.0)
 
-read_as : {S A B : Type 0} (steps : S → Option A → S → Type 0) (v : A → B) (xs : List A) (s : S) → AlwaysYields steps (λ x. x) s xs → AlwaysYields steps v s (map v xs)
+read_as : {S A B : Type 0} (steps : S → Option A → S → Type 0) (v : A → B) (xs : List A) (s : S) → AlwaysYields steps (λ x. x) s xs →
+    AlwaysYields steps v s (map v xs)
 read_as steps v [] s h = h
 read_as steps v (x ∷ xs) s h = (h.0, λ y t k. (ap v (h.1 y t k).0, read_as steps v xs t (h.1 y t k).1))
 
-pub items_of_copies : {X Z : Type 0} {s : Copied (IntoIter (Bor X) Z)} (p : Run (copies (into_iter_steps {X = Bor X} {Z = Z}))) → p.from ≡ s → p.whole ≡ true → p.items ≡ map (λ x. x.now) (into_iter_items (copied_source s))
+pub items_of_copies : {X Z : Type 0} {s : Copied (IntoIter (Bor X) Z)} (p : Run (copies (into_iter_steps {X = Bor X} {Z = Z}))) → p.from ≡ s → p.whole ≡ true →
+    p.items ≡ map (λ x. x.now) (into_iter_items (copied_source s))
 items_of_copies {X = X} {Z = Z} {s = s} p at whole =
     let it = copied_source s in
     let lent = YieldsList-from_vec {s = it} (into_iter_items it) refl it.rest.ok.0 in
-    items_of_run p at whole (YieldsList-from_copied {steps = into_iter_steps {X = Bor X} {Z = Z}} {s = s} (record { runs = read_as (into_iter_steps {X = Bor X} {Z = Z}) (λ x. x.now) (into_iter_items it) it lent.runs }))
+    items_of_run p at whole (YieldsList-from_copied {steps = into_iter_steps {X = Bor X} {Z = Z}} {s = s}
+    (record { runs = read_as (into_iter_steps {X = Bor X} {Z = Z}) (λ x. x.now) (into_iter_items it) it lent.runs }))
 
 -- sides that were sorted and then collected stand in order
-pub sides_in_order : (cmp : Side → Side → Ordering) (given sorted sides collected : List Side) → given ≡ sides → collected ≡ sorted → IsPermutation given sorted → IsSorted cmp sorted → IsInOrder cmp sides collected
+pub sides_in_order : (cmp : Side → Side → Ordering) (given sorted sides collected : List Side) → given ≡ sides → collected ≡ sorted →
+    IsPermutation given sorted → IsSorted cmp sorted → IsInOrder cmp sides collected
 sides_in_order cmp given sorted sides collected same kept moved up = record {
   permutes = subst (λ xs. IsPermutation xs collected) same (subst (λ xs. IsPermutation given xs) (sym kept) moved);
   sorted = subst (λ xs. IsSorted cmp xs) (sym kept) up;

@@ -1,5 +1,6 @@
 -- Keys whose sides stand in order are the same just where the keys are alike.
-use Rattle.std.proofs.Common.{◌≡◌, ℕ, zero, suc, ◌+◌, ◌<◌, ◌≤◌, Bool, true, false, cond, List, [], ◌∷◌, ◌++◌, length, refl, sym, ◌∙◌, ap, subst, ⊎_elim, arith, get_or}
+use Rattle.std.proofs.Common.{◌≡◌, ℕ, zero, suc, ◌+◌, ◌<◌, ◌≤◌, Bool, true, false, cond, List, [], ◌∷◌, ◌++◌, length, refl, sym, ◌∙◌, ap, subst, ⊎_elim, arith}
+use Rattle.std.proofs.Common.{get_or}
 use Rattle.std.specs.Prelude.{◌==◌, ◌&&◌, count_by, filter, nat_eq, Option, Some, None, slice_get, string_bytes}
 use Rattle.std.specs.Cmp.{IsTotalOrder}
 use Rattle.std.specs.List.{range_with_len}
@@ -28,7 +29,8 @@ use Rattle.resolver_report.specs.Shapes.{Shape}
 use Rattle.resolver_report.specs.Listed.{items_if}
 use Rattle.resolver_report.specs.Shapes.{places}
 use Rattle.resolver_report.proofs.ListLemmas.{range-next}
-use Rattle.resolver_report.proofs.AlikeLemmas.{agree_counts, and_left, and_right, both_true, counts_agree, itself_number, same_bool, side_alone, texts_pointwise}
+use Rattle.resolver_report.proofs.AlikeLemmas.{agree_counts, and_left, and_right, both_true, counts_agree, itself_number, same_bool, side_alone}
+use Rattle.resolver_report.proofs.AlikeLemmas.{texts_pointwise}
 use Rattle.resolver_report.proofs.OrderedLemmas.{sorted_same}
 
 requirement_itself : (r : Requirement) → same_requirement r r ≡ true
@@ -81,17 +83,20 @@ module _ (cmp : Side → Side → Ordering) (total : IsTotalOrder cmp) (matches 
   count_in_order : (xs ordered : List Side) → IsInOrder cmp xs ordered → (z : Side) → count_by (same_side z) ordered ≡ count_by (same_side z) xs
   count_in_order xs ordered h z = sum_by-IsPermutation (λ y. cond (same_side z y) 1 0) xs ordered h.permutes
 
-  sides_alike : (xs ys first second : List Side) → IsInOrder cmp xs first → IsInOrder cmp ys second → pointwise same_side second first ≡ same_counts same_side xs ys
+  sides_alike : (xs ys first second : List Side) → IsInOrder cmp xs first → IsInOrder cmp ys second →
+      pointwise same_side second first ≡ same_counts same_side xs ys
   sides_alike xs ys first second h k = same_bool (pointwise same_side second first) (same_counts same_side xs ys) to_counts from_counts
     where
       to_counts : pointwise same_side second first ≡ true → same_counts same_side xs ys ≡ true
       to_counts e =
           let are : second ≡ first = sides_alone second first e in
-          agree_counts same_side side_alone xs ys (λ z. sym (count_in_order xs first h z) ∙ ap (count_by (same_side z)) (sym are) ∙ count_in_order ys second k z)
+          agree_counts same_side side_alone xs ys (λ z.
+          sym (count_in_order xs first h z) ∙ ap (count_by (same_side z)) (sym are) ∙ count_in_order ys second k z)
 
       from_counts : same_counts same_side xs ys ≡ true → pointwise same_side second first ≡ true
       from_counts e =
-          let are : second ≡ first = sorted_same same_side same_side_is_identity (λ x y. is_lt (cmp x y)) (ranks_by total (λ x. x)) tie second first k.sorted h.sorted
+          let are : second ≡ first = sorted_same same_side same_side_is_identity (λ x y. is_lt (cmp x y))
+          (ranks_by total (λ x. x)) tie second first k.sorted h.sorted
           (λ z. count_in_order ys second k z ∙ sym (counts_agree same_side side_alone xs ys e z) ∙ sym (count_in_order xs first h z)) in
           let Alike : List Side → Type 0 = λ list. pointwise same_side list first ≡ true in
           subst Alike (sym are) (sides_itself first)
@@ -104,10 +109,14 @@ module _ (cmp : Side → Side → Ordering) (total : IsTotalOrder cmp) (matches 
 
   keys_alike : (k l : Key) (a b : NodeKey) → IsOrderedKey cmp k a → IsOrderedKey cmp l b → same_key b a ≡ are_alike k l
   keys_alike k l a b h j =
-      let names : pointwise nat_eq (string_bytes b.name) (string_bytes a.name) ≡ same_texts k.name l.name = names_alike (string_bytes a.name) (string_bytes b.name) ∙ (λ i. same_texts (sym h.name i) (sym j.name i)) in
-      let ins : pointwise same_side b.sides_in.items a.sides_in.items ≡ same_counts same_side k.sides_in l.sides_in = sides_alike k.sides_in l.sides_in a.sides_in.items b.sides_in.items h.sides_in j.sides_in in
-      let outs : pointwise same_side b.sides_out.items a.sides_out.items ≡ same_counts same_side k.sides_out l.sides_out = sides_alike k.sides_out l.sides_out a.sides_out.items b.sides_out.items h.sides_out j.sides_out in
-      (λ i. names i && (ins i && outs i)) ∙ regrouped (same_texts k.name l.name) (same_counts same_side k.sides_in l.sides_in) (same_counts same_side k.sides_out l.sides_out)
+      let names : pointwise nat_eq (string_bytes b.name) (string_bytes a.name) ≡ same_texts k.name l.name =
+      names_alike (string_bytes a.name) (string_bytes b.name) ∙ (λ i. same_texts (sym h.name i) (sym j.name i)) in
+      let ins : pointwise same_side b.sides_in.items a.sides_in.items ≡ same_counts same_side k.sides_in l.sides_in =
+      sides_alike k.sides_in l.sides_in a.sides_in.items b.sides_in.items h.sides_in j.sides_in in
+      let outs : pointwise same_side b.sides_out.items a.sides_out.items ≡ same_counts same_side k.sides_out l.sides_out =
+      sides_alike k.sides_out l.sides_out a.sides_out.items b.sides_out.items h.sides_out j.sides_out in
+      (λ i. names i && (ins i && outs i)) ∙
+      regrouped (same_texts k.name l.name) (same_counts same_side k.sides_in l.sides_in) (same_counts same_side k.sides_out l.sides_out)
 
   no_text : (o p : Option (List ℕ)) → p ≡ None → same_texts o p ≡ false
   no_text None p e = refl
@@ -120,7 +129,9 @@ module _ (cmp : Side → Side → Ordering) (total : IsTotalOrder cmp) (matches 
 
   one_alike : (k l : Key) (a : NodeKey) (o : Option NodeKey) → IsOrderedKey cmp k a → IsKeyOf cmp l o → has_key a (Some o) ≡ are_alike k l
   one_alike k l a (Some b) h j = keys_alike k l a b h j
-  one_alike k l a None h e = sym (nothing_alike (same_texts k.name l.name) (same_counts same_side k.sides_in l.sides_in) (same_counts same_side k.sides_out l.sides_out) (no_text k.name l.name e))
+  one_alike k l a None h e = sym
+      (nothing_alike (same_texts k.name l.name) (same_counts same_side k.sides_in l.sides_in) (same_counts same_side k.sides_out l.sides_out)
+      (no_text k.name l.name e))
 
   -- Of the keys of all nodes.
   module _ (ks : List Key) (os : List (Option NodeKey)) (are : AreKeysOf cmp ks os) where
@@ -141,7 +152,8 @@ module _ (cmp : Side → Side → Ordering) (total : IsTotalOrder cmp) (matches 
     key_there n lt = slice_get-get_or ks n (record { name = None; sides_in = []; sides_out = [] }) (omega (arith, lt, are.long))
 
     -- the places of a node's key are its class
-    pub class_of_key : (n : ℕ) (o : Option NodeKey) (a : NodeKey) → n < length os → o ≡ get_or os n o → o ≡ Some a → places_of_key os (length os) a ≡ class_in ks n
+    pub class_of_key : (n : ℕ) (o : Option NodeKey) (a : NodeKey) → n < length os → o ≡ get_or os n o → o ≡ Some a →
+        places_of_key os (length os) a ≡ class_in ks n
     class_of_key n o a lt at some =
         let is : Some a ≡ get_or os n None = sym some ∙ at ∙ get_or_default os n o None lt in
         let k : Key = get_or ks n (record { name = None; sides_in = []; sides_out = [] }) in
@@ -162,7 +174,8 @@ module _ (cmp : Side → Side → Ordering) (total : IsTotalOrder cmp) (matches 
         let there : slice_get ks n ≡ Some k = key_there n lt in
         let Is : Option NodeKey → Type 0 = λ o. IsKeyOf cmp k o in
         let nameless : k.name ≡ None = subst Is (sym is) (are.each n k there) in
-        sym (none_pass (range_with_len 0 (length ks)) (λ m. are_alike_if_there (slice_get ks n) (slice_get ks m)) (λ m. ap (λ o. are_alike_if_there o (slice_get ks m)) there ∙ alone (slice_get ks m) k nameless))
+        sym (none_pass (range_with_len 0 (length ks)) (λ m. are_alike_if_there (slice_get ks n) (slice_get ks m)) (λ m.
+        ap (λ o. are_alike_if_there o (slice_get ks m)) there ∙ alone (slice_get ks m) k nameless))
       where
         first_none : (o p : Option (List ℕ)) → o ≡ None → same_texts o p ≡ false
         first_none None p e = refl
@@ -170,14 +183,17 @@ module _ (cmp : Side → Side → Ordering) (total : IsTotalOrder cmp) (matches 
 
         alone : (o : Option Key) (k : Key) → k.name ≡ None → are_alike_if_there (Some k) o ≡ false
         alone None k e = refl
-        alone (Some l) k e = nothing_alike (same_texts k.name l.name) (same_counts same_side k.sides_in l.sides_in) (same_counts same_side k.sides_out l.sides_out) (first_none k.name l.name e)
+        alone (Some l) k e = nothing_alike (same_texts k.name l.name) (same_counts same_side k.sides_in l.sides_in)
+            (same_counts same_side k.sides_out l.sides_out) (first_none k.name l.name e)
 
 -- one place more
-pub places_next : (os : List (Option NodeKey)) (n : ℕ) (o : Option NodeKey) (q : NodeKey) → n < length os → o ≡ get_or os n o → places_of_key os n q ++ items_if (has_key q (Some o)) (n ∷ []) ≡ places_of_key os (n + 1) q
+pub places_next : (os : List (Option NodeKey)) (n : ℕ) (o : Option NodeKey) (q : NodeKey) → n < length os → o ≡ get_or os n o → places_of_key os n q ++
+    items_if (has_key q (Some o)) (n ∷ []) ≡ places_of_key os (n + 1) q
 places_next os n o q lt at =
     let p : ℕ → Bool = λ m. has_key q (slice_get os m) in
     let there : slice_get os n ≡ Some o = slice_get-get_or os n o lt ∙ ap Some (sym at) in
-    ap (λ b. places_of_key os n q ++ items_if b (n ∷ [])) (ap (has_key q) (sym there)) ∙ sym (ap (filter p) (range-next n) ∙ filter-append p (range_with_len 0 n) (n ∷ []))
+    ap (λ b. places_of_key os n q ++ items_if b (n ∷ [])) (ap (has_key q) (sym there)) ∙
+    sym (ap (filter p) (range-next n) ∙ filter-append p (range_with_len 0 n) (n ∷ []))
 
 slice_get-range : (a n k : ℕ) → k < n → slice_get (range_with_len a n) k ≡ Some (a + k)
 slice_get-range a zero k h = absurd (omega (arith, h))
@@ -196,7 +212,8 @@ keys_told cmp u g os long each = record { long = long ∙ sym size; each = told 
     told n k e =
         let lt : n < length g.nodes = omega (arith, slice_get_within (keys u g) n k e, size) in
         let zero_more : 0 + n ≡ n = omega arith in
-        let there : slice_get (keys u g) n ≡ Some (key_of u g n) = slice_get-map (key_of u g) (places g) n ∙ ap (option_map (key_of u g)) (slice_get-range 0 (length g.nodes) n lt ∙ ap Some zero_more) in
+        let there : slice_get (keys u g) n ≡ Some (key_of u g n) = slice_get-map (key_of u g) (places g) n ∙
+        ap (option_map (key_of u g)) (slice_get-range 0 (length g.nodes) n lt ∙ ap Some zero_more) in
         let some : Some (key_of u g n) ≡ Some k = sym there ∙ e in
         let is : key_of u g n ≡ k = cc in
         let Is : Key → Type 0 = λ l. IsKeyOf cmp l (get_or os n None) in

@@ -33,10 +33,13 @@ count_within : (xs ys : List Bool) → IsWithinMarks xs ys → count xs ≤ coun
 count_within [] ys h = omega (arith, count_none)
 count_within (true ∷ xs) [] h = absurd (false≢true (h 0 refl))
 count_within (false ∷ xs) [] h = let rest : count xs ≤ count [] = count_within xs [] (λ n. h (suc n)) in omega (arith, rest, count_false xs)
-count_within (true ∷ xs) (true ∷ ys) h = let rest : count xs ≤ count ys = count_within xs ys (λ n. h (suc n)) in omega (arith, rest, count_true xs, count_true ys)
+count_within (true ∷ xs) (true ∷ ys) h = let rest : count xs ≤ count ys = count_within xs ys (λ n. h (suc n)) in
+    omega (arith, rest, count_true xs, count_true ys)
 count_within (true ∷ xs) (false ∷ ys) h = absurd (false≢true (h 0 refl))
-count_within (false ∷ xs) (true ∷ ys) h = let rest : count xs ≤ count ys = count_within xs ys (λ n. h (suc n)) in omega (arith, rest, count_false xs, count_true ys)
-count_within (false ∷ xs) (false ∷ ys) h = let rest : count xs ≤ count ys = count_within xs ys (λ n. h (suc n)) in omega (arith, rest, count_false xs, count_false ys)
+count_within (false ∷ xs) (true ∷ ys) h = let rest : count xs ≤ count ys = count_within xs ys (λ n. h (suc n)) in
+    omega (arith, rest, count_false xs, count_true ys)
+count_within (false ∷ xs) (false ∷ ys) h = let rest : count xs ≤ count ys = count_within xs ys (λ n. h (suc n)) in
+    omega (arith, rest, count_false xs, count_false ys)
 
 -- nothing is new, or more are marked
 compare : (xs ys : List Bool) → IsWithinMarks xs ys → IsWithinMarks ys xs ⊎ (count xs < count ys)
@@ -52,7 +55,8 @@ compare [] (false ∷ ys) h = at_rest (compare [] ys (λ n e. absurd (false≢tr
         each (suc n) e = back n e
     at_rest (inr more) = inr (omega (arith, more, count_false ys))
 compare (true ∷ xs) (false ∷ ys) h = absurd (false≢true (h 0 refl))
-compare (false ∷ xs) (true ∷ ys) h = let rest : count xs ≤ count ys = count_within xs ys (λ n. h (suc n)) in inr (omega (arith, rest, count_false xs, count_true ys))
+compare (false ∷ xs) (true ∷ ys) h = let rest : count xs ≤ count ys = count_within xs ys (λ n. h (suc n)) in
+    inr (omega (arith, rest, count_false xs, count_true ys))
 compare (true ∷ xs) (true ∷ ys) h = at_rest (compare xs ys (λ n. h (suc n)))
   where
     at_rest : IsWithinMarks ys xs ⊎ (count xs < count ys) → IsWithinMarks (true ∷ ys) (true ∷ xs) ⊎ (count (true ∷ xs) < count (true ∷ ys))
@@ -123,7 +127,8 @@ module _ {S : Type 0} (g : Shape S) (rule : List Bool → ℕ → Bool) (monoton
   progress zero = inr (omega arith)
   progress (suc rounds) = at_progress (progress rounds)
     where
-      at_compare : rounds ≤ count (marked_in g rule rounds) → IsWithinMarks (marked_in g rule (suc rounds)) (marked_in g rule rounds) ⊎ (count (marked_in g rule rounds) < count (marked_in g rule (suc rounds)))
+      at_compare : rounds ≤ count (marked_in g rule rounds) → IsWithinMarks (marked_in g rule (suc rounds)) (marked_in g rule rounds) ⊎
+          (count (marked_in g rule rounds) < count (marked_in g rule (suc rounds)))
           → IsWithinMarks (marked_in g rule (suc (suc rounds))) (marked_in g rule (suc rounds)) ⊎ (suc rounds ≤ count (marked_in g rule (suc rounds)))
       at_compare many (inl stays) = inl (next_within (marked_in g rule (suc rounds)) (marked_in g rule rounds) stays)
       at_compare many (inr more) = inr (omega (arith, many, more))
@@ -136,13 +141,15 @@ module _ {S : Type 0} (g : Shape S) (rule : List Bool → ℕ → Bool) (monoton
   pub rounds_long : (rounds : ℕ) → length (marked_in g rule (suc rounds)) ≡ length g.nodes
   rounds_long rounds = length-map (places g) (rule (marked_in g rule rounds)) ∙ length-range_with_len 0 (length g.nodes)
 
-  all_marked_when : (rounds : ℕ) → rounds ≡ length g.nodes → rounds ≤ count (marked_in g rule rounds) → (n : ℕ) → n < length g.nodes → is_marked (marked_in g rule rounds) n ≡ true
+  all_marked_when : (rounds : ℕ) → rounds ≡ length g.nodes → rounds ≤ count (marked_in g rule rounds) → (n : ℕ) → n < length g.nodes →
+      is_marked (marked_in g rule rounds) n ≡ true
   all_marked_when zero e many n lt = absurd (omega (arith, e, lt))
   all_marked_when (suc rounds) e many n lt =
       let long : length (marked_in g rule (suc rounds)) ≡ length g.nodes = rounds_long rounds in
       all_counted (marked_in g rule (suc rounds)) (omega (arith, e, many, long)) n (omega (arith, lt, long))
 
-  closed_by : IsWithinMarks (marked_in g rule (suc (length g.nodes))) (marked g rule) ⊎ (length g.nodes ≤ count (marked g rule)) → IsClosed (length g.nodes) rule (marked g rule)
+  closed_by : IsWithinMarks (marked_in g rule (suc (length g.nodes))) (marked g rule) ⊎ (length g.nodes ≤ count (marked g rule)) →
+      IsClosed (length g.nodes) rule (marked g rule)
   closed_by (inl stays) n lt h = stays n (passing (marked g rule) n lt h)
   closed_by (inr many) n lt h = all_marked_when (length g.nodes) refl many n lt
 

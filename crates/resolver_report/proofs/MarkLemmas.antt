@@ -17,22 +17,29 @@ module _ {N S : Type 0} (same : N → N → Bool) where
   of_marked earlier (Excluded solvable reason) = refl
   of_marked earlier (OnePerPackage name instance) = refl
 
-  after_marked : (earlier : List (Rule N S)) (rule : Rule N S) (n : N) → marked_last same n (rule ∷ earlier) ≡ marked_after same rule n (marked_last same n earlier)
+  after_marked : (earlier : List (Rule N S)) (rule : Rule N S) (n : N) →
+      marked_last same n (rule ∷ earlier) ≡ marked_after same rule n (marked_last same n earlier)
   after_marked earlier (Requires by requirement candidates when) n = refl
   after_marked earlier (Constrains by version_set candidate) n = refl
   after_marked earlier (Lock locked forbidden) n = refl
   after_marked earlier (Excluded solvable reason) n = refl
   after_marked earlier (OnePerPackage name instance) n = refl
 
-  module _ (rules : List (Rule N S)) (i : ℕ) (rule : Rule N S) (h : i < length rules) (is : rule ≡ get_or rules i rule) (last : N → Option S) (are : (n : N) → last n ≡ marked_last same n (reverse (take i rules))) where
+  module _ (rules : List (Rule N S)) (i : ℕ) (rule : Rule N S) (h : i < length rules) (is : rule ≡ get_or rules i rule) (last : N → Option S)
+      (are : (n : N) → last n ≡ marked_last same n (reverse (take i rules))) where
     next : take (i + 1) rules ≡ take i rules ++ rule ∷ []
     next = take_more rules i rule h ∙ ap (λ z. take i rules ++ z ∷ []) (sym is)
 
-    pub links_next : (found made : List (Link S)) → found ≡ links same (take i rules) → made ≡ found ++ links_marked last rule → made ≡ links same (take (i + 1) rules)
+    pub links_next : (found made : List (Link S)) → found ≡ links same (take i rules) → made ≡ found ++ links_marked last rule →
+        made ≡ links same (take (i + 1) rules)
     links_next found made e f =
-        let told : links_of same (reverse (take i rules)) rule ≡ links_marked last rule = of_marked (reverse (take i rules)) rule ∙ sym (ap (λ l. links_marked l rule) (λ k n. are n k)) in
-        f ∙ ap (λ xs. xs ++ links_marked last rule) e ∙ ap (λ xs. links same (take i rules) ++ xs) (sym told) ∙ sym (links-push same (take i rules) rule) ∙ ap (links same) (sym next)
+        let told : links_of same (reverse (take i rules)) rule ≡ links_marked last rule = of_marked (reverse (take i rules)) rule ∙
+        sym (ap (λ l. links_marked l rule) (λ k n. are n k)) in
+        f ∙ ap (λ xs. xs ++ links_marked last rule) e ∙ ap (λ xs. links same (take i rules) ++ xs) (sym told) ∙ sym (links-push same (take i rules) rule) ∙
+        ap (links same) (sym next)
 
-    pub marks_next : (later : N → Option S) → ((n : N) → later n ≡ marked_after same rule n (last n)) → (n : N) → later n ≡ marked_last same n (reverse (take (i + 1) rules))
+    pub marks_next : (later : N → Option S) → ((n : N) → later n ≡ marked_after same rule n (last n)) → (n : N) →
+        later n ≡ marked_last same n (reverse (take (i + 1) rules))
     marks_next later told n =
-        told n ∙ ap (marked_after same rule n) (are n) ∙ sym (after_marked (reverse (take i rules)) rule n) ∙ ap (marked_last same n) (sym (reverse-append (take i rules) (rule ∷ []))) ∙ ap (λ xs. marked_last same n (reverse xs)) (sym next)
+        told n ∙ ap (marked_after same rule n) (are n) ∙ sym (after_marked (reverse (take i rules)) rule n) ∙
+        ap (marked_last same n) (sym (reverse-append (take i rules) (rule ∷ []))) ∙ ap (λ xs. marked_last same n (reverse xs)) (sym next)

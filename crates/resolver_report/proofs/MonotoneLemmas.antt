@@ -32,18 +32,21 @@ module _ (xs ys : List Bool) (within : IsWithinMarks xs ys) where
 
   each_within : (runs : List Run) → list_all (λ run. some_marked xs run.targets) runs ≡ true → list_all (λ run. some_marked ys run.targets) runs ≡ true
   each_within [] e = e
-  each_within (run ∷ runs) e = and_within (some_marked xs run.targets) (list_all (λ r. some_marked xs r.targets) runs) (some_marked ys run.targets) (list_all (λ r. some_marked ys r.targets) runs) (some_within run.targets) (each_within runs) e
+  each_within (run ∷ runs) e = and_within (some_marked xs run.targets) (list_all (λ r. some_marked xs r.targets) runs) (some_marked ys run.targets)
+      (list_all (λ r. some_marked ys r.targets) runs) (some_within run.targets) (each_within runs) e
 
   any_within : (runs : List Run) → list_any (λ run. all_marked xs run.targets) runs ≡ true → list_any (λ run. all_marked ys run.targets) runs ≡ true
   any_within [] e = e
-  any_within (run ∷ runs) e = or_within (all_marked xs run.targets) (list_any (λ r. all_marked xs r.targets) runs) (all_marked ys run.targets) (list_any (λ r. all_marked ys r.targets) runs) (all_within run.targets) (any_within runs) e
+  any_within (run ∷ runs) e = or_within (all_marked xs run.targets) (list_any (λ r. all_marked xs r.targets) runs) (all_marked ys run.targets)
+      (list_any (λ r. all_marked ys r.targets) runs) (all_within run.targets) (any_within runs) e
 
 module _ {S : Type 0} (g : ConflictShape S) where
   pub installable_monotone : IsMonotone (can_be_installed g)
   installable_monotone xs ys within n e =
       let out = outgoing g.shape.edges n in
       let free = not (is_place g.unresolved n) && not (has_exclusion (incoming g.shape.edges n)) && not (has_conflict out) in
-      and_within free (list_all (λ run. some_marked xs run.targets) (runs_of out)) free (list_all (λ run. some_marked ys run.targets) (runs_of out)) (λ h. h) (each_within xs ys within (runs_of out)) e
+      and_within free (list_all (λ run. some_marked xs run.targets) (runs_of out)) free (list_all (λ run. some_marked ys run.targets) (runs_of out)) (λ h. h)
+      (each_within xs ys within (runs_of out)) e
 
   pub missing_monotone : IsMonotone (must_be_missing g)
   missing_monotone xs ys within n e =

@@ -11,7 +11,8 @@ module _ (eq : VersionSetId → VersionSetId → Bool) (same : (v w : VersionSet
   abbrev once_from : VersionSetId → List VersionSetId → List VersionSetId
   once_from v ws = dedup_from (λ w kept. eq kept w) v ws
 
-  once_behind : (v w : VersionSetId) (ws : List VersionSetId) (b : Bool) → (v.0 == w.0) ≡ b → once_from v ws ≡ once_each (v ∷ ws) → once_from w ws ≡ once_each (w ∷ ws)
+  once_behind : (v w : VersionSetId) (ws : List VersionSetId) (b : Bool) → (v.0 == w.0) ≡ b → once_from v ws ≡ once_each (v ∷ ws) →
+      once_from w ws ≡ once_each (w ∷ ws)
       → cond b (once_from v ws) (v ∷ once_from w ws) ≡ cond b (once_each (w ∷ ws)) (v ∷ once_each (w ∷ ws))
   once_behind v w ws true is first second =
       let number : v.0 ≡ w.0 = same_numbers v.0 w.0 is in
@@ -21,7 +22,8 @@ module _ (eq : VersionSetId → VersionSetId → Bool) (same : (v w : VersionSet
 
   dedup_from_once : (v : VersionSetId) (ws : List VersionSetId) → once_from v ws ≡ once_each (v ∷ ws)
   dedup_from_once v [] = refl
-  dedup_from_once v (w ∷ ws) = ap (λ b. cond b (once_from v ws) (v ∷ once_from w ws)) (same v w) ∙ once_behind v w ws (v.0 == w.0) refl (dedup_from_once v ws) (dedup_from_once w ws)
+  dedup_from_once v (w ∷ ws) = ap (λ b. cond b (once_from v ws) (v ∷ once_from w ws)) (same v w) ∙
+      once_behind v w ws (v.0 == w.0) refl (dedup_from_once v ws) (dedup_from_once w ws)
 
   pub dedup_once : (vs : List VersionSetId) → dedup eq vs ≡ once_each vs
   dedup_once [] = refl

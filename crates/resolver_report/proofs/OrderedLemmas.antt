@@ -7,7 +7,8 @@ use Rattle.std.proofs.lemmas.List.Elements.{Contains-append_right}
 use Rattle.std.proofs.lemmas.List.Sums.{sum_by-cons}
 use Rattle.resolver_clause_store.specs.Laws.{IsIdentity}
 
-module _ {X : Type 0} (same : X → X → Bool) (identity : IsIdentity same) (lt : X → X → Bool) (order : IsStrictWeakOrder lt) (tie : (x y : X) → lt x y ≡ false → lt y x ≡ false → x ≡ y) where
+module _ {X : Type 0} (same : X → X → Bool) (identity : IsIdentity same) (lt : X → X → Bool) (order : IsStrictWeakOrder lt)
+    (tie : (x y : X) → lt x y ≡ false → lt y x ≡ false → x ≡ y) where
   not_itself : (x : X) → lt x x ≡ false
   not_itself x = at_test (lt x x) refl
     where

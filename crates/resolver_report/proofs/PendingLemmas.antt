@@ -1,5 +1,6 @@
 -- Steps of telling a tree.
-use Rattle.std.proofs.Common.{◌≡◌, ℕ, zero, suc, ◌+◌, ◌-◌, ◌<◌, ◌≤◌, Bool, true, false, List, [], ◌∷◌, ◌++◌, length, map, refl, sym, ◌∙◌, ap, arith, append_assoc}
+use Rattle.std.proofs.Common.{◌≡◌, ℕ, zero, suc, ◌+◌, ◌-◌, ◌<◌, ◌≤◌, Bool, true, false, List, [], ◌∷◌, ◌++◌, length, map, refl, sym, ◌∙◌, ap, arith}
+use Rattle.std.proofs.Common.{append_assoc}
 use Rattle.std.proofs.lemmas.Bool.{true≢false}
 use Rattle.std.specs.Prelude.{◌==◌, IsTrue, not, reverse, slice_set}
 use Rattle.std.proofs.lemmas.List.{length-map, length-reverse, reverse-append}
@@ -11,7 +12,8 @@ use Rattle.resolver_report.specs.declared.tree.Story.{Story}
 use Rattle.resolver_report.specs.Forests.{text_of, indent_from}
 use Rattle.resolver_report.specs.Marks.{is_marked}
 use Rattle.resolver_report.specs.Messages.{RunTold, requirement_text, run_text, side_by_side, tell_verdict, with_group}
-use Rattle.resolver_report.specs.PendingTexts.{FrameTold, IsTellStep, PendingTold, below_run, candidate_work, frame_view, frames_text, frames_view, is_none, left_to, left_told, levels_of, nodes_work, pending_text, pending_work, runs_at, runs_work}
+use Rattle.resolver_report.specs.PendingTexts.{FrameTold, IsTellStep, PendingTold, below_run, candidate_work, frame_view, frames_text, frames_view, is_none}
+use Rattle.resolver_report.specs.PendingTexts.{left_to, left_told, levels_of, nodes_work, pending_text, pending_work, runs_at, runs_work}
 use Rattle.resolver_report.specs.Tellings.{IsToldNode, candidate_in, graph_in, keys_in, marks_in, meaning, run_in, text_at, tree_in, version_text_in}
 use Rattle.resolver_report.specs.Stories.{run_told_view}
 use Rattle.resolver_report.specs.Verdicts.{verdict_view}
@@ -44,7 +46,8 @@ some_frame [] b e h = absurd (true≢false (sym h ∙ e))
 some_frame (f ∷ fs) b e h = refl
 
 -- the levels of a run's line, and of a candidate's
-pub run_levels : (levels have : List Bool) (last : Bool) (rest : List RunStory) → levels ≡ have → last ≡ (length rest == 0) → levels ++ last ∷ [] ≡ have ++ (length (map run_told_view rest) == 0) ∷ []
+pub run_levels : (levels have : List Bool) (last : Bool) (rest : List RunStory) → levels ≡ have → last ≡ (length rest == 0) → levels ++ last ∷ [] ≡ have ++
+    (length (map run_told_view rest) == 0) ∷ []
 run_levels levels have last rest same is = λ i. same i ++ (is ∙ ap (λ n. n == 0) (sym (length-map rest run_told_view))) i ∷ []
 
 pub candidate_levels : (levels have : List Bool) (runs : List RunStory) (rest : List NodeId) → levels ≡ have →
@@ -73,18 +76,21 @@ module _ {I N S : Type 0} (universe : I → Universe N S) (story : Story I N S) 
     run_piece : (levels : List Bool) (requirement : Requirement) (unresolved viable : Bool) (cs : List NodeId) (reported : List Bool) →
         let r : RunTold = record { requirement = requirement; unresolved = unresolved; viable = viable; candidates = cs } in
         text_at top_indent levels (run_in universe story (limit - length fs) branch (is_none fs) r reported).value
-        ≡ (indent_from top_indent levels ++ run_text (is_none fs) unresolved viable (requirement_text (meaning universe story) requirement) ++ 10 ∷ []) ++ text_of top_indent levels (side_by_side (λ n. candidate_in universe story (limit - length fs) branch n.0) (below_run r) reported).value
+        ≡ (indent_from top_indent levels ++ run_text (is_none fs) unresolved viable (requirement_text (meaning universe story) requirement) ++ 10 ∷ []) ++
+        text_of top_indent levels (side_by_side (λ n. candidate_in universe story (limit - length fs) branch n.0) (below_run r) reported).value
     run_piece levels requirement true viable cs reported = refl
     run_piece levels requirement false viable cs reported = refl
 
     run_reported : (requirement : Requirement) (unresolved viable : Bool) (cs : List NodeId) (reported : List Bool) →
         let r : RunTold = record { requirement = requirement; unresolved = unresolved; viable = viable; candidates = cs } in
-        (run_in universe story (limit - length fs) branch (is_none fs) r reported).reported ≡ (side_by_side (λ n. candidate_in universe story (limit - length fs) branch n.0) (below_run r) reported).reported
+        (run_in universe story (limit - length fs) branch (is_none fs) r reported).reported ≡
+        (side_by_side (λ n. candidate_in universe story (limit - length fs) branch n.0) (below_run r) reported).reported
     run_reported requirement true viable cs reported = refl
     run_reported requirement false viable cs reported = refl
 
     run_text_step : (r : RunTold) (rs : List RunTold) (reported : List Bool) (out out' : List ℕ) →
-        out' ≡ out ++ (indent_from top_indent (levels_of fs ++ (length rs == 0) ∷ []) ++ run_text (is_none fs) r.unresolved r.viable (requirement_text (meaning universe story) r.requirement) ++ 10 ∷ []) →
+        out' ≡ out ++ (indent_from top_indent (levels_of fs ++ (length rs == 0) ∷ []) ++
+        run_text (is_none fs) r.unresolved r.viable (requirement_text (meaning universe story) r.requirement) ++ 10 ∷ []) →
         out' ++ pending_text universe story (at (below_run r) rs reported) ≡ out ++ pending_text universe story (at [] (r ∷ rs) reported)
     run_text_step r rs reported out out' wrote =
         let depth = limit - length fs in
@@ -92,30 +98,37 @@ module _ {I N S : Type 0} (universe : I → Universe N S) (story : Story I N S) 
         let below = side_by_side (λ (n : NodeId). candidate_in universe story depth branch n.0) (below_run r) reported in
         let tree = λ (reported : List Bool). tree_in universe story depth branch (is_none fs) rs reported in
         let after = λ (reported : List Bool). frames_text universe story top_indent limit fs branch reported in
-        let line = indent_from top_indent (lv ++ (length rs == 0) ∷ []) ++ run_text (is_none fs) r.unresolved r.viable (requirement_text (meaning universe story) r.requirement) ++ 10 ∷ [] in
+        let line = indent_from top_indent (lv ++ (length rs == 0) ∷ []) ++
+        run_text (is_none fs) r.unresolved r.viable (requirement_text (meaning universe story) r.requirement) ++ 10 ∷ [] in
         let piece = run_piece (lv ++ (length rs == 0) ∷ []) r.requirement r.unresolved r.viable r.candidates reported in
         let grew = run_reported r.requirement r.unresolved r.viable r.candidates reported in
         ap (λ o. o ++ pending_text universe story (at (below_run r) rs reported)) wrote
-        ∙ joined out line (text_of top_indent (lv ++ (length rs == 0) ∷ []) below.value) (text_of top_indent lv (tree below.reported).value) (after (tree below.reported).reported)
+        ∙ joined out line (text_of top_indent (lv ++ (length rs == 0) ∷ []) below.value) (text_of top_indent lv (tree below.reported).value)
+        (after (tree below.reported).reported)
         ∙ sym (
-        ap (λ w. out ++ (w ++ after (tree (run_in universe story depth branch (is_none fs) r reported).reported).reported)) (side_step top_indent lv (run_in universe story depth branch (is_none fs)) r rs reported)
+        ap (λ w. out ++ (w ++ after (tree (run_in universe story depth branch (is_none fs) r reported).reported).reported))
+        (side_step top_indent lv (run_in universe story depth branch (is_none fs)) r rs reported)
         ∙ (λ i. out ++ ((piece i ++ text_of top_indent lv (tree (grew i)).value) ++ after (tree (grew i)).reported))
         )
 
     -- the line of a run is written
-    pub run_step : (cs : List NodeId) (all : List RunTold) (r : RunTold) (rs : List RunTold) (reported : List Bool) (out out' : List ℕ) → cs ≡ [] → all ≡ r ∷ rs →
-        out' ≡ out ++ (indent_from top_indent (levels_of fs ++ (length rs == 0) ∷ []) ++ run_text (is_none fs) r.unresolved r.viable (requirement_text (meaning universe story) r.requirement) ++ 10 ∷ []) →
+    pub run_step : (cs : List NodeId) (all : List RunTold) (r : RunTold) (rs : List RunTold) (reported : List Bool) (out out' : List ℕ) → cs ≡ [] → all ≡ r ∷
+        rs →
+        out' ≡ out ++ (indent_from top_indent (levels_of fs ++ (length rs == 0) ∷ []) ++
+        run_text (is_none fs) r.unresolved r.viable (requirement_text (meaning universe story) r.requirement) ++ 10 ∷ []) →
         IsTellStep universe story (at cs all reported) (at (below_run r) rs reported) out out'
     run_step cs all r rs reported out out' none some wrote =
         let work = candidate_work universe story (limit - length fs) in
-        let before : pending_work universe story (at cs all reported) ≡ pending_work universe story (at [] (r ∷ rs) reported) = λ i. pending_work universe story (at (none i) (some i) reported) in
+        let before : pending_work universe story (at cs all reported) ≡ pending_work universe story (at [] (r ∷ rs) reported) =
+        λ i. pending_work universe story (at (none i) (some i) reported) in
         record {
           text = run_text_step r rs reported out out' wrote ∙ (λ i. out ++ pending_text universe story (at ((sym none) i) ((sym some) i) reported));
           work = omega (arith, before, below_work work r.requirement r.unresolved r.viable r.candidates);
         }
 
     spoke : (n : NodeId) (cs : List NodeId) (rs : List RunTold) (reported reported' : List Bool) (w out out' : List ℕ) →
-        text_at top_indent ((levels_of fs ++ (length rs == 0) ∷ []) ++ (length cs == 0) ∷ []) (candidate_in universe story (limit - length fs) branch n.0 reported).value ≡ w →
+        text_at top_indent ((levels_of fs ++ (length rs == 0) ∷ []) ++ (length cs == 0) ∷ [])
+        (candidate_in universe story (limit - length fs) branch n.0 reported).value ≡ w →
         (candidate_in universe story (limit - length fs) branch n.0 reported).reported ≡ reported' →
         out' ≡ out ++ w →
         out' ++ pending_text universe story (at cs rs reported') ≡ out ++ pending_text universe story (at (n ∷ cs) rs reported)
@@ -128,27 +141,34 @@ module _ {I N S : Type 0} (universe : I → Universe N S) (story : Story I N S) 
         let tree = λ (reported : List Bool). tree_in universe story depth branch (is_none fs) rs reported in
         let after = λ (reported : List Bool). frames_text universe story top_indent limit fs branch reported in
         ap (λ o. o ++ pending_text universe story (at cs rs reported')) wrote
-        ∙ joined out w (text_of top_indent lvr (side reported').value) (text_of top_indent lv (tree (side reported').reported).value) (after (tree (side reported').reported).reported)
+        ∙ joined out w (text_of top_indent lvr (side reported').value) (text_of top_indent lv (tree (side reported').reported).value)
+        (after (tree (side reported').reported).reported)
         ∙ sym (
-        ap (λ v. out ++ ((v ++ text_of top_indent lv (tree (side (tell n reported).reported).reported).value) ++ after (tree (side (tell n reported).reported).reported).reported)) (side_step top_indent lvr tell n cs reported)
-        ∙ (λ i. out ++ (((text i ++ text_of top_indent lvr (side (grew i)).value) ++ text_of top_indent lv (tree (side (grew i)).reported).value) ++ after (tree (side (grew i)).reported).reported))
+        ap (λ v. out ++ ((v ++ text_of top_indent lv (tree (side (tell n reported).reported).reported).value) ++
+        after (tree (side (tell n reported).reported).reported).reported)) (side_step top_indent lvr tell n cs reported)
+        ∙ (λ i. out ++ (((text i ++ text_of top_indent lvr (side (grew i)).value) ++ text_of top_indent lv (tree (side (grew i)).reported).value) ++
+        after (tree (side (grew i)).reported).reported))
         )
 
     -- a candidate with nothing below it is written
-    pub candidate_step : (all : List NodeId) (n : NodeId) (cs : List NodeId) (rs : List RunTold) (reported reported' : List Bool) (w out out' : List ℕ) → all ≡ n ∷ cs →
-        text_at top_indent ((levels_of fs ++ (length rs == 0) ∷ []) ++ (length cs == 0) ∷ []) (candidate_in universe story (limit - length fs) branch n.0 reported).value ≡ w →
+    pub candidate_step : (all : List NodeId) (n : NodeId) (cs : List NodeId) (rs : List RunTold) (reported reported' : List Bool) (w out out' : List ℕ) →
+        all ≡ n ∷ cs →
+        text_at top_indent ((levels_of fs ++ (length rs == 0) ∷ []) ++ (length cs == 0) ∷ [])
+        (candidate_in universe story (limit - length fs) branch n.0 reported).value ≡ w →
         (candidate_in universe story (limit - length fs) branch n.0 reported).reported ≡ reported' →
         out' ≡ out ++ w →
         IsTellStep universe story (at all rs reported) (at cs rs reported') out out'
     candidate_step all n cs rs reported reported' w out out' some text grew wrote =
-        let before : pending_work universe story (at all rs reported) ≡ pending_work universe story (at (n ∷ cs) rs reported) = λ i. pending_work universe story (at (some i) rs reported) in
+        let before : pending_work universe story (at all rs reported) ≡ pending_work universe story (at (n ∷ cs) rs reported) =
+        λ i. pending_work universe story (at (some i) rs reported) in
         record {
           text = spoke n cs rs reported reported' w out out' text grew wrote ∙ (λ i. out ++ pending_text universe story (at ((sym some) i) rs reported));
           work = omega (arith, before, work_some (limit - length fs) n.0);
         }
 
     -- a candidate is entered
-    pub enter_step : (all : List NodeId) (n : NodeId) (cs : List NodeId) (rs runs : List RunTold) (reported reported' : List Bool) (w out out' : List ℕ) → all ≡ n ∷ cs →
+    pub enter_step : (all : List NodeId) (n : NodeId) (cs : List NodeId) (rs runs : List RunTold) (reported reported' : List Bool) (w out out' : List ℕ) →
+        all ≡ n ∷ cs →
         let f : FrameTold = record { node = n.0; candidates = cs; runs = rs } in
         let depth = limit - suc (length fs) in
         let levels = (levels_of fs ++ (length rs == 0) ∷ []) ++ (length cs == 0) ∷ [] in
@@ -156,7 +176,16 @@ module _ {I N S : Type 0} (universe : I → Universe N S) (story : Story I N S) 
         text_at top_indent levels (candidate_in universe story (limit - length fs) branch n.0 reported).value ≡ w ++ text_of top_indent levels told.value →
         (candidate_in universe story (limit - length fs) branch n.0 reported).reported ≡ told.reported →
         out' ≡ out ++ w → is_marked branch n.0 ≡ false → runs ≡ runs_at universe story n.0 → length fs < limit →
-        IsTellStep universe story (at all rs reported) (record { top_indent = top_indent; limit = limit; frames = f ∷ fs; candidates = []; runs = runs; reported = reported'; branch = slice_set branch n.0 true }) out out'
+        IsTellStep universe story (at all rs reported)
+        (record {
+          top_indent = top_indent;
+          limit = limit;
+          frames = f ∷ fs;
+          candidates = [];
+          runs = runs;
+          reported = reported';
+          branch = slice_set branch n.0 true;
+        }) out out'
     enter_step all n cs rs runs reported reported' w out out' some text grew wrote off are deep =
         let f : FrameTold = record { node = n.0; candidates = cs; runs = rs } in
         let depth = limit - suc (length fs) in
@@ -167,13 +196,24 @@ module _ {I N S : Type 0} (universe : I → Universe N S) (story : Story I N S) 
         let v = text_of top_indent levels told.value in
         let back = unset branch n.0 off in
         let left = λ (b : List Bool). left_told universe story top_indent lv (limit - length fs) b (is_none fs) cs rs told.reported in
-        let entered : PendingTold = record { top_indent = top_indent; limit = limit; frames = f ∷ fs; candidates = []; runs = runs; reported = reported'; branch = slice_set branch n.0 true } in
-        let before : pending_work universe story (at all rs reported) ≡ pending_work universe story (at (n ∷ cs) rs reported) = λ i. pending_work universe story (at (some i) rs reported) in
+        let entered : PendingTold = record {
+          top_indent = top_indent;
+          limit = limit;
+          frames = f ∷ fs;
+          candidates = [];
+          runs = runs;
+          reported = reported';
+          branch = slice_set branch n.0 true;
+        } in
+        let before : pending_work universe story (at all rs reported) ≡ pending_work universe story (at (n ∷ cs) rs reported) =
+        λ i. pending_work universe story (at (some i) rs reported) in
         let next : limit - length fs ≡ suc depth = omega (arith, deep) in
-        let work : candidate_work universe story (limit - length fs) n.0 ≡ 2 + runs_work (candidate_work universe story depth) runs = ap (λ d. candidate_work universe story d n.0) next ∙ ap (λ r. 2 + runs_work (candidate_work universe story depth) r) (sym are) in
+        let work : candidate_work universe story (limit - length fs) n.0 ≡ 2 + runs_work (candidate_work universe story depth) runs =
+        ap (λ d. candidate_work universe story d n.0) next ∙ ap (λ r. 2 + runs_work (candidate_work universe story depth) r) (sym are) in
         record {
           text =
-              (λ i. out' ++ (text_of top_indent ((sym same) i) told.value ++ ((left (back i)).value ++ frames_text universe story top_indent limit fs (back i) (left (back i)).reported)))
+              (λ i. out' ++ (text_of top_indent ((sym same) i) told.value ++
+              ((left (back i)).value ++ frames_text universe story top_indent limit fs (back i) (left (back i)).reported)))
               ∙ sym (append_assoc out' v ((left branch).value ++ frames_text universe story top_indent limit fs branch (left branch).reported))
               ∙ spoke n cs rs reported told.reported (w ++ v) out (out' ++ v) text grew (ap (λ o. o ++ v) wrote ∙ append_assoc out w v)
               ∙ (λ i. out ++ pending_text universe story (at ((sym some) i) rs reported));
@@ -181,26 +221,38 @@ module _ {I N S : Type 0} (universe : I → Universe N S) (story : Story I N S) 
         }
 
     -- a tree is left
-    pub leave_step : (f : FrameTold) (cs : List NodeId) (rs : List RunTold) (all : List FrameTold) (b reported : List Bool) (out : List ℕ) → cs ≡ [] → rs ≡ [] → all ≡ f ∷ fs → branch ≡ slice_set b f.node false →
-        IsTellStep universe story (record { top_indent = top_indent; limit = limit; frames = all; candidates = cs; runs = rs; reported = reported; branch = b }) (at f.candidates f.runs reported) out out
+    pub leave_step : (f : FrameTold) (cs : List NodeId) (rs : List RunTold) (all : List FrameTold) (b reported : List Bool) (out : List ℕ) → cs ≡ [] → rs ≡ [] →
+        all ≡ f ∷ fs → branch ≡ slice_set b f.node false →
+        IsTellStep universe story (record { top_indent = top_indent; limit = limit; frames = all; candidates = cs; runs = rs; reported = reported; branch = b })
+        (at f.candidates f.runs reported) out out
     leave_step f cs rs all b reported out none done are back =
-        let old = λ (cs : List NodeId) (rs : List RunTold) (all : List FrameTold). let p : PendingTold = record { top_indent = top_indent; limit = limit; frames = all; candidates = cs; runs = rs; reported = reported; branch = b } in p in
-        let after = λ (b : List Bool). let p : PendingTold = record { top_indent = top_indent; limit = limit; frames = fs; candidates = f.candidates; runs = f.runs; reported = reported; branch = b } in p in
-        let before : pending_work universe story (old cs rs all) ≡ pending_work universe story (old [] [] (f ∷ fs)) = λ i. pending_work universe story (old (none i) (done i) (are i)) in
+        let old = λ (cs : List NodeId) (rs : List RunTold) (all : List FrameTold). let p : PendingTold =
+        record { top_indent = top_indent; limit = limit; frames = all; candidates = cs; runs = rs; reported = reported; branch = b } in p in
+        let after = λ (b : List Bool). let p : PendingTold =
+        record { top_indent = top_indent; limit = limit; frames = fs; candidates = f.candidates; runs = f.runs; reported = reported; branch = b } in p in
+        let before : pending_work universe story (old cs rs all) ≡ pending_work universe story (old [] [] (f ∷ fs)) =
+        λ i. pending_work universe story (old (none i) (done i) (are i)) in
         record {
-          text = (λ i. out ++ pending_text universe story (after (back i))) ∙ (λ i. out ++ pending_text universe story (old ((sym none) i) ((sym done) i) ((sym are) i)));
+          text = (λ i. out ++ pending_text universe story (after (back i))) ∙
+              (λ i. out ++ pending_text universe story (old ((sym none) i) ((sym done) i) ((sym are) i)));
           work = omega (arith, before);
         }
 
   -- what is told of a node, where one more may stand on the branch
-  pub node_whole : (limit : ℕ) (fs : List FrameTold) (branch : List Bool) (n : ℕ) (reported : List Bool) (node : NodeStory) → IsToldNode universe story branch n reported node → length fs < limit →
-      candidate_in universe story (limit - length fs) branch n reported ≡ tell_verdict (meaning universe story) (graph_in universe story) (keys_in universe story) (marks_in universe story) (λ r. tree_in universe story (limit - suc (length fs)) (slice_set branch n true) false (map run_told_view node.runs.items) r) (version_text_in universe story n) (verdict_view node.verdict) (with_group node.group reported)
+  pub node_whole : (limit : ℕ) (fs : List FrameTold) (branch : List Bool) (n : ℕ) (reported : List Bool) (node : NodeStory) →
+      IsToldNode universe story branch n reported node → length fs < limit →
+      candidate_in universe story (limit - length fs) branch n reported ≡ tell_verdict (meaning universe story) (graph_in universe story)
+      (keys_in universe story) (marks_in universe story) (λ r.
+      tree_in universe story (limit - suc (length fs)) (slice_set branch n true) false (map run_told_view node.runs.items) r)
+      (version_text_in universe story n) (verdict_view node.verdict) (with_group node.group reported)
   node_whole limit fs branch n reported node told deep =
       let next : limit - length fs ≡ suc (limit - suc (length fs)) = omega (arith, deep) in
       ap (λ d. candidate_in universe story d branch n reported) next ∙ told_candidate universe story branch n reported node told (limit - suc (length fs))
 
-  pub left_step : (top_indent : Bool) (limit : ℕ) (all : List FrameTold) (cs : List NodeId) (rs : List RunTold) (reported b : List Bool) (out : List ℕ) → cs ≡ [] → rs ≡ [] → is_none all ≡ false →
+  pub left_step : (top_indent : Bool) (limit : ℕ) (all : List FrameTold) (cs : List NodeId) (rs : List RunTold) (reported b : List Bool) (out : List ℕ) →
+      cs ≡ [] → rs ≡ [] → is_none all ≡ false →
       let p : PendingTold = record { top_indent = top_indent; limit = limit; frames = all; candidates = cs; runs = rs; reported = reported; branch = b } in
       IsTellStep universe story p (left_to all p) out out
   left_step top_indent limit [] cs rs reported b out none done some = absurd (true≢false some)
-  left_step top_indent limit (f ∷ fs) cs rs reported b out none done some = leave_step top_indent limit fs (slice_set b f.node false) f cs rs (f ∷ fs) b reported out none done refl refl
+  left_step top_indent limit (f ∷ fs) cs rs reported b out none done some =
+      leave_step top_indent limit fs (slice_set b f.node false) f cs rs (f ∷ fs) b reported out none done refl refl

@@ -1,5 +1,6 @@
 -- The edges of a graph of kept rules lead from the root to each node.
-use Rattle.std.proofs.Common.{◌≡◌, ◌≢◌, ◌⊎◌, ℕ, zero, suc, ◌-◌, ◌<◌, Bool, true, false, cond, ◌||◌, List, [], ◌∷◌, length, map, refl, sym, ◌∙◌, ap, subst, inl, inr, arith, get_or, All, Contains, Vec, Global}
+use Rattle.std.proofs.Common.{◌≡◌, ◌≢◌, ◌⊎◌, ℕ, zero, suc, ◌-◌, ◌<◌, Bool, true, false, cond, ◌||◌, List, [], ◌∷◌, length, map, refl, sym, ◌∙◌, ap, subst, inl}
+use Rattle.std.proofs.Common.{inr, arith, get_or, All, Contains, Vec, Global}
 use Rattle.std.specs.Prelude.{Option, Some, None}
 use Rattle.std.specs.List.{list_any, flat_map, AllByRecursion}
 use Rattle.std.proofs.lemmas.Bool.{false≢true}
@@ -20,7 +21,8 @@ use Rattle.resolver_report.specs.declared.parts.Link.{Link}
 use Rattle.resolver_clause_store.specs.declared.Rule.{Rule}
 use Rattle.resolver_clause_store.specs.declared.Rule.TheVariants.{Requires, Constrains, Lock, Excluded, OnePerPackage}
 use Rattle.resolver_report.specs.Same.{same_node}
-use Rattle.resolver_report.specs.Graphs.{node_by, mentioned, mentions, first_mentions, requirement_link, requirement_links, marked_last, mark_links, links_of, links_after, links, is_entered, place_in, edge_in, graph_with, graph_of}
+use Rattle.resolver_report.specs.Graphs.{node_by, mentioned, mentions, first_mentions, requirement_link, requirement_links, marked_last, mark_links, links_of}
+use Rattle.resolver_report.specs.Graphs.{links_after, links, is_entered, place_in, edge_in, graph_with, graph_of}
 use Rattle.resolver_report.specs.ReachedRules.{IsReachedBy, by_root, by_reached, IsAskerReached, IsKept}
 use Rattle.resolver_report.specs.ReachedPlaces.{IsWalkedTo, at_root, by_requirement, IsReachedPlace, by_walk, by_edge, AreNodesReached}
 use Rattle.resolver_report.specs.Shapes.{as_solvable, ConflictShape}
@@ -36,25 +38,30 @@ mapped f (y ∷ ys) x (suc k, below, is) = Contains-append_right (f y ∷ []) (m
 -- links that require lead from the root to the node, over solvables alone
 pub data IsWalkedNode {S : Type 0} (ls : List (Link S)) : ConflictNode S → Type 0 where
   from_root : IsWalkedNode ls Root
-  by_required : (source : ConflictNode S) (r : Requirement) (s : S) → Contains ls (requirement_link source r (Solvable s)) → IsWalkedNode ls source → IsWalkedNode ls (Solvable s)
+  by_required : (source : ConflictNode S) (r : Requirement) (s : S) → Contains ls (requirement_link source r (Solvable s)) → IsWalkedNode ls source →
+      IsWalkedNode ls (Solvable s)
 
 -- so, or it is no solvable, and a link leads to it from such a node
 pub data IsReachedNode {S : Type 0} (ls : List (Link S)) : ConflictNode S → Type 0 where
   by_nodes : {n : ConflictNode S} → IsWalkedNode ls n → IsReachedNode ls n
   by_link : (l : Link S) → Contains ls l → as_solvable (Some l.target) ≡ None → IsWalkedNode ls l.source → IsReachedNode ls l.target
 
-requirement_link_in : {S : Type 0} (source : ConflictNode S) (r : Requirement) (cs : List S) (s : S) → Contains cs s → Contains (requirement_links source r cs) (requirement_link source r (Solvable s))
+requirement_link_in : {S : Type 0} (source : ConflictNode S) (r : Requirement) (cs : List S) (s : S) → Contains cs s →
+    Contains (requirement_links source r cs) (requirement_link source r (Solvable s))
 requirement_link_in source r [] s h = absurd (omega (arith, h.1))
 requirement_link_in source r (c ∷ cs) s h = mapped (λ d. requirement_link source r (Solvable d)) (c ∷ cs) s h
 
 module _ {N S : Type 0} (same_name : N → N → Bool) where
   -- what a rule links after whichever rules is among the links
-  link_in : (earlier rs : List (Rule N S)) (rule : Rule N S) (l : Link S) → Contains rs rule → ((before : List (Rule N S)) → Contains (links_of same_name before rule) l) → Contains (links_after same_name earlier rs) l
+  link_in : (earlier rs : List (Rule N S)) (rule : Rule N S) (l : Link S) → Contains rs rule →
+      ((before : List (Rule N S)) → Contains (links_of same_name before rule) l) → Contains (links_after same_name earlier rs) l
   link_in earlier [] rule l h f = absurd (omega (arith, h.1))
   link_in earlier (r ∷ rs) rule l (zero, below, is) f =
       let Linked : Rule N S → Type 0 = λ x. Contains (links_of same_name earlier x) l in
       Contains-append_left (links_of same_name earlier r) (links_after same_name (r ∷ earlier) rs) l (subst Linked (sym is) (f earlier))
-  link_in earlier (r ∷ rs) rule l (suc k, below, is) f = Contains-append_right (links_of same_name earlier r) (links_after same_name (r ∷ earlier) rs) l (link_in (r ∷ earlier) rs rule l (k, omega (arith, below), is) f)
+  link_in earlier (r ∷ rs) rule l (suc k, below, is) f =
+      Contains-append_right (links_of same_name earlier r) (links_after same_name (r ∷ earlier) rs) l
+      (link_in (r ∷ earlier) rs rule l (k, omega (arith, below), is) f)
 
   module _ (rules : List (Rule N S)) where
     abbrev Reached : ConflictNode S → Type 0
@@ -63,14 +70,18 @@ module _ {N S : Type 0} (same_name : N → N → Bool) where
     abbrev Walked : ConflictNode S → Type 0
     Walked n = IsWalkedNode (links same_name rules) n
 
-    candidate_node : (by : By S) (requirement : Requirement) (candidates : Vec S Global) (when : Vec (Vec S Global) Global) (s : S) → Contains rules (Requires by requirement candidates when) → Contains candidates.items s → Walked (node_by by) → Walked (Solvable s)
+    candidate_node : (by : By S) (requirement : Requirement) (candidates : Vec S Global) (when : Vec (Vec S Global) Global) (s : S) →
+        Contains rules (Requires by requirement candidates when) → Contains candidates.items s → Walked (node_by by) → Walked (Solvable s)
     candidate_node by requirement candidates when s listed inside asker =
         by_required (node_by by) requirement s
-        (link_in [] rules (Requires by requirement candidates when) (requirement_link (node_by by) requirement (Solvable s)) listed (λ before. requirement_link_in (node_by by) requirement candidates.items s inside)) asker
+        (link_in [] rules (Requires by requirement candidates when) (requirement_link (node_by by) requirement (Solvable s)) listed (λ before.
+        requirement_link_in (node_by by) requirement candidates.items s inside)) asker
 
     reached_node : (s : S) → IsReachedBy rules s → Walked (Solvable s)
-    reached_node s (by_root {requirement = requirement} {candidates = candidates} {when = when} listed inside) = candidate_node ByRoot requirement candidates when s listed inside from_root
-    reached_node s (by_reached {t = t} {requirement = requirement} {candidates = candidates} {when = when} r listed inside) = candidate_node (BySolvable t) requirement candidates when s listed inside (reached_node t r)
+    reached_node s (by_root {requirement = requirement} {candidates = candidates} {when = when} listed inside) =
+        candidate_node ByRoot requirement candidates when s listed inside from_root
+    reached_node s (by_reached {t = t} {requirement = requirement} {candidates = candidates} {when = when} r listed inside) =
+        candidate_node (BySolvable t) requirement candidates when s listed inside (reached_node t r)
 
     asker_node : (by : By S) → IsAskerReached rules by → Walked (node_by by)
     asker_node ByRoot h = from_root
@@ -81,15 +92,22 @@ module _ {N S : Type 0} (same_name : N → N → Bool) where
     solvable_nodes (c ∷ cs) f = (by_nodes (f c (zero, omega arith, refl)), solvable_nodes cs (λ s h. f s (Contains-append_right (c ∷ []) cs s h)))
 
     mentioned_nodes : (rule : Rule N S) → Contains rules rule → IsKept rules rule → AllByRecursion Reached (mentioned rule)
-    mentioned_nodes (Requires by requirement candidates when) listed h = (by_nodes (asker_node by h), solvable_nodes candidates.items (λ s inside. candidate_node by requirement candidates when s listed inside (asker_node by h)))
+    mentioned_nodes (Requires by requirement candidates when) listed h = (
+      by_nodes (asker_node by h),
+      solvable_nodes candidates.items (λ s inside.
+          candidate_node by requirement candidates when s listed inside (asker_node by h)),
+    )
     mentioned_nodes (Constrains by version_set candidate) listed (asker, h) = (by_nodes (asker_node by asker), (by_nodes (reached_node candidate h), tt))
     mentioned_nodes (Lock locked forbidden) listed h = (by_nodes (reached_node forbidden h), tt)
     mentioned_nodes (Excluded solvable reason) listed h =
-        let l : Link S = record { source = Solvable solvable; target = Reason reason; weight = Conflict ByExclusion } in
-        (by_nodes (reached_node solvable h), (by_link l (link_in [] rules (Excluded solvable reason) l listed (λ before. (zero, omega arith, refl))) refl (reached_node solvable h), tt))
+        let l : Link S = record { source = Solvable solvable; target = Reason reason; weight = Conflict ByExclusion } in (
+          by_nodes (reached_node solvable h),
+          (by_link l (link_in [] rules (Excluded solvable reason) l listed (λ before. (zero, omega arith, refl))) refl (reached_node solvable h), tt),
+        )
     mentioned_nodes (OnePerPackage name instance) listed h = (by_nodes (reached_node instance h), tt)
 
-    all_mentioned : (rs : List (Rule N S)) → ((r : Rule N S) → Contains rs r → Contains rules r) → All (IsKept rules) rs → AllByRecursion Reached (flat_map mentioned rs)
+    all_mentioned : (rs : List (Rule N S)) → ((r : Rule N S) → Contains rs r → Contains rules r) → All (IsKept rules) rs →
+        AllByRecursion Reached (flat_map mentioned rs)
     all_mentioned [] up h = tt
     all_mentioned (r ∷ rs) up h =
         AllByRecursion-append Reached (mentioned r) (flat_map mentioned rs)
@@ -114,15 +132,18 @@ module _ {N S : Type 0} (same_name : N → N → Bool) where
       all_has P [] n all h = absurd (false≢true h)
       all_has P (x ∷ xs) n all h = at_test (same_node same x n) refl h (all_has P xs n all.1)
         where
-          at_test : (b : Bool) → same_node same x n ≡ b → (b || list_any (λ y. same_node same y n) xs) ≡ true → (list_any (λ y. same_node same y n) xs ≡ true → P n) → P n
+          at_test : (b : Bool) → same_node same x n ≡ b → (b || list_any (λ y. same_node same y n) xs) ≡ true →
+              (list_any (λ y. same_node same y n) xs ≡ true → P n) → P n
           at_test true e k rest = subst P ((same_node_is_identity same identity).alone x n e) all.0
           at_test false e k rest = rest k
 
       -- the place of the node that stands at a place
       place_is : (ms : List (ConflictNode S)) → HasNoRepeats ms → (k : ℕ) → k < length ms → place_in same ms (get_or ms k Root) ≡ k
-      place_is ms once k below = position_or_len_is (λ m. same_node same m (get_or ms k Root)) ms k Root (omega arith) (λ j h. apart j h (same_node same (get_or ms j Root) (get_or ms k Root)) refl) (λ h. itself (get_or ms k Root))
+      place_is ms once k below = position_or_len_is (λ m. same_node same m (get_or ms k Root)) ms k Root (omega arith) (λ j h.
+          apart j h (same_node same (get_or ms j Root) (get_or ms k Root)) refl) (λ h. itself (get_or ms k Root))
         where
-          apart : (j : ℕ) → j < k → (b : Bool) → same_node same (get_or ms j Root) (get_or ms k Root) ≡ b → same_node same (get_or ms j Root) (get_or ms k Root) ≡ false
+          apart : (j : ℕ) → j < k → (b : Bool) → same_node same (get_or ms j Root) (get_or ms k Root) ≡ b →
+              same_node same (get_or ms j Root) (get_or ms k Root) ≡ false
           apart j h true e = absurd (once j k Root h below ((same_node_is_identity same identity).alone (get_or ms j Root) (get_or ms k Root) e))
           apart j h false e = e
 
@@ -132,7 +153,8 @@ module _ {N S : Type 0} (same_name : N → N → Bool) where
         graph = graph_with same ms (links same_name rules) unresolved
 
         ends_of : (l : Link S) → Contains (links same_name rules) l → EndsIn same identity ms l
-        ends_of l inside = All-contains (EndsIn same identity ms) (links same_name rules) l (All-from_recursion (EndsIn same identity ms) (links same_name rules) ends) inside
+        ends_of l inside = All-contains (EndsIn same identity ms) (links same_name rules) l
+            (All-from_recursion (EndsIn same identity ms) (links same_name rules) ends) inside
 
         edge_inside : (l : Link S) → Contains (links same_name rules) l → Contains graph.shape.edges (edge_in same ms l)
         edge_inside l inside = mapped (edge_in same ms) (links same_name rules) l inside
@@ -141,14 +163,17 @@ module _ {N S : Type 0} (same_name : N → N → Bool) where
         place_walked root from_root = subst (IsWalkedTo graph) (sym root) at_root
         place_walked root (by_required source r s inside walked) =
             let l : Link S = requirement_link source r (Solvable s) in
-            by_requirement (edge_in same ms l) r s (edge_inside l inside) refl (ap as_solvable (stands same identity ms (Solvable s) (ends_of l inside).1)) (place_walked root walked)
+            by_requirement (edge_in same ms l) r s (edge_inside l inside) refl (ap as_solvable (stands same identity ms (Solvable s) (ends_of l inside).1))
+            (place_walked root walked)
 
         place_reached : place_in same ms Root ≡ 0 → {n : ConflictNode S} → Reached n → IsReachedPlace graph (place_in same ms n)
         place_reached root (by_nodes walked) = by_walk (place_walked root walked)
         place_reached root (by_link l inside other walked) =
-            by_edge (edge_in same ms l) (edge_inside l inside) (ap as_solvable (stands same identity ms l.target (ends_of l inside).1) ∙ other) (place_walked root walked)
+            by_edge (edge_in same ms l) (edge_inside l inside) (ap as_solvable (stands same identity ms l.target (ends_of l inside).1) ∙ other)
+            (place_walked root walked)
 
-        places_reached : HasNoRepeats ms → 0 < length ms → get_or ms 0 Root ≡ Root → ((k : ℕ) → k < length ms → Reached (get_or ms k Root)) → AreNodesReached graph
+        places_reached : HasNoRepeats ms → 0 < length ms → get_or ms 0 Root ≡ Root → ((k : ℕ) → k < length ms → Reached (get_or ms k Root)) →
+            AreNodesReached graph
         places_reached once some first all k below =
             let Placed : ConflictNode S → Type 0 = λ n. place_in same ms n ≡ 0 in
             let root : place_in same ms Root ≡ 0 = subst Placed first (place_is ms once 0 some) in
@@ -165,13 +190,16 @@ module _ {N S : Type 0} (same_name : N → N → Bool) where
         first_node k below =
             let n : ConflictNode S = get_or firsts k Root in
             let there : Has same identity firsts n = list_any_at (λ y. same_node same y n) firsts k Root below (itself n) in
-            all_has ReachedOrUnresolved (mentions rules) n (mentions_reached kept) (sym (has-without_repeats (same_node same) (same_node_is_identity same identity) (mentions rules) n) ∙ there)
+            all_has ReachedOrUnresolved (mentions rules) n (mentions_reached kept)
+            (sym (has-without_repeats (same_node same) (same_node_is_identity same identity) (mentions rules) n) ∙ there)
 
         entering : (xs : List (Link S)) → is_entered same xs ≡ true → (l : Link S) × Contains xs l × (l.target ≡ UnresolvedDependency)
         entering [] h = absurd (false≢true h)
         entering (x ∷ xs) h = at_test (same_node same x.target UnresolvedDependency) refl h (entering xs)
           where
-            at_test : (b : Bool) → same_node same x.target UnresolvedDependency ≡ b → (b || is_entered same xs) ≡ true → (is_entered same xs ≡ true → (l : Link S) × Contains xs l × (l.target ≡ UnresolvedDependency)) → (l : Link S) × Contains (x ∷ xs) l × (l.target ≡ UnresolvedDependency)
+            at_test : (b : Bool) → same_node same x.target UnresolvedDependency ≡ b → (b || is_entered same xs) ≡ true →
+                (is_entered same xs ≡ true → (l : Link S) × Contains xs l × (l.target ≡ UnresolvedDependency)) → (l : Link S) × Contains (x ∷ xs) l ×
+                (l.target ≡ UnresolvedDependency)
             at_test true e k rest = (x, (zero, omega arith, refl), (same_node_is_identity same identity).alone x.target UnresolvedDependency e)
             at_test false e k rest = let found = rest k in (found.0, Contains-append_right (x ∷ []) xs found.0 found.1, found.2)
 
@@ -179,11 +207,13 @@ module _ {N S : Type 0} (same_name : N → N → Bool) where
         abbrev IsFromWalked : Link S → Type 0
         IsFromWalked l = l.target ≡ UnresolvedDependency → Walked l.source
 
-        required_from : (source : ConflictNode S) (r : Requirement) (cs : List S) → Walked source → AllByRecursion IsFromWalked (map (λ d. requirement_link source r (Solvable d)) cs)
+        required_from : (source : ConflictNode S) (r : Requirement) (cs : List S) → Walked source →
+            AllByRecursion IsFromWalked (map (λ d. requirement_link source r (Solvable d)) cs)
         required_from source r [] walked = tt
         required_from source r (c ∷ cs) walked = ((λ e. walked), required_from source r cs walked)
 
-        requirement_from : (source : ConflictNode S) (r : Requirement) (cs : List S) → Walked source → AllByRecursion IsFromWalked (requirement_links source r cs)
+        requirement_from : (source : ConflictNode S) (r : Requirement) (cs : List S) → Walked source →
+            AllByRecursion IsFromWalked (requirement_links source r cs)
         requirement_from source r [] walked = ((λ e. walked), tt)
         requirement_from source r (c ∷ cs) walked = required_from source r (c ∷ cs) walked
 
@@ -207,7 +237,9 @@ module _ {N S : Type 0} (same_name : N → N → Bool) where
         unresolved_reached : is_entered same (links same_name rules) ≡ true → Reached UnresolvedDependency
         unresolved_reached h =
             let found = entering (links same_name rules) h in
-            let walked : Walked found.0.source = All-contains IsFromWalked (links same_name rules) found.0 (All-from_recursion IsFromWalked (links same_name rules) (links_from [] rules kept)) found.1 found.2 in
+            let walked : Walked found.0.source =
+            All-contains IsFromWalked (links same_name rules) found.0
+            (All-from_recursion IsFromWalked (links same_name rules) (links_from [] rules kept)) found.1 found.2 in
             subst (IsReachedNode (links same_name rules)) found.2 (by_link found.0 found.1 (ap (λ n. as_solvable (Some n)) found.2) walked)
 
         entered_node : is_entered same (links same_name rules) ≡ true → (k : ℕ) → k < length firsts → Reached (get_or firsts k Root)
@@ -226,9 +258,12 @@ module _ {N S : Type 0} (same_name : N → N → Bool) where
         left = without_unresolved same identity rules
 
         left_node : (k : ℕ) → k < length firsts - 1 → Reached (get_or left k Root)
-        left_node zero h = subst (IsReachedNode (links same_name rules)) (sym (at_other firsts Root (omega arith) 0 Root h (omega arith))) (other_node 0 (omega arith) (omega arith))
-        left_node (suc zero) h = subst (IsReachedNode (links same_name rules)) (sym (at_one firsts Root (omega arith) Root h)) (other_node (length firsts - 1) (omega arith) (omega arith))
-        left_node (suc (suc k)) h = subst (IsReachedNode (links same_name rules)) (sym (at_other firsts Root (omega arith) (suc (suc k)) Root h (omega arith))) (other_node (suc (suc k)) (omega arith) (omega arith))
+        left_node zero h = subst (IsReachedNode (links same_name rules)) (sym (at_other firsts Root (omega arith) 0 Root h (omega arith)))
+            (other_node 0 (omega arith) (omega arith))
+        left_node (suc zero) h = subst (IsReachedNode (links same_name rules)) (sym (at_one firsts Root (omega arith) Root h))
+            (other_node (length firsts - 1) (omega arith) (omega arith))
+        left_node (suc (suc k)) h = subst (IsReachedNode (links same_name rules)) (sym (at_other firsts Root (omega arith) (suc (suc k)) Root h (omega arith)))
+            (other_node (suc (suc k)) (omega arith) (omega arith))
 
         left_below : (k : ℕ) → k < length left → k < length firsts - 1
         left_below k h = omega (arith, simp (length-take, length-set) at h)
@@ -237,7 +272,8 @@ module _ {N S : Type 0} (same_name : N → N → Bool) where
         left_root h = at_other firsts Root (omega arith) 0 Root (left_below 0 h) (omega arith)
 
         left_places : is_entered same (links same_name rules) ≡ false → 0 < length left → AreNodesReached (graph_with same left (links same_name rules) None)
-        left_places e some = places_reached left None (without_ends same identity same_name rules e) (swapped_once firsts Root (omega arith) firsts_once) some (left_root some) (λ k h. left_node k (left_below k h))
+        left_places e some = places_reached left None (without_ends same identity same_name rules e) (swapped_once firsts Root (omega arith) firsts_once) some
+            (left_root some) (λ k h. left_node k (left_below k h))
 
         pub graph_of_kept_rules : AreNodesReached (graph_of same_name same rules)
         graph_of_kept_rules = at_entered (is_entered same (links same_name rules)) refl

@@ -23,7 +23,8 @@ in_part (cut_right {x = y} {zs = zs} rest) x (suc k, below, is) =
     elim (in_part rest x (k, omega (arith, below), is)) [ inl h ↦ inl h | inr h ↦ inr (Contains-append_right (y ∷ []) zs x h) ]
 
 -- a kept rule of the list is left
-Contains-kept : {N S : Type 0} (rules kept : List (Rule N S)) → LeavesKept rules kept → (rule : Rule N S) → Contains rules rule → IsKept rules rule → Contains kept rule
+Contains-kept : {N S : Type 0} (rules kept : List (Rule N S)) → LeavesKept rules kept → (rule : Rule N S) → Contains rules rule → IsKept rules rule →
+    Contains kept rule
 Contains-kept rules kept left rule listed is =
     elim (in_part left.cut rule listed) [ inl h ↦ h | inr h ↦ absurd (All-contains (λ r. IsKept rules r → ⊥) left.dropped rule left.none_dropped h is) ]
 
@@ -69,7 +70,8 @@ module _ {N S : Type 0} (rules : List (Rule N S)) where
   reached_part [] none = none [] (record { within = λ s h. h; reached = λ s h. absurd (omega (arith, h.1)); all = λ s h r. h })
   reached_part (x ∷ xs) none = reached_part xs (λ part h. none part (with_unreached x xs part h (λ is. none (x ∷ part) (with_reached x xs part h is))))
 
-module _ {N S : Type 0} (rules kept : List (Rule N S)) (left : LeavesKept rules kept) (set part : List S) (obeys : Obeys set kept) (is : IsReachedPart rules set part) where
+module _ {N S : Type 0} (rules kept : List (Rule N S)) (left : LeavesKept rules kept) (set part : List S) (obeys : Obeys set kept)
+    (is : IsReachedPart rules set part) where
   asker_reached : (by : By S) → IsPresent by part → IsAskerReached rules by
   asker_reached Root here = tt
   asker_reached (Solvable s) here = is.reached s here
@@ -78,25 +80,40 @@ module _ {N S : Type 0} (rules kept : List (Rule N S)) (left : LeavesKept rules 
   asker_present Root here = tt
   asker_present (Solvable s) here = is.within s here
 
-  candidate_reached : (by : By S) (requirement : Requirement) (candidates : Vec S Global) (when : Vec (Vec S Global) Global) (s : S) → IsPresent by part → Contains rules (Requires by requirement candidates when) → Contains candidates.items s → IsReachedBy rules s
+  candidate_reached : (by : By S) (requirement : Requirement) (candidates : Vec S Global) (when : Vec (Vec S Global) Global) (s : S) → IsPresent by part →
+      Contains rules (Requires by requirement candidates when) → Contains candidates.items s → IsReachedBy rules s
   candidate_reached Root requirement candidates when s here listed inside = by_root listed inside
   candidate_reached (Solvable t) requirement candidates when s here listed inside = by_reached (is.reached t here) listed inside
 
   part_obeys : (rule : Rule N S) → Contains rules rule → ObeysAlone part (statement_of rule)
   part_obeys (Requires by requirement candidates when) listed = λ here meet.
-      let met : Meets candidates.items set = obeys.each (Requires by requirement candidates when) (Contains-kept rules kept left (Requires by requirement candidates when) listed (asker_reached by here)) (asker_present by here) (AllMeet-within (lists_of when.items) part set is.within meet) in
-      record { shared = met.shared; in_first = met.in_first; in_second = is.all met.shared met.in_second (candidate_reached by requirement candidates when met.shared here listed met.in_first) }
+      let met : Meets candidates.items set =
+      obeys.each (Requires by requirement candidates when)
+      (Contains-kept rules kept left (Requires by requirement candidates when) listed (asker_reached by here)) (asker_present by here)
+      (AllMeet-within (lists_of when.items) part set is.within meet) in
+      record {
+        shared = met.shared;
+        in_first = met.in_first;
+        in_second = is.all met.shared met.in_second (candidate_reached by requirement candidates when met.shared here listed met.in_first);
+      }
   part_obeys (Constrains by version_set candidate) listed = λ here inside.
-      obeys.each (Constrains by version_set candidate) (Contains-kept rules kept left (Constrains by version_set candidate) listed (asker_reached by here, is.reached candidate inside)) (asker_present by here) (is.within candidate inside)
-  part_obeys (Lock locked forbidden) listed = λ inside. obeys.each (Lock locked forbidden) (Contains-kept rules kept left (Lock locked forbidden) listed (is.reached forbidden inside)) (is.within forbidden inside)
-  part_obeys (Excluded solvable reason) listed = λ inside. obeys.each (Excluded solvable reason) (Contains-kept rules kept left (Excluded solvable reason) listed (is.reached solvable inside)) (is.within solvable inside)
+      obeys.each (Constrains by version_set candidate)
+      (Contains-kept rules kept left (Constrains by version_set candidate) listed (asker_reached by here, is.reached candidate inside))
+      (asker_present by here) (is.within candidate inside)
+  part_obeys (Lock locked forbidden) listed =
+      λ inside. obeys.each (Lock locked forbidden) (Contains-kept rules kept left (Lock locked forbidden) listed (is.reached forbidden inside))
+      (is.within forbidden inside)
+  part_obeys (Excluded solvable reason) listed =
+      λ inside. obeys.each (Excluded solvable reason) (Contains-kept rules kept left (Excluded solvable reason) listed (is.reached solvable inside))
+      (is.within solvable inside)
   part_obeys (OnePerPackage name instance) listed = tt
 
   Obeys-part : Obeys part rules
   Obeys-part = record {
     each = part_obeys;
     one_each = λ n s t first second inside also.
-        obeys.one_each n s t (Contains-kept rules kept left (OnePerPackage n s) first (is.reached s inside)) (Contains-kept rules kept left (OnePerPackage n t) second (is.reached t also)) (is.within s inside) (is.within t also);
+        obeys.one_each n s t (Contains-kept rules kept left (OnePerPackage n s) first (is.reached s inside))
+        (Contains-kept rules kept left (OnePerPackage n t) second (is.reached t also)) (is.within s inside) (is.within t also);
   }
 
 -- what no set obeys, none obeys with the kept rules alone
@@ -111,8 +128,10 @@ All-left P (cut_right {x = x} {xs = xs} rest) all = All-left P rest (All-tail P 
 
 -- the kept rules reach what all rules reach
 IsReachedBy-kept : {N S : Type 0} (rules kept : List (Rule N S)) → LeavesKept rules kept → (s : S) → IsReachedBy rules s → IsReachedBy kept s
-IsReachedBy-kept rules kept left s (by_root {requirement = requirement} {candidates = candidates} {when = when} listed inside) = by_root (Contains-kept rules kept left (Requires Root requirement candidates when) listed tt) inside
-IsReachedBy-kept rules kept left s (by_reached {t = t} {requirement = requirement} {candidates = candidates} {when = when} r listed inside) = by_reached (IsReachedBy-kept rules kept left t r) (Contains-kept rules kept left (Requires (Solvable t) requirement candidates when) listed r) inside
+IsReachedBy-kept rules kept left s (by_root {requirement = requirement} {candidates = candidates} {when = when} listed inside) =
+    by_root (Contains-kept rules kept left (Requires Root requirement candidates when) listed tt) inside
+IsReachedBy-kept rules kept left s (by_reached {t = t} {requirement = requirement} {candidates = candidates} {when = when} r listed inside) =
+    by_reached (IsReachedBy-kept rules kept left t r) (Contains-kept rules kept left (Requires (Solvable t) requirement candidates when) listed r) inside
 
 asker_kept : {N S : Type 0} (rules kept : List (Rule N S)) → LeavesKept rules kept → (by : By S) → IsAskerReached rules by → IsAskerReached kept by
 asker_kept rules kept left Root h = tt
@@ -120,7 +139,8 @@ asker_kept rules kept left (Solvable s) h = IsReachedBy-kept rules kept left s h
 
 IsKept-kept : {N S : Type 0} (rules kept : List (Rule N S)) → LeavesKept rules kept → (rule : Rule N S) → IsKept rules rule → IsKept kept rule
 IsKept-kept rules kept left (Requires by requirement candidates when) h = asker_kept rules kept left by h
-IsKept-kept rules kept left (Constrains by version_set candidate) (asker, h) = (asker_kept rules kept left by asker, IsReachedBy-kept rules kept left candidate h)
+IsKept-kept rules kept left (Constrains by version_set candidate) (asker, h) =
+    (asker_kept rules kept left by asker, IsReachedBy-kept rules kept left candidate h)
 IsKept-kept rules kept left (Lock locked forbidden) h = IsReachedBy-kept rules kept left forbidden h
 IsKept-kept rules kept left (Excluded solvable reason) h = IsReachedBy-kept rules kept left solvable h
 IsKept-kept rules kept left (OnePerPackage name instance) h = IsReachedBy-kept rules kept left instance h

@@ -1,5 +1,6 @@
 -- Why following what is reached ends, and with just what is reached.
-use Rattle.std.proofs.Common.{◌≡◌, ◌⊎◌, ℕ, zero, suc, ◌+◌, ◌-◌, ◌<◌, ◌≤◌, Bool, true, false, List, [], ◌∷◌, ◌++◌, length, append_assoc, length-append, refl, sym, ◌∙◌, ap, subst, true≢false, inl, inr, arith, Contains, MatchBool, Vec, Global}
+use Rattle.std.proofs.Common.{◌≡◌, ◌⊎◌, ℕ, zero, suc, ◌+◌, ◌-◌, ◌<◌, ◌≤◌, Bool, true, false, List, [], ◌∷◌, ◌++◌, length, append_assoc, length-append, refl}
+use Rattle.std.proofs.Common.{sym, ◌∙◌, ap, subst, true≢false, inl, inr, arith, Contains, MatchBool, Vec, Global}
 use Rattle.std.specs.Cmp.{IsEquivalence}
 use Rattle.std.specs.List.{flat_map, list_any, items_where_true}
 use Rattle.std.specs.List.Retain.{IsFiltered, ReturnsInTurn}
@@ -77,7 +78,8 @@ module _ {S : Type 0} (same : S → S → Bool) (identity : IsIdentity same) (la
       by : (b : Bool) → b ≡ list_any (same k) old → IsGrowth same all old (if b then old else old ++ k ∷ [])
       by true e = Growth-none same all old
       by false e =
-          let fewer : count_outside same (old ++ k ∷ []) all < count_outside same old all = count_outside-lt same old k all inside (list_any-outside same identity old k (list_any-member old k false e)) (identity.itself k) in
+          let fewer : count_outside same (old ++ k ∷ []) all < count_outside same old all =
+          count_outside-lt same old k all inside (list_any-outside same identity old k (list_any-member old k false e)) (identity.itself k) in
           record { more = k ∷ []; is = refl; counts = simp length-append (omega (arith, fewer)) }
 
   Growth-all : (all old : List S) (cs : List S) → IsWithin cs all → IsGrowth same all old (insert_all same old cs)
@@ -90,7 +92,8 @@ module _ {S : Type 0} (same : S → S → Bool) (identity : IsIdentity same) (la
   Contains-insert_all old [] x h = absurd (none_in x h)
   Contains-insert_all old (c ∷ cs) x (zero, below, is) =
       let Has : S → Type 0 = λ y. Contains (insert_all same (insert_key same old c) cs) y in
-      subst Has is (Contains-grown same cs (insert_key same old c) (insert_all same (insert_key same old c) cs) (Growth-all cs (insert_key same old c) cs (λ y h. h)) c (Contains-insert_key same identity.alone old c))
+      subst Has is (Contains-grown same cs (insert_key same old c) (insert_all same (insert_key same old c) cs)
+      (Growth-all cs (insert_key same old c) cs (λ y h. h)) c (Contains-insert_key same identity.alone old c))
   Contains-insert_all old (c ∷ cs) x (suc k, below, is) = Contains-insert_all (insert_key same old c) cs x (k, omega (arith, below), is)
 
   module _ (P : S → Type 0) where
@@ -103,7 +106,8 @@ module _ {S : Type 0} (same : S → S → Bool) (identity : IsIdentity same) (la
 
     all_sound : (old cs : List S) → ((s : S) → Contains old s → P s) → ((s : S) → Contains cs s → P s) → (s : S) → Contains (insert_all same old cs) s → P s
     all_sound old [] h here = h
-    all_sound old (c ∷ cs) h here = all_sound (insert_key same old c) cs (key_sound old c h (here c (head_in c cs))) (λ s inside. here s (tail_in c cs s inside))
+    all_sound old (c ∷ cs) h here =
+        all_sound (insert_key same old c) cs (key_sound old c h (here c (head_in c cs))) (λ s inside. here s (tail_in c cs s inside))
 
   -- Of the candidates of requirements.
   module _ {N : Type 0} (rules : List (Rule N S)) where
@@ -122,7 +126,8 @@ module _ {S : Type 0} (same : S → S → Bool) (identity : IsIdentity same) (la
     from_items_if t u s cs true e inside = (identity.alone t u e, inside)
     from_items_if t u s cs false e inside = absurd (none_in s inside)
 
-    asked_reached_in : (u : S) → IsReachedBy rules u → (rule : Rule N S) → Contains rules rule → (s : S) → Contains (asked_in same u rule) s → IsReachedBy rules s
+    asked_reached_in : (u : S) → IsReachedBy rules u → (rule : Rule N S) → Contains rules rule → (s : S) → Contains (asked_in same u rule) s →
+        IsReachedBy rules s
     asked_reached_in u r (Requires Root requirement candidates when) listed s inside = absurd (none_in s inside)
     asked_reached_in u r (Requires (Solvable t) requirement candidates when) listed s inside =
         let told = from_items_if t u s candidates.items (same t u) refl inside in
@@ -148,12 +153,14 @@ module _ {S : Type 0} (same : S → S → Bool) (identity : IsIdentity same) (la
         let found = gathered_from (asked_in same u) rules s inside in
         Contains-all_candidates rules found.0 s found.1 (asked_candidate u found.0 s found.2)
 
-    asked_itself : (u : S) (requirement : Requirement) (candidates : Vec S Global) (when : Vec (Vec S Global) Global) (s : S) → Contains candidates.items s → Contains (asked_in {N = N} same u (Requires (Solvable u) requirement candidates when)) s
+    asked_itself : (u : S) (requirement : Requirement) (candidates : Vec S Global) (when : Vec (Vec S Global) Global) (s : S) → Contains candidates.items s →
+        Contains (asked_in {N = N} same u (Requires (Solvable u) requirement candidates when)) s
     asked_itself u requirement candidates when s inside =
         let Asked : Bool → Type 0 = λ b. Contains (items_if b candidates.items) s in
         subst Asked (sym (identity.itself u)) inside
 
-    pub underway_first : (old new first : List S) → old ≡ [] → first ≡ flat_map root_asked_in rules → new ≡ insert_all same old first → IsUnderway same rules new 0
+    pub underway_first : (old new first : List S) → old ≡ [] → first ≡ flat_map root_asked_in rules → new ≡ insert_all same old first →
+        IsUnderway same rules new 0
     underway_first old new first none are told =
         let whole : new ≡ insert_all same [] (flat_map root_asked_in rules) = told ∙ (λ i. insert_all same (none i) (are i)) in
         let Underway : List S → Type 0 = λ set. IsUnderway same rules set 0 in
@@ -163,12 +170,14 @@ module _ {S : Type 0} (same : S → S → Bool) (identity : IsIdentity same) (la
           followed = λ k u below. absurd (omega (arith, below));
         })
 
-    module _ (old new : List S) (next : ℕ) (u : S) (at_next : slice_get old next ≡ Some u) (told : new ≡ insert_all same old (flat_map (asked_in same u) rules)) where
+    module _ (old new : List S) (next : ℕ) (u : S) (at_next : slice_get old next ≡ Some u)
+        (told : new ≡ insert_all same old (flat_map (asked_in same u) rules)) where
       asked : List S
       asked = flat_map (asked_in same u) rules
 
       growth : IsGrowth same (all_candidates rules) old new
-      growth = let Grown : List S → Type 0 = λ set. IsGrowth same (all_candidates rules) old set in subst Grown (sym told) (Growth-all (all_candidates rules) old (flat_map (asked_in same u) rules) (asked_within u))
+      growth = let Grown : List S → Type 0 = λ set. IsGrowth same (all_candidates rules) old set in
+          subst Grown (sym told) (Growth-all (all_candidates rules) old (flat_map (asked_in same u) rules) (asked_within u))
 
       within_new : IsWithin old new
       within_new = Contains-grown same (all_candidates rules) old new growth
@@ -206,7 +215,8 @@ module _ {S : Type 0} (same : S → S → Bool) (identity : IsIdentity same) (la
           followed k v below e = at_place k v (sym (before k below) ∙ e) (cases_lt_suc k next below)
 
       -- the measure of the steps
-      pub falls_next : (count_outside same new (all_candidates rules) + length new) - (next + 1) < (count_outside same old (all_candidates rules) + length old) - next
+      pub falls_next : (count_outside same new (all_candidates rules) + length new) - (next + 1) <
+          (count_outside same old (all_candidates rules) + length old) - next
       falls_next = omega (arith, growth.counts, slice_get_within old next u at_next)
 
     -- a set whose members were all followed is all that is reached
@@ -219,11 +229,14 @@ module _ {S : Type 0} (same : S → S → Bool) (identity : IsIdentity same) (la
         complete s (by_reached {t = t} {requirement = requirement} {candidates = candidates} {when = when} r listed inside) =
             let at = complete t r in
             h.followed at.0 t (omega (arith, at.1, end)) (slice_get-get_or set at.0 t at.1 ∙ ap Some at.2) s
-            (gathered (asked_in same t) rules (Requires (Solvable t) requirement candidates when) s listed (asked_itself t requirement candidates when s inside))
+            (gathered (asked_in same t) rules (Requires (Solvable t) requirement candidates when) s listed
+            (asked_itself t requirement candidates when s inside))
 
 -- what `retain` leaves, where each call tells whether P holds, and leaves the closure as it was
-module _ {X F : Type 0} (R : F → X → Bool → F → Type 0) (P : X → Type 0) (f : F) (h : (x : X) (b : Bool) (f' : F) → R f x b f' → MatchBool b (P x) (P x → ⊥) × (f' ≡ f)) where
-  one_more : (x : X) (xs : List X) (bs : List Bool) (b : Bool) → MatchBool b (P x) (P x → ⊥) → LeavesJust P xs (items_where_true bs xs) → LeavesJust P (x ∷ xs) (items_where_true (b ∷ bs) (x ∷ xs))
+module _ {X F : Type 0} (R : F → X → Bool → F → Type 0) (P : X → Type 0) (f : F)
+    (h : (x : X) (b : Bool) (f' : F) → R f x b f' → MatchBool b (P x) (P x → ⊥) × (f' ≡ f)) where
+  one_more : (x : X) (xs : List X) (bs : List Bool) (b : Bool) → MatchBool b (P x) (P x → ⊥) → LeavesJust P xs (items_where_true bs xs) →
+      LeavesJust P (x ∷ xs) (items_where_true (b ∷ bs) (x ∷ xs))
   one_more x xs bs true holds rest = record {
     dropped = rest.dropped;
     cut = cut_left rest.cut;
@@ -277,5 +290,6 @@ module _ {N S : Type 0} (rules : List (Rule N S)) (set : List S) (is : IsReached
     dropped = h.dropped;
     cut = h.cut;
     all_left = All-weaker (IsAbout set) (IsKept rules) IsKept-about left h.all_left;
-    none_dropped = All-weaker (λ rule. IsAbout set rule → ⊥) (λ rule. IsKept rules rule → ⊥) (λ rule none kept. none (IsAbout-kept rule kept)) h.dropped h.none_dropped;
+    none_dropped = All-weaker (λ rule. IsAbout set rule → ⊥) (λ rule. IsKept rules rule → ⊥) (λ rule none kept.
+        none (IsAbout-kept rule kept)) h.dropped h.none_dropped;
   }

@@ -1,5 +1,6 @@
 -- One node more of which the groups are told.
-use Rattle.std.proofs.Common.{◌≡◌, ℕ, zero, suc, ◌+◌, ◌<◌, ◌≤◌, Bool, true, false, cond, List, [], ◌∷◌, length, refl, sym, ◌∙◌, ap, subst, ⊎_elim, arith, get_or}
+use Rattle.std.proofs.Common.{◌≡◌, ℕ, zero, suc, ◌+◌, ◌<◌, ◌≤◌, Bool, true, false, cond, List, [], ◌∷◌, length, refl, sym, ◌∙◌, ap, subst, ⊎_elim, arith}
+use Rattle.std.proofs.Common.{get_or}
 use Rattle.std.specs.Prelude.{Option, Some, None, IsSome, IsNone, MatchOption, slice_get, slice_index}
 use Rattle.std.specs.Option.{is_some}
 use Rattle.std.specs.Map.{lookup}
@@ -45,7 +46,8 @@ here (y ∷ ys) (suc n) x e = here ys n x e
 one_place : {X : Type 0} (xs : List X) → HasNoRepeats xs → (n k : ℕ) (x : X) → slice_get xs n ≡ Some x → slice_get xs k ≡ Some x → n ≡ k
 one_place xs once n k x e f =
     ⊎_elim (λ (lt : n < k). absurd (once n k x lt (below xs k x f) (here xs n x e ∙ sym (here xs k x f))))
-    (λ (le : k ≤ n). ⊎_elim (λ (lt : k < n). absurd (once k n x lt (below xs n x e) (here xs k x f ∙ sym (here xs n x e)))) (λ (ge : n ≤ k). omega arith) (cases_lt k n)) (cases_lt n k)
+    (λ (le : k ≤ n). ⊎_elim (λ (lt : k < n). absurd (once k n x lt (below xs n x e) (here xs k x f ∙ sym (here xs n x e)))) (λ (ge : n ≤ k). omega arith)
+    (cases_lt k n)) (cases_lt n k)
 
 first_is : (xs : List ℕ) → 2 ≤ length xs → first_of_two xs ≡ Some (slice_index xs 0)
 first_is [] h = absurd (omega (arith, h))
@@ -54,37 +56,46 @@ first_is (x ∷ y ∷ xs) h = refl
 
 module _ {S : Type 0} (same : S → S → Bool) (ks : List Key) (g : Shape S) (n : ℕ) where
   -- the group of the first of a class is the group of the class
-  pub shared_group : (groups : Groups S) (group copy : Group S) (class : List ℕ) → class ≡ class_in ks n → 2 ≤ length class → IsSimplifiedBefore same ks g n groups → IsMadeAt same g (slice_index class 0) groups group → copy.value ≡ group.value → IsGroupOf ks g n copy
+  pub shared_group : (groups : Groups S) (group copy : Group S) (class : List ℕ) → class ≡ class_in ks n → 2 ≤ length class →
+      IsSimplifiedBefore same ks g n groups → IsMadeAt same g (slice_index class 0) groups group → copy.value ≡ group.value → IsGroupOf ks g n copy
   shared_group groups group copy class are several before made is =
       let m : ℕ = slice_index class 0 in
       let first : group_in ks n ≡ Some m = ap first_of_two (sym are) ∙ first_is class several in
-      let earlier : IsEarlierGroup ks g n m group = at_some (m < n → IsNone (group_in ks m)) (get same groups made.solvable) (IsEarlierGroup ks g n m) group made.mapped (before.members m made.solvable made.at_node) in
+      let earlier : IsEarlierGroup ks g n m group =
+      at_some (m < n → IsNone (group_in ks m)) (get same groups made.solvable) (IsEarlierGroup ks g n m) group made.mapped
+      (before.members m made.solvable made.at_node) in
       record { several = ap is_some first; ids = ap (λ v. v.ids.items) is ∙ earlier.of_node.ids ∙ ap (solvables_at g) (class_of_first ks n m first) }
 
   longer : (k : ℕ) (group : Group S) → IsEarlierGroup ks g n k group → IsEarlierGroup ks g (n + 1) k group
   longer k group h = let lt : k < n = h.before in record { before = omega arith; of_node = h.of_node }
 
   -- nothing is mapped for a node without a group
-  pub skipped : (m : Groups S) → ((s : S) → solvable_at g n ≡ Some s → IsNone (group_in ks n)) → IsSimplifiedBefore same ks g n m → IsSimplifiedBefore same ks g (n + 1) m
+  pub skipped : (m : Groups S) → ((s : S) → solvable_at g n ≡ Some s → IsNone (group_in ks n)) → IsSimplifiedBefore same ks g n m →
+      IsSimplifiedBefore same ks g (n + 1) m
   skipped m alone before = record { members = members; only = before.only }
     where
       now_none : (k : ℕ) (s : S) → solvable_at g k ≡ Some s → (k < n → IsNone (group_in ks k)) → k < n + 1 → IsNone (group_in ks k)
       now_none k s e earlier lt = ⊎_elim (λ (less : k < n). earlier less)
-          (λ (le : n ≤ k). let is : n ≡ k = omega arith in let P : ℕ → Type 0 = λ i. ((t : S) → solvable_at g i ≡ Some t → IsNone (group_in ks i)) in subst P is alone s e) (cases_lt k n)
+          (λ (le : n ≤ k). let is : n ≡ k = omega arith in let P : ℕ → Type 0 = λ i. ((t : S) → solvable_at g i ≡ Some t → IsNone (group_in ks i)) in
+          subst P is alone s e) (cases_lt k n)
 
       members : (k : ℕ) (s : S) → solvable_at g k ≡ Some s → MatchOption (get same m s) (k < n + 1 → IsNone (group_in ks k)) (IsEarlierGroup ks g (n + 1) k)
       members k s e = match_weaker (get same m s) (IsEarlierGroup ks g n k) (IsEarlierGroup ks g (n + 1) k) (now_none k s e) (longer k) (before.members k s e)
 
   -- the solvable of the node is mapped to its group
-  module _ (identity : IsIdentity same) (once : HasNoRepeats g.nodes) (s : S) (at_node : solvable_at g n ≡ Some s) (group : Group S) (is : IsGroupOf ks g n group) (old new : Groups S)
+  module _ (identity : IsIdentity same) (once : HasNoRepeats g.nodes) (s : S) (at_node : solvable_at g n ≡ Some s) (group : Group S)
+      (is : IsGroupOf ks g n group) (old new : Groups S)
       (updates : (q : S) → get same new q ≡ cond (same s q) (Some group) (get same old q)) (before : IsSimplifiedBefore same ks g n old) where
-    here_or_other : (k : ℕ) (q : S) (b : Bool) → same s q ≡ b → solvable_at g k ≡ Some q → MatchOption (cond b (Some group) (get same old q)) (k < n + 1 → IsNone (group_in ks k)) (IsEarlierGroup ks g (n + 1) k)
+    here_or_other : (k : ℕ) (q : S) (b : Bool) → same s q ≡ b → solvable_at g k ≡ Some q →
+        MatchOption (cond b (Some group) (get same old q)) (k < n + 1 → IsNone (group_in ks k)) (IsEarlierGroup ks g (n + 1) k)
     here_or_other k q true t e =
         let value : s ≡ q = identity.alone s q t in
-        let place : n ≡ k = one_place g.nodes once n k (Solvable q) (node_of (slice_get g.nodes n) q (at_node ∙ ap Some value)) (node_of (slice_get g.nodes k) q e) in
+        let place : n ≡ k = one_place g.nodes once n k (Solvable q) (node_of (slice_get g.nodes n) q (at_node ∙ ap Some value))
+        (node_of (slice_get g.nodes k) q e) in
         let P : ℕ → Type 0 = λ i. IsGroupOf ks g i group in
         record { before = omega arith; of_node = subst P place is }
-    here_or_other k q false t e = match_weaker (get same old q) (IsEarlierGroup ks g n k) (IsEarlierGroup ks g (n + 1) k) now_none (longer k) (before.members k q e)
+    here_or_other k q false t e = match_weaker (get same old q) (IsEarlierGroup ks g n k) (IsEarlierGroup ks g (n + 1) k) now_none (longer k)
+        (before.members k q e)
       where
         now_none : (k < n → IsNone (group_in ks k)) → k < n + 1 → IsNone (group_in ks k)
         now_none earlier lt = ⊎_elim (λ (less : k < n). earlier less)
@@ -118,7 +129,8 @@ simplified_none {S} same ks g m empty = record { members = λ n s e. members n s
 length-keys : {N S : Type 0} (u : Universe N S) (g : Shape S) → length (keys u g) ≡ length g.nodes
 length-keys u g = length-map (places g) (key_of u g) ∙ length-range_with_len 0 (length g.nodes)
 
-pub simplified : {N S : Type 0} (same : S → S → Bool) (u : Universe N S) (g : Shape S) (ks : List Key) (limit : ℕ) (m : Groups S) → ks ≡ keys u g → length ks ≤ limit → IsSimplifiedBefore same ks g limit m → IsSimplified same u g m
+pub simplified : {N S : Type 0} (same : S → S → Bool) (u : Universe N S) (g : Shape S) (ks : List Key) (limit : ℕ) (m : Groups S) → ks ≡ keys u g →
+    length ks ≤ limit → IsSimplifiedBefore same ks g limit m → IsSimplified same u g m
 simplified {N} {S} same u g ks limit m are long before = record { members = members; only = before.only }
   where
     members : (n : ℕ) (s : S) → solvable_at g n ≡ Some s → MatchOption (get same m s) (IsNone (group_in (keys u g) n)) (IsGroupOf (keys u g) g n)
@@ -127,4 +139,5 @@ simplified {N} {S} same u g ks limit m are long before = record { members = memb
         let len : length ks ≡ length g.nodes = ap length are ∙ length-keys u g in
         let within : n < limit = omega arith in
         let P : List Key → Type 0 = λ list. MatchOption (get same m s) (IsNone (group_in list n)) (IsGroupOf list g n) in
-        subst P are (match_weaker (get same m s) (IsEarlierGroup ks g limit n) (IsGroupOf ks g n) (λ (f : n < limit → IsNone (group_in ks n)). f within) (λ group (h : IsEarlierGroup ks g limit n group). h.of_node) (before.members n s e))
+        subst P are (match_weaker (get same m s) (IsEarlierGroup ks g limit n) (IsGroupOf ks g n) (λ (f : n < limit → IsNone (group_in ks n)).
+        f within) (λ group (h : IsEarlierGroup ks g limit n group). h.of_node) (before.members n s e))

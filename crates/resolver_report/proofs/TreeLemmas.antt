@@ -1,5 +1,6 @@
 -- Pieces side by side, one after the other.
-use Rattle.std.proofs.Common.{◌≡◌, ℕ, zero, suc, ◌+◌, ◌-◌, ◌<◌, ◌≤◌, Bool, true, false, List, [], ◌∷◌, ◌++◌, length, drop, map, refl, sym, ◌∙◌, ap, arith, append_assoc, get_or, add-one}
+use Rattle.std.proofs.Common.{◌≡◌, ℕ, zero, suc, ◌+◌, ◌-◌, ◌<◌, ◌≤◌, Bool, true, false, List, [], ◌∷◌, ◌++◌, length, drop, map, refl, sym, ◌∙◌, ap, arith}
+use Rattle.std.proofs.Common.{append_assoc, get_or, add-one}
 use Rattle.std.specs.Prelude.{◌==◌, slice_set}
 use Rattle.std.proofs.lemmas.List.{append-nil, length-map, length-drop}
 use Rattle.std.proofs.Math.Seq.{drop-cons}
@@ -13,35 +14,42 @@ not_last : (p : Piece) (after : Forest) → is_last (put p after) ≡ false
 not_last quiet after = refl
 not_last (said text below) after = refl
 
-is_last_side : {X : Type 0} (tell : X → List Bool → Told Piece) (xs : List X) (reported : List Bool) → is_last (side_by_side tell xs reported).value ≡ (length xs == 0)
+is_last_side : {X : Type 0} (tell : X → List Bool → Told Piece) (xs : List X) (reported : List Bool) →
+    is_last (side_by_side tell xs reported).value ≡ (length xs == 0)
 is_last_side tell [] reported = refl
 is_last_side tell (x ∷ xs) reported = not_last (tell x reported).value (side_by_side tell xs (tell x reported).reported).value ∙ sym (some_left (length xs))
 
-put_text : (top : Bool) (levels : List Bool) (p : Piece) (after : Forest) → text_of top levels (put p after) ≡ text_at top (levels ++ is_last after ∷ []) p ++ text_of top levels after
+put_text : (top : Bool) (levels : List Bool) (p : Piece) (after : Forest) → text_of top levels (put p after) ≡ text_at top (levels ++ is_last after ∷ []) p ++
+    text_of top levels after
 put_text top levels quiet after = refl
 put_text top levels (said text below) after = refl
 
 pub side_step : {X : Type 0} (top : Bool) (levels : List Bool) (tell : X → List Bool → Told Piece) (x : X) (xs : List X) (reported : List Bool) →
-    text_of top levels (side_by_side tell (x ∷ xs) reported).value ≡ text_at top (levels ++ (length xs == 0) ∷ []) (tell x reported).value ++ text_of top levels (side_by_side tell xs (tell x reported).reported).value
+    text_of top levels (side_by_side tell (x ∷ xs) reported).value ≡ text_at top (levels ++ (length xs == 0) ∷ []) (tell x reported).value ++
+    text_of top levels (side_by_side tell xs (tell x reported).reported).value
 side_step top levels tell x xs reported =
     let after = (side_by_side tell xs (tell x reported).reported).value in
-    put_text top levels (tell x reported).value after ∙ ap (λ b. text_at top (levels ++ b ∷ []) (tell x reported).value ++ text_of top levels after) (is_last_side tell xs (tell x reported).reported)
+    put_text top levels (tell x reported).value after ∙
+    ap (λ b. text_at top (levels ++ b ∷ []) (tell x reported).value ++ text_of top levels after) (is_last_side tell xs (tell x reported).reported)
 
 -- one piece more is written
-pub told_next : {X : Type 0} (top : Bool) (levels : List Bool) (tell : X → List Bool → Told Piece) (x : X) (xs all : List X) (reported reported' : List Bool) (out out' whole : List ℕ) →
+pub told_next : {X : Type 0} (top : Bool) (levels : List Bool) (tell : X → List Bool → Told Piece) (x : X) (xs all : List X) (reported reported' : List Bool)
+    (out out' whole : List ℕ) →
     all ≡ x ∷ xs → out ++ text_of top levels (side_by_side tell all reported).value ≡ whole →
     out' ≡ out ++ text_at top (levels ++ (length xs == 0) ∷ []) (tell x reported).value → reported' ≡ (tell x reported).reported →
     out' ++ text_of top levels (side_by_side tell xs reported').value ≡ whole
 told_next top levels tell x xs all reported reported' out out' whole e before wrote grew =
     ap (λ g. out' ++ text_of top levels (side_by_side tell xs g).value) grew
     ∙ ap (λ o. o ++ text_of top levels (side_by_side tell xs (tell x reported).reported).value) wrote
-    ∙ append_assoc out (text_at top (levels ++ (length xs == 0) ∷ []) (tell x reported).value) (text_of top levels (side_by_side tell xs (tell x reported).reported).value)
+    ∙ append_assoc out (text_at top (levels ++ (length xs == 0) ∷ []) (tell x reported).value)
+    (text_of top levels (side_by_side tell xs (tell x reported).reported).value)
     ∙ ap (λ t. out ++ t) (sym (side_step top levels tell x xs reported))
     ∙ ap (λ ys. out ++ text_of top levels (side_by_side tell ys reported).value) (sym e)
     ∙ before
 
 pub grew_next : {X : Type 0} (tell : X → List Bool → Told Piece) (x : X) (xs all : List X) (reported reported' whole : List Bool) →
-    all ≡ x ∷ xs → (side_by_side tell all reported).reported ≡ whole → reported' ≡ (tell x reported).reported → (side_by_side tell xs reported').reported ≡ whole
+    all ≡ x ∷ xs → (side_by_side tell all reported).reported ≡ whole → reported' ≡ (tell x reported).reported →
+    (side_by_side tell xs reported').reported ≡ whole
 grew_next tell x xs all reported reported' whole e before grew =
     ap (λ g. (side_by_side tell xs g).reported) grew ∙ ap (λ ys. (side_by_side tell ys reported).reported) (sym e) ∙ before
 
@@ -49,7 +57,8 @@ grew_next tell x xs all reported reported' whole e before grew =
 pub from_place : {X : Type 0} (xs : List X) (i : ℕ) (x : X) → i < length xs → x ≡ get_or xs i x → drop i xs ≡ x ∷ drop (i + 1) xs
 from_place xs i x h e = drop-cons xs i x h ∙ rw (add-one, ← e) refl
 
-pub from_place_view : {X Y : Type 0} (f : X → Y) (xs : List X) (i : ℕ) (x : X) → i < length xs → x ≡ get_or xs i x → map f (drop i xs) ≡ f x ∷ map f (drop (i + 1) xs)
+pub from_place_view : {X Y : Type 0} (f : X → Y) (xs : List X) (i : ℕ) (x : X) → i < length xs → x ≡ get_or xs i x → map f (drop i xs) ≡ f x ∷
+    map f (drop (i + 1) xs)
 from_place_view f xs i x h e = ap (map f) (from_place xs i x h e)
 
 pub at_end : {X Y : Type 0} (f : X → Y) (xs : List X) (i : ℕ) (b : Bool) → b ≡ (length xs - (i + 1) == 0) → (length (map f (drop (i + 1) xs)) == 0) ≡ b
@@ -65,10 +74,13 @@ all_dropped (x ∷ xs) zero h = absurd (omega (arith, h))
 all_dropped (x ∷ xs) (suc i) h = all_dropped xs i (omega (arith, h))
 
 -- all pieces are written
-pub told_all : {X : Type 0} (top : Bool) (levels : List Bool) (tell : X → List Bool → Told Piece) (left : List X) (reported : List Bool) (out whole : List ℕ) → left ≡ [] → out ++ text_of top levels (side_by_side tell left reported).value ≡ whole → out ≡ whole
-told_all top levels tell left reported out whole e h = sym (append-nil out) ∙ ap (λ xs. out ++ text_of top levels (side_by_side tell xs reported).value) (sym e) ∙ h
+pub told_all : {X : Type 0} (top : Bool) (levels : List Bool) (tell : X → List Bool → Told Piece) (left : List X) (reported : List Bool) (out whole : List ℕ) →
+    left ≡ [] → out ++ text_of top levels (side_by_side tell left reported).value ≡ whole → out ≡ whole
+told_all top levels tell left reported out whole e h = sym (append-nil out) ∙
+    ap (λ xs. out ++ text_of top levels (side_by_side tell xs reported).value) (sym e) ∙ h
 
-pub grew_all : {X : Type 0} (tell : X → List Bool → Told Piece) (left : List X) (reported whole : List Bool) → left ≡ [] → (side_by_side tell left reported).reported ≡ whole → reported ≡ whole
+pub grew_all : {X : Type 0} (tell : X → List Bool → Told Piece) (left : List X) (reported whole : List Bool) → left ≡ [] →
+    (side_by_side tell left reported).reported ≡ whole → reported ≡ whole
 grew_all tell left reported whole e h = ap (λ xs. (side_by_side tell xs reported).reported) (sym e) ∙ h
 
 pub suc_of : (n : ℕ) → (n ≡ 0 → ⊥) → suc (n - 1) ≡ n
@@ -81,16 +93,19 @@ unset (m ∷ marks) zero h = ap (λ b. b ∷ marks) (sym h)
 unset (m ∷ marks) (suc n) h = ap (λ bs. m ∷ bs) (unset marks n h)
 
 -- a line is written, and what stands below it
-pub line_and_below : (top : Bool) (levels : List Bool) (old out new line : List ℕ) (below : Forest) (text : List ℕ) → line ≡ indent_from top levels ++ text ++ 10 ∷ [] → out ≡ old ++ line → new ≡ out ++ text_of top levels below → new ≡ old ++ text_at top levels (said text below)
+pub line_and_below : (top : Bool) (levels : List Bool) (old out new line : List ℕ) (below : Forest) (text : List ℕ) → line ≡ indent_from top levels ++ text ++
+    10 ∷ [] → out ≡ old ++ line → new ≡ out ++ text_of top levels below → new ≡ old ++ text_at top levels (said text below)
 line_and_below top levels old out new line below text is first rest =
-    rest ∙ ap (λ o. o ++ text_of top levels below) (first ∙ ap (λ l. old ++ l) is) ∙ append_assoc old (indent_from top levels ++ text ++ 10 ∷ []) (text_of top levels below)
+    rest ∙ ap (λ o. o ++ text_of top levels below) (first ∙ ap (λ l. old ++ l) is) ∙
+    append_assoc old (indent_from top levels ++ text ++ 10 ∷ []) (text_of top levels below)
 
 -- the line of a version set, given those after it
 lines_last : (ts : List (List ℕ)) → is_last (lines_of ts) ≡ (length ts == 0)
 lines_last [] = refl
 lines_last (t ∷ ts) = sym (some_left (length ts))
 
-pub constraint_step : {X : Type 0} (f : X → List ℕ) (top : Bool) (levels : List Bool) (x : X) (xs : List X) (old new : List ℕ) (top' : Bool) (deeper : List Bool) (b : Bool) →
+pub constraint_step : {X : Type 0} (f : X → List ℕ) (top : Bool) (levels : List Bool) (x : X) (xs : List X) (old new : List ℕ) (top' : Bool)
+    (deeper : List Bool) (b : Bool) →
     new ≡ old ++ (indent_from top' deeper ++ f x ++ 10 ∷ []) → top' ≡ top → deeper ≡ levels ++ b ∷ [] → b ≡ (length xs == 0) →
     new ++ text_of top levels (lines_of (map f xs)) ≡ old ++ text_of top levels (lines_of (map f (x ∷ xs)))
 constraint_step f top levels x xs old new top' deeper b wrote same go last =

@@ -16,7 +16,8 @@ use Rattle.resolver_report.specs.declared.parts.ConflictNode.TheVariants.{Solvab
 use Rattle.resolver_report.specs.declared.parts.Link.{Link}
 use Rattle.resolver_clause_store.specs.declared.Rule.{Rule}
 use Rattle.resolver_clause_store.specs.declared.Rule.TheVariants.{Requires, Constrains, Lock, Excluded, OnePerPackage}
-use Rattle.resolver_report.specs.Graphs.{node_by, requirement_link, requirement_links, marked_last, mark_links, links_of, links_after, links, is_entered, first_mentions, place_in, edge_in, graph_with, graph_of}
+use Rattle.resolver_report.specs.Graphs.{node_by, requirement_link, requirement_links, marked_last, mark_links, links_of, links_after, links, is_entered}
+use Rattle.resolver_report.specs.Graphs.{first_mentions, place_in, edge_in, graph_with, graph_of}
 use Rattle.resolver_report.specs.Same.{same_node}
 use Rattle.resolver_report.specs.Shapes.{Shape}
 use Rattle.resolver_clause_store.specs.TrueRules.{demands_by, IsTrueRule}
@@ -32,13 +33,17 @@ module _ {N S : Type 0} (u : Universe N S) (root : Demands) where
   asker_with P ByRoot h = h
   asker_with P (BySolvable s) h = h
 
-  candidate_links : (source : ConflictNode S) (r : Requirement) (cs : List S) → IsAskerWith u root (AsksFor r) source → ((s : S) → Contains cs s → Contains (requirement_candidates u r) s) → AllByRecursion IsTrueLink (map (λ d. requirement_link source r (Solvable d)) cs)
+  candidate_links : (source : ConflictNode S) (r : Requirement) (cs : List S) → IsAskerWith u root (AsksFor r) source →
+      ((s : S) → Contains cs s → Contains (requirement_candidates u r) s) → AllByRecursion IsTrueLink (map (λ d. requirement_link source r (Solvable d)) cs)
   candidate_links source r [] asker within = tt
-  candidate_links source r (c ∷ cs) asker within = ((asker, within c (zero, omega arith, refl)), candidate_links source r cs asker (λ s h. within s (Contains-append_right (c ∷ []) cs s h)))
+  candidate_links source r (c ∷ cs) asker within =
+      ((asker, within c (zero, omega arith, refl)), candidate_links source r cs asker (λ s h. within s (Contains-append_right (c ∷ []) cs s h)))
 
-  requirement_links_true : (source : ConflictNode S) (r : Requirement) (cs : List S) → IsAskerWith u root (AsksFor r) source → cs ≡ requirement_candidates u r → AllByRecursion IsTrueLink (requirement_links source r cs)
+  requirement_links_true : (source : ConflictNode S) (r : Requirement) (cs : List S) → IsAskerWith u root (AsksFor r) source → cs ≡ requirement_candidates u r →
+      AllByRecursion IsTrueLink (requirement_links source r cs)
   requirement_links_true source r [] asker are = ((asker, sym are), tt)
-  requirement_links_true source r (c ∷ cs) asker are = candidate_links source r (c ∷ cs) asker (λ s h. let Has : List S → Type 0 = λ xs. Contains xs s in subst Has are h)
+  requirement_links_true source r (c ∷ cs) asker are =
+      candidate_links source r (c ∷ cs) asker (λ s h. let Has : List S → Type 0 = λ xs. Contains xs s in subst Has are h)
 
   abbrev IsNamed : N → Option S → Type 0
   IsNamed n None = Unit {0}
@@ -56,26 +61,35 @@ module _ {N S : Type 0} (u : Universe N S) (root : Demands) where
     marked_is_named : (n : N) (earlier : List (Rule N S)) → All (IsTrueRule u root) earlier → IsNamed n (marked_last same_name n earlier)
     marked_is_named n [] h = tt
     marked_is_named n (OnePerPackage name instance ∷ earlier) h =
-        named_cases n (same_name name n) instance (marked_last same_name n earlier) (λ e. All-head (IsTrueRule u root) (OnePerPackage name instance) earlier h ∙ names.alone name n e)
+        named_cases n (same_name name n) instance (marked_last same_name n earlier) (λ e.
+        All-head (IsTrueRule u root) (OnePerPackage name instance) earlier h ∙ names.alone name n e)
         (marked_is_named n earlier (All-tail (IsTrueRule u root) (OnePerPackage name instance) earlier h))
-    marked_is_named n (Requires by requirement candidates when ∷ earlier) h = marked_is_named n earlier (All-tail (IsTrueRule u root) (Requires by requirement candidates when) earlier h)
-    marked_is_named n (Constrains by version_set candidate ∷ earlier) h = marked_is_named n earlier (All-tail (IsTrueRule u root) (Constrains by version_set candidate) earlier h)
+    marked_is_named n (Requires by requirement candidates when ∷ earlier) h =
+        marked_is_named n earlier (All-tail (IsTrueRule u root) (Requires by requirement candidates when) earlier h)
+    marked_is_named n (Constrains by version_set candidate ∷ earlier) h =
+        marked_is_named n earlier (All-tail (IsTrueRule u root) (Constrains by version_set candidate) earlier h)
     marked_is_named n (Lock locked forbidden ∷ earlier) h = marked_is_named n earlier (All-tail (IsTrueRule u root) (Lock locked forbidden) earlier h)
     marked_is_named n (Excluded solvable reason ∷ earlier) h = marked_is_named n earlier (All-tail (IsTrueRule u root) (Excluded solvable reason) earlier h)
 
-    links_of_true : (earlier : List (Rule N S)) → All (IsTrueRule u root) earlier → (rule : Rule N S) → IsTrueRule u root rule → AllByRecursion IsTrueLink (links_of same_name earlier rule)
-    links_of_true earlier before (Requires by requirement candidates when) (r, asked, same, are, implied) = requirement_links_true (node_by by) requirement candidates.items (asker_with (AsksFor requirement) by (r, asked, same)) are
-    links_of_true earlier before (Constrains by version_set candidate) (asked, other) = ((asker_with (λ d. Contains d.constraints version_set) by asked, other), tt)
+    links_of_true : (earlier : List (Rule N S)) → All (IsTrueRule u root) earlier → (rule : Rule N S) → IsTrueRule u root rule →
+        AllByRecursion IsTrueLink (links_of same_name earlier rule)
+    links_of_true earlier before (Requires by requirement candidates when) (r, asked, same, are, implied) =
+        requirement_links_true (node_by by) requirement candidates.items (asker_with (AsksFor requirement) by (r, asked, same)) are
+    links_of_true earlier before (Constrains by version_set candidate) (asked, other) =
+        ((asker_with (λ d. Contains d.constraints version_set) by asked, other), tt)
     links_of_true earlier before (Lock locked forbidden) h = ((refl, h), tt)
     links_of_true earlier before (Excluded solvable reason) h = (h, tt)
-    links_of_true earlier before (OnePerPackage name instance) h = mark_links_true name (marked_last same_name name earlier) instance (marked_is_named name earlier before) h
+    links_of_true earlier before (OnePerPackage name instance) h =
+        mark_links_true name (marked_last same_name name earlier) instance (marked_is_named name earlier before) h
 
-    links_after_true : (earlier rs : List (Rule N S)) → All (IsTrueRule u root) earlier → All (IsTrueRule u root) rs → AllByRecursion IsTrueLink (links_after same_name earlier rs)
+    links_after_true : (earlier rs : List (Rule N S)) → All (IsTrueRule u root) earlier → All (IsTrueRule u root) rs →
+        AllByRecursion IsTrueLink (links_after same_name earlier rs)
     links_after_true earlier [] before h = tt
     links_after_true earlier (r ∷ rs) before h =
         let here : IsTrueRule u root r = All-head (IsTrueRule u root) r rs h in
         AllByRecursion-append IsTrueLink (links_of same_name earlier r) (links_after same_name (r ∷ earlier) rs)
-        (links_of_true earlier before r here) (links_after_true (r ∷ earlier) rs (All-cons (IsTrueRule u root) r earlier here before) (All-tail (IsTrueRule u root) r rs h))
+        (links_of_true earlier before r here)
+        (links_after_true (r ∷ earlier) rs (All-cons (IsTrueRule u root) r earlier here before) (All-tail (IsTrueRule u root) r rs h))
 
     pub links_true : (rs : List (Rule N S)) → All (IsTrueRule u root) rs → AllByRecursion IsTrueLink (links same_name rs)
     links_true rs h = links_after_true [] rs (All-nil (IsTrueRule u root)) h
@@ -85,7 +99,8 @@ found : {X : Type 0} (test : X → Bool) (n : X) → ((x : X) → test x ≡ tru
 found test n alone [] h = absurd (false≢true h)
 found test n alone (x ∷ xs) h = at_test (test x) refl h (found test n alone xs)
   where
-    at_test : (b : Bool) → test x ≡ b → (b || list_any test xs) ≡ true → (list_any test xs ≡ true → find test xs ≡ Some n) → cond b (Some x) (find test xs) ≡ Some n
+    at_test : (b : Bool) → test x ≡ b → (b || list_any test xs) ≡ true → (list_any test xs ≡ true → find test xs ≡ Some n) →
+        cond b (Some x) (find test xs) ≡ Some n
     at_test true e k rest = ap Some (alone x e)
     at_test false e k rest = rest k
 
@@ -104,17 +119,22 @@ module _ {S : Type 0} (same : S → S → Bool) (identity : IsIdentity same) whe
       true_between = h;
     }
 
-    edges_true : (ms : List (ConflictNode S)) (ls : List (Link S)) (unresolved : Option ℕ) → AllByRecursion (EndsIn same identity ms) ls → AllByRecursion (IsTrueLink u root) ls → AreEdgesTrue u root (graph_with same ms ls unresolved).shape
+    edges_true : (ms : List (ConflictNode S)) (ls : List (Link S)) (unresolved : Option ℕ) → AllByRecursion (EndsIn same identity ms) ls →
+        AllByRecursion (IsTrueLink u root) ls → AreEdgesTrue u root (graph_with same ms ls unresolved).shape
     edges_true ms ls unresolved ends h =
         let g : Shape S = (graph_with same ms ls unresolved).shape in
         All-map (IsTrueEdge u root g) (edge_in same ms) ls
         (All-from_recursion (λ l. IsTrueEdge u root g (edge_in same ms l)) ls
         (together same identity (EndsIn same identity ms) (IsTrueLink u root) (λ l. IsTrueEdge u root g (edge_in same ms l)) (edge_true g) ls ends h))
 
-    pub graph_of_true_rules : (same_name : N → N → Bool) → IsIdentity same_name → (rules : List (Rule N S)) → All (IsTrueRule u root) rules → AreEdgesTrue u root (graph_of same_name same rules).shape
+    pub graph_of_true_rules : (same_name : N → N → Bool) → IsIdentity same_name → (rules : List (Rule N S)) → All (IsTrueRule u root) rules →
+        AreEdgesTrue u root (graph_of same_name same rules).shape
     graph_of_true_rules same_name names rules h = at_entered (is_entered same (links same_name rules)) refl
       where
         at_entered : (b : Bool) → is_entered same (links same_name rules) ≡ b →
-            AreEdgesTrue u root (cond b (graph_with same (first_mentions same rules) (links same_name rules) (Some 1)) (graph_with same (without_unresolved same identity rules) (links same_name rules) None)).shape
-        at_entered true e = edges_true (first_mentions same rules) (links same_name rules) (Some 1) (first_ends same identity same_name rules) (links_true u root same_name names rules h)
-        at_entered false e = edges_true (without_unresolved same identity rules) (links same_name rules) None (without_ends same identity same_name rules e) (links_true u root same_name names rules h)
+            AreEdgesTrue u root (cond b (graph_with same (first_mentions same rules) (links same_name rules) (Some 1))
+            (graph_with same (without_unresolved same identity rules) (links same_name rules) None)).shape
+        at_entered true e = edges_true (first_mentions same rules) (links same_name rules) (Some 1) (first_ends same identity same_name rules)
+            (links_true u root same_name names rules h)
+        at_entered false e = edges_true (without_unresolved same identity rules) (links same_name rules) None (without_ends same identity same_name rules e)
+            (links_true u root same_name names rules h)

@@ -19,15 +19,18 @@ use Rattle.resolver_clause_store.specs.Statements.{statement_of, AllMeet, IsPres
 use Rattle.resolver_clause_store.specs.Rules.{Obeys}
 use Rattle.resolver_clause_store.specs.TrueRules.{demands_by, Implies, IsTrueRule}
 
-requires_by : {N S : Type 0} (u : Universe N S) (root : Demands) (set : List S) (by : By S) (r : ConditionalRequirement) → IsPresent by set → Contains (demands_by u root by).requirements r → valid.Requires u root (Contains set) r
+requires_by : {N S : Type 0} (u : Universe N S) (root : Demands) (set : List S) (by : By S) (r : ConditionalRequirement) → IsPresent by set →
+    Contains (demands_by u root by).requirements r → valid.Requires u root (Contains set) r
 requires_by u root set Root r here asked = inl asked
 requires_by u root set (Solvable s) r here asked = inr (s, here, asked)
 
-constrains_by : {N S : Type 0} (u : Universe N S) (root : Demands) (set : List S) (by : By S) (v : VersionSetId) → IsPresent by set → Contains (demands_by u root by).constraints v → valid.Constrains u root (Contains set) v
+constrains_by : {N S : Type 0} (u : Universe N S) (root : Demands) (set : List S) (by : By S) (v : VersionSetId) → IsPresent by set →
+    Contains (demands_by u root by).constraints v → valid.Constrains u root (Contains set) v
 constrains_by u root set Root v here asked = inl asked
 constrains_by u root set (Solvable s) v here asked = inr (s, here, asked)
 
-active_by : {N S : Type 0} (u : Universe N S) (set : List S) (when : List (List S)) (c : Option ConditionId) → Implies u when c → AllMeet set when → OptionalConditionHolds u (Contains set) c
+active_by : {N S : Type 0} (u : Universe N S) (set : List S) (when : List (List S)) (c : Option ConditionId) → Implies u when c → AllMeet set when →
+    OptionalConditionHolds u (Contains set) c
 active_by u set when None implied meets = tt
 active_by u set when (Some c) implied meets = implied set meets
 
@@ -37,19 +40,25 @@ none_in s h = absurd (omega (arith, h.1))
 not_unknown : (needs : Needs) (reason : _) → IsKnown needs → needs ≡ unknown reason → ⊥
 not_unknown needs reason known e = subst IsKnown e known
 
-obeys_alone : {N S : Type 0} (u : Universe N S) (root : Demands) (set : List S) → IsValid u root set [] → (rule : Rule N S) → IsTrueRule u root rule → ObeysAlone set (statement_of rule)
+obeys_alone : {N S : Type 0} (u : Universe N S) (root : Demands) (set : List S) → IsValid u root set [] → (rule : Rule N S) → IsTrueRule u root rule →
+    ObeysAlone set (statement_of rule)
 obeys_alone {N} {S} u root set ok (Requires by requirement candidates when) (r, asked, same, are, implied) = λ here meets.
     let met = ok.required r (requires_by u root set by r here asked) (active_by u set _ r.condition implied meets) in
     let HasMember : List S → Type 0 = λ xs. Meets xs set in
     subst HasMember (ap (requirement_candidates u) same ∙ sym are) met
-obeys_alone u root set ok (Constrains by v candidate) (asked, other) = λ here inside. ok.constrained v (constrains_by u root set by v here asked) candidate inside other
-obeys_alone u root set ok (Lock locked forbidden) (lock, listed, apart) = λ inside. ok.not_locked_out forbidden inside (λ none. none_in forbidden none) (locked, lock, listed, apart)
+obeys_alone u root set ok (Constrains by v candidate) (asked, other) =
+    λ here inside. ok.constrained v (constrains_by u root set by v here asked) candidate inside other
+obeys_alone u root set ok (Lock locked forbidden) (lock, listed, apart) =
+    λ inside. ok.not_locked_out forbidden inside (λ none. none_in forbidden none) (locked, lock, listed, apart)
 obeys_alone u root set ok (Excluded s reason) h = λ inside.
     elim h [ inl listed ↦ ok.not_excluded s inside (none_in s) (reason, listed) | inr none ↦ not_unknown _ reason (ok.known_needs s inside) none ]
 obeys_alone u root set ok (OnePerPackage n s) h = tt
 
-pub Obeys-true_rules : {N S : Type 0} (u : Universe N S) (root : Demands) (rules : List (Rule N S)) (set : List S) → All (IsTrueRule u root) rules → IsValid u root set [] → Obeys set rules
+pub Obeys-true_rules : {N S : Type 0} (u : Universe N S) (root : Demands) (rules : List (Rule N S)) (set : List S) → All (IsTrueRule u root) rules →
+    IsValid u root set [] → Obeys set rules
 Obeys-true_rules u root rules set true_rules ok = record {
   each = λ r inside. obeys_alone u root set ok r (All-contains (IsTrueRule u root) rules r true_rules inside);
-  one_each = λ n s t first second in_set in_set'. ok.one_each s t in_set in_set' (All-contains (IsTrueRule u root) rules (OnePerPackage n s) true_rules first ∙ sym (All-contains (IsTrueRule u root) rules (OnePerPackage n t) true_rules second));
+  one_each = λ n s t first second in_set in_set'. ok.one_each s t in_set in_set'
+      (All-contains (IsTrueRule u root) rules (OnePerPackage n s) true_rules first ∙
+      sym (All-contains (IsTrueRule u root) rules (OnePerPackage n t) true_rules second));
 }

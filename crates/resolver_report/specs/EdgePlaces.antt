@@ -1,5 +1,6 @@
 -- Where the edges of each node stand.
-use Rattle.std.specs.Prelude.{◌≡◌, ℕ, ◌<◌, ◌==◌, Bool, false, List, [], ◌∷◌, ◌++◌, length, filter, map, Option, Some, None, slice_get, slice_index_or, slice_set, Vec}
+use Rattle.std.specs.Prelude.{◌≡◌, ℕ, ◌<◌, ◌==◌, Bool, false, List, [], ◌∷◌, ◌++◌, length, filter, map, Option, Some, None, slice_get, slice_index_or}
+use Rattle.std.specs.Prelude.{slice_set, Vec}
 use Rattle.std.proofs.Common.{Global}
 use Rattle.std.specs.List.{range_with_len}
 use Rattle.resolver_report.specs.declared.edge_places.EdgePlaces.{EdgePlaces}

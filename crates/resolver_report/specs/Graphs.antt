@@ -53,7 +53,8 @@ mark_links (Some before) instance = record { source = Solvable before; target = 
 -- what a rule links, given the rules before it, the latest first
 abbrev pub links_of : {N S : Type 0} → (N → N → Bool) → List (Rule N S) → Rule N S → List (Link S)
 links_of same earlier (Requires by requirement candidates when) = requirement_links (node_by by) requirement candidates.items
-links_of same earlier (Constrains by version_set candidate) = record { source = node_by by; target = Solvable candidate; weight = Conflict (ByConstraint version_set) } ∷ []
+links_of same earlier (Constrains by version_set candidate) =
+    record { source = node_by by; target = Solvable candidate; weight = Conflict (ByConstraint version_set) } ∷ []
 links_of same earlier (Lock locked forbidden) = record { source = Root; target = Solvable forbidden; weight = Conflict (Locked locked) } ∷ []
 links_of same earlier (Excluded solvable reason) = record { source = Solvable solvable; target = Reason reason; weight = Conflict ByExclusion } ∷ []
 links_of same earlier (OnePerPackage name instance) = mark_links (marked_last same name earlier) instance

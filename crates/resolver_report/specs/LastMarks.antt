@@ -10,7 +10,8 @@ use Rattle.resolver_report.specs.Graphs.{node_by, requirement_links, mark_links}
 
 abbrev pub links_marked : {N S : Type 0} → (N → Option S) → Rule N S → List (Link S)
 links_marked last (Requires by requirement candidates when) = requirement_links (node_by by) requirement candidates.items
-links_marked last (Constrains by version_set candidate) = record { source = node_by by; target = Solvable candidate; weight = Conflict (ByConstraint version_set) } ∷ []
+links_marked last (Constrains by version_set candidate) =
+    record { source = node_by by; target = Solvable candidate; weight = Conflict (ByConstraint version_set) } ∷ []
 links_marked last (Lock locked forbidden) = record { source = Root; target = Solvable forbidden; weight = Conflict (Locked locked) } ∷ []
 links_marked last (Excluded solvable reason) = record { source = Solvable solvable; target = Reason reason; weight = Conflict ByExclusion } ∷ []
 links_marked last (OnePerPackage name instance) = mark_links (last name) instance

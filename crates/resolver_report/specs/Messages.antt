@@ -1,5 +1,6 @@
 -- The message of a graph.
-use Rattle.std.specs.Prelude.{ℕ, zero, suc, Bool, true, false, not, ◌==◌, ◌&&◌, ◌||◌, if◌then◌else◌, List, [], ◌∷◌, ◌++◌, codes, length, map, filter, reverse, Option, Some, None, is_some, replicate, slice_get, slice_set}
+use Rattle.std.specs.Prelude.{ℕ, zero, suc, Bool, true, false, not, ◌==◌, ◌&&◌, ◌||◌, if◌then◌else◌, List, [], ◌∷◌, ◌++◌, codes, length, map, filter, reverse}
+use Rattle.std.specs.Prelude.{Option, Some, None, is_some, replicate, slice_get, slice_set}
 use Rattle.std.specs.List.{filter_map}
 use Rattle.resolver_clause_store.specs.Lists.{without_repeats}
 use Rattle.resolver_clause_store.specs.Universe.{Universe}
@@ -190,7 +191,12 @@ module _ {S : Type 0} (g : ConflictShape S) (group_of : ℕ → Option ℕ) (mar
   candidates_of run = reverse (without_repeats (λ m n. same_group m.0 n.0) (filter (λ n. is_candidate (is_viable run) n.0) run.targets))
 
   abbrev pub told_of_run : Run → RunTold
-  told_of_run run = record { requirement = run.requirement; unresolved = is_unresolved g.unresolved run.targets; viable = is_viable run; candidates = candidates_of run }
+  told_of_run run = record {
+    requirement = run.requirement;
+    unresolved = is_unresolved g.unresolved run.targets;
+    viable = is_viable run;
+    candidates = candidates_of run;
+  }
 
   -- what is told of edges, newest first
   abbrev pub told_of : List (Edge S) → List RunTold
@@ -208,11 +214,15 @@ module _ {N S : Type 0} (u : Universe N S) (g : ConflictShape S) (ks : List Key)
 
   -- the lines of a candidate; below gives those of what it requires
   abbrev pub tell_verdict : (List Bool → Told Forest) → List ℕ → Verdict → List Bool → Told Piece
-  tell_verdict below version (excluded reason) reported = record { value = said (version ++ codes " is excluded because " ++ reason_text u (slice_get g.shape.nodes reason.0)) nothing; reported = reported }
+  tell_verdict below version (excluded reason) reported =
+      record { value = said (version ++ codes " is excluded because " ++ reason_text u (slice_get g.shape.nodes reason.0)) nothing; reported = reported }
   tell_verdict below version alone reported = record { value = said version nothing; reported = reported }
-  tell_verdict below version second reported = record { value = said (version ++ codes ", which conflicts with the versions reported above.") nothing; reported = reported }
-  tell_verdict below version (constrains vs) reported = record { value = said (version ++ codes " would constrain") (lines_of (map (constraint_line u) vs)); reported = reported }
-  tell_verdict below version requires reported = let told = below reported in record { value = said (version ++ codes " would require") told.value; reported = told.reported }
+  tell_verdict below version second reported =
+      record { value = said (version ++ codes ", which conflicts with the versions reported above.") nothing; reported = reported }
+  tell_verdict below version (constrains vs) reported =
+      record { value = said (version ++ codes " would constrain") (lines_of (map (constraint_line u) vs)); reported = reported }
+  tell_verdict below version requires reported = let told = below reported in
+      record { value = said (version ++ codes " would require") told.value; reported = told.reported }
 
   abbrev pub run_line : Bool → RunTold → List ℕ
   run_line top run = run_text top run.unresolved run.viable (requirement_text u run.requirement)
@@ -236,7 +246,9 @@ module _ {N S : Type 0} (u : Universe N S) (g : ConflictShape S) (ks : List Key)
   tell_candidate zero branch n reported = record { value = quiet; reported = reported }
   tell_candidate (suc depth) branch n reported =
       if is_quiet branch n reported then record { value = quiet; reported = reported }
-      else (let out = outgoing g.shape.edges n in tell_verdict (tree_over (tell_candidate depth (slice_set branch n true)) false (told_of g (group_in ks) marks out)) (version_text n) (verdict_of out) (with_group (group_in ks n) reported))
+      else (let out = outgoing g.shape.edges n in
+      tell_verdict (tree_over (tell_candidate depth (slice_set branch n true)) false (told_of g (group_in ks) marks out)) (version_text n) (verdict_of out)
+      (with_group (group_in ks n) reported))
 
   -- the tree over some of the root's edges
   abbrev pub tree : List (Edge S) → Forest

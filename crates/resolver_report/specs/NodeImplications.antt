@@ -17,7 +17,8 @@ all_of_run n run = record { groups = each_alone run.targets; node = n }
 
 -- a node can be installed: of each run something can be
 abbrev pub installable_by : {S : Type 0} → ConflictShape S → ℕ → List Implied
-installable_by g n = if is_place g.unresolved n then [] else if has_exclusion (incoming g.shape.edges n) then [] else if has_conflict (outgoing g.shape.edges n) then []
+installable_by g n = if is_place g.unresolved n then [] else if has_exclusion (incoming g.shape.edges n) then [] else if has_conflict
+    (outgoing g.shape.edges n) then []
     else record { groups = map (λ run. run.targets) (runs_of (outgoing g.shape.edges n)); node = n } ∷ []
 
 -- a node is missing: it is the unresolved one, or all of some run is

@@ -1,5 +1,6 @@
 -- What is still to be told of a tree, and its text.
-use Rattle.std.specs.Prelude.{◌≡◌, ◌∷◌, ◌++◌, ◌+◌, ◌-◌, ◌<◌, ◌==◌, ℕ, zero, suc, Bool, true, false, if◌then◌else◌, List, [], length, map, replicate, reverse, slice_set}
+use Rattle.std.specs.Prelude.{◌≡◌, ◌∷◌, ◌++◌, ◌+◌, ◌-◌, ◌<◌, ◌==◌, ℕ, zero, suc, Bool, true, false, if◌then◌else◌, List, [], length, map, replicate, reverse}
+use Rattle.std.specs.Prelude.{slice_set}
 use Rattle.resolver_clause_store.specs.Universe.{Universe}
 use Rattle.resolver_report.specs.declared.parts.NodeId.{NodeId}
 use Rattle.resolver_report.specs.declared.pending.Frame.{Frame}
@@ -61,7 +62,16 @@ HasLevels p = levels_in p.indenter ≡ levels_of (frames_view p.frames.items)
 
 -- nothing is told yet
 abbrev pub whole_tree : Bool → ℕ → List RunTold → PendingTold
-whole_tree top_indent limit runs = record { top_indent = top_indent; limit = limit; frames = []; candidates = []; runs = runs; reported = replicate limit false; branch = replicate limit false }
+whole_tree top_indent limit runs =
+    record {
+      top_indent = top_indent;
+      limit = limit;
+      frames = [];
+      candidates = [];
+      runs = runs;
+      reported = replicate limit false;
+      branch = replicate limit false;
+    }
 
 -- in the tree of a candidate, with what comes after it put aside
 abbrev pub entered : PendingTold → ℕ → List NodeId → List RunTold → Bool → PendingTold

@@ -84,7 +84,8 @@ search_work same rules set [] = 0
 search_work same rules set (list ∷ lists) = 1 + length list * work_at same rules (take (length lists) set) + search_work same rules set lists
 
 abbrev pub work_of_choice : {N S : Type 0} → (S → S → Bool) → List (Rule N S) → List S → List (List S) → ℕ
-work_of_choice same rules set untried = choice_work (length (all_candidates rules)) (suc (count_outside same set (all_candidates rules))) + search_work same rules set untried
+work_of_choice same rules set untried =
+    choice_work (length (all_candidates rules)) (suc (count_outside same set (all_candidates rules))) + search_work same rules set untried
 
 -- what holds after a step
 abbrev pub IsStep : {N S : Type 0} → (S → S → Bool) → List (Rule N S) → List S → List (List S) → ℕ → Step → Type 0

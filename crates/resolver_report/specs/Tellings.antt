@@ -7,7 +7,8 @@ use Rattle.resolver_report.specs.ConflictGraphs.{shape_of}
 use Rattle.resolver_report.specs.Forests.{Forest, Piece, quiet, said, text_of, indent_from}
 use Rattle.resolver_report.specs.Marks.{installable}
 use Rattle.resolver_report.specs.Merging.{Key, keys, group_in}
-use Rattle.resolver_report.specs.Messages.{Told, RunTold, Verdict, excluded, alone, second, constrains, requires, constraint_line, is_quiet, lines_of, reason_text, tell_candidate, tell_run, tree_over, version_text}
+use Rattle.resolver_report.specs.Messages.{Told, RunTold, Verdict, excluded, alone, second, constrains, requires, constraint_line, is_quiet, lines_of}
+use Rattle.resolver_report.specs.Messages.{reason_text, tell_candidate, tell_run, tree_over, version_text}
 use Rattle.resolver_report.specs.Shapes.{ConflictShape, places, solvable_at}
 use Rattle.resolver_report.specs.Simplified.{IsSimplified}
 use Rattle.resolver_report.specs.Stories.{groups_in, node_told, node_view}
@@ -64,7 +65,8 @@ module _ {I N S : Type 0} (universe : I → Universe N S) (story : Story I N S) 
 
   -- what follows a candidate's versions, but for what it requires
   abbrev pub verdict_rest : Bool → List Bool → Verdict → List ℕ
-  verdict_rest top levels (excluded reason) = codes " is excluded because " ++ reason_text meaning (slice_get story.findings.graph.now.graph.nodes reason.0) ++ 10 ∷ []
+  verdict_rest top levels (excluded reason) = codes " is excluded because " ++ reason_text meaning (slice_get story.findings.graph.now.graph.nodes reason.0) ++
+      10 ∷ []
   verdict_rest top levels alone = 10 ∷ []
   verdict_rest top levels second = codes ", which conflicts with the versions reported above." ++ 10 ∷ []
   verdict_rest top levels (constrains vs) = (codes " would constrain" ++ 10 ∷ []) ++ text_of top levels (lines_of (map (constraint_line meaning) vs))

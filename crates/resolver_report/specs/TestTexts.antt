@@ -11,13 +11,16 @@ abbrev pub set_number : ℕ → ℕ
 set_number v = cond (nat_eq v 0) 0 (cond (nat_eq v 1) 0 (cond (nat_eq v 2) 1 (cond (nat_eq v 3) 1 (cond (nat_eq v 4) 2 (cond (nat_eq v 7) 4 3)))))
 
 abbrev pub name_text : ℕ → List ℕ
-name_text n = cond (nat_eq n 0) (codes "a") (cond (nat_eq n 1) (codes "b") (cond (nat_eq n 2) (codes "bluesky-widgets") (cond (nat_eq n 3) (codes "suitcase-utils") (codes "x"))))
+name_text n = cond (nat_eq n 0) (codes "a")
+    (cond (nat_eq n 1) (codes "b") (cond (nat_eq n 2) (codes "bluesky-widgets") (cond (nat_eq n 3) (codes "suitcase-utils") (codes "x"))))
 
 abbrev pub version_text : ℕ → List ℕ
 version_text s = cond (nat_eq s 1) (codes "2") (cond (nat_eq s 3) (codes "42") (cond (nat_eq s 4) (codes "53") (cond (nat_eq s 5) (codes "54") (codes "1"))))
 
 abbrev pub set_text : ℕ → List ℕ
-set_text v = cond (nat_eq v 1) (codes ">=2, <3") (cond (nat_eq v 3) (codes ">=2, <3") (cond (nat_eq v 4) (codes ">=0, <100") (cond (nat_eq v 5) (codes ">=0, <54") (cond (nat_eq v 6) (codes ">=54, <100") (codes "*")))))
+set_text v = cond (nat_eq v 1) (codes ">=2, <3")
+    (cond (nat_eq v 3) (codes ">=2, <3")
+    (cond (nat_eq v 4) (codes ">=0, <100") (cond (nat_eq v 5) (codes ">=0, <54") (cond (nat_eq v 6) (codes ">=54, <100") (codes "*")))))
 
 -- the name and the version of the first
 abbrev pub merged_text : List ℕ → List ℕ

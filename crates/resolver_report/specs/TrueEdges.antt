@@ -50,8 +50,10 @@ IsCandidateNode candidates (Reason r) = ⊥
 
 -- from the first node to the second, the weight says what the provider and the problem say
 abbrev pub IsTrueBetween : {N S : Type 0} → Universe N S → Demands → ConflictNode S → ConflictEdge S → ConflictNode S → Type 0
-IsTrueBetween u root source (Required requirement) target = IsAskerWith u root (AsksFor requirement) source × IsCandidateNode (requirement_candidates u requirement) target
-IsTrueBetween u root source (Conflict (ByConstraint v)) target = IsAskerWith u root (λ d. Contains d.constraints v) source × IsSolvableWith (Contains (others u v)) target
+IsTrueBetween u root source (Required requirement) target = IsAskerWith u root (AsksFor requirement) source ×
+    IsCandidateNode (requirement_candidates u requirement) target
+IsTrueBetween u root source (Conflict (ByConstraint v)) target = IsAskerWith u root (λ d. Contains d.constraints v) source ×
+    IsSolvableWith (Contains (others u v)) target
 IsTrueBetween u root source (Conflict (Locked locked)) target = (source ≡ Root) × IsSolvableWith (λ s. IsTrueRule u root (Lock locked s)) target
 IsTrueBetween u root source (Conflict ByExclusion) target = IsSolvableWith (λ s. IsReasonWith (λ r. IsTrueRule u root (Excluded s r)) target) source
 IsTrueBetween u root source (Conflict ForbidMultipleInstances) target = IsSolvableWith (λ s. IsSolvableWith (λ t. u.name s ≡ u.name t) target) source

@@ -1,5 +1,6 @@
 -- What waits for marks, and one step of marking.
-use Rattle.std.specs.Prelude.{◌≡◌, ◌≢◌, ◌⊎◌, ℕ, zero, suc, ◌<◌, ◌≤◌, ◌-◌, ◌==◌, Bool, true, false, ◌&&◌, if◌then◌else◌, Contains, List, [], ◌∷◌, ◌++◌, drop, length, slice_index_or, slice_set}
+use Rattle.std.specs.Prelude.{◌≡◌, ◌≢◌, ◌⊎◌, ℕ, zero, suc, ◌<◌, ◌≤◌, ◌-◌, ◌==◌, Bool, true, false, ◌&&◌, if◌then◌else◌, Contains, List, [], ◌∷◌, ◌++◌, drop}
+use Rattle.std.specs.Prelude.{length, slice_index_or, slice_set}
 use Rattle.resolver_report.specs.declared.implications.Marking.{Marking}
 use Rattle.resolver_report.specs.declared.implications.Waiting.{Waiting}
 use Rattle.resolver_report.specs.declared.parts.NodeId.{NodeId}
@@ -41,7 +42,13 @@ is_ready is w x = left_at w x.implication == x.left && has_mark w.marks (implied
 
 -- the node is marked, and wakes what waits for it
 abbrev pub after_mark : Work → ℕ → Work
-after_mark w n = record { marks = slice_set w.marks n true; left = w.left; waiting = slice_set w.waiting n []; woken = w.woken ++ slice_index_or w.waiting n [] }
+after_mark w n = record {
+  marks = slice_set w.marks n true;
+  left = w.left;
+  waiting = slice_set w.waiting n [];
+  woken = w.woken ++
+      slice_index_or w.waiting n [];
+}
 
 -- something waits at each of these nodes
 abbrev pub after_waits : List (List Waiting) → List NodeId → Waiting → List (List Waiting)
@@ -51,7 +58,12 @@ after_waits table (n ∷ ns) x = after_waits (appended table n.0 x) ns x
 -- the implication goes on to so many groups: it marks its node, or waits at the last of them
 abbrev pub moved : Implied → Work → ℕ → ℕ → Work
 moved i w c zero = after_mark (record { marks = w.marks; left = slice_set w.left c zero; waiting = w.waiting; woken = w.woken }) i.node
-moved i w c (suc k) = record { marks = w.marks; left = slice_set w.left c (suc k); waiting = after_waits w.waiting (slice_index_or i.groups k []) (waits c (suc k)); woken = w.woken }
+moved i w c (suc k) = record {
+  marks = w.marks;
+  left = slice_set w.left c (suc k);
+  waiting = after_waits w.waiting (slice_index_or i.groups k []) (waits c (suc k));
+  woken = w.woken;
+}
 
 abbrev pub advanced : List Implied → Work → ℕ → Work
 advanced is w c = moved (implied_at is c) w c (up_to_unmarked w.marks (implied_at is c).groups (left_at w c))

@@ -36,7 +36,9 @@ fn add_member(
     key: &Option<NodeKey>,
     n: usize,
 ) -> Result<(), Exhausted>
-    ensures added { OnOk result ((q : NodeKey) → items_at (get ⟦<NodeKey as PartialEq>⟧.eq classes.new q) ≡ items_at (get ⟦<NodeKey as PartialEq>⟧.eq classes.old q) ++ items_if (has_key q (Some key.now)) (n ∷ [])) }
+    ensures added { OnOk result ((q : NodeKey) →
+        items_at (get ⟦<NodeKey as PartialEq>⟧.eq classes.new q) ≡ items_at (get ⟦<NodeKey as PartialEq>⟧.eq classes.old q) ++
+        items_if (has_key q (Some key.now)) (n ∷ [])) }
     ensures memory { IfErr result (λ e. e ≡ Exhausted.Memory) }
 {
     match key {

@@ -39,7 +39,8 @@ pub fn group_at_node<'a, I: Interner>(
     n: usize,
 ) -> Option<&'a Rc<MergedConflictNode<I::SolvableId>>>
     requires { IsSimplified I.SolvableId.eq (I.universe _interner.now) graph.now.graph groups.now }
-    ensures { MatchOption result (IsNone (group_in (keys (I.universe _interner.now) graph.now.graph) n)) (λ group. IsGroupOf (keys (I.universe _interner.now) graph.now.graph) graph.now.graph n group.now) }
+    ensures { MatchOption result (IsNone (group_in (keys (I.universe _interner.now) graph.now.graph) n)) (λ group.
+        IsGroupOf (keys (I.universe _interner.now) graph.now.graph) graph.now.graph n group.now) }
 {
     let Some(solvable) = solvable_at(&graph.graph, n) else {
         return None;

@@ -26,7 +26,8 @@ impl<S> Model for Graph<S> {
 
     ghost view = { λ g. record { nodes = g.nodes.items; edges = g.edges.items } };
 
-    ghost invariant = { λ g. IsShape (record { nodes = g.nodes.items; edges = g.edges.items }) × HasPlacesOfEdges (length g.nodes.items) g.edges.items g.places };
+    ghost invariant = { λ g. IsShape (record { nodes = g.nodes.items; edges = g.edges.items }) ×
+        HasPlacesOfEdges (length g.nodes.items) g.edges.items g.places };
 }
 
 impl<S> Graph<S> {

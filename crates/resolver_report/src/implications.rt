@@ -4,7 +4,8 @@ ghost use Rattle.std.specs.Prelude.{◌≡◌, ◌<◌, ◌≤◌, ⊤, [], All,
 ghost use Rattle.resolver_report.specs.EdgePlaces.{appended, lists_in};
 ghost use Rattle.resolver_report.specs.Implications.{HasLeastMarks, implied};
 ghost use Rattle.resolver_report.specs.Marks.{is_marked as is_marked_in};
-ghost use Rattle.resolver_report.specs.WorkLists.{AreTended, IsReady, IsRight, IsSameWork, KeepsOthersTended, KeepsTended, advanced, after_mark, after_waits, has_mark as has_mark_in, is_ready as is_ready_in, left_at, up_to_unmarked as up_to_unmarked_in, work_view};
+ghost use Rattle.resolver_report.specs.WorkLists.{AreTended, IsReady, IsRight, IsSameWork, KeepsOthersTended, KeepsTended, advanced, after_mark, after_waits};
+ghost use Rattle.resolver_report.specs.WorkLists.{has_mark as has_mark_in, is_ready as is_ready_in, left_at, up_to_unmarked as up_to_unmarked_in, work_view};
 
 use crate::edge_places::{empty_lists, push_at};
 use crate::marks::some_marked;
@@ -154,7 +155,10 @@ fn advance(
 fn next_ready(implications: &[Implication], marking: &mut Marking) -> Option<usize>
     requires { IsRight (map implied implications.now) (work_view marking.old) }
     ensures same { IsSameWork (work_view marking.old) (work_view marking.new) }
-    ensures found { MatchOption result ((marking.new.woken.items ≡ []) × KeepsTended (map implied implications.now) (work_view marking.old) (work_view marking.new)) (λ c. IsReady (map implied implications.now) (work_view marking.new) c × KeepsOthersTended (map implied implications.now) (work_view marking.old) (work_view marking.new) c) }
+    ensures found { MatchOption result
+        ((marking.new.woken.items ≡ []) × KeepsTended (map implied implications.now) (work_view marking.old) (work_view marking.new)) (λ c.
+        IsReady (map implied implications.now) (work_view marking.new) c ×
+        KeepsOthersTended (map implied implications.now) (work_view marking.old) (work_view marking.new) c) }
 {
     while let Some(woken) = marking.woken.pop() {
         if is_ready(implications, marking, woken) {

@@ -82,7 +82,8 @@ fn write_stem(order: ChildOrder, out: &mut String) -> Result<(), Exhausted>
 
 /// Writes what one of the levels says, given those below it.
 fn write_level(order: ChildOrder, below: &[ChildOrder], out: &mut String) -> Result<(), Exhausted>
-    ensures ok { OnOk result (string_bytes out.new ++ indent (map is_last_child below.now) ≡ string_bytes out.old ++ indent (is_last_child order ∷ map is_last_child below.now)) }
+    ensures ok { OnOk result (string_bytes out.new ++ indent (map is_last_child below.now) ≡ string_bytes out.old ++
+        indent (is_last_child order ∷ map is_last_child below.now)) }
     ensures memory { IfErr result (λ e. e ≡ Exhausted.Memory) }
 {
     if below.is_empty() {

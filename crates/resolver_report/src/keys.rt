@@ -62,7 +62,8 @@ fn name_at<I: Interner>(
     interner: &I,
     node: &ConflictNode<I::SolvableId>,
 ) -> Result<Option<String>, Exhausted>
-    ensures value { IfOk result (λ o. option_map string_bytes o ≡ option_map (λ s. (I.universe interner.now).name_text ((I.universe interner.now).name s)) (as_solvable (Some node.now))) }
+    ensures value { IfOk result (λ o.
+        option_map string_bytes o ≡ option_map (λ s. (I.universe interner.now).name_text ((I.universe interner.now).name s)) (as_solvable (Some node.now))) }
     ensures memory { IfErr result (λ e. e ≡ Exhausted.Memory) }
 {
     match node {

@@ -7,7 +7,9 @@ ghost use Rattle.resolver_report.specs.Causes.{has_exclusion};
 ghost use Rattle.resolver_report.specs.EdgePlaces.{lists_in};
 ghost use Rattle.resolver_report.specs.EdgeRuns.{run_view};
 ghost use Rattle.resolver_report.specs.Implications.{implied};
-ghost use Rattle.resolver_report.specs.Marks.{IsLeastClosed, can_be_installed as can_be_installed_by, installable as installable_in, is_marked as is_marked_in, is_place as is_place_at, missing as missing_in, must_be_missing as must_be_missing_by, some_marked as some_marked_in};
+ghost use Rattle.resolver_report.specs.Marks.{IsLeastClosed, can_be_installed as can_be_installed_by, installable as installable_in, is_marked as is_marked_in};
+ghost use Rattle.resolver_report.specs.Marks.{is_place as is_place_at, missing as missing_in, must_be_missing as must_be_missing_by};
+ghost use Rattle.resolver_report.specs.Marks.{some_marked as some_marked_in};
 ghost use Rattle.resolver_report.specs.NodeImplications.{all_of_run, each_alone, installable_by, missing_by, of_each_node};
 ghost use Rattle.resolver_report.specs.Shapes.{ConflictShape, incoming};
 

@@ -66,7 +66,9 @@ fn write_missing_part<I: Interner>(
     out: &mut String,
 ) -> Result<(), Exhausted>
     requires { IsStory I.universe story.now I.SolvableId.eq }
-    ensures ok { OnOk result (string_bytes out.new ≡ string_bytes out.old ++ missing_part (I.universe story.now.interner.now) (graph_in I.universe story.now) (keys_in I.universe story.now) (marks_in I.universe story.now) edges.now) }
+    ensures ok { OnOk result (string_bytes out.new ≡ string_bytes out.old ++
+        missing_part (I.universe story.now.interner.now) (graph_in I.universe story.now) (keys_in I.universe story.now)
+        (marks_in I.universe story.now) edges.now) }
     ensures memory { IfErr result (λ e. e ≡ Exhausted.Memory) }
 {
     let [_, ..] = edges else {
@@ -84,7 +86,10 @@ fn write_incompatible<I: Interner>(
     out: &mut String,
 ) -> Result<(), Exhausted>
     requires { IsStory I.universe story.now I.SolvableId.eq }
-    ensures ok { OnOk result (string_bytes out.new ≡ string_bytes out.old ++ (codes "The following packages are incompatible" ++ 10 ∷ [] ++ text_of true [] (tree (I.universe story.now.interner.now) (graph_in I.universe story.now) (keys_in I.universe story.now) (marks_in I.universe story.now) edges.now) ++ conflict_text (I.universe story.now.interner.now) root_edges.now)) }
+    ensures ok { OnOk result (string_bytes out.new ≡ string_bytes out.old ++
+        (codes "The following packages are incompatible" ++ 10 ∷ [] ++
+        text_of true [] (tree (I.universe story.now.interner.now) (graph_in I.universe story.now) (keys_in I.universe story.now)
+        (marks_in I.universe story.now) edges.now) ++ conflict_text (I.universe story.now.interner.now) root_edges.now)) }
     ensures memory { IfErr result (λ e. e ≡ Exhausted.Memory) }
 {
     write_end("The following packages are incompatible", out)?;
@@ -101,7 +106,9 @@ fn write_conflict_part<I: Interner>(
     out: &mut String,
 ) -> Result<(), Exhausted>
     requires { IsStory I.universe story.now I.SolvableId.eq }
-    ensures ok { OnOk result (string_bytes out.new ≡ string_bytes out.old ++ conflict_part (I.universe story.now.interner.now) (graph_in I.universe story.now) (keys_in I.universe story.now) (marks_in I.universe story.now) root_edges.now edges.now) }
+    ensures ok { OnOk result (string_bytes out.new ≡ string_bytes out.old ++
+        conflict_part (I.universe story.now.interner.now) (graph_in I.universe story.now) (keys_in I.universe story.now)
+        (marks_in I.universe story.now) root_edges.now edges.now) }
     ensures memory { IfErr result (λ e. e ≡ Exhausted.Memory) }
 {
     let [_, ..] = edges else {

@@ -81,7 +81,8 @@ impl<'s> Pending<'s> {
         runs: &'s [RunStory],
         indenter: Indenter,
     ) -> Result<(), Exhausted>
-        ensures view { OnOk result (pending_view self.new ≡ entered (pending_view self.old) node.0 candidates.now (map run_told_view runs.now) indenter.top_level_indent) }
+        ensures view { OnOk result (pending_view self.new ≡ entered (pending_view self.old) node.0 candidates.now
+            (map run_told_view runs.now) indenter.top_level_indent) }
         ensures indenter { OnOk result (self.new.indenter ≡ indenter) }
         ensures memory { IfErr result (λ e. e ≡ Exhausted.Memory) }
     {

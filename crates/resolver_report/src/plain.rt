@@ -5,7 +5,8 @@ ghost use Rattle.resolver_clause_store.specs.Laws.{IsIdentity};
 ghost use Rattle.resolver_clause_store.specs.Lists.{HasNoRepeats};
 ghost use Rattle.resolver_clause_store.specs.Statements.{AllMeet, IsPresent, lists_of};
 ghost use Rattle.resolver_clause_store.specs.Rules.{AllNeeded, IsRefuted, Obeys};
-ghost use Rattle.resolver_report.specs.Plain.{BreaksSome, Clashes, HasTwo, IsAllowed, IsAloneMarked, IsForbidden, IsMet, IsOpen, IsUnmet, MarksNoOther, MarksOther};
+ghost use Rattle.resolver_report.specs.Plain.{BreaksSome, Clashes, HasTwo, IsAllowed, IsAloneMarked, IsForbidden, IsMet, IsOpen, IsUnmet, MarksNoOther};
+ghost use Rattle.resolver_report.specs.Plain.{MarksOther};
 ghost use Rattle.resolver_report.specs.Searching.{IsChosen, IsSearching, IsStep, Shows, search_work, untried_view, work_of_choice};
 
 use resolver_clause_store::{By, Exhausted, Rule, has, meets};
@@ -232,7 +233,8 @@ fn enter<'r, N: Eq, S: Copy + Eq + Drop>(
     requires names { IsIdentity N.eq }
     requires solvables { IsIdentity S.eq }
     requires chosen { IsChosen rules.now set.old.items (untried_view untried.old.items) }
-    ensures step { IfOk result (IsStep S.eq rules.now set.new.items (untried_view untried.new.items) (work_of_choice S.eq rules.now set.old.items (untried_view untried.old.items))) }
+    ensures step { IfOk result (IsStep S.eq rules.now set.new.items (untried_view untried.new.items)
+        (work_of_choice S.eq rules.now set.old.items (untried_view untried.old.items))) }
     ensures memory { IfErr result (λ e. e ≡ Exhausted.Memory) }
 {
     match examine(rules, set) {
@@ -261,7 +263,8 @@ fn choose<'r, N: Eq, S: Copy + Eq + Drop>(
     requires solvables { IsIdentity S.eq }
     requires candidates { candidates.now ≡ solvable ∷ rest.now }
     requires searching { IsSearching rules.now set.old.items (candidates.now ∷ untried_view untried.old.items) }
-    ensures step { IfOk result (IsStep S.eq rules.now set.new.items (untried_view untried.new.items) (search_work S.eq rules.now set.old.items (candidates.now ∷ untried_view untried.old.items))) }
+    ensures step { IfOk result (IsStep S.eq rules.now set.new.items (untried_view untried.new.items)
+        (search_work S.eq rules.now set.old.items (candidates.now ∷ untried_view untried.old.items))) }
     ensures memory { IfErr result (λ e. e ≡ Exhausted.Memory) }
 {
     untried.push(Untried { candidates: rest })?;
@@ -279,7 +282,8 @@ fn advance<'r, N: Eq, S: Copy + Eq + Drop>(
     requires names { IsIdentity N.eq }
     requires solvables { IsIdentity S.eq }
     requires searching { IsSearching rules.now set.old.items (untried_view untried.old.items) }
-    ensures step { IfOk result (IsStep S.eq rules.now set.new.items (untried_view untried.new.items) (search_work S.eq rules.now set.old.items (untried_view untried.old.items))) }
+    ensures step { IfOk result (IsStep S.eq rules.now set.new.items (untried_view untried.new.items)
+        (search_work S.eq rules.now set.old.items (untried_view untried.old.items))) }
     ensures memory { IfErr result (λ e. e ≡ Exhausted.Memory) }
 {
     let Some(level) = untried.pop() else {

@@ -1,7 +1,8 @@
 //! Neighbouring edges that require one thing, and what else edges say.
 
 ghost use Rattle.std.specs.Prelude.{◌≡◌, ◌<◌, ◌++◌, ◌∷◌, [], IfOk, IfErr, OnOk, length, map};
-ghost use Rattle.resolver_report.specs.Causes.{has_conflict as has_conflict_in, has_second_instance as has_second_instance_in, is_conflict as is_conflict_in, is_exclusion as is_exclusion_in, is_second_instance as is_second_instance_in};
+ghost use Rattle.resolver_report.specs.Causes.{has_conflict as has_conflict_in, has_second_instance as has_second_instance_in, is_conflict as is_conflict_in};
+ghost use Rattle.resolver_report.specs.Causes.{is_exclusion as is_exclusion_in, is_second_instance as is_second_instance_in};
 ghost use Rattle.resolver_report.specs.Runs.{runs_of as runs_of_edges};
 ghost use Rattle.resolver_report.specs.EdgeRuns.{and_then, new_run, run_view};
 ghost use Rattle.resolver_report.specs.Same.{same_requirement};

@@ -66,7 +66,9 @@ fn group_of<S: Copy + Eq + Hash + Drop>(
     class: &[usize],
     groups: &HashMap<S, Rc<MergedConflictNode<S>>>,
 ) -> Result<Option<Rc<MergedConflictNode<S>>>, Exhausted>
-    ensures value { IfOk result (λ group. (ks : List Key) (n : ℕ) → class.now ≡ class_in ks n → IsSimplifiedBefore S.eq ks graph.now n groups.now → MatchOption group (IsNone (group_in ks n)) (IsGroupOf ks graph.now n)) }
+    ensures value { IfOk result (λ group.
+        (ks : List Key) (n : ℕ) → class.now ≡ class_in ks n → IsSimplifiedBefore S.eq ks graph.now n groups.now →
+        MatchOption group (IsNone (group_in ks n)) (IsGroupOf ks graph.now n)) }
     ensures memory { IfErr result (λ e. e ≡ Exhausted.Memory) }
 {
     let [first, _, ..] = class else {
@@ -88,7 +90,8 @@ fn add_group<S: Copy + Eq + Hash + Drop>(
     groups: &mut HashMap<S, Rc<MergedConflictNode<S>>>,
 ) -> Result<(), Exhausted>
     requires identity { IsIdentity S.eq }
-    ensures after { OnOk result ((ks : List Key) → class.now ≡ class_in ks n → IsSimplifiedBefore S.eq ks graph.now n groups.old → IsSimplifiedBefore S.eq ks graph.now (n + 1) groups.new) }
+    ensures after { OnOk result ((ks : List Key) → class.now ≡ class_in ks n → IsSimplifiedBefore S.eq ks graph.now n groups.old →
+        IsSimplifiedBefore S.eq ks graph.now (n + 1) groups.new) }
     ensures memory { IfErr result (λ e. e ≡ Exhausted.Memory) }
 {
     let _nodes = graph.nodes();

@@ -6,7 +6,8 @@ ghost use Rattle.std.specs.Option.{option_map};
 ghost use Rattle.resolver_clause_store.specs.Lists.{without_repeats};
 ghost use Rattle.resolver_report.specs.ConflictGraphs.{shape_of};
 ghost use Rattle.resolver_report.specs.EdgeRuns.{run_view};
-ghost use Rattle.resolver_report.specs.Messages.{candidates_of, is_candidate as is_candidate_in, is_unresolved as is_unresolved_in, is_viable as is_viable_in, same_group_as, told_of, told_of_run};
+ghost use Rattle.resolver_report.specs.Messages.{candidates_of, is_candidate as is_candidate_in, is_unresolved as is_unresolved_in, is_viable as is_viable_in};
+ghost use Rattle.resolver_report.specs.Messages.{same_group_as, told_of, told_of_run};
 ghost use Rattle.resolver_report.specs.Shapes.{places};
 ghost use Rattle.resolver_report.specs.Stories.{HasGroupsOf, group_at as group_at_in, groups_in, has_viability, node_told, node_view, run_told_view};
 
@@ -68,7 +69,9 @@ fn add_node(
     n: NodeId,
 ) -> Result<(), Exhausted>
     requires { HasGroupsOf groups.now found.old.items told.old }
-    ensures found { OnOk result (found.new.items ≡ (if list_any (λ m. same_group_as (group_at_in groups.now n.0) (group_at_in groups.now m.0)) found.old.items then found.old.items else found.old.items ++ n ∷ [])) }
+    ensures found { OnOk result (found.new.items ≡
+        (if list_any (λ m. same_group_as (group_at_in groups.now n.0) (group_at_in groups.now m.0)) found.old.items then found.old.items else found.old.items ++
+        n ∷ [])) }
     ensures told { OnOk result (HasGroupsOf groups.now found.new.items told.new) }
     ensures memory { IfErr result (λ e. e ≡ Exhausted.Memory) }
 {
@@ -118,7 +121,9 @@ fn candidate_targets<S>(
     is_viable: bool,
     targets: &[NodeId],
 ) -> Result<Vec<NodeId>, Exhausted>
-    ensures value { IfOk result (λ v. v.items ≡ filter (λ n. is_candidate_in (shape_of findings.now.graph.now) (groups_in findings.now) findings.now.installable.items is_viable n.0) targets.now) }
+    ensures value { IfOk result (λ v.
+        v.items ≡ filter (λ n. is_candidate_in (shape_of findings.now.graph.now)
+        (groups_in findings.now) findings.now.installable.items is_viable n.0) targets.now) }
     ensures memory { IfErr result (λ e. e ≡ Exhausted.Memory) }
 {
     let found = targets
@@ -151,7 +156,8 @@ fn run_story<S>(
     findings: &Findings<'_, S>,
     run: &EdgeRun,
 ) -> Result<RunStory, Exhausted>
-    ensures value { IfOk result (λ s. run_told_view s ≡ told_of_run (shape_of findings.now.graph.now) (groups_in findings.now) findings.now.installable.items (run_view run.now)) }
+    ensures value { IfOk result (λ s.
+        run_told_view s ≡ told_of_run (shape_of findings.now.graph.now) (groups_in findings.now) findings.now.installable.items (run_view run.now)) }
     ensures memory { IfErr result (λ e. e ≡ Exhausted.Memory) }
 {
     let is_viable = is_viable(findings, run);
@@ -174,7 +180,9 @@ fn add_story<S>(
     wanted: bool,
     stories: &mut Vec<RunStory>,
 ) -> Result<(), Exhausted>
-    ensures ok { OnOk result (map run_told_view stories.new.items ≡ map run_told_view stories.old.items ++ map (told_of_run (shape_of findings.now.graph.now) (groups_in findings.now) findings.now.installable.items) (filter (has_viability findings.now wanted) (run_view run.now ∷ []))) }
+    ensures ok { OnOk result (map run_told_view stories.new.items ≡ map run_told_view stories.old.items ++
+        map (told_of_run (shape_of findings.now.graph.now) (groups_in findings.now) findings.now.installable.items)
+        (filter (has_viability findings.now wanted) (run_view run.now ∷ []))) }
     ensures memory { IfErr result (λ e. e ≡ Exhausted.Memory) }
 {
     if is_viable(findings, run) != wanted {
@@ -192,7 +200,9 @@ fn add_stories<S>(
     wanted: bool,
     stories: &mut Vec<RunStory>,
 ) -> Result<(), Exhausted>
-    ensures ok { OnOk result (map run_told_view stories.new.items ≡ map run_told_view stories.old.items ++ map (told_of_run (shape_of findings.now.graph.now) (groups_in findings.now) findings.now.installable.items) (filter (has_viability findings.now wanted) (reverse (map run_view runs.now)))) }
+    ensures ok { OnOk result (map run_told_view stories.new.items ≡ map run_told_view stories.old.items ++
+        map (told_of_run (shape_of findings.now.graph.now) (groups_in findings.now) findings.now.installable.items)
+        (filter (has_viability findings.now wanted) (reverse (map run_view runs.now)))) }
     ensures memory { IfErr result (λ e. e ≡ Exhausted.Memory) }
 {
     let mut rest = runs;
@@ -209,7 +219,8 @@ pub fn stories_of<S: Copy + Drop>(
     findings: &Findings<'_, S>,
     edges: &[Edge<S>],
 ) -> Result<Vec<RunStory>, Exhausted>
-    ensures value { IfOk result (λ v. map run_told_view v.items ≡ told_of (shape_of findings.now.graph.now) (groups_in findings.now) findings.now.installable.items edges.now) }
+    ensures value { IfOk result (λ v.
+        map run_told_view v.items ≡ told_of (shape_of findings.now.graph.now) (groups_in findings.now) findings.now.installable.items edges.now) }
     ensures memory { IfErr result (λ e. e ≡ Exhausted.Memory) }
 {
     let runs = runs_of(alloc, edges)?;
@@ -244,7 +255,9 @@ pub fn node_stories<S: Copy + Drop>(
     alloc: Global,
     findings: &Findings<'_, S>,
 ) -> Result<Vec<NodeStory>, Exhausted>
-    ensures value { IfOk result (λ v. map node_view v.items ≡ map (node_told (shape_of findings.now.graph.now) (groups_in findings.now) findings.now.installable.items) (places findings.now.graph.now.graph)) }
+    ensures value { IfOk result (λ v.
+        map node_view v.items ≡ map (node_told (shape_of findings.now.graph.now) (groups_in findings.now) findings.now.installable.items)
+        (places findings.now.graph.now.graph)) }
     ensures memory { IfErr result (λ e. e ≡ Exhausted.Memory) }
 {
     let mut stories = Vec::new(alloc);

@@ -4,7 +4,9 @@ ghost use Rattle.std.specs.Prelude.{◌≡◌, ◌++◌, ◌∷◌, [], IfOk, If
 ghost use Rattle.resolver_report.specs.ConflictTexts.{conflict_line_text};
 ghost use Rattle.resolver_report.specs.Forests.{branch_mark};
 ghost use Rattle.resolver_report.specs.Indents.{is_last_child};
-ghost use Rattle.resolver_report.specs.Messages.{conflict_text, constraint_text, joined_texts, lock_text, reason_text, requirement_text as requirement_text_in, run_after as after_run, run_before as before_run, run_text as run_text_of, version_set_text as version_set_text_in};
+ghost use Rattle.resolver_report.specs.Messages.{conflict_text, constraint_text, joined_texts, lock_text, reason_text, requirement_text as requirement_text_in};
+ghost use Rattle.resolver_report.specs.Messages.{run_after as after_run, run_before as before_run, run_text as run_text_of};
+ghost use Rattle.resolver_report.specs.Messages.{version_set_text as version_set_text_in};
 
 use crate::indenter::{ChildOrder, write_branch};
 use crate::parts::{ConflictCause, ConflictEdge, ConflictNode, Edge};
@@ -31,7 +33,8 @@ fn write_joined<I: Interner>(
     version_sets: &[VersionSetId],
     out: &mut String,
 ) -> Result<(), Exhausted>
-    ensures ok { OnOk result (string_bytes out.new ≡ string_bytes out.old ++ joined_texts (map (version_set_text_in (I.universe interner.now)) version_sets.now)) }
+    ensures ok { OnOk result (string_bytes out.new ≡ string_bytes out.old ++
+        joined_texts (map (version_set_text_in (I.universe interner.now)) version_sets.now)) }
     ensures memory { IfErr result (λ e. e ≡ Exhausted.Memory) }
 {
     let mut rest = version_sets;
@@ -100,7 +103,8 @@ pub fn write_run_text<I: Interner>(
     requirement: Requirement,
     out: &mut String,
 ) -> Result<(), Exhausted>
-    ensures ok { OnOk result (string_bytes out.new ≡ string_bytes out.old ++ run_text_of top unresolved viable (requirement_text_in (I.universe interner.now) requirement)) }
+    ensures ok { OnOk result (string_bytes out.new ≡ string_bytes out.old ++
+        run_text_of top unresolved viable (requirement_text_in (I.universe interner.now) requirement)) }
     ensures memory { IfErr result (λ e. e ≡ Exhausted.Memory) }
 {
     out.push_str(run_before(top, unresolved))?;

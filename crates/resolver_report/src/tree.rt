@@ -1,9 +1,11 @@
 //! The tree of a message.
 
-ghost use Rattle.std.specs.Prelude.{◌≡◌, ◌∷◌, ◌++◌, ◌<◌, ◌==◌, [], false, true, IfErr, IfOk, IsFalse, IsTrue, OnOk, IsSome, MatchOption, length, map, slice_get, slice_set, string_bytes};
+ghost use Rattle.std.specs.Prelude.{◌≡◌, ◌∷◌, ◌++◌, ◌<◌, ◌==◌, [], false, true, IfErr, IfOk, IsFalse, IsTrue, OnOk, IsSome, MatchOption, length, map};
+ghost use Rattle.std.specs.Prelude.{slice_get, slice_set, string_bytes};
 ghost use Rattle.resolver_report.specs.Forests.{indent_from, text_of};
 ghost use Rattle.resolver_report.specs.Indents.{is_last_child, levels_in};
-ghost use Rattle.resolver_report.specs.Messages.{excluded, constraint_line as constraint_line_in, tree, is_quiet, is_reported as is_reported_in, lines_of, reason_text, run_text, requirement_text, unmarked, with_group};
+ghost use Rattle.resolver_report.specs.Messages.{excluded, constraint_line as constraint_line_in, tree, is_quiet, is_reported as is_reported_in, lines_of};
+ghost use Rattle.resolver_report.specs.Messages.{reason_text, run_text, requirement_text, unmarked, with_group};
 ghost use Rattle.resolver_report.specs.PendingTexts.{HasLevels, IsTellStep, below_run as below_run_in, pending_text, pending_view};
 ghost use Rattle.resolver_report.specs.Stories.{run_told_view};
 ghost use Rattle.resolver_report.specs.Tellings.{IsStory, IsToldNode, graph_in, keys_in, marks_in, is_requires, tree_in, verdict_rest, version_text_in};
@@ -62,7 +64,8 @@ fn told_node<'s, I: Interner>(
     branch: &[bool],
 ) -> Option<&'s NodeStory>
     requires { IsStory I.universe story.now I.SolvableId.eq }
-    ensures { MatchOption result (is_quiet (I.universe story.now.interner.now) (graph_in I.universe story.now) (keys_in I.universe story.now) (marks_in I.universe story.now) branch.now n.0 reported.now ≡ true) (λ node. IsToldNode I.universe story.now branch.now n.0 reported.now node.now) }
+    ensures { MatchOption result (is_quiet (I.universe story.now.interner.now) (graph_in I.universe story.now) (keys_in I.universe story.now)
+        (marks_in I.universe story.now) branch.now n.0 reported.now ≡ true) (λ node. IsToldNode I.universe story.now branch.now n.0 reported.now node.now) }
 {
     let Some(_) = solvable_at(&story.findings.graph.graph, n.0) else {
         return None;
@@ -106,7 +109,8 @@ fn write_constraint_line<I: Interner>(
     version_set: VersionSetId,
     out: &mut String,
 ) -> Result<(), Exhausted>
-    ensures ok { OnOk result (string_bytes out.new ≡ string_bytes out.old ++ (indent_from deeper.now.top_level_indent (levels_in deeper.now) ++ constraint_line_in (I.universe interner.now) version_set ++ 10 ∷ [])) }
+    ensures ok { OnOk result (string_bytes out.new ≡ string_bytes out.old ++
+        (indent_from deeper.now.top_level_indent (levels_in deeper.now) ++ constraint_line_in (I.universe interner.now) version_set ++ 10 ∷ [])) }
     ensures memory { IfErr result (λ e. e ≡ Exhausted.Memory) }
 {
     deeper.write(out)?;
@@ -124,7 +128,11 @@ fn write_next_constraint<I: Interner>(
     rest: &[VersionSetId],
     out: &mut String,
 ) -> Result<(), Exhausted>
-    ensures ok { OnOk result (string_bytes out.new ++ text_of indenter.now.top_level_indent (levels_in indenter.now) (lines_of (map (constraint_line_in (I.universe interner.now)) rest.now)) ≡ string_bytes out.old ++ text_of indenter.now.top_level_indent (levels_in indenter.now) (lines_of (map (constraint_line_in (I.universe interner.now)) (version_set ∷ rest.now)))) }
+    ensures ok { OnOk result (string_bytes out.new ++
+        text_of indenter.now.top_level_indent (levels_in indenter.now)
+        (lines_of (map (constraint_line_in (I.universe interner.now)) rest.now)) ≡ string_bytes out.old ++
+        text_of indenter.now.top_level_indent (levels_in indenter.now)
+        (lines_of (map (constraint_line_in (I.universe interner.now)) (version_set ∷ rest.now)))) }
     ensures memory { IfErr result (λ e. e ≡ Exhausted.Memory) }
 {
     let order = ChildOrder::before(rest);
@@ -140,7 +148,8 @@ fn write_constraint_lines<I: Interner>(
     version_sets: &[VersionSetId],
     out: &mut String,
 ) -> Result<(), Exhausted>
-    ensures ok { OnOk result (string_bytes out.new ≡ string_bytes out.old ++ text_of indenter.now.top_level_indent (levels_in indenter.now) (lines_of (map (constraint_line_in (I.universe interner.now)) version_sets.now))) }
+    ensures ok { OnOk result (string_bytes out.new ≡ string_bytes out.old ++
+        text_of indenter.now.top_level_indent (levels_in indenter.now) (lines_of (map (constraint_line_in (I.universe interner.now)) version_sets.now))) }
     ensures memory { IfErr result (λ e. e ≡ Exhausted.Memory) }
 {
     let mut rest = version_sets;
@@ -158,7 +167,8 @@ fn write_verdict<I: Interner>(
     verdict: &Verdict,
     out: &mut String,
 ) -> Result<(), Exhausted>
-    ensures ok { OnOk result (string_bytes out.new ≡ string_bytes out.old ++ verdict_rest I.universe story.now indenter.now.top_level_indent (levels_in indenter.now) (verdict_view verdict.now)) }
+    ensures ok { OnOk result (string_bytes out.new ≡ string_bytes out.old ++
+        verdict_rest I.universe story.now indenter.now.top_level_indent (levels_in indenter.now) (verdict_view verdict.now)) }
     ensures memory { IfErr result (λ e. e ≡ Exhausted.Memory) }
 {
     match verdict {
@@ -202,7 +212,8 @@ fn write_reason_at<I: Interner>(
     n: NodeId,
     out: &mut String,
 ) -> Result<(), Exhausted>
-    ensures ok { OnOk result (string_bytes out.new ≡ string_bytes out.old ++ reason_text (I.universe story.now.interner.now) (slice_get story.now.findings.graph.now.graph.nodes n.0)) }
+    ensures ok { OnOk result (string_bytes out.new ≡ string_bytes out.old ++
+        reason_text (I.universe story.now.interner.now) (slice_get story.now.findings.graph.now.graph.nodes n.0)) }
     ensures memory { IfErr result (λ e. e ≡ Exhausted.Memory) }
 {
     match story.findings.graph.graph.nodes().get(n.0) {
@@ -239,7 +250,9 @@ fn write_candidate<I: Interner>(
 ) -> Result<(), Exhausted>
     requires story { IsStory I.universe story.now I.SolvableId.eq }
     requires solvable { IsSome (solvable_at_place story.now.findings.graph.now.graph n.0) }
-    ensures ok { OnOk result (string_bytes out.new ≡ string_bytes out.old ++ (indent_from indenter.now.top_level_indent (levels_in indenter.now) ++ version_text_in I.universe story.now n.0 ++ verdict_rest I.universe story.now indenter.now.top_level_indent (levels_in indenter.now) (verdict_view verdict.now))) }
+    ensures ok { OnOk result (string_bytes out.new ≡ string_bytes out.old ++
+        (indent_from indenter.now.top_level_indent (levels_in indenter.now) ++ version_text_in I.universe story.now n.0 ++
+        verdict_rest I.universe story.now indenter.now.top_level_indent (levels_in indenter.now) (verdict_view verdict.now))) }
     ensures memory { IfErr result (λ e. e ≡ Exhausted.Memory) }
 {
     indenter.write(out)?;
@@ -266,7 +279,9 @@ fn write_run_line<I: Interner>(
     run: &RunStory,
     out: &mut String,
 ) -> Result<(), Exhausted>
-    ensures ok { OnOk result (string_bytes out.new ≡ string_bytes out.old ++ (indent_from indenter.now.top_level_indent (levels_in indenter.now) ++ run_text top run.now.is_unresolved run.now.is_viable (requirement_text (I.universe interner.now) run.now.requirement) ++ 10 ∷ [])) }
+    ensures ok { OnOk result (string_bytes out.new ≡ string_bytes out.old ++
+        (indent_from indenter.now.top_level_indent (levels_in indenter.now) ++
+        run_text top run.now.is_unresolved run.now.is_viable (requirement_text (I.universe interner.now) run.now.requirement) ++ 10 ∷ [])) }
     ensures memory { IfErr result (λ e. e ≡ Exhausted.Memory) }
 {
     indenter.write(out)?;
@@ -303,7 +318,8 @@ fn tell_run<'s, I: Interner>(
     requires levels { HasLevels pending.old }
     requires candidates { pending.old.candidates.now ≡ [] }
     requires runs { pending.old.runs.now ≡ run.now ∷ rest.now }
-    ensures step { OnOk result (IsTellStep I.universe story.now (pending_view pending.old) (pending_view pending.new) (string_bytes out.old) (string_bytes out.new)) }
+    ensures step { OnOk result (IsTellStep I.universe story.now (pending_view pending.old) (pending_view pending.new) (string_bytes out.old)
+        (string_bytes out.new)) }
     ensures levels { OnOk result (HasLevels pending.new) }
     ensures memory { IfErr result (λ e. e ≡ Exhausted.Memory) }
 {
@@ -318,7 +334,8 @@ fn tell_run<'s, I: Interner>(
 
 /// The levels of the candidate before these.
 fn candidate_levels(pending: &Pending<'_>, rest: &[NodeId]) -> Result<Indenter, Exhausted>
-    ensures levels { IfOk result (λ deeper. levels_in deeper ≡ levels_in pending.now.indenter ++ (length pending.now.runs.now == 0) ∷ (length rest.now == 0) ∷ []) }
+    ensures levels { IfOk result (λ deeper.
+        levels_in deeper ≡ levels_in pending.now.indenter ++ (length pending.now.runs.now == 0) ∷ (length rest.now == 0) ∷ []) }
     ensures top { IfOk result (λ deeper. deeper.top_level_indent ≡ pending.now.indenter.top_level_indent) }
     ensures memory { IfErr result (λ e. e ≡ Exhausted.Memory) }
 {
@@ -341,7 +358,8 @@ fn tell_node<'s, I: Interner>(
     requires candidates { pending.old.candidates.now ≡ n ∷ rest.now }
     requires deep { length pending.old.frames.items < pending.old.limit }
     requires node { IsToldNode I.universe story.now pending.old.branch.items n.0 pending.old.reported.items node.now }
-    ensures step { OnOk result (IsTellStep I.universe story.now (pending_view pending.old) (pending_view pending.new) (string_bytes out.old) (string_bytes out.new)) }
+    ensures step { OnOk result (IsTellStep I.universe story.now (pending_view pending.old) (pending_view pending.new) (string_bytes out.old)
+        (string_bytes out.new)) }
     ensures levels { OnOk result (HasLevels pending.new) }
     ensures memory { IfErr result (λ e. e ≡ Exhausted.Memory) }
 {
@@ -367,7 +385,8 @@ fn tell_candidate<'s, I: Interner>(
     requires story { IsStory I.universe story.now I.SolvableId.eq }
     requires levels { HasLevels pending.old }
     requires candidates { pending.old.candidates.now ≡ n ∷ rest.now }
-    ensures step { OnOk result (IsTellStep I.universe story.now (pending_view pending.old) (pending_view pending.new) (string_bytes out.old) (string_bytes out.new)) }
+    ensures step { OnOk result (IsTellStep I.universe story.now (pending_view pending.old) (pending_view pending.new) (string_bytes out.old)
+        (string_bytes out.new)) }
     ensures levels { OnOk result (HasLevels pending.new) }
     ensures memory { IfErr result (λ e. e ≡ Exhausted.Memory) }
 {
@@ -391,7 +410,8 @@ fn tell_next<'s, I: Interner>(
 ) -> Result<bool, Exhausted>
     requires story { IsStory I.universe story.now I.SolvableId.eq }
     requires levels { HasLevels pending.old }
-    ensures step { IfOk result (λ more. IsTrue more → IsTellStep I.universe story.now (pending_view pending.old) (pending_view pending.new) (string_bytes out.old) (string_bytes out.new)) }
+    ensures step { IfOk result (λ more.
+        IsTrue more → IsTellStep I.universe story.now (pending_view pending.old) (pending_view pending.new) (string_bytes out.old) (string_bytes out.new)) }
     ensures levels { IfOk result (λ more. IsTrue more → HasLevels pending.new) }
     ensures told { IfOk result (λ more. IsFalse more → pending_text I.universe story.now (pending_view pending.old) ≡ []) }
     ensures same { IfOk result (λ more. IsFalse more → string_bytes out.new ≡ string_bytes out.old) }
@@ -473,7 +493,9 @@ fn tell_tree<'s, I: Interner>(
     out: &mut String,
 ) -> Result<(), Exhausted>
     requires { IsStory I.universe story.now I.SolvableId.eq }
-    ensures text { OnOk result (string_bytes out.new ≡ string_bytes out.old ++ text_of top_level_indent [] (tree_in I.universe story.now (length story.now.findings.graph.now.graph.nodes) (unmarked story.now.findings.graph.now.graph) true (map run_told_view runs.now) (unmarked story.now.findings.graph.now.graph)).value) }
+    ensures text { OnOk result (string_bytes out.new ≡ string_bytes out.old ++
+        text_of top_level_indent [] (tree_in I.universe story.now (length story.now.findings.graph.now.graph.nodes)
+        (unmarked story.now.findings.graph.now.graph) true (map run_told_view runs.now) (unmarked story.now.findings.graph.now.graph)).value) }
     ensures memory { IfErr result (λ e. e ≡ Exhausted.Memory) }
 {
     reserve_tree(story, runs, top_level_indent, out)?;
@@ -492,7 +514,9 @@ pub fn tell_edges<I: Interner>(
     out: &mut String,
 ) -> Result<(), Exhausted>
     requires { IsStory I.universe story.now I.SolvableId.eq }
-    ensures ok { OnOk result (string_bytes out.new ≡ string_bytes out.old ++ text_of top_level_indent [] (tree (I.universe story.now.interner.now) (graph_in I.universe story.now) (keys_in I.universe story.now) (marks_in I.universe story.now) edges.now)) }
+    ensures ok { OnOk result (string_bytes out.new ≡ string_bytes out.old ++
+        text_of top_level_indent [] (tree (I.universe story.now.interner.now) (graph_in I.universe story.now) (keys_in I.universe story.now)
+        (marks_in I.universe story.now) edges.now)) }
     ensures memory { IfErr result (λ e. e ≡ Exhausted.Memory) }
 {
     let alloc = *out.allocator();

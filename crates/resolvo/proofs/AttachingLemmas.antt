@@ -1,5 +1,6 @@
 -- What attaching clauses, cutting a trail and more variables keep of what propagation keeps.
-use Rattle.std.proofs.Common.{◌≡◌, ◌≢◌, ℕ, zero, suc, ◌+◌, ◌*◌, ◌-◌, ◌<◌, ◌≤◌, ◌⊎◌, List, [], ◌∷◌, ◌++◌, length, get_or, take, min, Some, None, Option, Bool, true, false, append_assoc, arith, inl, inr, refl, sym, ap, ◌∙◌, subst, ⊎_elim, length-append}
+use Rattle.std.proofs.Common.{◌≡◌, ◌≢◌, ℕ, zero, suc, ◌+◌, ◌*◌, ◌-◌, ◌<◌, ◌≤◌, ◌⊎◌, List, [], ◌∷◌, ◌++◌, length, get_or, take, min, Some, None, Option, Bool}
+use Rattle.std.proofs.Common.{true, false, append_assoc, arith, inl, inr, refl, sym, ap, ◌∙◌, subst, ⊎_elim, length-append}
 use Rattle.std.specs.Prelude.{Vec, slice_get}
 use Rattle.std.specs.Bool.{beq}
 use Rattle.std.specs.List.{All, Any, Contains}
@@ -30,7 +31,8 @@ use Rattle.resolver_clause_store.specs.declared.Watches.{Watches}
 use Rattle.resolvo.specs.Attaching.{AreAlike, AreApart, EndsWith, Forces, IsHigh, IsHighPair, IsLower, IsNotBefore, IsOther, IsRising, Recalls}
 use Rattle.resolvo.specs.Propagation.{IsJustified, IsUnit}
 use Rattle.resolver_clause_store.specs.Settled.{IsOpen}
-use Rattle.resolvo.specs.Propagators.{AreLate, AreWatched, Covers, IsConstant, IsExcused, IsNoted, IsPropagator, IsTrueAt, IsTrueBefore, WatchesTwo, attached_of, head_of, late_of, pending_of}
+use Rattle.resolvo.specs.Propagators.{AreLate, AreWatched, Covers, IsConstant, IsExcused, IsNoted, IsPropagator, IsTrueAt, IsTrueBefore, WatchesTwo}
+use Rattle.resolvo.specs.Propagators.{attached_of, head_of, late_of, pending_of}
 use Rattle.resolver_clause_store.specs.Watches.{HasBlockers, IsWatching, list_at, pair_at, pair_from, unwatched, watched_pair}
 use Rattle.resolver_clause_store.specs.WatchesView.{lists_of, pairs_of}
 use Rattle.resolvo.proofs.PropagatorLemmas.{any-map, covers-kept, late-kept}
@@ -63,18 +65,24 @@ watching-inside pairs number literal watching = ⊎_elim
     (cases_lt number (length pairs))
 
 -- more variables
-pub propagator-grown : (table : List (Vec Literal Global)) (old new : Trail) (variables : ℕ) (p : Propagator) (watches : Watches) → length (lists_of watches) ≡ 2 * variables → ((list : ℕ) → list_at (lists_of watches) list ≡ list_at (lists_of p.watches) list) → pairs_of watches ≡ pairs_of p.watches → IsGrown old new variables → IsPropagator table old p → IsPropagator table new (record p { watches = watches })
+pub propagator-grown : (table : List (Vec Literal Global)) (old new : Trail) (variables : ℕ) (p : Propagator) (watches : Watches) →
+    length (lists_of watches) ≡ 2 * variables → ((list : ℕ) → list_at (lists_of watches) list ≡ list_at (lists_of p.watches) list) →
+    pairs_of watches ≡ pairs_of p.watches → IsGrown old new variables → IsPropagator table old p → IsPropagator table new (record p { watches = watches })
 propagator-grown table old new variables p watches size lists pairs grown it =
     let keeps : Keeps old new = record { kept = λ v s at. grown.slots v ∙ at } in
-    let blockers : HasBlockers table (lists_of watches) = λ list. subst (λ (ws : List Watch). All (λ (w : Watch). Contains (clause_at table w.number) w.blocker) ws) (sym (lists list)) (it.watched.blockers list) in
+    let blockers : HasBlockers table (lists_of watches) =
+    λ list. subst (λ (ws : List Watch). All (λ (w : Watch). Contains (clause_at table w.number) w.blocker) ws) (sym (lists list))
+    (it.watched.blockers list) in
     record {
       lists = size ∙ ap (λ n. 2 * n) (sym grown.size);
-      watched = subst (λ (ps : List WatchedPair). AreWatched table (lists_of watches) ps) (sym pairs) (record { attached = it.watched.attached; own = it.watched.own; two = it.watched.two; constant = it.watched.constant; blockers = blockers });
+      watched = subst (λ (ps : List WatchedPair). AreWatched table (lists_of watches) ps) (sym pairs)
+          (record { attached = it.watched.attached; own = it.watched.own; two = it.watched.two; constant = it.watched.constant; blockers = blockers });
       late = late-kept table old new _ keeps it.late;
       pending = subst (λ (ps : List WatchedPair). All (λ n. n < length ps) (pending_of p)) (sym pairs) it.pending;
       inside = subst (λ (ps : List WatchedPair). All (λ (l : Late). l.number < length ps) (late_of p)) (sym pairs) it.inside;
       head = omega (arith, it.head, (keeps_all old new keeps).are);
-      covers = subst (λ (ps : List WatchedPair). Covers table new ps (late_of p) (pending_of p) (head_of p)) (sym pairs) (covers-kept table old new _ _ _ _ keeps it.head it.covers);
+      covers = subst (λ (ps : List WatchedPair). Covers table new ps (late_of p) (pending_of p) (head_of p)) (sym pairs)
+          (covers-kept table old new _ _ _ _ keeps it.head it.covers);
     }
 
 -- a clause that has a literal is one of the table
@@ -88,10 +96,13 @@ within-contains table number literal contains = ⊎_elim
     (cases_lt number (length table))
 
 -- more clauses behind the others
-module _ (old new : List (Vec Literal Global)) (longer : length old ≤ length new) (same : (number : ℕ) → number < length old → clause_at new number ≡ clause_at old number) where
-  late-longer : (trail : Trail) (late : List Late) (attached : ℕ) → attached ≤ length old → All (λ (l : Late). l.number < attached) late → AreLate old trail late → AreLate new trail late
+module _ (old new : List (Vec Literal Global)) (longer : length old ≤ length new)
+    (same : (number : ℕ) → number < length old → clause_at new number ≡ clause_at old number) where
+  late-longer : (trail : Trail) (late : List Late) (attached : ℕ) → attached ≤ length old → All (λ (l : Late). l.number < attached) late →
+      AreLate old trail late → AreLate new trail late
   late-longer trail late attached short inside are = record {
-    each = λ k d below. subst (λ (c : List Literal). Any (IsTrueBefore trail (get_or late k d).length) c) (sym (same _ (omega (arith, inside k d below, short)))) (are.each k d below);
+    each = λ k d below. subst (λ (c : List Literal). Any (IsTrueBefore trail (get_or late k d).length) c)
+        (sym (same _ (omega (arith, inside k d below, short)))) (are.each k d below);
     within = are.within;
     rising = are.rising;
   }
@@ -101,9 +112,11 @@ module _ (old new : List (Vec Literal Global)) (longer : length old ≤ length n
       let here = are list k d below in
       subst (λ (c : List Literal). Contains c (get_or (list_at lists list) k d).blocker) (sym (same _ (within-contains old _ _ here))) here
 
-  covers-longer : (trail : Trail) (pairs : List WatchedPair) (late : List Late) (pending : List ℕ) (head : ℕ) → length pairs ≤ length old → Covers old trail pairs late pending head → Covers new trail pairs late pending head
+  covers-longer : (trail : Trail) (pairs : List WatchedPair) (late : List Late) (pending : List ℕ) (head : ℕ) → length pairs ≤ length old →
+      Covers old trail pairs late pending head → Covers new trail pairs late pending head
   covers-longer trail pairs late pending head short covers = record {
-    watched = λ number literal watching fails. subst (λ (c : List Literal). Any (IsTrueAt trail fails.slot.level) c ⊎ IsNoted late pending number) (sym (same number (omega (arith, watching-inside pairs number literal watching, short)))) (covers.watched number literal watching fails);
+    watched = λ number literal watching fails. subst (λ (c : List Literal). Any (IsTrueAt trail fails.slot.level) c ⊎ IsNoted late pending number)
+        (sym (same number (omega (arith, watching-inside pairs number literal watching, short)))) (covers.watched number literal watching fails);
     constant = covers.constant;
   }
 
@@ -121,48 +134,72 @@ lower-undone old new level undone = cut-undone old new level undone
 
 -- the first places are left
 places-cut : (old new : Trail) (count : ℕ) → IsCut old new count → count ≤ length_of old → KeepsPlaces old new (length_of new)
-places-cut old new count cut within = keeps_places old new (length_of new) (omega (arith, within, cut.length)) (λ v s at below. cut.kept v s at (omega (arith, below, cut.length)))
+places-cut old new count cut within =
+    keeps_places old new (length_of new) (omega (arith, within, cut.length)) (λ v s at below. cut.kept v s at (omega (arith, below, cut.length)))
 
 -- late clauses of which some at the end are gone
-late-fewer : (table : List (Vec Literal Global)) (old new : Trail) (late left gone : List Late) → late ≡ left ++ gone → KeepsPlaces old new (length_of new) → All (λ (l : Late). l.length ≤ length_of new) left → AreLate table old late → AreLate table new left
+late-fewer : (table : List (Vec Literal Global)) (old new : Trail) (late left gone : List Late) → late ≡ left ++ gone → KeepsPlaces old new (length_of new) →
+    All (λ (l : Late). l.length ≤ length_of new) left → AreLate table old late → AreLate table new left
 late-fewer table old new late left gone is places within are =
     let was : AreLate table old (left ++ gone) = subst (λ (ls : List Late). AreLate table old ls) is are in
-    let each : All (λ (l : Late). Any (IsTrueBefore old l.length) (clause_at table l.number)) left = all-left (λ (l : Late). Any (IsTrueBefore old l.length) (clause_at table l.number)) left gone was.each in
+    let each : All (λ (l : Late). Any (IsTrueBefore old l.length) (clause_at table l.number)) left =
+    all-left (λ (l : Late). Any (IsTrueBefore old l.length) (clause_at table l.number)) left gone was.each in
     record {
-      each = λ k d below. any-map _ _ _ (λ l (t : IsTrueBefore old (get_or left k d).length l). record { slot = t.slot; is = places.slots _ t.slot t.is (omega (arith, t.earlier, within k d below)); true_there = t.true_there; earlier = t.earlier }) (each k d below);
+      each = λ k d below. any-map _ _ _ (λ l
+          (t : IsTrueBefore old (get_or left k d).length l). record {
+            slot = t.slot;
+            is = places.slots _ t.slot t.is (omega (arith, t.earlier, within k d below));
+            true_there = t.true_there;
+            earlier = t.earlier;
+          }) (each k d below);
       within = within;
       rising = λ k n early later less at there. was.rising k n early later less (place_left left gone k early at) (place_left left gone n later there);
     }
 
-covers-cut : (table : List (Vec Literal Global)) (old new : Trail) (pairs : List WatchedPair) (late left : List Late) (pending more : List ℕ) (head : ℕ) → IsLower old new → ((number : ℕ) → IsNoted late pending number → IsNoted left more number) → Covers table old pairs late pending head → Covers table new pairs left more (min head (length_of new))
+covers-cut : (table : List (Vec Literal Global)) (old new : Trail) (pairs : List WatchedPair) (late left : List Late) (pending more : List ℕ) (head : ℕ) →
+    IsLower old new → ((number : ℕ) → IsNoted late pending number → IsNoted left more number) → Covers table old pairs late pending head →
+    Covers table new pairs left more (min head (length_of new))
 covers-cut table old new pairs late left pending more head lower noted covers = record {
   watched = λ number literal watching fails.
-      let was : IsFalseBefore old head literal = record { slot = fails.slot; is = lower.stays _ _ fails.is; false_there = fails.false_there; earlier = omega (arith, fails.earlier) } in
+      let was : IsFalseBefore old head literal =
+      record { slot = fails.slot; is = lower.stays _ _ fails.is; false_there = fails.false_there; earlier = omega (arith, fails.earlier) } in
       ⊎_elim
-      (λ (holds : Any (IsTrueAt old fails.slot.level) (clause_at table number)). inl (any-map _ _ _ (λ l (t : IsTrueAt old fails.slot.level l). record { slot = t.slot; is = lower.whole _ _ fails.slot t.slot fails.is t.is t.low; true_there = t.true_there; low = t.low }) holds))
+      (λ (holds : Any (IsTrueAt old fails.slot.level) (clause_at table number)). inl
+      (any-map _ _ _ (λ l (t : IsTrueAt old fails.slot.level l). record {
+        slot = t.slot;
+        is = lower.whole _ _ fails.slot t.slot fails.is t.is t.low;
+        true_there = t.true_there;
+        low = t.low;
+      }) holds))
       (λ (was_noted : IsNoted late pending number). inr (noted number was_noted))
       (covers.watched number literal watching was);
   constant = λ number inside is. noted number (covers.constant number inside is);
 }
 
-pub propagator-cut : (table : List (Vec Literal Global)) (old new : Trail) (p : Propagator) (late : Vec Late Global) (pending : Vec ℕ Global) (head : ℕ) → Recalls (late_of p) late.items (pending_of p) pending.items (length_of new) → head ≡ min p.head (length_of new) → IsLower old new → IsPropagator table old p → IsPropagator table new (record p { late = late; pending = pending; head = head })
+pub propagator-cut : (table : List (Vec Literal Global)) (old new : Trail) (p : Propagator) (late : Vec Late Global) (pending : Vec ℕ Global) (head : ℕ) →
+    Recalls (late_of p) late.items (pending_of p) pending.items (length_of new) → head ≡ min p.head (length_of new) → IsLower old new →
+    IsPropagator table old p → IsPropagator table new (record p { late = late; pending = pending; head = head })
 propagator-cut table old new p late pending head recalls is lower it = record {
   lists = it.lists ∙ ap (λ n. 2 * n) (sym lower.size);
   watched = it.watched;
   late = late-fewer table old new _ _ recalls.gone recalls.late lower.places (recalls.within it.late.rising) it.late;
   pending = recalls.inside _ it.inside it.pending;
-  inside = all-left (λ (l : Late). l.number < attached_of p) late.items recalls.gone (subst (λ (ls : List Late). All (λ (l : Late). l.number < attached_of p) ls) recalls.late it.inside);
+  inside = all-left (λ (l : Late). l.number < attached_of p) late.items recalls.gone
+      (subst (λ (ls : List Late). All (λ (l : Late). l.number < attached_of p) ls) recalls.late it.inside);
   head = omega (arith, is);
   covers = rw is (covers-cut table old new _ _ _ _ _ _ lower recalls.noted it.covers);
 }
 
-pub propagator-forgot : (table : List (Vec Literal Global)) (old new : Trail) (count : ℕ) (p : Propagator) (late : Vec Late Global) (pending : Vec ℕ Global) → Recalls (late_of p) late.items (pending_of p) pending.items (length_of new) → count ≤ length_of old → IsCut old new count → IsPropagator table old p → IsPropagator table new (record p { late = late; pending = pending; head = 0 })
+pub propagator-forgot : (table : List (Vec Literal Global)) (old new : Trail) (count : ℕ) (p : Propagator) (late : Vec Late Global) (pending : Vec ℕ Global) →
+    Recalls (late_of p) late.items (pending_of p) pending.items (length_of new) → count ≤ length_of old → IsCut old new count → IsPropagator table old p →
+    IsPropagator table new (record p { late = late; pending = pending; head = 0 })
 propagator-forgot table old new count p late pending recalls within cut it = record {
   lists = it.lists ∙ ap (λ n. 2 * n) (sym cut.size);
   watched = it.watched;
   late = late-fewer table old new _ _ recalls.gone recalls.late (places-cut old new count cut within) (recalls.within it.late.rising) it.late;
   pending = recalls.inside _ it.inside it.pending;
-  inside = all-left (λ (l : Late). l.number < attached_of p) late.items recalls.gone (subst (λ (ls : List Late). All (λ (l : Late). l.number < attached_of p) ls) recalls.late it.inside);
+  inside = all-left (λ (l : Late). l.number < attached_of p) late.items recalls.gone
+      (subst (λ (ls : List Late). All (λ (l : Late). l.number < attached_of p) ls) recalls.late it.inside);
   head = omega arith;
   covers = record {
     watched = λ number literal watching fails. absurd (omega (arith, fails.earlier));
@@ -175,7 +212,8 @@ pub ends : {X : Type 0} (xs : List X) (x : X) → slice_get xs (length xs - 1) �
 ends {X} xs x at =
     let below : length xs - 1 < length xs = slice_get_within xs (length xs - 1) x at in
     let Ended : X → Type 0 = λ y. xs ≡ take (length xs - 1) xs ++ y ∷ [] in
-    subst Ended (get_or_from_slice_get xs (length xs - 1) x x at) (sym (take_all (length xs - 1 + 1) xs (omega (arith, below))) ∙ take_more xs (length xs - 1) x below)
+    subst Ended (get_or_from_slice_get xs (length xs - 1) x x at)
+    (sym (take_all (length xs - 1 + 1) xs (omega (arith, below))) ∙ take_more xs (length xs - 1) x below)
 
 pub ends-with : (all : List ℕ) (number count : ℕ) → EndsWith all number → count ≡ length all → all ≡ take (count - 1) all ++ number ∷ []
 ends-with all number count e is =
@@ -197,7 +235,8 @@ pub record Moves (old new : List Late) (pending more : List ℕ) : Type 0 where
 pub moves-none : (late : List Late) (pending : List ℕ) → Moves late late pending pending
 moves-none late pending = record { gone = []; late = sym (append-nil late); noted = λ number noted. noted; inside = λ bound all are. are }
 
-noted-last : (late : List Late) (last : Late) (pending : List ℕ) (number : ℕ) → IsNoted (late ++ last ∷ []) pending number → IsNoted late (pending ++ last.number ∷ []) number
+noted-last : (late : List Late) (last : Late) (pending : List ℕ) (number : ℕ) → IsNoted (late ++ last ∷ []) pending number →
+    IsNoted late (pending ++ last.number ∷ []) number
 noted-last late last pending number noted = ⊎_elim
     (λ (one : Any (λ (l : Late). l.number ≡ number) (late ++ last ∷ [])). ⊎_elim
     (λ (early : Contains late one.1). inl (early.0, one.1, early.1, early.2, one.4))
@@ -209,26 +248,33 @@ noted-last late last pending number noted = ⊎_elim
     (λ (again : Contains pending number). inr (Contains-append_left pending (last.number ∷ []) number again))
     noted
 
-pub moves-more : (old late : List Late) (last : Late) (pending more : List ℕ) → Moves old (late ++ last ∷ []) pending more → Moves old late pending (more ++ last.number ∷ [])
+pub moves-more : (old late : List Late) (last : Late) (pending more : List ℕ) → Moves old (late ++ last ∷ []) pending more →
+    Moves old late pending (more ++ last.number ∷ [])
 moves-more old late last pending more moves = record {
   gone = last ∷ moves.gone;
   late = moves.late ∙ append_assoc late (last ∷ []) moves.gone;
   noted = λ number noted. noted-last late last more number (moves.noted number noted);
   inside = λ bound all are.
-      let here : All (λ (l : Late). l.number < bound) (late ++ last ∷ []) = all-left (λ (l : Late). l.number < bound) (late ++ last ∷ []) moves.gone (subst (λ (ls : List Late). All (λ (l : Late). l.number < bound) ls) moves.late all) in
-      All-push (λ n. n < bound) more last.number (moves.inside bound all are) (All-contains (λ (l : Late). l.number < bound) (late ++ last ∷ []) last here (Contains-append_right late (last ∷ []) last (0, omega arith, refl)));
+      let here : All (λ (l : Late). l.number < bound) (late ++ last ∷ []) =
+      all-left (λ (l : Late). l.number < bound) (late ++ last ∷ []) moves.gone
+      (subst (λ (ls : List Late). All (λ (l : Late). l.number < bound) ls) moves.late all) in
+      All-push (λ n. n < bound) more last.number (moves.inside bound all are)
+      (All-contains (λ (l : Late). l.number < bound) (late ++ last ∷ []) last here (Contains-append_right late (last ∷ []) last (0, omega arith, refl)));
 }
 
 -- where the last one that is left is noted with few places, all are
-within-last : (late : List Late) (last : Late) (count : ℕ) → IsRising (late ++ last ∷ []) → last.length ≤ count → All (λ (l : Late). l.length ≤ count) (late ++ last ∷ [])
+within-last : (late : List Late) (last : Late) (count : ℕ) → IsRising (late ++ last ∷ []) → last.length ≤ count →
+    All (λ (l : Late). l.length ≤ count) (late ++ last ∷ [])
 within-last late last count rising short = All-push (λ (l : Late). l.length ≤ count) late last (λ k d below.
     let at : slice_get (late ++ last ∷ []) k ≡ Some (get_or late k d) = place_left late (last ∷ []) k (get_or late k d) (slice_get-get_or late k d below) in
     omega (arith, rising k (length late) (get_or late k d) last below at (place_last late last), short)) short
 
 rising-left : (late gone : List Late) → IsRising (late ++ gone) → IsRising late
-rising-left late gone rising = λ k n early later less at there. rising k n early later less (place_left late gone k early at) (place_left late gone n later there)
+rising-left late gone rising =
+    λ k n early later less at there. rising k n early later less (place_left late gone k early at) (place_left late gone n later there)
 
-pub moves-done : (old late : List Late) (last : Late) (pending more : List ℕ) (count : ℕ) → last.length ≤ count → Moves old (late ++ last ∷ []) pending more → Recalls old (late ++ last ∷ []) pending more count
+pub moves-done : (old late : List Late) (last : Late) (pending more : List ℕ) (count : ℕ) → last.length ≤ count → Moves old (late ++ last ∷ []) pending more →
+    Recalls old (late ++ last ∷ []) pending more count
 moves-done old late last pending more count short moves = record {
   gone = moves.gone;
   late = moves.late;
@@ -256,8 +302,11 @@ noted-fewer late rest number other differ noted = ⊎_elim
     (Contains-append_cases rest (number ∷ []) other again))
     noted
 
-module _ (table : List (Vec Literal Global)) (trail : Trail) (pairs : List WatchedPair) (late left : List Late) (rest : List ℕ) (number head lower : ℕ) (less : lower ≤ head) (grown : (other : ℕ) → IsNoted late rest other → IsNoted left rest other) where
-  covers-fewer : ((literal : Literal) → IsWatching pairs number literal → (fails : IsFalseBefore trail lower literal) → IsExcused table trail left rest fails.slot.level number) → (number < length pairs → pair_at pairs number ≡ unwatched → IsNoted left rest number) → Covers table trail pairs late (rest ++ number ∷ []) head → Covers table trail pairs left rest lower
+module _ (table : List (Vec Literal Global)) (trail : Trail) (pairs : List WatchedPair) (late left : List Late) (rest : List ℕ) (number head lower : ℕ)
+    (less : lower ≤ head) (grown : (other : ℕ) → IsNoted late rest other → IsNoted left rest other) where
+  covers-fewer : ((literal : Literal) → IsWatching pairs number literal → (fails : IsFalseBefore trail lower literal) →
+      IsExcused table trail left rest fails.slot.level number) → (number < length pairs → pair_at pairs number ≡ unwatched → IsNoted left rest number) →
+      Covers table trail pairs late (rest ++ number ∷ []) head → Covers table trail pairs left rest lower
   covers-fewer here constant covers = record {
     watched = λ other literal watching fails. ⊎_elim
         (λ (e : other ≡ number).
@@ -265,7 +314,8 @@ module _ (table : List (Vec Literal Global)) (trail : Trail) (pairs : List Watch
         let Excused : ℕ → Type 0 = λ n. IsExcused table trail left rest fails.slot.level n in
         subst Excused (sym e) (here literal (subst Watching e watching) fails))
         (λ (differ : other ≢ number).
-        let was : IsFalseBefore trail head literal = record { slot = fails.slot; is = fails.is; false_there = fails.false_there; earlier = omega (arith, fails.earlier, less) } in
+        let was : IsFalseBefore trail head literal =
+        record { slot = fails.slot; is = fails.is; false_there = fails.false_there; earlier = omega (arith, fails.earlier, less) } in
         ⊎_elim
         (λ (holds : Any (IsTrueAt trail fails.slot.level) (clause_at table other)). inl holds)
         (λ (noted : IsNoted late (rest ++ number ∷ []) other). inr (grown other (noted-fewer late rest number other differ noted)))
@@ -284,22 +334,27 @@ all-fewer : (rest : List ℕ) (number bound : ℕ) → All (λ n. n < bound) (re
 all-fewer rest number bound all = all-left (λ n. n < bound) rest (number ∷ []) all
 
 -- a true literal of a clause, of which no watched literal is false below the highest level
-excused-high : (trail : Trail) (literal : Literal) (clause : List Literal) (place : ℕ) → IsHigh trail literal → (fails : IsFalseBefore trail place literal) → IsSatisfied trail clause → Any (IsTrueAt trail fails.slot.level) clause
+excused-high : (trail : Trail) (literal : Literal) (clause : List Literal) (place : ℕ) → IsHigh trail literal → (fails : IsFalseBefore trail place literal) →
+    IsSatisfied trail clause → Any (IsTrueAt trail fails.slot.level) clause
 excused-high trail literal clause place high fails satisfied = any-map _ _ _ (λ l holds.
     let t = value-true (slot_of trail l.variable) l.positive holds in
     record { slot = t.0; is = t.1; true_there = t.2; low = high fails.slot fails.is fails.false_there l.variable t.0 t.1 }) satisfied
 
-watching-pair : (pairs : List WatchedPair) (number : ℕ) (first second literal : Literal) → pair_at pairs number ≡ watched_pair first second → IsWatching pairs number literal → (first ≡ literal) ⊎ (second ≡ literal)
+watching-pair : (pairs : List WatchedPair) (number : ℕ) (first second literal : Literal) → pair_at pairs number ≡ watched_pair first second →
+    IsWatching pairs number literal → (first ≡ literal) ⊎ (second ≡ literal)
 watching-pair pairs number first second literal are watching = ⊎_elim
     (λ (e : (pair_at pairs number).first ≡ Some literal). inl (same_Some first literal (sym (ap (λ (p : WatchedPair). p.first) are) ∙ e)))
     (λ (e : (pair_at pairs number).second ≡ Some literal). inr (same_Some second literal (sym (ap (λ (p : WatchedPair). p.second) are) ∙ e)))
     watching
 
-pub passed-high : (table : List (Vec Literal Global)) (trail : Trail) (p : Propagator) (pending : Vec ℕ Global) (number : ℕ) → pending_of p ≡ pending.items ++ number ∷ [] → IsHighPair trail (pair_at (pairs_of p.watches) number) → IsSatisfied trail (clause_at table number) → IsPropagator table trail p → IsPropagator table trail (record p { pending = pending })
+pub passed-high : (table : List (Vec Literal Global)) (trail : Trail) (p : Propagator) (pending : Vec ℕ Global) (number : ℕ) → pending_of p ≡ pending.items ++
+    number ∷ [] → IsHighPair trail (pair_at (pairs_of p.watches) number) → IsSatisfied trail (clause_at table number) → IsPropagator table trail p →
+    IsPropagator table trail (record p { pending = pending })
 passed-high table trail p pending number ends pair satisfied it =
     let pairs = pairs_of p.watches in
     let all : All (λ n. n < attached_of p) (pending.items ++ number ∷ []) = subst (λ (ns : List ℕ). All (λ n. n < attached_of p) ns) ends it.pending in
-    let covers : Covers table trail pairs (late_of p) (pending.items ++ number ∷ []) (head_of p) = subst (λ (ns : List ℕ). Covers table trail pairs (late_of p) ns (head_of p)) ends it.covers in
+    let covers : Covers table trail pairs (late_of p) (pending.items ++ number ∷ []) (head_of p) =
+    subst (λ (ns : List ℕ). Covers table trail pairs (late_of p) ns (head_of p)) ends it.covers in
     record {
       lists = it.lists;
       watched = it.watched;
@@ -317,7 +372,8 @@ passed-high table trail p pending number ends pair satisfied it =
     }
 
 -- a clause that is true is noted behind the others
-late-push : (table : List (Vec Literal Global)) (trail : Trail) (late : List Late) (number : ℕ) → IsSatisfied trail (clause_at table number) → AreLate table trail late → AreLate table trail (late ++ record { number = number; length = length_of trail } ∷ [])
+late-push : (table : List (Vec Literal Global)) (trail : Trail) (late : List Late) (number : ℕ) → IsSatisfied trail (clause_at table number) →
+    AreLate table trail late → AreLate table trail (late ++ record { number = number; length = length_of trail } ∷ [])
 late-push table trail late number satisfied are =
     let made : Late = record { number = number; length = length_of trail } in
     record {
@@ -339,13 +395,18 @@ late-push table trail late number satisfied are =
           (place_cases late made n later there);
     }
 
-pub passed-late : (table : List (Vec Literal Global)) (trail : Trail) (p : Propagator) (late : Vec Late Global) (pending : Vec ℕ Global) (number : ℕ) → pending_of p ≡ pending.items ++ number ∷ [] → late.items ≡ late_of p ++ record { number = number; length = length_of trail } ∷ [] → IsSatisfied trail (clause_at table number) → IsPropagator table trail p → IsPropagator table trail (record p { late = late; pending = pending })
+pub passed-late : (table : List (Vec Literal Global)) (trail : Trail) (p : Propagator) (late : Vec Late Global) (pending : Vec ℕ Global) (number : ℕ) →
+    pending_of p ≡ pending.items ++ number ∷ [] → late.items ≡ late_of p ++ record { number = number; length = length_of trail } ∷ [] →
+    IsSatisfied trail (clause_at table number) → IsPropagator table trail p → IsPropagator table trail (record p { late = late; pending = pending })
 passed-late table trail p late pending number ends is satisfied it =
     let pairs = pairs_of p.watches in
     let made : Late = record { number = number; length = length_of trail } in
     let all : All (λ n. n < attached_of p) (pending.items ++ number ∷ []) = subst (λ (ns : List ℕ). All (λ n. n < attached_of p) ns) ends it.pending in
-    let inside : number < attached_of p = All-contains (λ n. n < attached_of p) (pending.items ++ number ∷ []) number all (Contains-append_right pending.items (number ∷ []) number (0, omega arith, refl)) in
-    let covers : Covers table trail pairs (late_of p) (pending.items ++ number ∷ []) (head_of p) = subst (λ (ns : List ℕ). Covers table trail pairs (late_of p) ns (head_of p)) ends it.covers in
+    let inside : number < attached_of p =
+    All-contains (λ n. n < attached_of p) (pending.items ++ number ∷ []) number all
+    (Contains-append_right pending.items (number ∷ []) number (0, omega arith, refl)) in
+    let covers : Covers table trail pairs (late_of p) (pending.items ++ number ∷ []) (head_of p) =
+    subst (λ (ns : List ℕ). Covers table trail pairs (late_of p) ns (head_of p)) ends it.covers in
     let longer : List Late = late_of p ++ made ∷ [] in
     let has : Contains longer made = Contains-append_right (late_of p) (made ∷ []) made (0, omega arith, refl) in
     let noted : IsNoted longer pending.items number = inl (has.0, made, has.1, has.2, refl) in
@@ -354,9 +415,11 @@ passed-late table trail p late pending number ends is satisfied it =
       watched = it.watched;
       late = subst (λ (ls : List Late). AreLate table trail ls) (sym is) (late-push table trail (late_of p) number satisfied it.late);
       pending = all-fewer pending.items number (attached_of p) all;
-      inside = subst (λ (ls : List Late). All (λ (l : Late). l.number < attached_of p) ls) (sym is) (All-push (λ (l : Late). l.number < attached_of p) (late_of p) made it.inside inside);
+      inside = subst (λ (ls : List Late). All (λ (l : Late). l.number < attached_of p) ls) (sym is)
+          (All-push (λ (l : Late). l.number < attached_of p) (late_of p) made it.inside inside);
       head = it.head;
-      covers = subst (λ (ls : List Late). Covers table trail pairs ls pending.items (head_of p)) (sym is) (covers-fewer table trail pairs (late_of p) longer pending.items number (head_of p) (head_of p) (omega arith)
+      covers = subst (λ (ls : List Late). Covers table trail pairs ls pending.items (head_of p)) (sym is)
+          (covers-fewer table trail pairs (late_of p) longer pending.items number (head_of p) (head_of p) (omega arith)
           (λ other was. ⊎_elim
           (λ (one : Any (λ (l : Late). l.number ≡ other) (late_of p)).
           let there = Contains-append_left (late_of p) (made ∷ []) one.1 (one.0, one.2, one.3) in
@@ -369,11 +432,16 @@ passed-late table trail p late pending number ends is satisfied it =
     }
 
 -- a clause two literals of which have no value
-pub reopened : (table : List (Vec Literal Global)) (trail : Trail) (p : Propagator) (pending : Vec ℕ Global) (number head first second : ℕ) → pending_of p ≡ pending.items ++ number ∷ [] → head ≡ min (min p.head first) second → ((literal : Literal) → (pair_at (pairs_of p.watches) number).first ≡ Some literal → IsNotBefore trail first literal) → ((literal : Literal) → (pair_at (pairs_of p.watches) number).second ≡ Some literal → IsNotBefore trail second literal) → IsOpen trail (clause_at table number) → IsPropagator table trail p → IsPropagator table trail (record p { pending = pending; head = head })
+pub reopened : (table : List (Vec Literal Global)) (trail : Trail) (p : Propagator) (pending : Vec ℕ Global) (number head first second : ℕ) →
+    pending_of p ≡ pending.items ++ number ∷ [] → head ≡ min (min p.head first) second →
+    ((literal : Literal) → (pair_at (pairs_of p.watches) number).first ≡ Some literal → IsNotBefore trail first literal) →
+    ((literal : Literal) → (pair_at (pairs_of p.watches) number).second ≡ Some literal → IsNotBefore trail second literal) →
+    IsOpen trail (clause_at table number) → IsPropagator table trail p → IsPropagator table trail (record p { pending = pending; head = head })
 reopened table trail p pending number head first second ends is first_place second_place free it =
     let pairs = pairs_of p.watches in
     let all : All (λ n. n < attached_of p) (pending.items ++ number ∷ []) = subst (λ (ns : List ℕ). All (λ n. n < attached_of p) ns) ends it.pending in
-    let covers : Covers table trail pairs (late_of p) (pending.items ++ number ∷ []) (head_of p) = subst (λ (ns : List ℕ). Covers table trail pairs (late_of p) ns (head_of p)) ends it.covers in
+    let covers : Covers table trail pairs (late_of p) (pending.items ++ number ∷ []) (head_of p) =
+    subst (λ (ns : List ℕ). Covers table trail pairs (late_of p) ns (head_of p)) ends it.covers in
     record {
       lists = it.lists;
       watched = it.watched;
@@ -383,26 +451,32 @@ reopened table trail p pending number head first second ends is first_place seco
       head = omega (arith, is, it.head);
       covers = covers-fewer table trail pairs (late_of p) (late_of p) pending.items number (head_of p) head (omega (arith, is)) (λ other noted. noted)
           (λ literal watching fails. ⊎_elim
-          (λ (e : (pair_at pairs number).first ≡ Some literal). absurd (omega (arith, first_place literal e fails.slot fails.is fails.false_there, fails.earlier, is)))
-          (λ (e : (pair_at pairs number).second ≡ Some literal). absurd (omega (arith, second_place literal e fails.slot fails.is fails.false_there, fails.earlier, is)))
+          (λ (e : (pair_at pairs number).first ≡ Some literal). absurd
+          (omega (arith, first_place literal e fails.slot fails.is fails.false_there, fails.earlier, is)))
+          (λ (e : (pair_at pairs number).second ≡ Some literal). absurd
+          (omega (arith, second_place literal e fails.slot fails.is fails.false_there, fails.earlier, is)))
           watching)
           (λ inside none. absurd (free.differ (it.watched.constant number inside none free.first free.second free.has_first free.has_second)))
           covers;
     }
 
 -- a clause behind the others
-pair-two : (clause : List Literal) (pair : Option (Literal × Literal)) → MatchOption pair (IsConstant clause) (λ two. AreApart clause two.0 two.1) → (pair_from pair ≡ unwatched) ⊎ WatchesTwo (pair_from pair)
+pair-two : (clause : List Literal) (pair : Option (Literal × Literal)) → MatchOption pair (IsConstant clause) (λ two. AreApart clause two.0 two.1) →
+    (pair_from pair ≡ unwatched) ⊎ WatchesTwo (pair_from pair)
 pair-two clause None constant = inl refl
 pair-two clause (Some (first, second)) apart = inr (record { first = first; second = second; is = refl; differ = apart.differ })
 
-pair-own : (clause : List Literal) (pair : Option (Literal × Literal)) → MatchOption pair (IsConstant clause) (λ two. AreApart clause two.0 two.1) → (literal : Literal) → ((pair_from pair).first ≡ Some literal) ⊎ ((pair_from pair).second ≡ Some literal) → Contains clause literal
-pair-own clause None constant literal watching = ⊎_elim (λ (e : None ≡ Some literal). absurd (none-some literal e)) (λ (e : None ≡ Some literal). absurd (none-some literal e)) watching
+pair-own : (clause : List Literal) (pair : Option (Literal × Literal)) → MatchOption pair (IsConstant clause) (λ two. AreApart clause two.0 two.1) →
+    (literal : Literal) → ((pair_from pair).first ≡ Some literal) ⊎ ((pair_from pair).second ≡ Some literal) → Contains clause literal
+pair-own clause None constant literal watching =
+    ⊎_elim (λ (e : None ≡ Some literal). absurd (none-some literal e)) (λ (e : None ≡ Some literal). absurd (none-some literal e)) watching
 pair-own clause (Some (first, second)) apart literal watching = ⊎_elim
     (λ (e : Some first ≡ Some literal). subst (λ (l : Literal). Contains clause l) (same_Some first literal e) apart.has_first)
     (λ (e : Some second ≡ Some literal). subst (λ (l : Literal). Contains clause l) (same_Some second literal e) apart.has_second)
     watching
 
-pair-constant : (clause : List Literal) (pair : Option (Literal × Literal)) → MatchOption pair (IsConstant clause) (λ two. AreApart clause two.0 two.1) → pair_from pair ≡ unwatched → IsConstant clause
+pair-constant : (clause : List Literal) (pair : Option (Literal × Literal)) → MatchOption pair (IsConstant clause) (λ two. AreApart clause two.0 two.1) →
+    pair_from pair ≡ unwatched → IsConstant clause
 pair-constant clause None constant is = constant
 pair-constant clause (Some (first, second)) apart is = absurd (none-some first (ap (λ (p : WatchedPair). p.first) (sym is)))
 
@@ -410,7 +484,8 @@ module _ (pairs : List WatchedPair) (pair : Option (Literal × Literal)) where
   abbrev longer : List WatchedPair
   longer = pairs ++ pair_from pair ∷ []
 
-  watching-cases : (number : ℕ) (literal : Literal) → IsWatching longer number literal → ((number < length pairs) × IsWatching pairs number literal) ⊎ ((number ≡ length pairs) × (((pair_from pair).first ≡ Some literal) ⊎ ((pair_from pair).second ≡ Some literal)))
+  watching-cases : (number : ℕ) (literal : Literal) → IsWatching longer number literal → ((number < length pairs) × IsWatching pairs number literal) ⊎
+      ((number ≡ length pairs) × (((pair_from pair).first ≡ Some literal) ⊎ ((pair_from pair).second ≡ Some literal)))
   watching-cases number literal watching =
       let Watching : WatchedPair → Type 0 = λ p. (p.first ≡ Some literal) ⊎ (p.second ≡ Some literal) in
       ⊎_elim
@@ -420,9 +495,12 @@ module _ (pairs : List WatchedPair) (pair : Option (Literal × Literal)) where
       inr (end, subst Watching (pair-last pairs (pair_from pair) number (sym end)) watching))
       (cases_lt number (length pairs))
 
-  covers-push : (table : List (Vec Literal Global)) (trail : Trail) (late : List Late) (pending : List ℕ) (head : ℕ) → Covers table trail pairs late pending head → Covers table trail longer late (pending ++ length pairs ∷ []) head
+  covers-push : (table : List (Vec Literal Global)) (trail : Trail) (late : List Late) (pending : List ℕ) (head : ℕ) →
+      Covers table trail pairs late pending head → Covers table trail longer late (pending ++ length pairs ∷ []) head
   covers-push table trail late pending head covers =
-      let grown : (number : ℕ) → IsNoted late pending number → IsNoted late (pending ++ length pairs ∷ []) number = λ number noted. ⊎_elim (λ (one : Any (λ (l : Late). l.number ≡ number) late). inl one) (λ (again : Contains pending number). inr (Contains-append_left pending (length pairs ∷ []) number again)) noted in
+      let grown : (number : ℕ) → IsNoted late pending number → IsNoted late (pending ++ length pairs ∷ []) number =
+      λ number noted. ⊎_elim (λ (one : Any (λ (l : Late). l.number ≡ number) late). inl one) (λ (again : Contains pending number).
+      inr (Contains-append_left pending (length pairs ∷ []) number again)) noted in
       let last : (number : ℕ) → number ≡ length pairs → IsNoted late (pending ++ length pairs ∷ []) number = λ number e.
       let Has : ℕ → Type 0 = λ n. Contains (pending ++ length pairs ∷ []) n in
       inr (subst Has (sym e) (Contains-append_right pending (length pairs ∷ []) (length pairs) (0, omega arith, refl))) in
@@ -440,11 +518,14 @@ module _ (pairs : List WatchedPair) (pair : Option (Literal × Literal)) where
             (cases_lt number (length pairs));
       }
 
-pub pair-has : (clause : List Literal) (pair : Option (Literal × Literal)) (first second : Literal) → pair ≡ Some (first, second) → MatchOption pair (IsConstant clause) (λ two. AreApart clause two.0 two.1) → Contains clause first × Contains clause second
+pub pair-has : (clause : List Literal) (pair : Option (Literal × Literal)) (first second : Literal) → pair ≡ Some (first, second) →
+    MatchOption pair (IsConstant clause) (λ two. AreApart clause two.0 two.1) → Contains clause first × Contains clause second
 pair-has clause None first second e chosen = absurd (none-some (first, second) e)
 pair-has clause (Some (one, other)) first second e chosen =
-    let same : (one, other) ≡ (first, second) = same_Some (one, other) (first, second) e in
-    (subst (λ (l : Literal). Contains clause l) (ap (λ (two : Literal × Literal). two.0) same) chosen.has_first, subst (λ (l : Literal). Contains clause l) (ap (λ (two : Literal × Literal). two.1) same) chosen.has_second)
+    let same : (one, other) ≡ (first, second) = same_Some (one, other) (first, second) e in (
+      subst (λ (l : Literal). Contains clause l) (ap (λ (two : Literal × Literal). two.0) same) chosen.has_first,
+      subst (λ (l : Literal). Contains clause l) (ap (λ (two : Literal × Literal). two.1) same) chosen.has_second,
+    )
 
 -- a clause behind those of the table
 module _ (table : List (Vec Literal Global)) (clause : Vec Literal Global) (pairs : List WatchedPair) (size : length pairs ≡ length table) where
@@ -457,31 +538,44 @@ module _ (table : List (Vec Literal Global)) (clause : Vec Literal Global) (pair
   added-before : (number : ℕ) → number < length pairs → clause_at added number ≡ clause_at table number
   added-before number less = clause_at-push table clause number (omega (arith, less, size))
 
-  watched-added : (pair : Option (Literal × Literal)) (old new : List (Vec Watch Global)) → MatchOption pair (IsConstant clause.items) (λ two. AreApart clause.items two.0 two.1) → HasBlockers added new → AreWatched table old pairs → AreWatched added new (pairs ++ pair_from pair ∷ [])
+  watched-added : (pair : Option (Literal × Literal)) (old new : List (Vec Watch Global)) →
+      MatchOption pair (IsConstant clause.items) (λ two. AreApart clause.items two.0 two.1) → HasBlockers added new → AreWatched table old pairs →
+      AreWatched added new (pairs ++ pair_from pair ∷ [])
   watched-added pair old new chosen blockers are = record {
     attached = length-append pairs (pair_from pair ∷ []) ∙ ap (λ (n : ℕ). n + 1) size ∙ sym (length-append table (clause ∷ []));
     own = λ number literal watching. ⊎_elim
-        (λ (w : (number < length pairs) × IsWatching pairs number literal). subst (λ (c : List Literal). Contains c literal) (sym (added-before number w.0)) (are.own number literal w.1))
-        (λ (w : (number ≡ length pairs) × (((pair_from pair).first ≡ Some literal) ⊎ ((pair_from pair).second ≡ Some literal))). subst (λ (c : List Literal). Contains c literal) (sym (ap (λ (n : ℕ). clause_at added n) w.0 ∙ added-at)) (pair-own _ pair chosen literal w.1))
+        (λ (w : (number < length pairs) × IsWatching pairs number literal).
+        subst (λ (c : List Literal). Contains c literal) (sym (added-before number w.0)) (are.own number literal w.1))
+        (λ (w : (number ≡ length pairs) × (((pair_from pair).first ≡ Some literal) ⊎ ((pair_from pair).second ≡ Some literal))). subst (λ (c : List Literal).
+        Contains c literal) (sym (ap (λ (n : ℕ). clause_at added n) w.0 ∙ added-at)) (pair-own _ pair chosen literal w.1))
         (watching-cases pairs pair number literal watching);
     two = λ number inside. ⊎_elim
-        (λ (less : number < length pairs). subst (λ (p : WatchedPair). (p ≡ unwatched) ⊎ WatchesTwo p) (sym (pair-before pairs (pair_from pair) number less)) (are.two number less))
+        (λ (less : number < length pairs).
+        subst (λ (p : WatchedPair). (p ≡ unwatched) ⊎ WatchesTwo p) (sym (pair-before pairs (pair_from pair) number less)) (are.two number less))
         (λ (past : length pairs ≤ number).
         let end : length pairs ≡ number = omega (arith, past, inside, length-append pairs (pair_from pair ∷ [])) in
         subst (λ (p : WatchedPair). (p ≡ unwatched) ⊎ WatchesTwo p) (sym (pair-last pairs (pair_from pair) number end)) (pair-two _ pair chosen))
         (cases_lt number (length pairs));
     constant = λ number inside is. ⊎_elim
-        (λ (less : number < length pairs). subst (λ (c : List Literal). IsConstant c) (sym (added-before number less)) (are.constant number less (sym (pair-before pairs (pair_from pair) number less) ∙ is)))
+        (λ (less : number < length pairs).
+        subst (λ (c : List Literal). IsConstant c) (sym (added-before number less))
+        (are.constant number less (sym (pair-before pairs (pair_from pair) number less) ∙ is)))
         (λ (past : length pairs ≤ number).
         let end : length pairs ≡ number = omega (arith, past, inside, length-append pairs (pair_from pair ∷ [])) in
-        subst (λ (c : List Literal). IsConstant c) (sym (ap (λ (n : ℕ). clause_at added n) (sym end) ∙ added-at)) (pair-constant _ pair chosen (sym (pair-last pairs (pair_from pair) number end) ∙ is)))
+        subst (λ (c : List Literal). IsConstant c) (sym (ap (λ (n : ℕ). clause_at added n) (sym end) ∙ added-at))
+        (pair-constant _ pair chosen (sym (pair-last pairs (pair_from pair) number end) ∙ is)))
         (cases_lt number (length pairs));
     blockers = blockers;
   }
 
-pub attached-added : (table : List (Vec Literal Global)) (clause : Vec Literal Global) (trail : Trail) (p : Propagator) (watches : Watches) (pending : Vec ℕ Global) (pair : Option (Literal × Literal)) → pairs_of watches ≡ pairs_of p.watches ++ pair_from pair ∷ [] → length (lists_of watches) ≡ length (lists_of p.watches) →
-    (((first second : Literal) → pair ≡ Some (first, second) → Contains (clause_at (table ++ clause ∷ []) (attached_of p)) first × Contains (clause_at (table ++ clause ∷ []) (attached_of p)) second) → HasBlockers (table ++ clause ∷ []) (lists_of p.watches) → HasBlockers (table ++ clause ∷ []) (lists_of watches)) →
-    pending.items ≡ pending_of p ++ attached_of p ∷ [] → MatchOption pair (IsConstant clause.items) (λ two. AreApart clause.items two.0 two.1) → IsPropagator table trail p → IsPropagator (table ++ clause ∷ []) trail (record p { watches = watches; pending = pending })
+pub attached-added : (table : List (Vec Literal Global)) (clause : Vec Literal Global) (trail : Trail) (p : Propagator) (watches : Watches)
+    (pending : Vec ℕ Global) (pair : Option (Literal × Literal)) → pairs_of watches ≡ pairs_of p.watches ++ pair_from pair ∷ [] →
+    length (lists_of watches) ≡ length (lists_of p.watches) →
+    (((first second : Literal) → pair ≡ Some (first, second) → Contains (clause_at (table ++ clause ∷ []) (attached_of p)) first ×
+    Contains (clause_at (table ++ clause ∷ []) (attached_of p)) second) → HasBlockers (table ++ clause ∷ []) (lists_of p.watches) →
+    HasBlockers (table ++ clause ∷ []) (lists_of watches)) →
+    pending.items ≡ pending_of p ++ attached_of p ∷ [] → MatchOption pair (IsConstant clause.items) (λ two. AreApart clause.items two.0 two.1) →
+    IsPropagator table trail p → IsPropagator (table ++ clause ∷ []) trail (record p { watches = watches; pending = pending })
 attached-added table clause trail p watches pending pair pairs lists blockers is chosen it =
     let more = table ++ clause ∷ [] in
     let before = pairs_of p.watches in
@@ -489,19 +583,26 @@ attached-added table clause trail p watches pending pair pairs lists blockers is
     let longer : length table ≤ length more = simp length-append (omega arith) in
     let same = clause_at-push table clause in
     let long : length (pairs_of watches) ≡ attached_of p + 1 = ap length pairs ∙ length-append before (pair_from pair ∷ []) in
-    let here : (first second : Literal) → pair ≡ Some (first, second) → Contains (clause_at more (attached_of p)) first × Contains (clause_at more (attached_of p)) second = λ first second e.
-    subst (λ (c : List Literal). Contains c first × Contains c second) (sym (added-at table clause before size)) (pair-has clause.items pair first second e chosen)
+    let here : (first second : Literal) → pair ≡ Some (first, second) → Contains (clause_at more (attached_of p)) first ×
+    Contains (clause_at more (attached_of p)) second = λ first second e.
+    subst (λ (c : List Literal). Contains c first × Contains c second) (sym (added-at table clause before size))
+    (pair-has clause.items pair first second e chosen)
     in
     let now = blockers here (blockers-longer table more longer same (lists_of p.watches) it.watched.blockers) in
     let covers = covers-longer table more longer same trail before (late_of p) (pending_of p) (head_of p) (omega (arith, size)) it.covers in
     record {
       lists = lists ∙ it.lists;
-      watched = subst (λ (ps : List WatchedPair). AreWatched more (lists_of watches) ps) (sym pairs) (watched-added table clause before size pair (lists_of p.watches) (lists_of watches) chosen now it.watched);
+      watched = subst (λ (ps : List WatchedPair). AreWatched more (lists_of watches) ps) (sym pairs)
+          (watched-added table clause before size pair (lists_of p.watches) (lists_of watches) chosen now it.watched);
       late = late-longer table more longer same trail (late_of p) (attached_of p) (omega (arith, size)) it.inside it.late;
-      pending = subst (λ (ns : List ℕ). All (λ n. n < length (pairs_of watches)) ns) (sym is) (All-push (λ n. n < length (pairs_of watches)) (pending_of p) (attached_of p) (λ k d below. omega (arith, it.pending k d below, long)) (omega (arith, long)));
+      pending = subst (λ (ns : List ℕ). All (λ n. n < length (pairs_of watches)) ns) (sym is)
+          (All-push (λ n. n < length (pairs_of watches)) (pending_of p) (attached_of p) (λ k d below. omega (arith, it.pending k d below, long))
+          (omega (arith, long)));
       inside = λ k d below. omega (arith, it.inside k d below, long);
       head = it.head;
-      covers = subst (λ (ns : List ℕ). Covers more trail (pairs_of watches) (late_of p) ns (head_of p)) (sym is) (subst (λ (ps : List WatchedPair). Covers more trail ps (late_of p) (pending_of p ++ attached_of p ∷ []) (head_of p)) (sym pairs) (covers-push before pair more trail (late_of p) (pending_of p) (head_of p) covers));
+      covers = subst (λ (ns : List ℕ). Covers more trail (pairs_of watches) (late_of p) ns (head_of p)) (sym is)
+          (subst (λ (ps : List WatchedPair). Covers more trail ps (late_of p) (pending_of p ++ attached_of p ∷ []) (head_of p)) (sym pairs)
+          (covers-push before pair more trail (late_of p) (pending_of p) (head_of p) covers));
     }
 
 -- a clause whose literals are all one
@@ -516,7 +617,8 @@ constant-alike clause place alike = λ one other has_one has_other.
     sym has_one.2 ∙ first ∙ sym second ∙ same
 
 -- two of its literals that are not one
-pub apart-of : (clause : List Literal) (first second : ℕ) (one other : Literal) → first < length clause → IsOther clause (Some first) second → one ≡ get_or clause first one → other ≡ get_or clause second other → AreApart clause one other
+pub apart-of : (clause : List Literal) (first second : ℕ) (one other : Literal) → first < length clause → IsOther clause (Some first) second →
+    one ≡ get_or clause first one → other ≡ get_or clause second other → AreApart clause one other
 apart-of clause first second one other inside is_other is_one is_second = record {
   has_first = (first, inside, sym is_one);
   has_second = (second, is_other.0, sym is_second);
@@ -524,25 +626,33 @@ apart-of clause first second one other inside is_other is_one is_second = record
 }
 
 -- the last one of the clauses that have to be looked at again
-pub last-inside : (table : List (Vec Literal Global)) (trail : Trail) (p : Propagator) (number : ℕ) → EndsWith (pending_of p) number → IsPropagator table trail p → number < attached_of p
+pub last-inside : (table : List (Vec Literal Global)) (trail : Trail) (p : Propagator) (number : ℕ) → EndsWith (pending_of p) number →
+    IsPropagator table trail p → number < attached_of p
 last-inside table trail p number e it =
-    let has : Contains (pending_of p) number = subst (λ (ns : List ℕ). Contains ns number) (sym e.is) (Contains-append_right e.rest (number ∷ []) number (0, omega arith, refl)) in
+    let has : Contains (pending_of p) number =
+    subst (λ (ns : List ℕ). Contains ns number) (sym e.is) (Contains-append_right e.rest (number ∷ []) number (0, omega arith, refl)) in
     All-contains (λ n. n < attached_of p) (pending_of p) number it.pending has
 
-pub last-within : (table : List (Vec Literal Global)) (trail : Trail) (p : Propagator) (number : ℕ) → EndsWith (pending_of p) number → IsPropagator table trail p → number < length table
+pub last-within : (table : List (Vec Literal Global)) (trail : Trail) (p : Propagator) (number : ℕ) → EndsWith (pending_of p) number →
+    IsPropagator table trail p → number < length table
 last-within table trail p number e it = omega (arith, last-inside table trail p number e it, it.watched.attached)
 
-pub watched-below : (table : List (Vec Literal Global)) (trail : Trail) (p : Propagator) (variables number : ℕ) → AreBelow variables table → IsPropagator table trail p → (literal : Literal) → IsWatching (pairs_of p.watches) number literal → literal.variable < variables
-watched-below table trail p variables number below it = λ literal watching. All-contains (λ (l : Literal). l.variable < variables) (clause_at table number) literal (below number) (it.watched.own number literal watching)
+pub watched-below : (table : List (Vec Literal Global)) (trail : Trail) (p : Propagator) (variables number : ℕ) → AreBelow variables table →
+    IsPropagator table trail p → (literal : Literal) → IsWatching (pairs_of p.watches) number literal → literal.variable < variables
+watched-below table trail p variables number below it =
+    λ literal watching. All-contains (λ (l : Literal). l.variable < variables) (clause_at table number) literal (below number)
+    (it.watched.own number literal watching)
 
 -- a literal of a clause that was set
 beq-same : (b : Bool) → beq b b ≡ true
 beq-same true = refl
 beq-same false = refl
 
-pub gained-satisfied : (old new : Trail) (literal : Literal) (level : ℕ) (reason : Reason) (clause : List Literal) → Gains old new literal level reason → Contains clause literal → IsSatisfied new clause
+pub gained-satisfied : (old new : Trail) (literal : Literal) (level : ℕ) (reason : Reason) (clause : List Literal) → Gains old new literal level reason →
+    Contains clause literal → IsSatisfied new clause
 gained-satisfied old new literal level reason clause gains has =
-    let holds : literal_value new literal ≡ Some true = ap (λ o. option_map (λ (slot : Slot). beq slot.value literal.positive) o) gains.here ∙ ap Some (beq-same literal.positive) in
+    let holds : literal_value new literal ≡ Some true = ap (λ o. option_map (λ (slot : Slot). beq slot.value literal.positive) o) gains.here ∙
+    ap Some (beq-same literal.positive) in
     (has.0, literal, has.1, has.2, holds)
 
 -- what clauses force, step by step
@@ -557,7 +667,9 @@ forces-trans table old middle new first second = record {
   open_less = omega (arith, first.open_less, second.open_less);
 }
 
-pub forces-gains : (table : List (Vec Literal Global)) (old new : Trail) (literal : Literal) (level number : ℕ) → IsJustified table old → Gains old new literal level (Forced number) → slot_of old literal.variable ≡ None → number < length table → Contains (clause_at table number) literal → IsUnit old literal (clause_at table number) → Forces table old new
+pub forces-gains : (table : List (Vec Literal Global)) (old new : Trail) (literal : Literal) (level number : ℕ) → IsJustified table old →
+    Gains old new literal level (Forced number) → slot_of old literal.variable ≡ None → number < length table → Contains (clause_at table number) literal →
+    IsUnit old literal (clause_at table number) → Forces table old new
 forces-gains table old new literal level number justified gains free inside has unit = record {
   justified = justified-gains table old new literal level number justified gains free inside has unit;
   extends = extends-gains old new literal level number gains free;

@@ -1,5 +1,6 @@
 -- A clause behind the others, a trail that was undone, and what a finished search has found.
-use Rattle.std.proofs.Common.{◌≡◌, ◌≢◌, ℕ, zero, suc, ◌+◌, ◌<◌, ◌≤◌, List, [], ◌∷◌, ◌++◌, length, get_or, take, drop, Some, None, Bool, true, arith, inl, inr, refl, sym, ap, ◌∙◌, subst, ⊎_elim, length-append}
+use Rattle.std.proofs.Common.{◌≡◌, ◌≢◌, ℕ, zero, suc, ◌+◌, ◌<◌, ◌≤◌, List, [], ◌∷◌, ◌++◌, length, get_or, take, drop, Some, None, Bool, true, arith, inl, inr}
+use Rattle.std.proofs.Common.{refl, sym, ap, ◌∙◌, subst, ⊎_elim, length-append}
 use Rattle.std.specs.Prelude.{Vec}
 use Rattle.std.specs.Bool.{beq}
 use Rattle.std.specs.Option.{option_map}
@@ -37,21 +38,27 @@ pub grows-trans : (a b c : List (Vec Literal Global)) → Grows a b → Grows b 
 grows-trans a b c g h = record { longer = omega (arith, g.longer, h.longer); same = λ n within. h.same n (omega (arith, g.longer)) ∙ g.same n within }
 
 -- what holds of clauses that stay, holds in the longer table
-pub holds-grows : (old new : List (Vec Literal Global)) (values : ℕ → Bool) (numbers : List ℕ) → Grows old new → All (λ n. n < length old) numbers → MakesTrue values new numbers → MakesTrue values old numbers
-holds-grows old new values numbers grows within holds = λ k d below. subst (λ clause. clause_true values clause ≡ true) (grows.same _ (within k d below)) (holds k d below)
+pub holds-grows : (old new : List (Vec Literal Global)) (values : ℕ → Bool) (numbers : List ℕ) → Grows old new → All (λ n. n < length old) numbers →
+    MakesTrue values new numbers → MakesTrue values old numbers
+holds-grows old new values numbers grows within holds =
+    λ k d below. subst (λ clause. clause_true values clause ≡ true) (grows.same _ (within k d below)) (holds k d below)
 
 pub justified-grows : (old new : List (Vec Literal Global)) (trail : Trail) → Grows old new → IsJustified old trail → IsJustified new trail
 justified-grows old new trail grows justified = record {
   within = λ v s n at reason. omega (arith, justified.within v s n at reason, grows.longer);
-  forced = λ v s n at reason. subst (λ clause. IsForcing trail s.place (record { variable = v; positive = s.value }) clause) (sym (grows.same n (justified.within v s n at reason))) (justified.forced v s n at reason);
-  contains = λ v s n at reason. subst (λ (clause : List Literal). Contains clause (record { variable = v; positive = s.value })) (sym (grows.same n (justified.within v s n at reason))) (justified.contains v s n at reason);
+  forced = λ v s n at reason. subst (λ clause. IsForcing trail s.place (record { variable = v; positive = s.value }) clause)
+      (sym (grows.same n (justified.within v s n at reason))) (justified.forced v s n at reason);
+  contains = λ v s n at reason. subst (λ (clause : List Literal). Contains clause (record { variable = v; positive = s.value }))
+      (sym (grows.same n (justified.within v s n at reason))) (justified.contains v s n at reason);
 }
 
-pub below-push : (variables : ℕ) (table : List (Vec Literal Global)) (clause : Vec Literal Global) → AreBelow variables table → IsBelow variables clause.items → AreBelow variables (table ++ clause ∷ [])
+pub below-push : (variables : ℕ) (table : List (Vec Literal Global)) (clause : Vec Literal Global) → AreBelow variables table → IsBelow variables clause.items →
+    AreBelow variables (table ++ clause ∷ [])
 below-push variables table clause below here = λ n. ⊎_elim
     (λ less. subst (λ c. IsBelow variables c) (sym (clause_at-push table clause n less)) (below n))
     (λ (more : length table ≤ n). ⊎_elim
-    (λ e. subst (λ m. IsBelow variables (clause_at (table ++ clause ∷ []) m)) (sym e) (subst (λ c. IsBelow variables c) (sym (clause_at-last table clause)) here))
+    (λ e. subst (λ m. IsBelow variables (clause_at (table ++ clause ∷ []) m)) (sym e)
+    (subst (λ c. IsBelow variables c) (sym (clause_at-last table clause)) here))
     (λ (ne : n ≢ length table).
     let past : length (table ++ clause ∷ []) ≤ n = omega (arith, length-append table (clause ∷ [])) in
     subst (λ c. IsBelow variables c) (sym (clause_at-past (table ++ clause ∷ []) n past)) (λ k d within. absurd (omega arith)))
@@ -59,26 +66,33 @@ below-push variables table clause below here = λ n. ⊎_elim
     (cases_lt n (length table))
 
 -- where a literal is drawn from stays
-drawn-grows : (old new : List (Vec Literal Global)) (numbers : List ℕ) (clause : List Literal) → Grows old new → All (λ n. n < length old) numbers → All (IsDrawn old numbers) clause → All (IsDrawn new numbers) clause
+drawn-grows : (old new : List (Vec Literal Global)) (numbers : List ℕ) (clause : List Literal) → Grows old new → All (λ n. n < length old) numbers →
+    All (IsDrawn old numbers) clause → All (IsDrawn new numbers) clause
 drawn-grows old new numbers clause grows within drawn = λ k d below.
     let w = drawn k d below in
     record {
       number = w.number;
       listed = w.listed;
-      stands = subst (λ (c : List Literal). Contains c (get_or clause k d)) (sym (grows.same w.number (All-contains (λ n. n < length old) numbers w.number within w.listed))) w.stands;
+      stands = subst (λ (c : List Literal). Contains c (get_or clause k d))
+          (sym (grows.same w.number (All-contains (λ n. n < length old) numbers w.number within w.listed))) w.stands;
     }
 
 -- a clause behind the others, given or learnt
-pub derived-push : (table : List (Vec Literal Global)) (sources : List Source) (clause : Vec Literal Global) (source : Source) → IsDerived table sources → All (λ n. n < length table) (causes_of source) → (number_of source ≡ None → FollowsFrom table (causes_of source) clause.items) → (number_of source ≡ None → All (IsDrawn table (causes_of source)) clause.items) → IsDerived (table ++ clause ∷ []) (sources ++ source ∷ [])
+pub derived-push : (table : List (Vec Literal Global)) (sources : List Source) (clause : Vec Literal Global) (source : Source) → IsDerived table sources →
+    All (λ n. n < length table) (causes_of source) → (number_of source ≡ None → FollowsFrom table (causes_of source) clause.items) →
+    (number_of source ≡ None → All (IsDrawn table (causes_of source)) clause.items) → IsDerived (table ++ clause ∷ []) (sources ++ source ∷ [])
 derived-push table sources clause source derived within follows drawn =
     let grows = grows-push table clause in
     let longer = table ++ clause ∷ [] in
     let more_sources = sources ++ source ∷ [] in
-    let last : (place : ℕ) → place < length longer → length table ≤ place → place ≡ length sources = λ place inside more. omega (arith, length-append table (clause ∷ []), derived.count) in
+    let last : (place : ℕ) → place < length longer → length table ≤ place → place ≡ length sources =
+    λ place inside more. omega (arith, length-append table (clause ∷ []), derived.count) in
     record {
       count = omega (arith, length-append sources (source ∷ []), length-append table (clause ∷ []), derived.count);
       earlier = λ place inside. ⊎_elim
-          (λ (less : place < length table). subst (λ ns. All (λ n. n < place) ns) (sym (causes_at-push sources source place (omega (arith, less, derived.count)))) (derived.earlier place less))
+          (λ (less : place < length table).
+          subst (λ ns. All (λ n. n < place) ns) (sym (causes_at-push sources source place (omega (arith, less, derived.count))))
+          (derived.earlier place less))
           (λ (more : length table ≤ place).
           let e = last place inside more in
           let here : All (λ n. n < place) (causes_of source) = λ k d b. omega (arith, within k d b, more) in
@@ -87,53 +101,68 @@ derived-push table sources clause source derived within follows drawn =
       follows = λ place inside learnt. λ values holds. ⊎_elim
           (λ (less : place < length table).
           let less_there : place < length sources = omega (arith, less, derived.count) in
-          let h : MakesTrue values longer (causes_at sources place) = subst (λ ns. MakesTrue values longer ns) (causes_at-push sources source place less_there) holds in
+          let h : MakesTrue values longer (causes_at sources place) =
+          subst (λ ns. MakesTrue values longer ns) (causes_at-push sources source place less_there) holds in
           let w : All (λ n. n < length table) (causes_at sources place) = λ k d b. omega (arith, derived.earlier place less k d b, less) in
-          subst (λ c. clause_true values c ≡ true) (sym (clause_at-push table clause place less)) (derived.follows place less (sym (given_at-push sources source place less_there) ∙ learnt) values (holds-grows table longer values _ grows w h)))
+          subst (λ c. clause_true values c ≡ true) (sym (clause_at-push table clause place less))
+          (derived.follows place less (sym (given_at-push sources source place less_there) ∙ learnt) values (holds-grows table longer values _ grows w h)))
           (λ (more : length table ≤ place).
           let e = last place inside more in
           let here : place ≡ length table = omega (arith, e, derived.count) in
-          let h : MakesTrue values longer (causes_of source) = subst (λ ns. MakesTrue values longer ns) (ap (λ p. causes_at more_sources p) e ∙ causes_at-last sources source) holds in
+          let h : MakesTrue values longer (causes_of source) =
+          subst (λ ns. MakesTrue values longer ns) (ap (λ p. causes_at more_sources p) e ∙ causes_at-last sources source) holds in
           let none : number_of source ≡ None = sym (given_at-last sources source) ∙ ap (λ p. given_at more_sources p) (sym e) ∙ learnt in
-          subst (λ c. clause_true values c ≡ true) (sym (ap (λ n. clause_at longer n) here ∙ clause_at-last table clause)) (follows none values (holds-grows table longer values _ grows within h)))
+          subst (λ c. clause_true values c ≡ true) (sym (ap (λ n. clause_at longer n) here ∙ clause_at-last table clause))
+          (follows none values (holds-grows table longer values _ grows within h)))
           (cases_lt place (length table));
       drawn = λ place inside learnt. ⊎_elim
           (λ (less : place < length table).
           let less_there : place < length sources = omega (arith, less, derived.count) in
           let w : All (λ n. n < length table) (causes_at sources place) = λ k d b. omega (arith, derived.earlier place less k d b, less) in
-          let here = drawn-grows table longer (causes_at sources place) (clause_at table place) grows w (derived.drawn place less (sym (given_at-push sources source place less_there) ∙ learnt)) in
+          let here = drawn-grows table longer (causes_at sources place) (clause_at table place) grows w
+          (derived.drawn place less (sym (given_at-push sources source place less_there) ∙ learnt)) in
           let Drawn : List ℕ → List Literal → Type 0 = λ ns c. All (IsDrawn longer ns) c in
-          subst (λ ns. Drawn ns (clause_at longer place)) (sym (causes_at-push sources source place less_there)) (subst (λ c. Drawn (causes_at sources place) c) (sym (clause_at-push table clause place less)) here))
+          subst (λ ns. Drawn ns (clause_at longer place)) (sym (causes_at-push sources source place less_there))
+          (subst (λ c. Drawn (causes_at sources place) c) (sym (clause_at-push table clause place less)) here))
           (λ (more : length table ≤ place).
           let e = last place inside more in
           let at_end : place ≡ length table = omega (arith, e, derived.count) in
           let none : number_of source ≡ None = sym (given_at-last sources source) ∙ ap (λ p. given_at more_sources p) (sym e) ∙ learnt in
           let here = drawn-grows table longer (causes_of source) clause.items grows within (drawn none) in
           let Drawn : List ℕ → List Literal → Type 0 = λ ns c. All (IsDrawn longer ns) c in
-          subst (λ ns. Drawn ns (clause_at longer place)) (sym (ap (λ p. causes_at more_sources p) e ∙ causes_at-last sources source)) (subst (λ c. Drawn (causes_of source) c) (sym (ap (λ n. clause_at longer n) at_end ∙ clause_at-last table clause)) here))
+          subst (λ ns. Drawn ns (clause_at longer place)) (sym (ap (λ p. causes_at more_sources p) e ∙ causes_at-last sources source))
+          (subst (λ c. Drawn (causes_of source) c) (sym (ap (λ n. clause_at longer n) at_end ∙ clause_at-last table clause)) here))
           (cases_lt place (length table));
     }
 
-pub satisfied-at : (values : ℕ → Bool) (clauses : List (Vec Literal Global)) (n : ℕ) → Satisfies values clauses → n < length clauses → clause_true values (clause_at clauses n) ≡ true
+pub satisfied-at : (values : ℕ → Bool) (clauses : List (Vec Literal Global)) (n : ℕ) → Satisfies values clauses → n < length clauses →
+    clause_true values (clause_at clauses n) ≡ true
 satisfied-at values [] n holds within = absurd (omega arith)
 satisfied-at values (d ∷ clauses) n holds within = subst (λ c. clause_true values c ≡ true) (sym (clause_at-get_or (d ∷ clauses) n d within)) (holds n d within)
 
 -- values that make the given clauses true make the learnt ones true
-derived-below : (given table : List (Vec Literal Global)) (sources : List Source) (values : ℕ → Bool) → IsDerived table sources → AreGiven given table sources → Satisfies values given → (bound place : ℕ) → place < bound → place < length table → clause_true values (clause_at table place) ≡ true
+derived-below : (given table : List (Vec Literal Global)) (sources : List Source) (values : ℕ → Bool) → IsDerived table sources → AreGiven given table sources →
+    Satisfies values given → (bound place : ℕ) → place < bound → place < length table → clause_true values (clause_at table place) ≡ true
 derived-below given table sources values derived are holds zero place below within = absurd (omega arith)
 derived-below given table sources values derived are holds (suc bound) place below within = ⊎_elim
-    (λ (w : (n : ℕ) × (given_at sources place ≡ Some n)). subst (λ c. clause_true values c ≡ true) (sym (are.same place w.0 w.1)) (satisfied-at values given w.0 holds (are.within place w.0 w.1)))
+    (λ (w : (n : ℕ) × (given_at sources place ≡ Some n)).
+    subst (λ c. clause_true values c ≡ true) (sym (are.same place w.0 w.1)) (satisfied-at values given w.0 holds (are.within place w.0 w.1)))
     (λ learnt. derived.follows place within learnt values (λ k d at.
     let early = derived.earlier place within k d at in
     derived-below given table sources values derived are holds bound _ (omega (arith, early)) (omega (arith, early))))
     (some_or_none (given_at sources place))
 
 -- each clause of the table is implied by the given ones
-pub implied : (given table : List (Vec Literal Global)) (sources : List Source) (place : ℕ) → IsDerived table sources → AreGiven given table sources → place < length table → IsImplied given (clause_at table place)
-implied given table sources place derived are within = λ values holds. derived-below given table sources values derived are holds (suc place) place (omega arith) within
+pub implied : (given table : List (Vec Literal Global)) (sources : List Source) (place : ℕ) → IsDerived table sources → AreGiven given table sources →
+    place < length table → IsImplied given (clause_at table place)
+implied given table sources place derived are within =
+    λ values holds. derived-below given table sources values derived are holds (suc place) place (omega arith) within
 
 -- a choice is a reason for what it decides
-chosen-made : (table : List (Vec Literal Global)) (requirements : List RequirementClause) (old new : Trail) (literal : Literal) (choice : Choice) (level : ℕ) → Gains old new literal level (Decided choice.number) → slot_of old literal.variable ≡ None → literal ≡ get_or (clause_at table choice.number) choice.place literal → IsChoice old table requirements choice → (variable : ℕ) (slot : Slot) → variable ≡ literal.variable → slot.value ≡ literal.positive → slot.place ≡ length_of old → IsChosen table requirements new variable slot
+chosen-made : (table : List (Vec Literal Global)) (requirements : List RequirementClause) (old new : Trail) (literal : Literal) (choice : Choice) (level : ℕ) →
+    Gains old new literal level (Decided choice.number) → slot_of old literal.variable ≡ None →
+    literal ≡ get_or (clause_at table choice.number) choice.place literal → IsChoice old table requirements choice → (variable : ℕ) (slot : Slot) →
+    variable ≡ literal.variable → slot.value ≡ literal.positive → slot.place ≡ length_of old → IsChosen table requirements new variable slot
 chosen-made table requirements old new literal choice level gains free is chosen variable slot name value place =
     let f = chosen.chosen.first in
     let clause = clause_at table choice.number in
@@ -146,24 +175,32 @@ chosen-made table requirements old new literal choice level gains free is chosen
       value = value ∙ sign;
       before = take choice.place clause;
       after = drop (choice.place + 1) clause;
-      clause = ap (λ n. clause_at table n) chosen.chosen.number_is ∙ sym (take-append-drop choice.place clause) ∙ ap (λ (rest : List Literal). take choice.place clause ++ rest) (drop_more clause choice.place literal f.within ∙ ap (λ (l : Literal). l ∷ drop (choice.place + 1) clause) (sym is ∙ made));
+      clause = ap (λ n. clause_at table n) chosen.chosen.number_is ∙ sym (take-append-drop choice.place clause) ∙
+          ap (λ (rest : List Literal). take choice.place clause ++ rest)
+          (drop_more clause choice.place literal f.within ∙ ap (λ (l : Literal). l ∷ drop (choice.place + 1) clause) (sym is ∙ made));
       false_before = λ k d below.
           let early : k < choice.place = omega (arith, below, length-take-le choice.place clause (omega (arith, f.within))) in
           let was = false-before old _ (f.false_before k d early) in
           let moved : get_or (take choice.place clause) k d ≡ get_or clause k d = get_or-take choice.place clause k d early in
-          subst (λ (l : Literal). IsFalseBefore new slot.place l) (sym moved) (subst (λ (p : ℕ). IsFalseBefore new p (get_or clause k d)) (sym place) (false_before-kept old new _ _ keeps was));
+          subst (λ (l : Literal). IsFalseBefore new slot.place l) (sym moved)
+          (subst (λ (p : ℕ). IsFalseBefore new p (get_or clause k d)) (sym place) (false_before-kept old new _ _ keeps was));
     }
 
-pub chosen-decides : (table : List (Vec Literal Global)) (requirements : List RequirementClause) (old new : Trail) (literal : Literal) (choice : Choice) (level : ℕ) → Gains old new literal level (Decided choice.number) → slot_of old literal.variable ≡ None → literal ≡ get_or (clause_at table choice.number) choice.place literal → IsChoice old table requirements choice → AreChosen table requirements old → AreChosen table requirements new
+pub chosen-decides : (table : List (Vec Literal Global)) (requirements : List RequirementClause) (old new : Trail) (literal : Literal) (choice : Choice)
+    (level : ℕ) → Gains old new literal level (Decided choice.number) → slot_of old literal.variable ≡ None →
+    literal ≡ get_or (clause_at table choice.number) choice.place literal → IsChoice old table requirements choice → AreChosen table requirements old →
+    AreChosen table requirements new
 chosen-decides table requirements old new literal choice level gains free is choice-is chosen = record {
   each = λ v s n at decided. ⊎_elim
-      (λ w. chosen-made table requirements old new literal choice level gains free is choice-is v s w.0 (ap (λ (t : Slot). t.value) w.1) (ap (λ (t : Slot). t.place) w.1))
+      (λ w. chosen-made table requirements old new literal choice level gains free is choice-is v s w.0 (ap (λ (t : Slot). t.value) w.1)
+      (ap (λ (t : Slot). t.place) w.1))
       (λ w. chosen-kept table requirements old new v s (keeps-gains old new literal level _ gains free) (chosen.each v s n w decided))
       (gains-cases old new literal level _ gains v s at);
 }
 
 -- what is false before is so still where the levels above are undone
-false_before-undone : (old new : Trail) (level : ℕ) (slot : Slot) (variable : ℕ) (literal : Literal) → IsUndone old new level → slot_of old variable ≡ Some slot → slot.level ≤ level → IsFalseBefore old slot.place literal → IsFalseBefore new slot.place literal
+false_before-undone : (old new : Trail) (level : ℕ) (slot : Slot) (variable : ℕ) (literal : Literal) → IsUndone old new level →
+    slot_of old variable ≡ Some slot → slot.level ≤ level → IsFalseBefore old slot.place literal → IsFalseBefore new slot.place literal
 false_before-undone old new level slot variable literal undone at low f = record {
   slot = f.slot;
   is = undone.kept _ _ f.is (omega (arith, (old.rising _ variable f.slot slot f.is at f.earlier).0, low));
@@ -171,7 +208,8 @@ false_before-undone old new level slot variable literal undone at low f = record
   earlier = f.earlier;
 }
 
-pub justified-undone : (table : List (Vec Literal Global)) (old new : Trail) (level : ℕ) → IsJustified table old → IsUndone old new level → IsJustified table new
+pub justified-undone : (table : List (Vec Literal Global)) (old new : Trail) (level : ℕ) → IsJustified table old → IsUndone old new level →
+    IsJustified table new
 justified-undone table old new level justified undone = record {
   within = λ v s n at reason. justified.within v s n (undone.stays v s at).0 reason;
   forced = λ v s n at reason k d below.
@@ -180,7 +218,8 @@ justified-undone table old new level justified undone = record {
   contains = λ v s n at reason. justified.contains v s n (undone.stays v s at).0 reason;
 }
 
-pub chosen-undone : (table : List (Vec Literal Global)) (requirements : List RequirementClause) (old new : Trail) (level : ℕ) → AreChosen table requirements old → IsUndone old new level → AreChosen table requirements new
+pub chosen-undone : (table : List (Vec Literal Global)) (requirements : List RequirementClause) (old new : Trail) (level : ℕ) →
+    AreChosen table requirements old → IsUndone old new level → AreChosen table requirements new
 chosen-undone table requirements old new level chosen undone = record {
   each = λ v s n at decided.
       let was = undone.stays v s at in
@@ -196,7 +235,9 @@ chosen-undone table requirements old new level chosen undone = record {
       };
 }
 
-pub chosen-grows : (old new : List (Vec Literal Global)) (requirements : List RequirementClause) (trail : Trail) → Grows old new → All (λ (requirement : RequirementClause). requirement.number < length old) requirements → AreChosen old requirements trail → AreChosen new requirements trail
+pub chosen-grows : (old new : List (Vec Literal Global)) (requirements : List RequirementClause) (trail : Trail) → Grows old new →
+    All (λ (requirement : RequirementClause). requirement.number < length old) requirements → AreChosen old requirements trail →
+    AreChosen new requirements trail
 chosen-grows old new requirements trail grows inside chosen = record {
   each = λ v s n at decided.
       let c = chosen.each v s n at decided in
@@ -206,22 +247,27 @@ chosen-grows old new requirements trail grows inside chosen = record {
         value = c.value;
         before = c.before;
         after = c.after;
-        clause = grows.same _ (All-contains (λ (requirement : RequirementClause). requirement.number < length old) requirements c.requirement inside c.listed) ∙ c.clause;
+        clause = grows.same _ (All-contains (λ (requirement : RequirementClause). requirement.number < length old) requirements c.requirement inside c.listed) ∙
+            c.clause;
         false_before = c.false_before;
       };
 }
 
 -- the one literal of the highest level has no value after a jump back
-pub asserted-free : (old new : Trail) (jump level : ℕ) (literal : Literal) (literals : List Literal) → IsAsserting old jump literal literals → level < level_in old literal.variable → IsUndone old new level → slot_of new literal.variable ≡ None
+pub asserted-free : (old new : Trail) (jump level : ℕ) (literal : Literal) (literals : List Literal) → IsAsserting old jump literal literals →
+    level < level_in old literal.variable → IsUndone old new level → slot_of new literal.variable ≡ None
 asserted-free old new jump level literal literals asserting above undone = none-from (slot_of new literal.variable) (λ s at.
     let was = undone.stays _ s at in
     omega (arith, was.1, above, level-in old literal.variable s was.0))
 
 -- and the others are false still
-pub asserted-unit : (old new : Trail) (jump level : ℕ) (literal : Literal) (literals : List Literal) → IsAsserting old jump literal literals → jump ≤ level → IsUndone old new level → IsUnit new literal literals
+pub asserted-unit : (old new : Trail) (jump level : ℕ) (literal : Literal) (literals : List Literal) → IsAsserting old jump literal literals → jump ≤ level →
+    IsUndone old new level → IsUnit new literal literals
 asserted-unit old new jump level literal literals asserting high undone = λ k d below. ⊎_elim
     (λ e. inl e)
-    (λ (f : IsFalseAt old jump (get_or literals k d)). inr (ap (λ o. option_map (λ (s : Slot). beq s.value (get_or literals k d).positive) o) (undone.kept _ _ f.is (omega (arith, f.low, high))) ∙ ap Some f.false_there))
+    (λ (f : IsFalseAt old jump (get_or literals k d)).
+    inr (ap (λ o. option_map (λ (s : Slot). beq s.value (get_or literals k d).positive) o) (undone.kept _ _ f.is (omega (arith, f.low, high))) ∙
+    ap Some f.false_there))
     (asserting.others k d below)
 
 -- the variable of a false literal is one of the trail's

@@ -1,5 +1,6 @@
 -- Values that make the clauses of marked rules true give a set that obeys these rules.
-use Rattle.std.proofs.Common.{◌≡◌, ℕ, zero, suc, ◌<◌, ◌^◌, ◌⊎◌, inl, inr, List, [], ◌∷◌, ◌++◌, length, Bool, true, false, cond, arith, sym, ap, ◌∙◌, subst, ⊎_elim, Contains, Vec, Global}
+use Rattle.std.proofs.Common.{◌≡◌, ℕ, zero, suc, ◌<◌, ◌^◌, ◌⊎◌, inl, inr, List, [], ◌∷◌, ◌++◌, length, Bool, true, false, cond, arith, sym, ap, ◌∙◌, subst}
+use Rattle.std.proofs.Common.{⊎_elim, Contains, Vec, Global}
 use Rattle.std.specs.Prelude.{Some, slice_get, slice_index_or, not}
 use Rattle.std.specs.List.{AllZip}
 use Rattle.std.proofs.lemmas.Bool.{cases_order, false≢true, or_cases}
@@ -18,10 +19,12 @@ use Rattle.resolver_clause_store.specs.declared.Rule.{Rule}
 use Rattle.resolver_clause_store.specs.declared.Rule.TheVariants.{Requires, Constrains, Lock, Excluded, OnePerPackage}
 use Rattle.resolver_encoding.proofs.CodeLemmas.{digit_apart, pow_under}
 use Rattle.resolver_encoding.proofs.Lists.{Contains-map}
-use Rattle.resolvo.proofs.LineLemmas.{here, there, none_in, Contains-at, some_at, kept_here, kept_there, kept_cases, in_marked, zip_at, zip_right, bit_line, bit_line_in, member_line, member_line_in, line_in, rule_of_line}
+use Rattle.resolvo.proofs.LineLemmas.{here, there, none_in, Contains-at, some_at, kept_here, kept_there, kept_cases, in_marked, zip_at, zip_right, bit_line}
+use Rattle.resolvo.proofs.LineLemmas.{bit_line_in, member_line, member_line_in, line_in, rule_of_line}
 use Rattle.resolver_encoding.specs.Codes.{bit}
 use Rattle.resolvo.specs.Minimal.{marked}
-use Rattle.resolvo.specs.RuleClauses.{Line, atom, plain, asking, asker_atoms, list_atoms, candidate_atoms, condition_lines, lines_of, all_lines, IsLiteralOf, IsClauseOf, HasCode, AreClausesOf, MakesMarkedTrue}
+use Rattle.resolvo.specs.RuleClauses.{Line, atom, plain, asking, asker_atoms, list_atoms, candidate_atoms, condition_lines, lines_of, all_lines, IsLiteralOf}
+use Rattle.resolvo.specs.RuleClauses.{IsClauseOf, HasCode, AreClausesOf, MakesMarkedTrue}
 use Rattle.resolvo.specs.declared.minimal.rule_clauses.Atom.{Atom}
 use Rattle.resolvo.specs.declared.minimal.rule_clauses.Proposition.{Proposition}
 use Rattle.resolvo.specs.declared.minimal.rule_clauses.Proposition.TheVariants.{Member, Listed, Bit}
@@ -45,26 +48,32 @@ members values (Member s ∷ rest) = cond (values 0) (s ∷ members (λ i. value
 members values (Listed rule list ∷ rest) = members (λ i. values (suc i)) rest
 members values (Bit name index ∷ rest) = members (λ i. values (suc i)) rest
 
-member_in : {N S : Type 0} (values : ℕ → Bool) (propositions : List (Proposition N S)) (v : ℕ) (s : S) → slice_get propositions v ≡ Some (Member s) → values v ≡ true → Contains (members values propositions) s
+member_in : {N S : Type 0} (values : ℕ → Bool) (propositions : List (Proposition N S)) (v : ℕ) (s : S) → slice_get propositions v ≡ Some (Member s) →
+    values v ≡ true → Contains (members values propositions) s
 member_in values [] v s at on = absurd (none-some _ at)
 member_in {N} {S} values (Member t ∷ rest) zero s at on =
     let same : t ≡ s = cc in
     let first : Proposition N S = Member t in
     subst (Contains (members values (first ∷ rest))) same (kept_here (values 0) t (members (λ i. values (suc i)) rest) on)
-member_in values (Member t ∷ rest) (suc v) s at on = kept_there (values 0) t (members (λ i. values (suc i)) rest) s (member_in (λ i. values (suc i)) rest v s at on)
+member_in values (Member t ∷ rest) (suc v) s at on =
+    kept_there (values 0) t (members (λ i. values (suc i)) rest) s (member_in (λ i. values (suc i)) rest v s at on)
 member_in values (Listed rule list ∷ rest) zero s at on = absurd cc
 member_in values (Listed rule list ∷ rest) (suc v) s at on = member_in (λ i. values (suc i)) rest v s at on
 member_in values (Bit name index ∷ rest) zero s at on = absurd cc
 member_in values (Bit name index ∷ rest) (suc v) s at on = member_in (λ i. values (suc i)) rest v s at on
 
-later_holds : {N S : Type 0} (first p : Proposition N S) (rest : List (Proposition N S)) (values : ℕ → Bool) (b : Bool) → Holds rest (λ i. values (suc i)) p b → Holds (first ∷ rest) values p b
+later_holds : {N S : Type 0} (first p : Proposition N S) (rest : List (Proposition N S)) (values : ℕ → Bool) (b : Bool) → Holds rest (λ i. values (suc i)) p b →
+    Holds (first ∷ rest) values p b
 later_holds first p rest values b h = record { variable = suc h.variable; stands = h.stands; value = h.value }
 
-member_from : {N S : Type 0} (values : ℕ → Bool) (propositions : List (Proposition N S)) (s : S) → Contains (members values propositions) s → Holds propositions values (Member s) true
+member_from : {N S : Type 0} (values : ℕ → Bool) (propositions : List (Proposition N S)) (s : S) → Contains (members values propositions) s →
+    Holds propositions values (Member s) true
 member_from values [] s h = absurd (none_in s h)
 member_from {N} {S} values (Member t ∷ rest) s h = ⊎_elim
-    (λ (now : (values 0 ≡ true) × (t ≡ s)). let Of : S → Proposition N S = λ u. Member u in record { variable = 0; stands = ap (λ u. Some (Of u)) now.1; value = now.0 })
-    (λ (later : Contains (members (λ i. values (suc i)) rest) s). later_holds (Member t) (Member s) rest values true (member_from (λ i. values (suc i)) rest s later))
+    (λ (now : (values 0 ≡ true) × (t ≡ s)).
+    let Of : S → Proposition N S = λ u. Member u in record { variable = 0; stands = ap (λ u. Some (Of u)) now.1; value = now.0 })
+    (λ (later : Contains (members (λ i. values (suc i)) rest) s). later_holds (Member t) (Member s) rest values true
+    (member_from (λ i. values (suc i)) rest s later))
     (kept_cases (values 0) t (members (λ i. values (suc i)) rest) s h)
 member_from values (Listed rule list ∷ rest) s h = later_holds (Listed rule list) (Member s) rest values true (member_from (λ i. values (suc i)) rest s h)
 member_from values (Bit name index ∷ rest) s h = later_holds (Bit name index) (Member s) rest values true (member_from (λ i. values (suc i)) rest s h)
@@ -81,14 +90,17 @@ module _ {N S : Type 0} (propositions : List (Proposition N S)) (values : ℕ �
   Is p b = Holds propositions values p b
 
   one_value : AreDistinct propositions → (p : Proposition N S) (b c : Bool) → Is p b → Is p c → b ≡ c
-  one_value distinct p b c first second = sym first.value ∙ (ap values (distinct.same first.variable second.variable p first.stands second.stands) ∙ second.value)
+  one_value distinct p b c first second = sym first.value ∙
+      (ap values (distinct.same first.variable second.variable p first.stands second.stands) ∙ second.value)
 
-  some_holds : (literals : List Literal) (atoms : List (Atom N S)) → AllZip (IsLiteralOf propositions) literals atoms → clause_true values literals ≡ true → Some_of atoms
+  some_holds : (literals : List Literal) (atoms : List (Atom N S)) → AllZip (IsLiteralOf propositions) literals atoms → clause_true values literals ≡ true →
+      Some_of atoms
   some_holds [] [] zip e = absurd (false≢true e)
   some_holds [] (a ∷ atoms) zip e = absurd zip
   some_holds (l ∷ literals) [] zip e = absurd zip
   some_holds (l ∷ literals) (a ∷ atoms) (first, rest) e = ⊎_elim
-      (λ (now : literal_true values l ≡ true). inl (record { variable = l.variable; stands = first.stands; value = beq-true (values l.variable) l.positive now ∙ first.sign }))
+      (λ (now : literal_true values l ≡ true).
+      inl (record { variable = l.variable; stands = first.stands; value = beq-true (values l.variable) l.positive now ∙ first.sign }))
       (λ (later : clause_true values literals ≡ true). inr (some_holds literals atoms rest later))
       (or_cases (literal_true values l) (clause_true values literals) e)
 
@@ -149,10 +161,13 @@ module _ {N S : Type 0} (propositions : List (Proposition N S)) (values : ℕ �
     AreTrue width place code rule = (line : Line N S) → Contains (lines_of width place code rule) line → Some_of line.atoms
 
     -- a list with a member has its variable true
-    list_met : (place j : ℕ) (lists : List (Vec S Global)) → ((line : Line N S) → Contains (condition_lines place 0 lists) line → Some_of line.atoms) → AllMeet chosen (lists_of lists) → j < length lists → Is (Listed place j) false → ⊥
+    list_met : (place j : ℕ) (lists : List (Vec S Global)) → ((line : Line N S) → Contains (condition_lines place 0 lists) line → Some_of line.atoms) →
+        AllMeet chosen (lists_of lists) → j < length lists → Is (Listed place j) false → ⊥
     list_met place j lists are_true meet below out =
         let at = some_at lists j below in
-        let met : Meets at.0.items chosen = All-contains (λ xs. Meets xs chosen) (lists_of lists) at.0.items meet (Contains-map (λ (list : Vec S Global). list.items) lists at.0 (Contains-at lists j at.0 at.1)) in
+        let met : Meets at.0.items chosen =
+        All-contains (λ xs. Meets xs chosen) (lists_of lists) at.0.items meet
+        (Contains-map (λ (list : Vec S Global). list.items) lists at.0 (Contains-at lists j at.0 at.1)) in
         ⊎_elim
         (λ (absent : Is (Member met.shared) false). not_left_out met.shared met.in_second absent)
         (λ (rest : Some_of (atom (Listed place j) true ∷ [])). ⊎_elim
@@ -174,19 +189,23 @@ module _ {N S : Type 0} (propositions : List (Proposition N S)) (values : ℕ �
         let w = some_candidate candidates.items met in
         record { shared = w.0; in_first = w.1; in_second = is_chosen w.0 w.2 })
         (some_in_parts (list_atoms place (length when.items)) (candidate_atoms candidates.items) rest))
-        (some_in_parts (asker_atoms by) (list_atoms place (length when.items) ++ candidate_atoms candidates.items) (are_true first (here first (condition_lines place 0 when.items))))
+        (some_in_parts (asker_atoms by) (list_atoms place (length when.items) ++ candidate_atoms candidates.items)
+        (are_true first (here first (condition_lines place 0 when.items))))
     alone width place code (Constrains by version_set candidate) are_true = λ present inside.
         let only : Line N S = plain place (asker_atoms by ++ atom (Member candidate) false ∷ []) in
         ⊎_elim
         (λ (absent : Some_of (asker_atoms by)). not_absent by present absent)
         (λ (rest : Some_of (atom (Member candidate) false ∷ [])). out_alone candidate rest inside)
         (some_in_parts (asker_atoms by) (atom (Member candidate) false ∷ []) (are_true only (here only [])))
-    alone width place code (Lock locked forbidden) are_true = λ inside. let only : Line N S = plain place (atom (Member forbidden) false ∷ []) in out_alone forbidden (are_true only (here only [])) inside
-    alone width place code (Excluded solvable reason) are_true = λ inside. let only : Line N S = plain place (atom (Member solvable) false ∷ []) in out_alone solvable (are_true only (here only [])) inside
+    alone width place code (Lock locked forbidden) are_true = λ inside. let only : Line N S = plain place (atom (Member forbidden) false ∷ []) in
+        out_alone forbidden (are_true only (here only [])) inside
+    alone width place code (Excluded solvable reason) are_true = λ inside. let only : Line N S = plain place (atom (Member solvable) false ∷ []) in
+        out_alone solvable (are_true only (here only [])) inside
     alone width place code (OnePerPackage name instance) are_true = tt
 
     -- the name has the bits of a chosen instance's code
-    bits_hold : (width place code : ℕ) (n : N) (s : S) → AreTrue width place code (OnePerPackage n s) → Contains chosen s → (i : ℕ) → i < width → Is (Bit n i) (bit code i)
+    bits_hold : (width place code : ℕ) (n : N) (s : S) → AreTrue width place code (OnePerPackage n s) → Contains chosen s → (i : ℕ) → i < width →
+        Is (Bit n i) (bit code i)
     bits_hold width place code n s are_true inside i below = ⊎_elim
         (λ (out : Is (Member s) false). absurd (not_left_out s inside out))
         (λ (rest : Some_of (atom (Bit n i) (bit code i) ∷ [])). ⊎_elim
@@ -196,20 +215,26 @@ module _ {N S : Type 0} (propositions : List (Proposition N S)) (values : ℕ �
         (are_true (bit_line place n s code i) (bit_line_in place n s code width i below))
 
     -- two codes with the same bits are one
-    less_apart : (width j k : ℕ) (n : N) → ((i : ℕ) → i < width → Is (Bit n i) (bit j i)) → ((i : ℕ) → i < width → Is (Bit n i) (bit k i)) → k < 2 ^ width → j < k → ⊥
+    less_apart : (width j k : ℕ) (n : N) → ((i : ℕ) → i < width → Is (Bit n i) (bit j i)) → ((i : ℕ) → i < width → Is (Bit n i) (bit k i)) → k < 2 ^ width →
+        j < k → ⊥
     less_apart width j k n first second short less =
         let w = digit_apart j k k less (omega arith) in
         let below : w.0 < width = pow_under w.0 width (omega (arith, w.1, short)) in
         never_not (bit j w.0) (sym w.2 ∙ one_value distinct (Bit n w.0) (bit k w.0) (bit j w.0) (second w.0 below) (first w.0 below))
 
-module _ {N S : Type 0} (rules : List (Rule N S)) (propositions : List (Proposition N S)) (clauses : List RuleClause) (are : AreClausesOf rules propositions clauses) (marks : List Bool) (values : ℕ → Bool) (makes : MakesMarkedTrue values marks clauses) where
+module _ {N S : Type 0} (rules : List (Rule N S)) (propositions : List (Proposition N S)) (clauses : List RuleClause)
+    (are : AreClausesOf rules propositions clauses) (marks : List Bool) (values : ℕ → Bool) (makes : MakesMarkedTrue values marks clauses) where
   -- the lines of a marked rule are true
-  lines_true : (place : ℕ) (rule : Rule N S) (code : ℕ) → slice_index_or marks place false ≡ true → slice_get rules place ≡ Some rule → slice_get are.codes place ≡ Some code → AreTrue propositions values are.distinct are.width place code rule
+  lines_true : (place : ℕ) (rule : Rule N S) (code : ℕ) → slice_index_or marks place false ≡ true → slice_get rules place ≡ Some rule →
+      slice_get are.codes place ≡ Some code → AreTrue propositions values are.distinct are.width place code rule
   lines_true place rule code mark at coded = λ line inside.
-      let w = zip_right (IsClauseOf propositions) clauses (all_lines are.width 0 rules are.codes) are.lines line (line_in are.width 0 rules are.codes place place rule code (omega arith) at coded line inside) in
+      let w = zip_right (IsClauseOf propositions) clauses (all_lines are.width 0 rules are.codes) are.lines line
+      (line_in are.width 0 rules are.codes place place rule code (omega arith) at coded line inside) in
       let same : w.0.rule ≡ place = w.2.rule ∙ rule_of_line are.width place code rule line inside in
       let Marked : ℕ → Type 0 = λ k. slice_index_or marks k false ≡ true in
-      let truth : Marked w.0.rule → clause_true values w.0.literals.items ≡ true = All-contains (λ (clause : RuleClause). slice_index_or marks clause.rule false ≡ true → clause_true values clause.literals.items ≡ true) clauses w.0 makes w.1 in
+      let truth : Marked w.0.rule → clause_true values w.0.literals.items ≡ true =
+      All-contains (λ (clause : RuleClause).
+      slice_index_or marks clause.rule false ≡ true → clause_true values clause.literals.items ≡ true) clauses w.0 makes w.1 in
       some_holds propositions values w.0.literals.items line.atoms w.2.literals (truth (subst Marked (sym same) mark))
 
   pub chosen_obeys : Obeys (members values propositions) (marked marks rules)
@@ -226,7 +251,8 @@ module _ {N S : Type 0} (rules : List (Rule N S)) (propositions : List (Proposit
         let of_s : slice_get are.instances c.0 ≡ Some s = c.2 in
         let of_t : slice_get are.instances d.0 ≡ Some t = d.2 in
         let bits_s = bits_hold propositions values are.distinct are.width v.place c.0 n s (lines_true v.place (OnePerPackage n s) c.0 v.mark v.at c.1) in_set in
-        let bits_t = bits_hold propositions values are.distinct are.width w.place d.0 n t (lines_true w.place (OnePerPackage n t) d.0 w.mark w.at d.1) in_set' in
+        let bits_t = bits_hold propositions values are.distinct are.width w.place d.0 n t
+        (lines_true w.place (OnePerPackage n t) d.0 w.mark w.at d.1) in_set' in
         let short_s : c.0 < 2 ^ are.width = omega (arith, slice_get_within are.instances c.0 s of_s, are.short) in
         let short_t : d.0 < 2 ^ are.width = omega (arith, slice_get_within are.instances d.0 t of_t, are.short) in
         ⊎_elim

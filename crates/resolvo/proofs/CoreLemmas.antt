@@ -1,5 +1,6 @@
 -- Marked clauses that contradict each other.
-use Rattle.std.proofs.Common.{◌≡◌, ℕ, ◌+◌, ◌<◌, ◌≤◌, List, [], ◌∷◌, ◌++◌, length, set, Bool, true, false, Some, None, arith, sym, ap, ◌∙◌, subst, ⊎_elim, get_or-set_same, get_or-set_other, length-set}
+use Rattle.std.proofs.Common.{◌≡◌, ℕ, ◌+◌, ◌<◌, ◌≤◌, List, [], ◌∷◌, ◌++◌, length, set, Bool, true, false, Some, None, arith, sym, ap, ◌∙◌, subst, ⊎_elim}
+use Rattle.std.proofs.Common.{get_or-set_same, get_or-set_other, length-set}
 use Rattle.std.specs.Prelude.{Vec}
 use Rattle.std.specs.List.{All, Contains}
 use Rattle.std.specs.declared.alloc.Global.{Global}
@@ -14,7 +15,9 @@ use Rattle.resolvo.specs.Resolvents.{is_marked}
 use Rattle.resolvo.specs.Derivations.{AddsMarked, AreGiven, causes_at, given_at, IsDerived, ListsMarked, MarksNumbers, MarkedRefute, Replaces, Stands}
 use Rattle.resolvo.proofs.SourceLemmas.{given_within, some_or_none}
 
-pub marked-begin : (table : List (Vec Literal Global)) (sources : List Source) (old marks : List Bool) (start : List ℕ) → length old ≡ length table → ((k : ℕ) → is_marked old k ≡ false) → MarksNumbers old marks start → All (λ n. n < length table) start → FollowsFrom table start [] → MarkedRefute table sources marks (length table)
+pub marked-begin : (table : List (Vec Literal Global)) (sources : List Source) (old marks : List Bool) (start : List ℕ) → length old ≡ length table →
+    ((k : ℕ) → is_marked old k ≡ false) → MarksNumbers old marks start → All (λ n. n < length table) start → FollowsFrom table start [] →
+    MarkedRefute table sources marks (length table)
 marked-begin table sources old marks start size unmarked so within refuted = record {
   size = so.size ∙ size;
   apart = λ values holds. false≢true (refuted values (λ k d below. holds _ (so.all k d below)));
@@ -22,18 +25,22 @@ marked-begin table sources old marks start size unmarked so within refuted = rec
 }
 
 -- a learnt clause is replaced by its causes
-replaced-learnt : (table : List (Vec Literal Global)) (sources : List Source) (old new : List Bool) (bound place : ℕ) → bound ≡ place + 1 → place < length table → IsDerived table sources → MarkedRefute table sources old bound → given_at sources place ≡ None → MarksNumbers (set old place false) new (causes_at sources place) → MarkedRefute table sources new place
+replaced-learnt : (table : List (Vec Literal Global)) (sources : List Source) (old new : List Bool) (bound place : ℕ) → bound ≡ place + 1 →
+    place < length table → IsDerived table sources → MarkedRefute table sources old bound → given_at sources place ≡ None →
+    MarksNumbers (set old place false) new (causes_at sources place) → MarkedRefute table sources new place
 replaced-learnt table sources old new bound place last inside derived refute learnt so = record {
   size = so.size ∙ length-set old place false ∙ refute.size;
   apart = λ values holds. refute.apart values (λ k m. ⊎_elim
-      (λ e. subst (λ n. clause_true values (clause_at table n) ≡ true) (sym e) (derived.follows place inside learnt values (λ i d below. holds _ (so.all i d below))))
+      (λ e. subst (λ n. clause_true values (clause_at table n) ≡ true) (sym e)
+      (derived.follows place inside learnt values (λ i d below. holds _ (so.all i d below))))
       (λ ne. holds k (so.kept k (get_or-set_other old place k false false ne ∙ m)))
       (cases_eq k place));
   given = λ k past m.
       let early : All (λ other. other ≡ k → ⊥) (causes_at sources place) = λ i d below. λ e. absurd (omega (arith, derived.earlier place inside i d below)) in
       ⊎_elim
       (λ (e : k ≡ place).
-      let off : is_marked (set old place false) k ≡ false = subst (λ n. is_marked (set old place false) n ≡ false) (sym e) (get_or-set_same old place false false (omega (arith, refute.size))) in
+      let off : is_marked (set old place false) k ≡ false =
+      subst (λ n. is_marked (set old place false) n ≡ false) (sym e) (get_or-set_same old place false false (omega (arith, refute.size))) in
       absurd (both_ways _ (so.only k off early) m))
       (λ (ne : k ≡ place → ⊥). ⊎_elim
       (λ was. refute.given k (omega (arith, ne)) was)
@@ -42,7 +49,9 @@ replaced-learnt table sources old new bound place last inside derived refute lea
       (cases_eq k place);
 }
 
-pub marked-replace : (table : List (Vec Literal Global)) (sources : List Source) (old new : List Bool) (bound place : ℕ) → bound ≡ place + 1 → place < length table → IsDerived table sources → MarkedRefute table sources old bound → Replaces old new sources place → MarkedRefute table sources new place
+pub marked-replace : (table : List (Vec Literal Global)) (sources : List Source) (old new : List Bool) (bound place : ℕ) → bound ≡ place + 1 →
+    place < length table → IsDerived table sources → MarkedRefute table sources old bound → Replaces old new sources place →
+    MarkedRefute table sources new place
 marked-replace table sources old new bound place last inside derived refute so = ⊎_elim
     (λ (w : (n : ℕ) × (given_at sources place ≡ Some n)). subst (λ marks. MarkedRefute table sources marks place) (sym (so.given w.0 w.1)) (record {
       size = refute.size;
@@ -56,7 +65,8 @@ marked-replace table sources old new bound place last inside derived refute so =
     (some_or_none (given_at sources place))
 
 -- the clause is not marked
-pub marked-passed : (table : List (Vec Literal Global)) (sources : List Source) (marks : List Bool) (bound place : ℕ) → bound ≡ place + 1 → is_marked marks place ≡ false → MarkedRefute table sources marks bound → MarkedRefute table sources marks place
+pub marked-passed : (table : List (Vec Literal Global)) (sources : List Source) (marks : List Bool) (bound place : ℕ) → bound ≡ place + 1 →
+    is_marked marks place ≡ false → MarkedRefute table sources marks bound → MarkedRefute table sources marks place
 marked-passed table sources marks bound place last off refute = record {
   size = refute.size;
   apart = refute.apart;
@@ -66,23 +76,28 @@ marked-passed table sources marks bound place last off refute = record {
       (cases_eq k place);
 }
 
-pub adds-none : (numbers : List ℕ) (sources : List Source) (marks : List Bool) (place : ℕ) → ((number : ℕ) → is_marked marks place ≡ true → given_at sources place ≡ Some number → ⊥) → AddsMarked numbers numbers sources marks place
+pub adds-none : (numbers : List ℕ) (sources : List Source) (marks : List Bool) (place : ℕ) →
+    ((number : ℕ) → is_marked marks place ≡ true → given_at sources place ≡ Some number → ⊥) → AddsMarked numbers numbers sources marks place
 adds-none numbers sources marks place none = record { kept = λ number c. c; only = λ all. all; added = λ number m is. absurd (none number m is) }
 
-pub adds-one : (numbers : List ℕ) (number : ℕ) (sources : List Source) (marks : List Bool) (place : ℕ) → given_at sources place ≡ Some number → AddsMarked numbers (numbers ++ number ∷ []) sources marks place
+pub adds-one : (numbers : List ℕ) (number : ℕ) (sources : List Source) (marks : List Bool) (place : ℕ) → given_at sources place ≡ Some number →
+    AddsMarked numbers (numbers ++ number ∷ []) sources marks place
 adds-one numbers number sources marks place is = record {
   kept = λ n c. Contains-append_left numbers (number ∷ []) n c;
   only = λ all. All-push (Stands sources) numbers number all (record { place = place; is = is });
   added = λ n m at. subst (λ x. Contains (numbers ++ number ∷ []) x) (same_Some _ _ (sym is ∙ at)) (Contains-push numbers number);
 }
 
-pub lists-more : (old new : List ℕ) (sources : List Source) (marks : List Bool) (place : ℕ) → AddsMarked old new sources marks place → ListsMarked sources marks old place → ListsMarked sources marks new (place + 1)
+pub lists-more : (old new : List ℕ) (sources : List Source) (marks : List Bool) (place : ℕ) → AddsMarked old new sources marks place →
+    ListsMarked sources marks old place → ListsMarked sources marks new (place + 1)
 lists-more old new sources marks place adds lists = λ p n below m is. ⊎_elim
     (λ (e : p ≡ place). adds.added n (ap (λ q. is_marked marks q) (sym e) ∙ m) (ap (λ q. given_at sources q) (sym e) ∙ is))
     (λ (ne : p ≡ place → ⊥). adds.kept n (lists p n (omega (arith, ne)) m is))
     (cases_eq p place)
 
-pub core-refuted : (given table : List (Vec Literal Global)) (sources : List Source) (marks : List Bool) (numbers : List ℕ) (bound : ℕ) → IsDerived table sources → MarkedRefute table sources marks bound → bound ≤ 0 → All (Stands sources) numbers → ListsMarked sources marks numbers (length sources) → AreGiven given table sources → IsCore given numbers
+pub core-refuted : (given table : List (Vec Literal Global)) (sources : List Source) (marks : List Bool) (numbers : List ℕ) (bound : ℕ) →
+    IsDerived table sources → MarkedRefute table sources marks bound → bound ≤ 0 → All (Stands sources) numbers →
+    ListsMarked sources marks numbers (length sources) → AreGiven given table sources → IsCore given numbers
 core-refuted given table sources marks numbers bound derived refute end stand lists are = record {
   within = λ k d below. let s = stand k d below in are.within s.place _ s.is;
   refuted = λ values holds. refute.apart values (λ p m.

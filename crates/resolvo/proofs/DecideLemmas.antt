@@ -13,7 +13,8 @@ use Rattle.resolver_clause_store.specs.declared.Rule.TheVariants.{Requires, Cons
 use Rattle.resolvo.proofs.CompleteLemmas.{members, chosen_obeys}
 use Rattle.resolvo.proofs.LineLemmas.{cons_cases, none_in, All-each, zip_left, bit_line_from, member_line_from, line_from, rule_of_line}
 use Rattle.resolvo.proofs.SoundLemmas.{values_true}
-use Rattle.resolvo.specs.RuleClauses.{Line, atom, plain, asking, asker_atoms, list_atoms, candidate_atoms, condition_lines, lines_of, all_lines, IsLiteralOf, IsClauseOf, AreClausesOf, IsGuarded, DecideRules}
+use Rattle.resolvo.specs.RuleClauses.{Line, atom, plain, asking, asker_atoms, list_atoms, candidate_atoms, condition_lines, lines_of, all_lines, IsLiteralOf}
+use Rattle.resolvo.specs.RuleClauses.{IsClauseOf, AreClausesOf, IsGuarded, DecideRules}
 use Rattle.resolvo.specs.declared.minimal.rule_clauses.Atom.{Atom}
 use Rattle.resolvo.specs.declared.minimal.rule_clauses.Proposition.{Proposition}
 use Rattle.resolvo.specs.declared.minimal.rule_clauses.Proposition.TheVariants.{Member}
@@ -50,7 +51,8 @@ module _ {N S : Type 0} where
       (λ (same : first ≡ line). absurd (false≢true (sym plain_one ∙ sym (ap Asks same))))
       (λ (later : Contains (condition_lines place 0 when.items) line). let w = member_line_from place 0 when.items line later in subst Guarded w.is refl)
       (cons_cases first (condition_lines place 0 when.items) line inside)
-  line_orderly width place code (Constrains by version_set candidate) line inside = only_guarded (plain place (asker_atoms by ++ atom (Member candidate) false ∷ [])) line (asker_guarded N by candidate) inside
+  line_orderly width place code (Constrains by version_set candidate) line inside =
+      only_guarded (plain place (asker_atoms by ++ atom (Member candidate) false ∷ [])) line (asker_guarded N by candidate) inside
   line_orderly width place code (Lock locked forbidden) line inside = only_guarded (plain place (atom (Member forbidden) false ∷ [])) line refl inside
   line_orderly width place code (Excluded solvable reason) line inside = only_guarded (plain place (atom (Member solvable) false ∷ [])) line refl inside
   line_orderly width place code (OnePerPackage name instance) line inside = λ plain_one.
@@ -58,7 +60,8 @@ module _ {N S : Type 0} where
       let Guarded : Line N S → Type 0 = λ (l : Line N S). AreGuarded l.atoms in
       subst Guarded w.2 refl
 
-  guarded_literals : (propositions : List (Proposition N S)) (literals : List Literal) (atoms : List (Atom N S)) → AllZip (IsLiteralOf propositions) literals atoms → AreGuarded atoms → IsGuarded literals
+  guarded_literals : (propositions : List (Proposition N S)) (literals : List Literal) (atoms : List (Atom N S)) →
+      AllZip (IsLiteralOf propositions) literals atoms → AreGuarded atoms → IsGuarded literals
   guarded_literals propositions literals [] zip h = absurd h
   guarded_literals propositions [] (a ∷ atoms) zip h = absurd zip
   guarded_literals propositions (l ∷ []) (a ∷ []) zip h = zip.0.sign ∙ h
@@ -69,19 +72,23 @@ module _ {N S : Type 0} where
   guarded_literals propositions (l ∷ m ∷ n ∷ literals) (a ∷ b ∷ []) zip h = absurd zip.1.1
   guarded_literals propositions (l ∷ m ∷ n ∷ literals) (a ∷ b ∷ c ∷ atoms) zip h = absurd h
 
-  literals_below : (propositions : List (Proposition N S)) (literals : List Literal) (atoms : List (Atom N S)) → AllZip (IsLiteralOf propositions) literals atoms → IsBelow (length propositions) literals
+  literals_below : (propositions : List (Proposition N S)) (literals : List Literal) (atoms : List (Atom N S)) →
+      AllZip (IsLiteralOf propositions) literals atoms → IsBelow (length propositions) literals
   literals_below propositions literals atoms zip = All-each (λ (l : Literal). l.variable < length propositions) literals (λ l inside.
       let w = zip_left (IsLiteralOf propositions) literals atoms zip l inside in
       slice_get_within propositions l.variable w.0.proposition w.2.stands)
 
-pub clauses_decide : {N S : Type 0} (names : N → N → Bool) (solvables : S → S → Bool) → IsIdentity names → IsIdentity solvables → (rules : List (Rule N S)) (propositions : List (Proposition N S)) (clauses : List RuleClause) → AreClausesOf rules propositions clauses → DecideRules rules (length propositions) clauses
+pub clauses_decide : {N S : Type 0} (names : N → N → Bool) (solvables : S → S → Bool) → IsIdentity names → IsIdentity solvables →
+    (rules : List (Rule N S)) (propositions : List (Proposition N S)) (clauses : List RuleClause) → AreClausesOf rules propositions clauses →
+    DecideRules rules (length propositions) clauses
 clauses_decide names solvables same_names same_solvables rules propositions clauses are = record {
   sound = λ marks set size obeys. values_true names solvables same_names same_solvables rules propositions clauses are marks set obeys;
   complete = λ marks values size makes refuted. refuted (members values propositions) (chosen_obeys rules propositions clauses are marks values makes);
   guarded = All-each (λ (clause : RuleClause). clause.asks ≡ false → IsGuarded clause.literals.items) clauses (λ clause inside plain_one.
       let w = zip_left (IsClauseOf propositions) clauses (all_lines are.width 0 rules are.codes) are.lines clause inside in
       let at = line_from are.width 0 rules are.codes w.0 w.1 in
-      guarded_literals propositions clause.literals.items w.0.atoms w.2.literals (line_orderly are.width (0 + at.index) at.code at.rule w.0 at.inside (sym w.2.asks ∙ plain_one)));
+      guarded_literals propositions clause.literals.items w.0.atoms w.2.literals
+      (line_orderly are.width (0 + at.index) at.code at.rule w.0 at.inside (sym w.2.asks ∙ plain_one)));
   places = All-each (λ (clause : RuleClause). clause.rule < length rules) clauses (λ clause inside.
       let w = zip_left (IsClauseOf propositions) clauses (all_lines are.width 0 rules are.codes) are.lines clause inside in
       let at = line_from are.width 0 rules are.codes w.0 w.1 in

@@ -1,5 +1,6 @@
 -- Where the literals of learnt clauses and of the trail come from.
-use Rattle.std.proofs.Common.{◌≡◌, ◌≢◌, ℕ, zero, suc, ◌<◌, ◌⊎◌, List, [], ◌∷◌, ◌++◌, length, get_or, set, Some, None, Bool, true, false, arith, inl, inr, refl, sym, ap, ◌∙◌, subst, ⊎_elim, get_or-set_other}
+use Rattle.std.proofs.Common.{◌≡◌, ◌≢◌, ℕ, zero, suc, ◌<◌, ◌⊎◌, List, [], ◌∷◌, ◌++◌, length, get_or, set, Some, None, Bool, true, false, arith, inl, inr, refl}
+use Rattle.std.proofs.Common.{sym, ap, ◌∙◌, subst, ⊎_elim, get_or-set_other}
 use Rattle.std.specs.Prelude.{Vec, not}
 use Rattle.std.specs.List.{All, Contains}
 use Rattle.std.specs.declared.alloc.Global.{Global}
@@ -29,7 +30,8 @@ use Rattle.resolvo.proofs.NegationLemmas.{negation}
 use Rattle.resolvo.proofs.SourceLemmas.{some_or_none}
 
 -- a literal of the variable, or none
-named : (variable : ℕ) (clause : List Literal) → ((l : Literal) × Contains clause l × (l.variable ≡ variable)) ⊎ All (λ (l : Literal). l.variable ≢ variable) clause
+named : (variable : ℕ) (clause : List Literal) → ((l : Literal) × Contains clause l × (l.variable ≡ variable)) ⊎
+    All (λ (l : Literal). l.variable ≢ variable) clause
 named variable [] = inr (All-nil (λ (l : Literal). l.variable ≢ variable))
 named variable (x ∷ xs) = ⊎_elim
     (λ (e : x.variable ≡ variable). inl (x, Contains-here x xs, e))
@@ -40,19 +42,24 @@ named variable (x ∷ xs) = ⊎_elim
     (cases_eq x.variable variable)
 
 -- a false literal negates the slot of its variable
-negates-slot : (trail : Trail) (l : Literal) (variable : ℕ) (slot : Slot) → l.variable ≡ variable → slot_of trail l.variable ≡ Some slot → l.positive ≡ not slot.value → l ≡ negation variable slot
+negates-slot : (trail : Trail) (l : Literal) (variable : ℕ) (slot : Slot) → l.variable ≡ variable → slot_of trail l.variable ≡ Some slot →
+    l.positive ≡ not slot.value → l ≡ negation variable slot
 negates-slot trail l variable slot name at sign = λ i. record { variable = name i; positive = sign i }
 
-drawn-from : (table : List (Vec Literal Global)) (causes : List ℕ) (number variable : ℕ) (slot : Slot) (l : Literal) → Contains causes number → Contains (clause_at table number) l → l ≡ negation variable slot → IsDrawn table causes (negation variable slot)
-drawn-from table causes number variable slot l listed stands is = record { number = number; listed = listed; stands = subst (λ (x : Literal). Contains (clause_at table number) x) is stands }
+drawn-from : (table : List (Vec Literal Global)) (causes : List ℕ) (number variable : ℕ) (slot : Slot) (l : Literal) → Contains causes number →
+    Contains (clause_at table number) l → l ≡ negation variable slot → IsDrawn table causes (negation variable slot)
+drawn-from table causes number variable slot l listed stands is =
+    record { number = number; listed = listed; stands = subst (λ (x : Literal). Contains (clause_at table number) x) is stands }
 
-pub drawn-begin : (table : List (Vec Literal Global)) (trail : Trail) (old marks : List Bool) (number : ℕ) → IsFalsified trail (clause_at table number) → ((v : ℕ) → is_marked old v ≡ false) → MarksAlso old marks (clause_at table number) → AreDrawn table trail marks (number ∷ [])
+pub drawn-begin : (table : List (Vec Literal Global)) (trail : Trail) (old marks : List Bool) (number : ℕ) → IsFalsified trail (clause_at table number) →
+    ((v : ℕ) → is_marked old v ≡ false) → MarksAlso old marks (clause_at table number) → AreDrawn table trail marks (number ∷ [])
 drawn-begin table trail old marks number falsified unmarked so = record {
   each = λ v s m at. ⊎_elim
       (λ (w : (l : Literal) × Contains (clause_at table number) l × (l.variable ≡ v)).
       let f = value-false _ _ (All-contains (λ (l : Literal). literal_value trail l ≡ Some false) (clause_at table number) w.0 falsified w.1) in
       let same : f.0 ≡ s = same_Some _ _ (sym f.1 ∙ ap (λ n. slot_of trail n) w.2 ∙ at) in
-      drawn-from table (number ∷ []) number v s w.0 (Contains-here number []) w.1 (negates-slot trail w.0 v s w.2 (f.1 ∙ ap Some same) (beq-false _ _ f.2 ∙ ap (λ (t : Slot). not t.value) same)))
+      drawn-from table (number ∷ []) number v s w.0 (Contains-here number []) w.1
+      (negates-slot trail w.0 v s w.2 (f.1 ∙ ap Some same) (beq-false _ _ f.2 ∙ ap (λ (t : Slot). not t.value) same)))
       (λ none. absurd (both_ways _ (so.only v (unmarked v) none) m))
       (named v (clause_at table number));
 }
@@ -61,7 +68,9 @@ drawn-more : (table : List (Vec Literal Global)) (causes : List ℕ) (number : �
 drawn-more table causes number l d = record { number = d.number; listed = Contains-append_left causes (number ∷ []) d.number d.listed; stands = d.stands }
 
 -- a variable's reason in its place
-pub drawn-resolve : (table : List (Vec Literal Global)) (trail : Trail) (old mid : List Bool) (causes : List ℕ) (variable number : ℕ) → AreDrawn table trail old causes → IsJustified table trail → IsReason trail variable number → MarksAlso old mid (clause_at table number) → AreDrawn table trail (set mid variable false) (causes ++ number ∷ [])
+pub drawn-resolve : (table : List (Vec Literal Global)) (trail : Trail) (old mid : List Bool) (causes : List ℕ) (variable number : ℕ) →
+    AreDrawn table trail old causes → IsJustified table trail → IsReason trail variable number → MarksAlso old mid (clause_at table number) →
+    AreDrawn table trail (set mid variable false) (causes ++ number ∷ [])
 drawn-resolve table trail old mid causes variable number drawn justified reason so = record {
   each = λ v s m at.
       let differ : v ≢ variable = λ e. both_ways _ (unmarked-set mid variable) (ap (λ k. is_marked (set mid variable false) k) (sym e) ∙ m) in
@@ -74,22 +83,26 @@ drawn-resolve table trail old mid causes variable number drawn justified reason 
       (λ (e : w.0 ≡ it). absurd (differ (sym w.2 ∙ ap (λ (l : Literal). l.variable) e)))
       (λ (f : IsFalseBefore trail reason.slot.place w.0).
       let same : f.slot ≡ s = same_Some _ _ (sym f.is ∙ ap (λ n. slot_of trail n) w.2 ∙ at) in
-      drawn-from table (causes ++ number ∷ []) number v s w.0 (Contains-push causes number) w.1 (negates-slot trail w.0 v s w.2 (f.is ∙ ap Some same) (beq-false _ _ f.false_there ∙ ap (λ (t : Slot). not t.value) same)))
-      (All-contains (λ (l : Literal). (l ≡ it) ⊎ IsFalseBefore trail reason.slot.place l) (clause_at table number) w.0 (justified.forced variable reason.slot number reason.is reason.reason) w.1))
+      drawn-from table (causes ++ number ∷ []) number v s w.0 (Contains-push causes number) w.1
+      (negates-slot trail w.0 v s w.2 (f.is ∙ ap Some same) (beq-false _ _ f.false_there ∙ ap (λ (t : Slot). not t.value) same)))
+      (All-contains (λ (l : Literal). (l ≡ it) ⊎ IsFalseBefore trail reason.slot.place l) (clause_at table number) w.0
+      (justified.forced variable reason.slot number reason.is reason.reason) w.1))
       (λ none. absurd (both_ways _ (so.only v unmarked none) middle))
       (named v (clause_at table number)))
       (cases_Bool (is_marked old v));
 }
 
 -- the literals that negate the marked variables
-pub drawn-learnt : (table : List (Vec Literal Global)) (trail : Trail) (marks : List Bool) (causes : List ℕ) (literals : List Literal) → AreDrawn table trail marks causes → Negates trail marks literals → All (IsDrawn table causes) literals
+pub drawn-learnt : (table : List (Vec Literal Global)) (trail : Trail) (marks : List Bool) (causes : List ℕ) (literals : List Literal) →
+    AreDrawn table trail marks causes → Negates trail marks literals → All (IsDrawn table causes) literals
 drawn-learnt table trail marks causes literals drawn negates = λ k d below.
     let l = get_or literals k d in
     let f = value-false _ _ (negates.falsified k d below) in
     let is : l ≡ negation l.variable f.0 = negates-slot trail l l.variable f.0 refl f.1 (beq-false _ _ f.2) in
     subst (λ (x : Literal). IsDrawn table causes x) (sym is) (drawn.each l.variable f.0 (negates.only k d below) f.1)
 
-given-stands : (given : List (Vec Literal Global)) (number : ℕ) (literal : Literal) → number < length given → Contains (clause_at given number) literal → (clause : Vec Literal Global) × Contains given clause × Contains clause.items literal
+given-stands : (given : List (Vec Literal Global)) (number : ℕ) (literal : Literal) → number < length given → Contains (clause_at given number) literal →
+    (clause : Vec Literal Global) × Contains given clause × Contains clause.items literal
 given-stands [] number literal within stands = absurd (omega arith)
 given-stands (d ∷ given) number literal within stands = (
   get_or (d ∷ given) number d,
@@ -97,10 +110,13 @@ given-stands (d ∷ given) number literal within stands = (
   subst (λ (c : List Literal). Contains c literal) (clause_at-get_or (d ∷ given) number d within) stands,
 )
 
-drawn-below : (given table : List (Vec Literal Global)) (sources : List Source) → IsDerived table sources → AreGiven given table sources → (bound place : ℕ) (literal : Literal) → place < bound → place < length table → Contains (clause_at table place) literal → (clause : Vec Literal Global) × Contains given clause × Contains clause.items literal
+drawn-below : (given table : List (Vec Literal Global)) (sources : List Source) → IsDerived table sources → AreGiven given table sources →
+    (bound place : ℕ) (literal : Literal) → place < bound → place < length table → Contains (clause_at table place) literal → (clause : Vec Literal Global) ×
+    Contains given clause × Contains clause.items literal
 drawn-below given table sources derived are zero place literal below within stands = absurd (omega arith)
 drawn-below given table sources derived are (suc bound) place literal below within stands = ⊎_elim
-    (λ (w : (n : ℕ) × (given_at sources place ≡ Some n)). given-stands given w.0 literal (are.within place w.0 w.1) (subst (λ (c : List Literal). Contains c literal) (are.same place w.0 w.1) stands))
+    (λ (w : (n : ℕ) × (given_at sources place ≡ Some n)).
+    given-stands given w.0 literal (are.within place w.0 w.1) (subst (λ (c : List Literal). Contains c literal) (are.same place w.0 w.1) stands))
     (λ (learnt : given_at sources place ≡ None).
     let d = All-contains (IsDrawn table _) (clause_at table place) literal (derived.drawn place within learnt) stands in
     let early : d.number < place = All-contains (λ n. n < place) _ d.number (derived.earlier place within) d.listed in
@@ -108,11 +124,16 @@ drawn-below given table sources derived are (suc bound) place literal below with
     (some_or_none (given_at sources place))
 
 -- each literal of the table stands in a given clause
-pub table_drawn : (given table : List (Vec Literal Global)) (sources : List Source) → IsDerived table sources → AreGiven given table sources → (place : ℕ) (literal : Literal) → place < length table → Contains (clause_at table place) literal → (clause : Vec Literal Global) × Contains given clause × Contains clause.items literal
-table_drawn given table sources derived are place literal within stands = drawn-below given table sources derived are (suc place) place literal (omega arith) within stands
+pub table_drawn : (given table : List (Vec Literal Global)) (sources : List Source) → IsDerived table sources → AreGiven given table sources →
+    (place : ℕ) (literal : Literal) → place < length table → Contains (clause_at table place) literal → (clause : Vec Literal Global) × Contains given clause ×
+    Contains clause.items literal
+table_drawn given table sources derived are place literal within stands =
+    drawn-below given table sources derived are (suc place) place literal (omega arith) within stands
 
 -- and so does each literal of the trail that was not assumed
-pub values_drawn : (it : ClauseSearch) (given : List (Vec Literal Global)) (numbers : List ℕ) → IsConsistent it → IsLoaded given numbers it → (variable : ℕ) (slot : Slot) → slot_of it.trail variable ≡ Some slot → (slot.reason ≡ Assumed → ⊥) → (clause : Vec Literal Global) × Contains given clause × Contains clause.items (record { variable = variable; positive = slot.value })
+pub values_drawn : (it : ClauseSearch) (given : List (Vec Literal Global)) (numbers : List ℕ) → IsConsistent it → IsLoaded given numbers it →
+    (variable : ℕ) (slot : Slot) → slot_of it.trail variable ≡ Some slot → (slot.reason ≡ Assumed → ⊥) → (clause : Vec Literal Global) × Contains given clause ×
+    Contains clause.items (record { variable = variable; positive = slot.value })
 values_drawn it given numbers holds loaded variable slot at other =
     let table = it.table.items in
     let drawn = table_drawn given table it.sources.items holds.derived loaded.clauses.are in
@@ -124,10 +145,13 @@ values_drawn it given numbers holds loaded variable slot at other =
     let chosen : Literal = record { variable = variable; positive = true } in
     let there : Contains (c.before ++ chosen ∷ c.after) chosen = Contains-append_right c.before (chosen ∷ c.after) chosen (Contains-here chosen c.after) in
     let same : chosen ≡ literal = ap (λ (b : Bool). record { variable = variable; positive = b }) (sym c.value) in
-    let stands : Contains (clause_at table c.requirement.number) literal = subst (λ (x : Literal). Contains (clause_at table c.requirement.number) x) same (subst (λ (xs : List Literal). Contains xs chosen) (sym c.clause) there) in
+    let stands : Contains (clause_at table c.requirement.number) literal =
+    subst (λ (x : Literal). Contains (clause_at table c.requirement.number) x) same
+    (subst (λ (xs : List Literal). Contains xs chosen) (sym c.clause) there) in
     drawn c.requirement.number literal within stands)
     (λ rest. ⊎_elim
-    (λ (w : (n : ℕ) × (slot.reason ≡ Forced n)). drawn w.0 literal (holds.justified.within variable slot w.0 at w.1) (holds.justified.contains variable slot w.0 at w.1))
+    (λ (w : (n : ℕ) × (slot.reason ≡ Forced n)). drawn w.0 literal (holds.justified.within variable slot w.0 at w.1)
+    (holds.justified.contains variable slot w.0 at w.1))
     (λ assumed. absurd (other assumed))
     rest)
     (why slot.reason)

@@ -55,7 +55,8 @@ next_in s (r, v, asks, active, single, choice) =
 
 -- it is in the set after one round
 is_first : (s : ℕ) → s ≡ 11 → IsFirst (test_universe []) root s
-is_first s e = let First : ℕ → Type 0 = λ t. IsFirst (test_universe []) root t in subst First (sym e) (1, inr (asked, wanted, inl (first_in asked []), tt, refl, refl))
+is_first s e = let First : ℕ → Type 0 = λ t. IsFirst (test_universe []) root t in
+    subst First (sym e) (1, inr (asked, wanted, inl (first_in asked []), tt, refl, refl))
 
 met : (r : ConditionalRequirement) → r ≡ asked → Meets (requirement_candidates (test_universe []) r.requirement) (11 ∷ [])
 met r e =

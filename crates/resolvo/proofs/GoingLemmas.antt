@@ -1,5 +1,6 @@
 -- The turns of soft requirements.
-use Rattle.std.proofs.Common.{◌≡◌, ℕ, zero, suc, ◌+◌, ◌-◌, ◌<◌, ◌≤◌, ◌⊎◌, List, [], ◌∷◌, rules, true, false, ◌++◌, length, length-append, take, arith, inl, inr, refl, sym, ap, ◌∙◌, subst, ⊎_elim, All, Contains, get_or, Option, Some, None, Vec, Global}
+use Rattle.std.proofs.Common.{◌≡◌, ℕ, zero, suc, ◌+◌, ◌-◌, ◌<◌, ◌≤◌, ◌⊎◌, List, [], ◌∷◌, rules, true, false, ◌++◌, length, length-append, take, arith, inl, inr}
+use Rattle.std.proofs.Common.{refl, sym, ap, ◌∙◌, subst, ⊎_elim, All, Contains, get_or, Option, Some, None, Vec, Global}
 use Rattle.std.specs.Prelude.{map}
 use Rattle.std.specs.Option.{option_map, option_map_or}
 use Rattle.resolver_clause_store.specs.FirstChoice.{TakesFirstChoices}
@@ -37,7 +38,8 @@ use Rattle.resolver_encoding.proofs.Bridge.{before-back, chosen_once, finished_i
 use Rattle.resolver_encoding.proofs.PromiseLemmas.{finished_is_first}
 use Rattle.resolver_encoding.proofs.TrailLemmas.{same_before, same_origin}
 use Rattle.resolvo.specs.ClauseSearches.{IsConsistent, IsLoaded, KeepsTurn, SetsNone, StaysMarked, clause_count_of, held_of, kept_of, learnt_count_of, trail_of}
-use Rattle.resolvo.specs.RoundStates.{AreRounds, GoesOn, HasAllClauses, HasFollowed, IsAnswering, IsFollowing, IsSearchOf, IsStill, IsUpToDate, KeepsNear, chosen_of, notes_of}
+use Rattle.resolvo.specs.RoundStates.{AreRounds, GoesOn, HasAllClauses, HasFollowed, IsAnswering, IsFollowing, IsSearchOf, IsStill, IsUpToDate, KeepsNear}
+use Rattle.resolvo.specs.RoundStates.{chosen_of, notes_of}
 use Rattle.resolvo.specs.declared.clause_search.ClauseSearch.{ClauseSearch}
 use Rattle.resolvo.specs.declared.rounds.Rounds.{Rounds}
 use Rattle.resolvo.proofs.DrawnLemmas.{values_drawn}
@@ -61,8 +63,10 @@ assumed_or_not (Forced n) = inr (λ e. forced-assumed n e)
 assumed_or_not Assumed = inl refl
 
 -- a value that was not assumed stands in a given clause
-pub drawn_or_assumed : (it : ClauseSearch) (given : List (Vec Literal Global)) (numbers : List ℕ) → IsConsistent it → IsLoaded given numbers it → (variable : ℕ) (slot : Slot) → slot_of (trail_of it) variable ≡ Some slot →
-    (slot.reason ≡ Assumed) ⊎ ((clause : Vec Literal Global) × Contains given clause × Contains clause.items (record { variable = variable; positive = slot.value }))
+pub drawn_or_assumed : (it : ClauseSearch) (given : List (Vec Literal Global)) (numbers : List ℕ) → IsConsistent it → IsLoaded given numbers it →
+    (variable : ℕ) (slot : Slot) → slot_of (trail_of it) variable ≡ Some slot →
+    (slot.reason ≡ Assumed) ⊎ ((clause : Vec Literal Global) × Contains given clause ×
+    Contains clause.items (record { variable = variable; positive = slot.value }))
 drawn_or_assumed it given numbers consistent loaded variable slot at = ⊎_elim
     (λ (is : slot.reason ≡ Assumed). inl is)
     (λ (not : slot.reason ≡ Assumed → ⊥). inr (values_drawn it given numbers consistent loaded variable slot at not))
@@ -70,14 +74,19 @@ drawn_or_assumed it given numbers consistent loaded variable slot at = ⊎_elim
 
 module _ {N S : Type 0} where
   -- what is loaded undoes nothing that is held
-  pub still_loaded : (u : Universe N S) (old : Rounds N S) (new : ClauseSearch) → AreRounds u old → IsConsistent new → SetsNone (trail_of old.search) (trail_of new) → StaysMarked old.search new → KeepsTurn old.search new → IsStill old → IsStill (record old { search = new })
+  pub still_loaded : (u : Universe N S) (old : Rounds N S) (new : ClauseSearch) → AreRounds u old → IsConsistent new →
+      SetsNone (trail_of old.search) (trail_of new) → StaysMarked old.search new → KeepsTurn old.search new → IsStill old →
+      IsStill (record old { search = new })
   still_loaded u old new rounds consistent set marked turn still =
       let trail : Trail = trail_of old.search in
       let origins : List (Origin N S) = (notes_of old).origins in
-      let size : length_of (trail_of new) ≡ length_of trail = omega (arith, not_longer trail (trail_of new) set, consistent.turn.inside, turn.held, still.held) in
+      let size : length_of (trail_of new) ≡ length_of trail =
+      omega (arith, not_longer trail (trail_of new) set, consistent.turn.inside, turn.held, still.held) in
       let Count : ℕ → Type 0 = λ n. KeepsPlaces trail (trail_of new) n in
-      let kept : KeepsPlaces trail (trail_of new) (length_of trail) = subst Count (turn.held ∙ still.held) (turn.places trail (keeps_itself trail (held_of old.search) (omega (arith, still.held)))) in
-      let same : solvables_before origins (trail_of new) (length_of trail) ≡ solvables_before origins trail (length_of trail) = same_before origins origins trail (trail_of new) (length_of trail) (Keeps-same origins) rounds.variables kept (length_of trail) (omega arith) in
+      let kept : KeepsPlaces trail (trail_of new) (length_of trail) =
+      subst Count (turn.held ∙ still.held) (turn.places trail (keeps_itself trail (held_of old.search) (omega (arith, still.held)))) in
+      let same : solvables_before origins (trail_of new) (length_of trail) ≡ solvables_before origins trail (length_of trail) =
+      same_before origins origins trail (trail_of new) (length_of trail) (Keeps-same origins) rounds.variables kept (length_of trail) (omega arith) in
       record {
         held = turn.held ∙ still.held ∙ sym size;
         marked = marked still.marked;
@@ -86,9 +95,12 @@ module _ {N S : Type 0} where
 
   -- what is chosen is near what was asked for softly
   module _ (u : Universe N S) (root : Demands) (notes : Notes N S) (trail : Trail) (size : variable_count trail ≡ length notes.origins)
-      (drawn : (variable : ℕ) (slot : Slot) → slot_of trail variable ≡ Some slot → (slot.reason ≡ Assumed) ⊎ ((clause : Vec Literal Global) × Contains notes.table clause × Contains clause.items (record { variable = variable; positive = slot.value })))
-      (positives : (clause : Vec Literal Global) → Contains notes.table clause → (l : Literal) → Contains clause.items l → l.positive ≡ true → (s : S) → origin_at notes.origins l.variable ≡ Solvable s → Contains notes.seen s)
-      (done taken refused : List S) (packages : List N) (within : IsWithin taken done) (assumed : AreAssumed notes.origins taken refused trail) (near : AreNear u root done packages notes) where
+      (drawn : (variable : ℕ) (slot : Slot) → slot_of trail variable ≡ Some slot → (slot.reason ≡ Assumed) ⊎
+      ((clause : Vec Literal Global) × Contains notes.table clause × Contains clause.items (record { variable = variable; positive = slot.value })))
+      (positives : (clause : Vec Literal Global) → Contains notes.table clause → (l : Literal) → Contains clause.items l → l.positive ≡ true → (s : S) →
+      origin_at notes.origins l.variable ≡ Solvable s → Contains notes.seen s)
+      (done taken refused : List S) (packages : List N) (within : IsWithin taken done) (assumed : AreAssumed notes.origins taken refused trail)
+      (near : AreNear u root done packages notes) where
     near_at : (v : ℕ) (slot : Slot) (s : S) → slot_of trail v ≡ Some slot → origin_at notes.origins v ≡ Solvable s → slot.value ≡ true → IsNear u root done s
     near_at v slot s at origin value = ⊎_elim
         (λ (reason : slot.reason ≡ Assumed).
@@ -111,23 +123,30 @@ module _ {N S : Type 0} where
 
   -- what is assumed stays so
   pub assumed_still : (origins more : List (Origin N S)) (old new : Trail) (taken refused : List S) → Keeps origins more → variable_count old ≤ length origins →
-      ((variable : ℕ) (slot : Slot) → slot_of new variable ≡ Some slot → slot.reason ≡ Assumed → slot_of old variable ≡ Some slot) → AreAssumed origins taken refused old → AreAssumed more taken refused new
+      ((variable : ℕ) (slot : Slot) → slot_of new variable ≡ Some slot → slot.reason ≡ Assumed → slot_of old variable ≡ Some slot) →
+      AreAssumed origins taken refused old → AreAssumed more taken refused new
   assumed_still origins more old new taken refused keeps known stays assumed =
       let same : (v : ℕ) (slot : Slot) → slot_of old v ≡ Some slot → origin_at more v ≡ origin_at origins v = λ v slot at.
       let inside : v < variable_count old = slot-within _ v slot.place (ap (option_map (λ (s : Slot). s.place)) at) in
-      same_origin origins more old old 0 keeps known (record { were = omega arith; are = omega arith; variables = λ place below. refl; slots = λ variable s is below. is }) v (omega (arith, inside, known)) in
+      same_origin origins more old old 0 keeps known
+      (record { were = omega arith; are = omega arith; variables = λ place below. refl; slots = λ variable s is below. is }) v
+      (omega (arith, inside, known)) in
       record {
-        taken = λ v slot at reason value. let before = stays v slot at reason in let w = assumed.taken v slot before reason value in (w.0, same v slot before ∙ w.1, w.2);
-        left_out = λ v slot at reason value. let before = stays v slot at reason in let w = assumed.left_out v slot before reason value in (w.0, same v slot before ∙ w.1, w.2);
+        taken = λ v slot at reason value. let before = stays v slot at reason in
+            let w = assumed.taken v slot before reason value in (w.0, same v slot before ∙ w.1, w.2);
+        left_out = λ v slot at reason value. let before = stays v slot at reason in
+            let w = assumed.left_out v slot before reason value in (w.0, same v slot before ∙ w.1, w.2);
       }
 
   -- one part of a turn after another
-  pub goes_trans : (u : Universe N S) (one two three : Rounds N S) → variable_count (trail_of one.search) ≤ length (notes_of one).origins → GoesOn u one two → GoesOn u two three → GoesOn u one three
+  pub goes_trans : (u : Universe N S) (one two three : Rounds N S) → variable_count (trail_of one.search) ≤ length (notes_of one).origins → GoesOn u one two →
+      GoesOn u two three → GoesOn u one three
   goes_trans u one two three known first second = record {
     read = keeps_trans u one two three first.read second.read;
     near = λ root done taken refused packages so within assumed near.
         second.near root done taken refused packages (first.read root so) within
-        (assumed_still (notes_of one).origins (notes_of two).origins (trail_of one.search) (trail_of two.search) taken refused first.origins known first.turn.assumed.was assumed)
+        (assumed_still (notes_of one).origins (notes_of two).origins (trail_of one.search)
+        (trail_of two.search) taken refused first.origins known first.turn.assumed.was assumed)
         (first.near root done taken refused packages so within assumed near);
     origins = Keeps-trans (notes_of one).origins (notes_of two).origins (notes_of three).origins first.origins second.origins;
     table = Extends-trans (notes_of one).table (notes_of two).table (notes_of three).table first.table second.table;
@@ -143,9 +162,11 @@ module _ {N S : Type 0} where
       let WithEncoding : Encoding N S → Type 0 = λ e. Keeps (notes_of old).origins (notes_in e).origins in
       record {
         read = keeps_searched u old new new same (λ root so. so);
-        near = λ root done taken refused packages so within assumed near. let Near : Encoding N S → Type 0 = λ e. AreNear u root done packages (notes_in e) in subst Near (sym same.encoding) near;
+        near = λ root done taken refused packages so within assumed near. let Near : Encoding N S → Type 0 = λ e. AreNear u root done packages (notes_in e) in
+            subst Near (sym same.encoding) near;
         origins = subst WithEncoding (sym same.encoding) (Keeps-same (notes_of old).origins);
-        table = let Table : Encoding N S → Type 0 = λ e. Extends (notes_of old).table (notes_in e).table in subst Table (sym same.encoding) (Extends-same (notes_of old).table);
+        table = let Table : Encoding N S → Type 0 = λ e. Extends (notes_of old).table (notes_in e).table in
+            subst Table (sym same.encoding) (Extends-same (notes_of old).table);
         exempt = ap (λ (e : Encoding N S). (notes_in e).exempt) same.encoding;
         asked = let Asked : Encoding N S → Type 0 = λ e. IsWithin (notes_of old).asked (notes_in e).asked in subst Asked (sym same.encoding) (λ n h. h);
         seen = let Seen : Encoding N S → Type 0 = λ e. IsWithin (notes_of old).seen (notes_in e).seen in subst Seen (sym same.encoding) (λ s h. h);
@@ -153,13 +174,19 @@ module _ {N S : Type 0} where
       }
 
   -- what one reading does goes on
-  module _ (u : Universe N S) (old mid : Rounds N S) (from : ℕ) (keys : List S) (encoding : Encoding N S) (up : IsUpToDate old) (following : IsFollowing old mid from) (followed : HasFollowed old mid) (is : keys ≡ chosen_of mid)
+  module _ (u : Universe N S) (old mid : Rounds N S) (from : ℕ) (keys : List S) (encoding : Encoding N S) (up : IsUpToDate old)
+      (following : IsFollowing old mid from) (followed : HasFollowed old mid) (is : keys ≡ chosen_of mid)
       (more : IsReadMore u keys (notes_of mid) (notes_in encoding))
       (reads : (root : Demands) → IsReadSoFar u root (take from keys) (notes_of mid) → IsReadSoFar u root keys (notes_in encoding))
-      (near_after : (root : Demands) (seeds : List S) (packages : List N) → IsReadSoFar u root (take from keys) (notes_of mid) → AreNear u root seeds packages (notes_of mid) → All (IsNear u root seeds) keys → AreNear u root seeds packages (notes_in encoding))
+      (near_after : (root : Demands) (seeds : List S) (packages : List N) → IsReadSoFar u root (take from keys) (notes_of mid) →
+      AreNear u root seeds packages (notes_of mid) → All (IsNear u root seeds) keys → AreNear u root seeds packages (notes_in encoding))
       (asked_stays : IsWithin (notes_of mid).asked (notes_in encoding).asked)
-      (drawn : (variable : ℕ) (slot : Slot) → slot_of (trail_of old.search) variable ≡ Some slot → (slot.reason ≡ Assumed) ⊎ ((clause : Vec Literal Global) × Contains (notes_of old).table clause × Contains clause.items (record { variable = variable; positive = slot.value })))
-      (positives : (root : Demands) → IsEncoding u root (notes_of old) → (clause : Vec Literal Global) → Contains (notes_of old).table clause → (l : Literal) → Contains clause.items l → l.positive ≡ true → (s : S) → origin_at (notes_of old).origins l.variable ≡ Solvable s → Contains (notes_of old).seen s) where
+      (drawn : (variable : ℕ) (slot : Slot) → slot_of (trail_of old.search) variable ≡ Some slot → (slot.reason ≡ Assumed) ⊎
+      ((clause : Vec Literal Global) × Contains (notes_of old).table clause ×
+      Contains clause.items (record { variable = variable; positive = slot.value })))
+      (positives : (root : Demands) → IsEncoding u root (notes_of old) → (clause : Vec Literal Global) → Contains (notes_of old).table clause → (l : Literal) →
+      Contains clause.items l → l.positive ≡ true → (s : S) → origin_at (notes_of old).origins l.variable ≡ Solvable s →
+      Contains (notes_of old).seen s) where
     keeps_near : KeepsNear u old (record mid { encoding = encoding })
     keeps_near root done taken refused packages so within assumed near =
         let Near : Encoding N S → Type 0 = λ e. AreNear u root done packages (notes_in e) in
@@ -168,7 +195,8 @@ module _ {N S : Type 0} where
         (λ k d below. let s : S = get_or keys k d in
         let h : Contains keys s = Contains-get_or keys k d below in
         let Has : List S → Type 0 = λ list. Among list s in
-        chosen_near u root (notes_of old) (trail_of old.search) up.variables drawn (positives root so.half.encoding) done taken refused packages within assumed near s (subst Has (is ∙ followed.chosen) h))
+        chosen_near u root (notes_of old) (trail_of old.search) up.variables drawn
+        (positives root so.half.encoding) done taken refused packages within assumed near s (subst Has (is ∙ followed.chosen) h))
 
     pub goes_read : GoesOn u old (record mid { encoding = encoding })
     goes_read =
@@ -188,26 +216,37 @@ module _ {N S : Type 0} where
         }
 
   -- what is chosen is an answer, where a finished search read nothing new
-  pub answering : (u : Universe N S) (old new : Rounds N S) (requirements : List RequirementClause) → HasLawfulSolvables u → HasLawfulPackages u → IsUpToDate old → AreRounds u old → HasFollowed old new → notes_of new ≡ notes_of old → kept_of new.search ≡ length_of (trail_of new.search) →
-      map (λ (r : RequirementClause). r.number) requirements ≡ (notes_of old).requirements → IsFinished (notes_of old).table requirements (trail_of old.search) → IsAnswering u new
+  pub answering : (u : Universe N S) (old new : Rounds N S) (requirements : List RequirementClause) → HasLawfulSolvables u → HasLawfulPackages u →
+      IsUpToDate old → AreRounds u old → HasFollowed old new → notes_of new ≡ notes_of old → kept_of new.search ≡ length_of (trail_of new.search) →
+      map (λ (r : RequirementClause). r.number) requirements ≡ (notes_of old).requirements →
+      IsFinished (notes_of old).table requirements (trail_of old.search) → IsAnswering u new
   answering u old new requirements lawful packages up rounds followed same marked numbers finished =
-      let With : Notes N S → Trail → List S → Type 0 = λ notes trail chosen. (root : Demands) (seeds refused : List S) → IsReadSoFar u root chosen notes → AreAssumed notes.origins seeds refused trail → AreSeeds u seeds chosen notes.asked notes.seen notes.exempt → IsAnswerBy u root chosen seeds notes.exempt in
+      let With : Notes N S → Trail → List S → Type 0 = λ notes trail chosen. (root : Demands) (seeds refused : List S) → IsReadSoFar u root chosen notes →
+      AreAssumed notes.origins seeds refused trail → AreSeeds u seeds chosen notes.asked notes.seen notes.exempt →
+      IsAnswerBy u root chosen seeds notes.exempt in
       let here : List S = solvables_before (notes_of old).origins (trail_of old.search) (length_of (trail_of old.search)) in
-      let answer : With (notes_of old) (trail_of old.search) here = λ root seeds refused so assumed seeded. finished_is_valid u root (notes_of old) requirements (trail_of old.search) seeds refused lawful packages so assumed seeded numbers up.variables finished in
+      let answer : With (notes_of old) (trail_of old.search) here =
+      λ root seeds refused so assumed seeded. finished_is_valid u root (notes_of old) requirements
+      (trail_of old.search) seeds refused lawful packages so assumed seeded numbers up.variables finished in
       let OfNotes : Notes N S → Type 0 = λ n. With n (trail_of old.search) here in
       let OfTrail : Trail → Type 0 = λ t. With (notes_of new) t here in
       let OfChosen : List S → Type 0 = λ list. With (notes_of new) (trail_of new.search) list in
       let Once : List S → Type 0 = λ list. HasNoRepeats list in
-      let Promises : Notes N S → Trail → List S → Type 0 = λ notes trail chosen. (root : Demands) → IsReadSoFar u root chosen notes → AreAssumed notes.origins [] [] trail → TakesFirstChoices u root chosen in
-      let promise : Promises (notes_of old) (trail_of old.search) here = λ root so assumed. finished_is_first u root (notes_of old) requirements (trail_of old.search) lawful packages so assumed numbers up.variables finished in
+      let Promises : Notes N S → Trail → List S → Type 0 = λ notes trail chosen. (root : Demands) → IsReadSoFar u root chosen notes →
+      AreAssumed notes.origins [] [] trail → TakesFirstChoices u root chosen in
+      let promise : Promises (notes_of old) (trail_of old.search) here =
+      λ root so assumed. finished_is_first u root (notes_of old) requirements
+      (trail_of old.search) lawful packages so assumed numbers up.variables finished in
       let PromisesOf : Notes N S → Type 0 = λ n. Promises n (trail_of old.search) here in
       let PromisesOn : Trail → Type 0 = λ t. Promises (notes_of new) t here in
       let PromisesFor : List S → Type 0 = λ list. Promises (notes_of new) (trail_of new.search) list in
       record {
         marked = marked;
-        chosen = followed.chosen ∙ ap (λ (n : Notes N S). solvables_before n.origins (trail_of old.search) (length_of (trail_of old.search))) (sym same) ∙ ap (λ (t : Trail). solvables_before (notes_of new).origins t (length_of t)) (sym followed.trail);
+        chosen = followed.chosen ∙ ap (λ (n : Notes N S). solvables_before n.origins (trail_of old.search) (length_of (trail_of old.search))) (sym same) ∙
+            ap (λ (t : Trail). solvables_before (notes_of new).origins t (length_of t)) (sym followed.trail);
         variables = ap variable_count followed.trail ∙ up.variables ∙ ap (λ (n : Notes N S). length n.origins) (sym same);
-        once = subst Once (sym followed.chosen) (chosen_once (notes_of old).origins (trail_of old.search) rounds.reading.so_far.half.encoding.distinct up.variables);
+        once = subst Once (sym followed.chosen)
+            (chosen_once (notes_of old).origins (trail_of old.search) rounds.reading.so_far.half.encoding.distinct up.variables);
         answer = subst OfChosen (sym followed.chosen) (subst OfTrail (sym followed.trail) (subst OfNotes (sym same) answer));
         promise = subst PromisesFor (sym followed.chosen) (subst PromisesOn (sym followed.trail) (subst PromisesOf (sym same) promise));
       }
@@ -216,7 +255,8 @@ module _ {N S : Type 0} where
   pub all_clauses : (u : Universe N S) (r : Rounds N S) → AreRounds u r → IsUpToDate r → HasAllClauses r
   all_clauses u r rounds up = omega (arith, rounds.consistent.count, up.loaded.clauses.count, rounds.reading.so_far.half.encoding.encoded.count)
 
-  pub still_all : (old new : Rounds N S) → length (notes_of new).kinds ≡ length (notes_of old).kinds → clause_count_of new.search ≡ clause_count_of old.search → learnt_count_of new.search ≡ learnt_count_of old.search → HasAllClauses old → HasAllClauses new
+  pub still_all : (old new : Rounds N S) → length (notes_of new).kinds ≡ length (notes_of old).kinds → clause_count_of new.search ≡ clause_count_of old.search →
+      learnt_count_of new.search ≡ learnt_count_of old.search → HasAllClauses old → HasAllClauses new
   still_all old new kinds clauses learnt all = omega (arith, kinds, clauses, learnt, all)
 
   pub goes_begin : (u : Universe N S) (r : Rounds N S) → GoesOn u r r

@@ -20,8 +20,10 @@ use Rattle.resolver_clause_store.proofs.TrailLemmas.{Keeps, keeps-gains, false_b
 use Rattle.resolvo.specs.Propagation.{IsUnit, IsJustified, AreChosen, Extends}
 use Rattle.resolver_clause_store.specs.Settled.{IsOpen, IsSettled}
 
-pub forcing-unit : (old new : Trail) (literal : Literal) (clause : List Literal) → Keeps old new → IsUnit old literal clause → IsForcing new (length_of old) literal clause
-forcing-unit old new literal clause keeps unit = λ k d below. ⊎_elim (λ e. inl e) (λ e. inr (false_before-kept old new _ _ keeps (false-before old _ e))) (unit k d below)
+pub forcing-unit : (old new : Trail) (literal : Literal) (clause : List Literal) → Keeps old new → IsUnit old literal clause →
+    IsForcing new (length_of old) literal clause
+forcing-unit old new literal clause keeps unit =
+    λ k d below. ⊎_elim (λ e. inl e) (λ e. inr (false_before-kept old new _ _ keeps (false-before old _ e))) (unit k d below)
 
 forced-is : (n m : ℕ) → Forced n ≡ Forced m → n ≡ m
 forced-is n m e = cc
@@ -36,7 +38,9 @@ decided-is n m e = cc
 reason-made : (slot made : Slot) (reason : Reason) → slot ≡ made → slot.reason ≡ reason → made.reason ≡ reason
 reason-made slot made reason e is = sym (ap (λ (s : Slot). s.reason) e) ∙ is
 
-pub justified-gains : (table : List (Vec Literal Global)) (old new : Trail) (literal : Literal) (level number : ℕ) → IsJustified table old → Gains old new literal level (Forced number) → slot_of old literal.variable ≡ None → number < length table → Contains (clause_at table number) literal → IsUnit old literal (clause_at table number) → IsJustified table new
+pub justified-gains : (table : List (Vec Literal Global)) (old new : Trail) (literal : Literal) (level number : ℕ) → IsJustified table old →
+    Gains old new literal level (Forced number) → slot_of old literal.variable ≡ None → number < length table → Contains (clause_at table number) literal →
+    IsUnit old literal (clause_at table number) → IsJustified table new
 justified-gains table old new literal level number justified gains free inside there unit =
     let keeps = keeps-gains old new literal level _ gains free in
     record {
@@ -47,8 +51,10 @@ justified-gains table old new literal level number justified gains free inside t
       forced = λ v s n at reason. ⊎_elim
           (λ w.
           let same : number ≡ n = forced-is number n (reason-made s _ _ w.1 reason) in
-          let f : IsForcing new (length_of old) literal (clause_at table n) = subst (λ m. IsForcing new (length_of old) literal (clause_at table m)) same (forcing-unit old new literal _ keeps unit) in
-          let g : IsForcing new s.place literal (clause_at table n) = subst (λ p. IsForcing new p literal (clause_at table n)) (sym (ap (λ (slot : Slot). slot.place) w.1)) f in
+          let f : IsForcing new (length_of old) literal (clause_at table n) =
+          subst (λ m. IsForcing new (length_of old) literal (clause_at table m)) same (forcing-unit old new literal _ keeps unit) in
+          let g : IsForcing new s.place literal (clause_at table n) =
+          subst (λ p. IsForcing new p literal (clause_at table n)) (sym (ap (λ (slot : Slot). slot.place) w.1)) f in
           let value : s.value ≡ literal.positive = ap (λ (slot : Slot). slot.value) w.1 in
           let l : literal ≡ record { variable = v; positive = s.value } = rw (w.0, value) in
           subst (λ k. IsForcing new s.place k (clause_at table n)) l g)
@@ -65,7 +71,8 @@ justified-gains table old new literal level number justified gains free inside t
     }
 
 -- a decision or an assumption is forced by no clause
-pub justified-decides : (table : List (Vec Literal Global)) (old new : Trail) (literal : Literal) (level : ℕ) (why : Reason) → ((n : ℕ) → why ≡ Forced n → ⊥) → IsJustified table old → Gains old new literal level why → slot_of old literal.variable ≡ None → IsJustified table new
+pub justified-decides : (table : List (Vec Literal Global)) (old new : Trail) (literal : Literal) (level : ℕ) (why : Reason) → ((n : ℕ) → why ≡ Forced n → ⊥) →
+    IsJustified table old → Gains old new literal level why → slot_of old literal.variable ≡ None → IsJustified table new
 justified-decides table old new literal level why other justified gains free =
     let keeps = keeps-gains old new literal level _ gains free in
     record {
@@ -103,7 +110,8 @@ extends-none trail = record { kept = λ v s at. at; only = λ v s at. inl at }
 pub extends-same : (old new : Trail) → IsSame old new → Extends old new
 extends-same old new same = let back = same-slots old new same in record { kept = λ v s at. back v ∙ at; only = λ v s at. inl (sym (back v) ∙ at) }
 
-pub extends-gains : (old new : Trail) (literal : Literal) (level number : ℕ) → Gains old new literal level (Forced number) → slot_of old literal.variable ≡ None → Extends old new
+pub extends-gains : (old new : Trail) (literal : Literal) (level number : ℕ) → Gains old new literal level (Forced number) →
+    slot_of old literal.variable ≡ None → Extends old new
 extends-gains old new literal level number gains free = record {
   kept = (keeps-gains old new literal level _ gains free).kept;
   only = λ v s at. ⊎_elim (λ w. inr (ap (λ (slot : Slot). is_decided slot.reason) w.1)) (λ w. inl w) (gains-cases old new literal level _ gains v s at);
@@ -116,7 +124,8 @@ extends-trans old mid new first second = record {
 }
 
 -- what is decided stays so where a trail is extended
-pub chosen-kept : (table : List (Vec Literal Global)) (requirements : List RequirementClause) (old new : Trail) (variable : ℕ) (slot : Slot) → Keeps old new → IsChosen table requirements old variable slot → IsChosen table requirements new variable slot
+pub chosen-kept : (table : List (Vec Literal Global)) (requirements : List RequirementClause) (old new : Trail) (variable : ℕ) (slot : Slot) → Keeps old new →
+    IsChosen table requirements old variable slot → IsChosen table requirements new variable slot
 chosen-kept table requirements old new variable slot keeps c = record {
   requirement = c.requirement;
   listed = c.listed;
@@ -127,7 +136,8 @@ chosen-kept table requirements old new variable slot keeps c = record {
   false_before = λ k d below. false_before-kept old new _ _ keeps (c.false_before k d below);
 }
 
-pub chosen-extends : (table : List (Vec Literal Global)) (requirements : List RequirementClause) (old new : Trail) → AreChosen table requirements old → Extends old new → AreChosen table requirements new
+pub chosen-extends : (table : List (Vec Literal Global)) (requirements : List RequirementClause) (old new : Trail) → AreChosen table requirements old →
+    Extends old new → AreChosen table requirements new
 chosen-extends table requirements old new chosen extends = record {
   each = λ v s n at decided. ⊎_elim
       (λ was. chosen-kept table requirements old new v s (record { kept = extends.kept }) (chosen.each v s n was decided))

@@ -1,5 +1,6 @@
 -- Given clauses that are loaded, and what a finished search says of them.
-use Rattle.std.proofs.Common.{◌≡◌, ℕ, ◌+◌, ◌<◌, ◌≤◌, List, [], ◌∷◌, ◌++◌, length, get_or, take, min, Some, None, arith, inl, inr, refl, sym, ap, ◌∙◌, subst, ⊎_elim, length-append}
+use Rattle.std.proofs.Common.{◌≡◌, ℕ, ◌+◌, ◌<◌, ◌≤◌, List, [], ◌∷◌, ◌++◌, length, get_or, take, min, Some, None, arith, inl, inr, refl, sym, ap, ◌∙◌, subst}
+use Rattle.std.proofs.Common.{⊎_elim, length-append}
 use Rattle.std.specs.Prelude.{Vec, map}
 use Rattle.std.specs.List.{All}
 use Rattle.std.specs.declared.alloc.Global.{Global}
@@ -56,7 +57,9 @@ pub first-trans : (a b c : Trail) (first second third : ℕ) → KeepsFirst a fi
 first-trans a b c first second third k l = λ base h. l base (k base h)
 
 -- a learnt clause behind the others
-pub loaded-learnt : (given table : List (Vec Literal Global)) (sources : List Source) (places : List ℕ) (clause : Vec Literal Global) (source : Source) → length sources ≡ length table → number_of source ≡ None → AreLoaded given table sources places → AreLoaded given (table ++ clause ∷ []) (sources ++ source ∷ []) places
+pub loaded-learnt : (given table : List (Vec Literal Global)) (sources : List Source) (places : List ℕ) (clause : Vec Literal Global) (source : Source) →
+    length sources ≡ length table → number_of source ≡ None → AreLoaded given table sources places →
+    AreLoaded given (table ++ clause ∷ []) (sources ++ source ∷ []) places
 loaded-learnt given table sources places clause source size learnt loaded = record {
   count = loaded.count;
   placed = λ n less.
@@ -75,11 +78,14 @@ loaded-learnt given table sources places clause source size learnt loaded = reco
 }
 
 -- one more given clause
-placed-push : (given table : List (Vec Literal Global)) (sources : List Source) (places : List ℕ) → length sources ≡ length table → AreLoaded given table sources places → (n : ℕ) → n < length given + 1 → given_at (sources ++ Given (length places) ∷ []) (place_of (places ++ length table ∷ []) n) ≡ Some n
+placed-push : (given table : List (Vec Literal Global)) (sources : List Source) (places : List ℕ) → length sources ≡ length table →
+    AreLoaded given table sources places → (n : ℕ) → n < length given + 1 →
+    given_at (sources ++ Given (length places) ∷ []) (place_of (places ++ length table ∷ []) n) ≡ Some n
 placed-push given table sources places size loaded n less = ⊎_elim
     (λ (early : n < length given).
     let at = loaded.placed n early in
-    let same : place_of (places ++ length table ∷ []) n ≡ place_of places n = get_or-append places (length table ∷ []) 0 n (omega (arith, early, loaded.count)) in
+    let same : place_of (places ++ length table ∷ []) n ≡ place_of places n =
+    get_or-append places (length table ∷ []) 0 n (omega (arith, early, loaded.count)) in
     ap (λ p. given_at (sources ++ Given (length places) ∷ []) p) same ∙ given_at-push sources _ _ (given_within sources _ n at) ∙ at)
     (λ (late : length given ≤ n).
     let here : n ≡ length places = omega (arith, late, loaded.count) in
@@ -87,7 +93,9 @@ placed-push given table sources places size loaded n less = ⊎_elim
     ap (λ p. given_at (sources ++ Given (length places) ∷ []) p) same ∙ given_at-last sources _ ∙ ap Some (sym here))
     (cases_lt n (length given))
 
-pub loaded-given : (given table : List (Vec Literal Global)) (sources : List Source) (places : List ℕ) (copy clause : Vec Literal Global) → length sources ≡ length table → clause.items ≡ copy.items → AreLoaded given table sources places → AreLoaded (given ++ copy ∷ []) (table ++ clause ∷ []) (sources ++ Given (length places) ∷ []) (places ++ length table ∷ [])
+pub loaded-given : (given table : List (Vec Literal Global)) (sources : List Source) (places : List ℕ) (copy clause : Vec Literal Global) →
+    length sources ≡ length table → clause.items ≡ copy.items → AreLoaded given table sources places →
+    AreLoaded (given ++ copy ∷ []) (table ++ clause ∷ []) (sources ++ Given (length places) ∷ []) (places ++ length table ∷ [])
 loaded-given given table sources places copy clause size same loaded =
     let long : length (given ++ copy ∷ []) ≡ length given + 1 = length-append given (copy ∷ []) in
     record {
@@ -99,10 +107,13 @@ loaded-given given table sources places copy clause size same loaded =
             (λ (w : (p ≡ length sources) × (Some (length places) ≡ Some n)). omega (arith, same_Some _ _ w.1, loaded.count, long))
             (given_at-cases sources (Given (length places)) p n is);
         same = λ p n is. ⊎_elim
-            (λ (w : (p < length sources) × (given_at sources p ≡ Some n)). clause_at-push table clause p (omega (arith, w.0, size)) ∙ loaded.are.same p n w.1 ∙ sym (clause_at-push given copy n (loaded.are.within p n w.1)))
+            (λ (w : (p < length sources) × (given_at sources p ≡ Some n)).
+            clause_at-push table clause p (omega (arith, w.0, size)) ∙ loaded.are.same p n w.1 ∙
+            sym (clause_at-push given copy n (loaded.are.within p n w.1)))
             (λ (w : (p ≡ length sources) × (Some (length places) ≡ Some n)).
             let number : length given ≡ n = sym loaded.count ∙ same_Some _ _ w.1 in
-            ap (λ q. clause_at (table ++ clause ∷ []) q) (w.0 ∙ size) ∙ clause_at-last table clause ∙ same ∙ sym (clause_at-last given copy) ∙ ap (λ m. clause_at (given ++ copy ∷ []) m) number)
+            ap (λ q. clause_at (table ++ clause ∷ []) q) (w.0 ∙ size) ∙ clause_at-last table clause ∙ same ∙ sym (clause_at-last given copy) ∙
+            ap (λ m. clause_at (given ++ copy ∷ []) m) number)
             (given_at-cases sources (Given (length places)) p n is);
       };
     }
@@ -112,33 +123,47 @@ map-agree : (f h : ℕ → ℕ) (xs : List ℕ) → All (λ x. f x ≡ h x) xs �
 map-agree f h [] all = refl
 map-agree f h (x ∷ xs) all = λ i. All-head (λ y. f y ≡ h y) x xs all i ∷ map-agree f h xs (All-tail (λ y. f y ≡ h y) x xs all) i
 
-pub places-push : (places numbers : List ℕ) (place bound : ℕ) → bound ≡ length places → All (λ n. n < bound) numbers → map (place_of (places ++ place ∷ [])) numbers ≡ map (place_of places) numbers
-places-push places numbers place bound size inside = map-agree _ _ numbers (λ k d below. get_or-append places (place ∷ []) 0 _ (omega (arith, inside k d below)))
+pub places-push : (places numbers : List ℕ) (place bound : ℕ) → bound ≡ length places → All (λ n. n < bound) numbers →
+    map (place_of (places ++ place ∷ [])) numbers ≡ map (place_of places) numbers
+places-push places numbers place bound size inside =
+    map-agree _ _ numbers (λ k d below. get_or-append places (place ∷ []) 0 _ (omega (arith, inside k d below)))
 
 -- one more requirement
-pub requirements-push : (requirements : List RequirementClause) (places numbers : List ℕ) (requirement : RequirementClause) (number : ℕ) → numbers_of requirements ≡ map (place_of places) numbers → requirement.number ≡ place_of places number → numbers_of (requirements ++ requirement ∷ []) ≡ map (place_of places) (numbers ++ number ∷ [])
-requirements-push requirements places numbers requirement number same here = map_push (λ (r : RequirementClause). r.number) requirements requirement ∙ (λ i. same i ++ here i ∷ []) ∙ sym (map_push (place_of places) numbers number)
+pub requirements-push : (requirements : List RequirementClause) (places numbers : List ℕ) (requirement : RequirementClause) (number : ℕ) →
+    numbers_of requirements ≡ map (place_of places) numbers → requirement.number ≡ place_of places number →
+    numbers_of (requirements ++ requirement ∷ []) ≡ map (place_of places) (numbers ++ number ∷ [])
+requirements-push requirements places numbers requirement number same here = map_push (λ (r : RequirementClause). r.number) requirements requirement ∙
+    (λ i. same i ++ here i ∷ []) ∙ sym (map_push (place_of places) numbers number)
 
 -- requirements of the search and the given ones stand side by side
-same-length : (requirements wanted : List RequirementClause) (places : List ℕ) → numbers_of requirements ≡ map (place_of places) (numbers_of wanted) → length requirements ≡ length wanted
-same-length requirements wanted places same = sym (length-map requirements (λ (r : RequirementClause). r.number)) ∙ ap length same ∙ length-map (numbers_of wanted) (place_of places) ∙ length-map wanted (λ (r : RequirementClause). r.number)
+same-length : (requirements wanted : List RequirementClause) (places : List ℕ) → numbers_of requirements ≡ map (place_of places) (numbers_of wanted) →
+    length requirements ≡ length wanted
+same-length requirements wanted places same = sym (length-map requirements (λ (r : RequirementClause). r.number)) ∙ ap length same ∙
+    length-map (numbers_of wanted) (place_of places) ∙ length-map wanted (λ (r : RequirementClause). r.number)
 
-same-number : (requirements wanted : List RequirementClause) (places : List ℕ) → numbers_of requirements ≡ map (place_of places) (numbers_of wanted) → (k : ℕ) (d e : RequirementClause) → k < length wanted → (get_or requirements k d).number ≡ place_of places (get_or wanted k e).number
+same-number : (requirements wanted : List RequirementClause) (places : List ℕ) → numbers_of requirements ≡ map (place_of places) (numbers_of wanted) →
+    (k : ℕ) (d e : RequirementClause) → k < length wanted → (get_or requirements k d).number ≡ place_of places (get_or wanted k e).number
 same-number requirements wanted places same k d e below =
     let number = λ (r : RequirementClause). r.number in
     let size = same-length requirements wanted places same in
     let inside : k < length (numbers_of wanted) = omega (arith, below, length-map wanted number) in
-    sym (get_or-map number requirements k d 0 (omega (arith, below, size))) ∙ ap (λ ns. get_or ns k 0) same ∙ get_or-map (place_of places) (numbers_of wanted) k 0 0 inside ∙ ap (λ n. place_of places n) (get_or-map number wanted k e 0 below)
+    sym (get_or-map number requirements k d 0 (omega (arith, below, size))) ∙ ap (λ ns. get_or ns k 0) same ∙
+    get_or-map (place_of places) (numbers_of wanted) k 0 0 inside ∙ ap (λ n. place_of places n) (get_or-map number wanted k e 0 below)
 
 -- a clause of a requirement at its place
-given-clause : (given table : List (Vec Literal Global)) (sources : List Source) (places : List ℕ) (number : ℕ) → AreLoaded given table sources places → number < length given → clause_at table (place_of places number) ≡ clause_at given number
+given-clause : (given table : List (Vec Literal Global)) (sources : List Source) (places : List ℕ) (number : ℕ) → AreLoaded given table sources places →
+    number < length given → clause_at table (place_of places number) ≡ clause_at given number
 given-clause given table sources places number loaded inside = loaded.are.same _ number (loaded.placed number inside)
 
-chosen-wanted : (given table : List (Vec Literal Global)) (sources : List Source) (places : List ℕ) (requirements wanted : List RequirementClause) (trail : Trail) (variable : ℕ) (slot : Slot) → AreLoaded given table sources places → numbers_of requirements ≡ map (place_of places) (numbers_of wanted) → All (λ (r : RequirementClause). r.number < length given) wanted → IsChosen table requirements trail variable slot → IsChosen given wanted trail variable slot
+chosen-wanted : (given table : List (Vec Literal Global)) (sources : List Source) (places : List ℕ) (requirements wanted : List RequirementClause)
+    (trail : Trail) (variable : ℕ) (slot : Slot) → AreLoaded given table sources places → numbers_of requirements ≡ map (place_of places) (numbers_of wanted) →
+    All (λ (r : RequirementClause). r.number < length given) wanted → IsChosen table requirements trail variable slot →
+    IsChosen given wanted trail variable slot
 chosen-wanted given table sources places requirements wanted trail variable slot loaded same inside c =
     let k = c.listed.0 in
     let below : k < length wanted = omega (arith, c.listed.1, same-length requirements wanted places same) in
-    let number : place_of places (get_or wanted k c.requirement).number ≡ c.requirement.number = sym (same-number requirements wanted places same k c.requirement c.requirement below) ∙ ap (λ (r : RequirementClause). r.number) c.listed.2 in
+    let number : place_of places (get_or wanted k c.requirement).number ≡ c.requirement.number =
+    sym (same-number requirements wanted places same k c.requirement c.requirement below) ∙ ap (λ (r : RequirementClause). r.number) c.listed.2 in
     record {
       requirement = get_or wanted k c.requirement;
       listed = Contains-get_or wanted k c.requirement below;
@@ -150,10 +175,14 @@ chosen-wanted given table sources places requirements wanted trail variable slot
     }
 
 -- what was found for the places holds for the given clauses
-pub finished : (given table : List (Vec Literal Global)) (sources : List Source) (places : List ℕ) (requirements wanted : List RequirementClause) (trail : Trail) → IsDerived table sources → IsJustified table trail → AreChosen table requirements trail → AreLoaded given table sources places → numbers_of requirements ≡ map (place_of places) (numbers_of wanted) → All (λ (r : RequirementClause). r.number < length given) wanted → AllSettled trail table → All (λ (r : RequirementClause). IsMet trail (clause_at table r.number)) requirements → IsFinished given wanted trail
+pub finished : (given table : List (Vec Literal Global)) (sources : List Source) (places : List ℕ) (requirements wanted : List RequirementClause)
+    (trail : Trail) → IsDerived table sources → IsJustified table trail → AreChosen table requirements trail → AreLoaded given table sources places →
+    numbers_of requirements ≡ map (place_of places) (numbers_of wanted) → All (λ (r : RequirementClause). r.number < length given) wanted →
+    AllSettled trail table → All (λ (r : RequirementClause). IsMet trail (clause_at table r.number)) requirements → IsFinished given wanted trail
 finished given table sources places requirements wanted trail derived justified chosen loaded same inside settled met = record {
   reasons = λ v s at. ⊎_elim
-      (λ (w : (n : ℕ) × (s.reason ≡ Decided n)). inl (chosen-wanted given table sources places requirements wanted trail v s loaded same inside (chosen.each v s w.0 at w.1)))
+      (λ (w : (n : ℕ) × (s.reason ≡ Decided n)). inl
+      (chosen-wanted given table sources places requirements wanted trail v s loaded same inside (chosen.each v s w.0 at w.1)))
       (λ rest. ⊎_elim
       (λ (w : (n : ℕ) × (s.reason ≡ Forced n)). inr (inl (record {
         clause = clause_at table w.0;
@@ -165,7 +194,8 @@ finished given table sources places requirements wanted trail derived justified 
       (why s.reason);
   propagated = λ n within.
       let there = given_within sources _ n (loaded.placed n within) in
-      subst (λ c. IsPropagated trail c) (given-clause given table sources places n loaded within) (propagated trail _ (settled (place_of places n) (omega (arith, there, derived.count))));
+      subst (λ c. IsPropagated trail c) (given-clause given table sources places n loaded within)
+      (propagated trail _ (settled (place_of places n) (omega (arith, there, derived.count))));
   met = λ k d below.
       let size = same-length requirements wanted places same in
       let at = same-number requirements wanted places same k d d below in
@@ -174,7 +204,10 @@ finished given table sources places requirements wanted trail derived justified 
 }
 
 -- the same where the numbers are known
-pub finished_for : (given table : List (Vec Literal Global)) (sources : List Source) (places : List ℕ) (requirements wanted : List RequirementClause) (numbers : List ℕ) (trail : Trail) → numbers_of wanted ≡ numbers → IsDerived table sources → IsJustified table trail → AreChosen table requirements trail → AreLoaded given table sources places → numbers_of requirements ≡ map (place_of places) numbers → All (λ n. n < length given) numbers → AllSettled trail table → All (λ (r : RequirementClause). IsMet trail (clause_at table r.number)) requirements → IsFinished given wanted trail
+pub finished_for : (given table : List (Vec Literal Global)) (sources : List Source) (places : List ℕ) (requirements wanted : List RequirementClause)
+    (numbers : List ℕ) (trail : Trail) → numbers_of wanted ≡ numbers → IsDerived table sources → IsJustified table trail → AreChosen table requirements trail →
+    AreLoaded given table sources places → numbers_of requirements ≡ map (place_of places) numbers → All (λ n. n < length given) numbers →
+    AllSettled trail table → All (λ (r : RequirementClause). IsMet trail (clause_at table r.number)) requirements → IsFinished given wanted trail
 finished_for given table sources places requirements wanted numbers trail are derived justified chosen loaded same inside settled met =
     let each : All (λ (r : RequirementClause). r.number < length given) wanted = λ k d below.
     let r : RequirementClause = get_or wanted k d in
@@ -185,7 +218,8 @@ finished_for given table sources places requirements wanted numbers trail are de
     finished given table sources places requirements wanted trail derived justified chosen loaded (same ∙ ap (map (place_of places)) (sym are)) each settled met
 
 -- more variables without a value
-pub justified-grown : (table : List (Vec Literal Global)) (old new : Trail) (variables : ℕ) → IsGrown old new variables → IsJustified table old → IsJustified table new
+pub justified-grown : (table : List (Vec Literal Global)) (old new : Trail) (variables : ℕ) → IsGrown old new variables → IsJustified table old →
+    IsJustified table new
 justified-grown table old new variables grown justified =
     let back : (v : ℕ) → slot_of new v ≡ slot_of old v = grown.slots in
     let keeps : Keeps old new = record { kept = λ v s at. back v ∙ at } in
@@ -199,7 +233,8 @@ pub extends-grown : (old new : Trail) (variables : ℕ) → IsGrown old new vari
 extends-grown old new variables grown = record { kept = λ v s at. grown.slots v ∙ at; only = λ v s at. inl (sym (grown.slots v) ∙ at) }
 
 -- a requirement behind the others
-pub chosen-listed : (table : List (Vec Literal Global)) (requirements : List RequirementClause) (requirement : RequirementClause) (trail : Trail) → AreChosen table requirements trail → AreChosen table (requirements ++ requirement ∷ []) trail
+pub chosen-listed : (table : List (Vec Literal Global)) (requirements : List RequirementClause) (requirement : RequirementClause) (trail : Trail) →
+    AreChosen table requirements trail → AreChosen table (requirements ++ requirement ∷ []) trail
 chosen-listed table requirements requirement trail chosen = record {
   each = λ v s n at decided.
       let c = chosen.each v s n at decided in
@@ -215,39 +250,58 @@ chosen-listed table requirements requirement trail chosen = record {
 }
 
 -- a trail that was undone, and how much of it is kept
-pub same-undone : (old new : ClauseSearch) (level : ℕ) → IsConsistent old → IsUndone old.trail new.trail level → old.base ≤ level → new.learnt ≡ old.learnt → new.kept ≡ min old.kept (length_of new.trail) → new.base ≡ old.base → new.held ≡ old.held → IsSameSearch old new
+pub same-undone : (old new : ClauseSearch) (level : ℕ) → IsConsistent old → IsUndone old.trail new.trail level → old.base ≤ level → new.learnt ≡ old.learnt →
+    new.kept ≡ min old.kept (length_of new.trail) → new.base ≡ old.base → new.held ≡ old.held → IsSameSearch old new
 same-undone old new level it undone high learnt kept base held = record {
   set = record { was = λ v s at. (undone.stays v s at).0 };
-  marked = λ all. let fewer : length_of new.trail ≤ length_of old.trail = (keeps_undone old.trail new.trail level undone).were in omega (arith, all, kept, fewer);
+  marked = λ all. let fewer : length_of new.trail ≤ length_of old.trail = (keeps_undone old.trail new.trail level undone).were in
+      omega (arith, all, kept, fewer);
   variables = undone.size;
   learnt = learnt;
   kept = subst (λ n. KeepsFirst old.trail old.kept new.trail n) (sym kept) (first-undone old.trail new.trail old.kept level undone);
-  turn = keeps-turn old new base held (none-undone old.trail new.trail level undone) (held-undone old.trail new.trail old.base old.held old.kept level it.turn undone high);
+  turn = keeps-turn old new base held (none-undone old.trail new.trail level undone)
+      (held-undone old.trail new.trail old.base old.held old.kept level it.turn undone high);
 }
 
 -- a search in which a given clause stands behind the others
-pub consistent-given : (old new : ClauseSearch) (clause : Vec Literal Global) (number place level : ℕ) → IsConsistent old → IsBelow (variable_count old.trail) clause.items → place ≡ length old.table.items → new.table.items ≡ old.table.items ++ clause ∷ [] → new.sources.items ≡ old.sources.items ++ Given number ∷ [] → new.places.items ≡ old.places.items ++ place ∷ [] → new.requirements.items ≡ old.requirements.items → IsUndone old.trail new.trail level → old.base ≤ level → new.learnt ≡ old.learnt → new.kept ≡ min old.kept (length_of new.trail) → new.base ≡ old.base → new.held ≡ old.held → IsPropagator new.table.items new.trail new.propagator → IsQueued new.queue new.trail old.table.items old.requirements.items → IsConsistent new
+pub consistent-given : (old new : ClauseSearch) (clause : Vec Literal Global) (number place level : ℕ) → IsConsistent old →
+    IsBelow (variable_count old.trail) clause.items → place ≡ length old.table.items → new.table.items ≡ old.table.items ++ clause ∷ [] →
+    new.sources.items ≡ old.sources.items ++ Given number ∷ [] → new.places.items ≡ old.places.items ++ place ∷ [] →
+    new.requirements.items ≡ old.requirements.items → IsUndone old.trail new.trail level → old.base ≤ level → new.learnt ≡ old.learnt →
+    new.kept ≡ min old.kept (length_of new.trail) → new.base ≡ old.base → new.held ≡ old.held → IsPropagator new.table.items new.trail new.propagator →
+    IsQueued new.queue new.trail old.table.items old.requirements.items → IsConsistent new
 consistent-given old new clause number place level it below end table sources places requirements undone high learnt kept base held propagator queued =
     let grows = grows-push old.table.items clause in
     let longer : length (old.table.items ++ clause ∷ []) ≡ length old.table.items + 1 = length-append old.table.items (clause ∷ []) in
     record {
       below = rw (table, undone.size) (below-push _ old.table.items clause it.below below);
-      derived = rw (table, sources) (derived-push old.table.items old.sources.items clause (Given number) it.derived (All-nil (λ n. n < length old.table.items)) (λ none. absurd (none-some number (sym none))) (λ none. absurd (none-some number (sym none))));
-      justified = rw table (justified-grows old.table.items (old.table.items ++ clause ∷ []) new.trail grows (justified-undone old.table.items old.trail new.trail level it.justified undone));
-      chosen = rw (table, requirements) (chosen-grows old.table.items (old.table.items ++ clause ∷ []) old.requirements.items new.trail grows it.inside (chosen-undone old.table.items old.requirements.items old.trail new.trail level it.chosen undone));
+      derived = rw (table, sources) (derived-push old.table.items old.sources.items clause (Given number) it.derived
+          (All-nil (λ n. n < length old.table.items)) (λ none. absurd (none-some number (sym none))) (λ none. absurd (none-some number (sym none))));
+      justified = rw table (justified-grows old.table.items (old.table.items ++ clause ∷ []) new.trail grows
+          (justified-undone old.table.items old.trail new.trail level it.justified undone));
+      chosen = rw (table, requirements)
+          (chosen-grows old.table.items (old.table.items ++ clause ∷ []) old.requirements.items new.trail grows it.inside
+          (chosen-undone old.table.items old.requirements.items old.trail new.trail level it.chosen undone));
       inside = rw (table, requirements) (λ k d b. omega (arith, it.inside k d b, longer));
-      places = rw (table, places) (All-push (λ p. p < length (old.table.items ++ clause ∷ [])) old.places.items place (λ k d b. omega (arith, it.places k d b, longer)) (omega (arith, end, longer)));
+      places = rw (table, places) (All-push (λ p. p < length (old.table.items ++ clause ∷ [])) old.places.items place (λ k d b.
+          omega (arith, it.places k d b, longer)) (omega (arith, end, longer)));
       count = rw (table, places, learnt) (omega (arith, it.count, longer, length-append old.places.items (place ∷ [])));
       kept = omega (arith, kept);
       propagator = propagator;
       turn = rw (base, held) (turn-undone old.trail new.trail old.base old.held old.kept level new.kept it.turn undone high kept);
-      queued = rw (table, requirements) (queued-grown new.queue new.trail old.table.items (old.table.items ++ clause ∷ []) old.requirements.items it.inside grows.same queued);
+      queued = rw (table, requirements)
+          (queued-grown new.queue new.trail old.table.items (old.table.items ++ clause ∷ []) old.requirements.items it.inside grows.same queued);
     }
 
-pub loaded-clause : (old new : ClauseSearch) (given : List (Vec Literal Global)) (numbers : List ℕ) (copy clause : Vec Literal Global) (number place : ℕ) → IsConsistent old → number ≡ length old.places.items → place ≡ length old.table.items → clause.items ≡ copy.items → new.table.items ≡ old.table.items ++ clause ∷ [] → new.sources.items ≡ old.sources.items ++ Given number ∷ [] → new.places.items ≡ old.places.items ++ place ∷ [] → new.requirements.items ≡ old.requirements.items → IsLoaded given numbers old → IsLoaded (given ++ copy ∷ []) numbers new
+pub loaded-clause : (old new : ClauseSearch) (given : List (Vec Literal Global)) (numbers : List ℕ) (copy clause : Vec Literal Global) (number place : ℕ) →
+    IsConsistent old → number ≡ length old.places.items → place ≡ length old.table.items → clause.items ≡ copy.items → new.table.items ≡ old.table.items ++
+    clause ∷ [] → new.sources.items ≡ old.sources.items ++ Given number ∷ [] → new.places.items ≡ old.places.items ++ place ∷ [] →
+    new.requirements.items ≡ old.requirements.items → IsLoaded given numbers old → IsLoaded (given ++ copy ∷ []) numbers new
 loaded-clause old new given numbers copy clause number place it first end same table sources places requirements loaded = record {
-  clauses = rw (table, sources, places, first, end) (loaded-given given old.table.items old.sources.items old.places.items copy clause it.derived.count same loaded.clauses);
-  requirements = rw (requirements, places) (loaded.requirements ∙ sym (places-push old.places.items numbers place (length given) (sym loaded.clauses.count) loaded.inside));
+  clauses = rw (table, sources, places, first, end)
+      (loaded-given given old.table.items old.sources.items old.places.items copy clause it.derived.count same loaded.clauses);
+  requirements = rw (requirements, places)
+      (loaded.requirements ∙ sym (places-push old.places.items numbers place (length given) (sym loaded.clauses.count) loaded.inside));
   inside = λ k d b. omega (arith, loaded.inside k d b, length-append given (copy ∷ []));
 }
 
@@ -255,7 +309,10 @@ loaded-clause old new given numbers copy clause number place it first end same t
 pub read-place : (places : List ℕ) (number place : ℕ) → number < length places → place ≡ get_or places number place → place ≡ place_of places number
 read-place places number place inside read = get_or_read places number place inside read 0
 
-pub loaded-requirement : (old new : ClauseSearch) (given : List (Vec Literal Global)) (numbers : List ℕ) (requirement : RequirementClause) (number : ℕ) → number < length old.places.items → requirement.number ≡ place_of old.places.items number → new.table.items ≡ old.table.items → new.sources.items ≡ old.sources.items → new.places.items ≡ old.places.items → new.requirements.items ≡ old.requirements.items ++ requirement ∷ [] → IsLoaded given numbers old → IsLoaded given (numbers ++ number ∷ []) new
+pub loaded-requirement : (old new : ClauseSearch) (given : List (Vec Literal Global)) (numbers : List ℕ) (requirement : RequirementClause) (number : ℕ) →
+    number < length old.places.items → requirement.number ≡ place_of old.places.items number → new.table.items ≡ old.table.items →
+    new.sources.items ≡ old.sources.items → new.places.items ≡ old.places.items → new.requirements.items ≡ old.requirements.items ++ requirement ∷ [] →
+    IsLoaded given numbers old → IsLoaded given (numbers ++ number ∷ []) new
 loaded-requirement old new given numbers requirement number inside here table sources places requirements loaded = record {
   clauses = rw (table, sources, places) loaded.clauses;
   requirements = rw (requirements, places) (requirements-push old.requirements.items old.places.items numbers requirement number loaded.requirements here);
@@ -263,7 +320,11 @@ loaded-requirement old new given numbers requirement number inside here table so
 }
 
 -- a search in which a requirement stands behind the others
-pub consistent-requirement : (old : ClauseSearch) (wanted : Vec RequirementClause Global) (queue : DecideQueue) (in_lists : ∥ AreInLists old.table.items old.propagator.watches ∥₁) (requirement : RequirementClause) → IsConsistent old → requirement.number < length old.table.items → wanted.items ≡ old.requirements.items ++ requirement ∷ [] → IsQueued queue old.trail old.table.items (old.requirements.items ++ requirement ∷ []) → IsConsistent (record old { requirements = wanted; queue = queue; in_lists = in_lists })
+pub consistent-requirement : (old : ClauseSearch) (wanted : Vec RequirementClause Global) (queue : DecideQueue)
+    (in_lists : ∥ AreInLists old.table.items old.propagator.watches ∥₁) (requirement : RequirementClause) → IsConsistent old →
+    requirement.number < length old.table.items → wanted.items ≡ old.requirements.items ++ requirement ∷ [] →
+    IsQueued queue old.trail old.table.items (old.requirements.items ++ requirement ∷ []) →
+    IsConsistent (record old { requirements = wanted; queue = queue; in_lists = in_lists })
 consistent-requirement old wanted queue in_lists requirement it inside is queued = record {
   below = it.below;
   derived = it.derived;
@@ -282,64 +343,93 @@ pub same-none : (it : ClauseSearch) → IsSameSearch it it
 same-none it = record { set = record { was = λ v s at. at }; marked = λ all. all; variables = refl; learnt = refl; kept = λ base k. k; turn = keeps-none it }
 
 pub same-trans : (a b c : ClauseSearch) → IsSameSearch a b → IsSameSearch b c → IsSameSearch a c
-same-trans a b c first second = record { set = record { was = λ v s at. first.set.was v s (second.set.was v s at) }; marked = λ all. second.marked (first.marked all); variables = second.variables ∙ first.variables; learnt = second.learnt ∙ first.learnt; kept = λ base k. second.kept base (first.kept base k); turn = turn-trans a b c first.turn second.turn }
+same-trans a b c first second =
+    record {
+      set = record { was = λ v s at. first.set.was v s (second.set.was v s at) };
+      marked = λ all. second.marked (first.marked all);
+      variables = second.variables ∙ first.variables;
+      learnt = second.learnt ∙ first.learnt;
+      kept = λ base k. second.kept base (first.kept base k);
+      turn =
+          turn-trans a b c first.turn second.turn;
+    }
 
 -- the clauses that were loaded are the first ones of a longer list
-pub clauses-begin : (it : ClauseSearch) (clauses given more : List (Vec Literal Global)) (numbers : List ℕ) (count : ℕ) → count ≡ length it.places.items → IsLoaded given numbers it → clauses ≡ given ++ more → IsLoaded (take count clauses) numbers it
+pub clauses-begin : (it : ClauseSearch) (clauses given more : List (Vec Literal Global)) (numbers : List ℕ) (count : ℕ) → count ≡ length it.places.items →
+    IsLoaded given numbers it → clauses ≡ given ++ more → IsLoaded (take count clauses) numbers it
 clauses-begin it clauses given more numbers count end loaded is =
     let Loaded : List (Vec Literal Global) → Type 0 = λ cs. IsLoaded cs numbers it in
     subst Loaded (sym (ap (take count) is ∙ take_at given more count (sym loaded.clauses.count ∙ sym end))) loaded
 
 -- the clause with this number, and the clauses up to it
-clause-next : (clauses : List (Vec Literal Global)) (n : ℕ) → n < length clauses → (x : Vec Literal Global) × (take (n + 1) clauses ≡ take n clauses ++ x ∷ []) × (x.items ≡ clause_at clauses n)
+clause-next : (clauses : List (Vec Literal Global)) (n : ℕ) → n < length clauses → (x : Vec Literal Global) ×
+    (take (n + 1) clauses ≡ take n clauses ++ x ∷ []) × (x.items ≡ clause_at clauses n)
 clause-next [] n within = absurd (omega arith)
 clause-next (d ∷ clauses) n within = (get_or (d ∷ clauses) n d, take_more (d ∷ clauses) n d within, sym (clause_at-get_or (d ∷ clauses) n d within))
 
-pub clauses-next : (old new : ClauseSearch) (clauses : List (Vec Literal Global)) (literals : List Literal) (numbers : List ℕ) (n : ℕ) → n < length clauses → literals ≡ clause_at clauses n → ((given : List (Vec Literal Global)) (ns : List ℕ) (copy : Vec Literal Global) → copy.items ≡ literals → IsLoaded given ns old → IsLoaded (given ++ copy ∷ []) ns new) → IsLoaded (take n clauses) numbers old → IsLoaded (take (n + 1) clauses) numbers new
+pub clauses-next : (old new : ClauseSearch) (clauses : List (Vec Literal Global)) (literals : List Literal) (numbers : List ℕ) (n : ℕ) → n < length clauses →
+    literals ≡ clause_at clauses n →
+    ((given : List (Vec Literal Global)) (ns : List ℕ) (copy : Vec Literal Global) → copy.items ≡ literals → IsLoaded given ns old →
+    IsLoaded (given ++ copy ∷ []) ns new) → IsLoaded (take n clauses) numbers old → IsLoaded (take (n + 1) clauses) numbers new
 clauses-next old new clauses literals numbers n within here step loaded =
     let w = clause-next clauses n within in
     let Loaded : List (Vec Literal Global) → Type 0 = λ cs. IsLoaded cs numbers new in
     subst Loaded (sym w.1) (step (take n clauses) numbers w.0 (w.2 ∙ sym here) loaded)
 
 -- what propagation keeps while one clause after another is attached
-pub propagator-next : (clauses : List (Vec Literal Global)) (literals : List Literal) (trail : Trail) (old new : Propagator) (n : ℕ) → n < length clauses → literals ≡ clause_at clauses n → ((table : List (Vec Literal Global)) (clause : Vec Literal Global) → clause.items ≡ literals → IsPropagator table trail old → IsPropagator (table ++ clause ∷ []) trail new) → IsPropagator (take n clauses) trail old → IsPropagator (take (n + 1) clauses) trail new
+pub propagator-next : (clauses : List (Vec Literal Global)) (literals : List Literal) (trail : Trail) (old new : Propagator) (n : ℕ) → n < length clauses →
+    literals ≡ clause_at clauses n →
+    ((table : List (Vec Literal Global)) (clause : Vec Literal Global) → clause.items ≡ literals → IsPropagator table trail old →
+    IsPropagator (table ++ clause ∷ []) trail new) → IsPropagator (take n clauses) trail old → IsPropagator (take (n + 1) clauses) trail new
 propagator-next clauses literals trail old new n within here step it =
     let w = clause-next clauses n within in
     let Keeps : List (Vec Literal Global) → Type 0 = λ cs. IsPropagator cs trail new in
     subst Keeps (sym w.1) (step (take n clauses) w.0 (w.2 ∙ sym here) it)
 
-pub propagator-end : (clauses : List (Vec Literal Global)) (trail : Trail) (it : Propagator) (n : ℕ) → length clauses ≤ n → IsPropagator (take n clauses) trail it → IsPropagator clauses trail it
+pub propagator-end : (clauses : List (Vec Literal Global)) (trail : Trail) (it : Propagator) (n : ℕ) → length clauses ≤ n →
+    IsPropagator (take n clauses) trail it → IsPropagator clauses trail it
 propagator-end clauses trail it n end all =
     let Keeps : List (Vec Literal Global) → Type 0 = λ cs. IsPropagator cs trail it in
     subst Keeps (take_all n clauses end) all
 
-pub clauses-end : (it : ClauseSearch) (clauses : List (Vec Literal Global)) (numbers : List ℕ) (n : ℕ) → length clauses ≤ n → IsLoaded (take n clauses) numbers it → IsLoaded clauses numbers it
+pub clauses-end : (it : ClauseSearch) (clauses : List (Vec Literal Global)) (numbers : List ℕ) (n : ℕ) → length clauses ≤ n →
+    IsLoaded (take n clauses) numbers it → IsLoaded clauses numbers it
 clauses-end it clauses numbers n end loaded =
     let Loaded : List (Vec Literal Global) → Type 0 = λ cs. IsLoaded cs numbers it in
     subst Loaded (take_all n clauses end) loaded
 
 -- and so are the requirements
-pub requirements-begin : (it : ClauseSearch) (given : List (Vec Literal Global)) (wanted numbers more : List ℕ) (count : ℕ) → count ≡ length it.requirements.items → IsLoaded given numbers it → wanted ≡ numbers ++ more → IsLoaded given (take count wanted) it
+pub requirements-begin : (it : ClauseSearch) (given : List (Vec Literal Global)) (wanted numbers more : List ℕ) (count : ℕ) →
+    count ≡ length it.requirements.items → IsLoaded given numbers it → wanted ≡ numbers ++ more → IsLoaded given (take count wanted) it
 requirements-begin it given wanted numbers more count end loaded is =
     let Loaded : List ℕ → Type 0 = λ ns. IsLoaded given ns it in
-    let size : length it.requirements.items ≡ length numbers = sym (length-map it.requirements.items (λ (r : RequirementClause). r.number)) ∙ ap length loaded.requirements ∙ length-map numbers (place_of it.places.items) in
+    let size : length it.requirements.items ≡ length numbers = sym (length-map it.requirements.items (λ (r : RequirementClause). r.number)) ∙
+    ap length loaded.requirements ∙ length-map numbers (place_of it.places.items) in
     subst Loaded (sym (ap (take count) is ∙ take_at numbers more count (sym size ∙ sym end))) loaded
 
-pub requirements-next : (old new : ClauseSearch) (given : List (Vec Literal Global)) (requirements : List RequirementClause) (requirement : RequirementClause) (n : ℕ) → n < length requirements → requirement ≡ get_or requirements n requirement → ((gs : List (Vec Literal Global)) (ns : List ℕ) → IsLoaded gs ns old → IsLoaded gs (ns ++ requirement.number ∷ []) new) → IsLoaded given (take n (numbers_of requirements)) old → IsLoaded given (take (n + 1) (numbers_of requirements)) new
+pub requirements-next : (old new : ClauseSearch) (given : List (Vec Literal Global)) (requirements : List RequirementClause) (requirement : RequirementClause)
+    (n : ℕ) → n < length requirements → requirement ≡ get_or requirements n requirement →
+    ((gs : List (Vec Literal Global)) (ns : List ℕ) → IsLoaded gs ns old → IsLoaded gs (ns ++ requirement.number ∷ []) new) →
+    IsLoaded given (take n (numbers_of requirements)) old → IsLoaded given (take (n + 1) (numbers_of requirements)) new
 requirements-next old new given requirements requirement n within here step loaded =
     let number = λ (r : RequirementClause). r.number in
     let inside : n < length (numbers_of requirements) = omega (arith, within, length-map requirements number) in
     let at : get_or (numbers_of requirements) n 0 ≡ requirement.number = get_or-map number requirements n requirement 0 within ∙ ap number (sym here) in
     let Loaded : List ℕ → Type 0 = λ ns. IsLoaded given ns new in
-    subst Loaded (sym (take_more (numbers_of requirements) n 0 inside ∙ ap (λ m. take n (numbers_of requirements) ++ m ∷ []) at)) (step given (take n (numbers_of requirements)) loaded)
+    subst Loaded (sym (take_more (numbers_of requirements) n 0 inside ∙ ap (λ m. take n (numbers_of requirements) ++ m ∷ []) at))
+    (step given (take n (numbers_of requirements)) loaded)
 
-pub requirements-end : (it : ClauseSearch) (given : List (Vec Literal Global)) (requirements : List RequirementClause) (n : ℕ) → length requirements ≤ n → IsLoaded given (take n (numbers_of requirements)) it → IsLoaded given (numbers_of requirements) it
+pub requirements-end : (it : ClauseSearch) (given : List (Vec Literal Global)) (requirements : List RequirementClause) (n : ℕ) → length requirements ≤ n →
+    IsLoaded given (take n (numbers_of requirements)) it → IsLoaded given (numbers_of requirements) it
 requirements-end it given requirements n end loaded =
     let Loaded : List ℕ → Type 0 = λ ns. IsLoaded given ns it in
     subst Loaded (take_all n (numbers_of requirements) (omega (arith, end, length-map requirements (λ (r : RequirementClause). r.number)))) loaded
 
 -- more variables without a value
-pub consistent-grown : (it : ClauseSearch) (trail : Trail) (propagator : Propagator) (queue : DecideQueue) (variables : ℕ) (in_lists : ∥ AreInLists it.table.items propagator.watches ∥₁) → IsConsistent it → variable_count it.trail ≤ variables → IsGrown it.trail trail variables → IsPropagator it.table.items trail propagator → StaysQueued it.queue queue → IsConsistent (record it { trail = trail; propagator = propagator; queue = queue; in_lists = in_lists })
+pub consistent-grown : (it : ClauseSearch) (trail : Trail) (propagator : Propagator) (queue : DecideQueue) (variables : ℕ)
+    (in_lists : ∥ AreInLists it.table.items propagator.watches ∥₁) → IsConsistent it → variable_count it.trail ≤ variables → IsGrown it.trail trail variables →
+    IsPropagator it.table.items trail propagator → StaysQueued it.queue queue →
+    IsConsistent (record it { trail = trail; propagator = propagator; queue = queue; in_lists = in_lists })
 consistent-grown it trail propagator queue variables in_lists holds room grown propagates stays = record {
   below = λ n k d b. omega (arith, holds.below n k d b, grown.size, room);
   derived = holds.derived;
@@ -350,24 +440,33 @@ consistent-grown it trail propagator queue variables in_lists holds room grown p
   count = holds.count;
   kept = omega (arith, holds.kept, ap length grown.order);
   propagator = propagates;
-  turn = turn-kept it.trail trail it.base it.held it.kept it.kept holds.turn (keeps-fewer it.trail trail (length_of it.trail) it.held (keeps_grown it.trail trail variables grown) holds.turn.inside) holds.turn.marked;
-  queued = stays trail it.table.items it.requirements.items (queued-longer it.queue it.trail trail it.table.items it.requirements.items (keeps_grown it.trail trail variables grown) holds.queued);
+  turn = turn-kept it.trail trail it.base it.held it.kept it.kept holds.turn
+      (keeps-fewer it.trail trail (length_of it.trail) it.held (keeps_grown it.trail trail variables grown) holds.turn.inside) holds.turn.marked;
+  queued = stays trail it.table.items it.requirements.items
+      (queued-longer it.queue it.trail trail it.table.items it.requirements.items (keeps_grown it.trail trail variables grown) holds.queued);
 }
 
 -- what is loaded does not depend on the trail, or on what propagation keeps
-pub loaded-trail : (it : ClauseSearch) (trail : Trail) (propagator : Propagator) (queue : DecideQueue) (in_lists : ∥ AreInLists it.table.items propagator.watches ∥₁) (given : List (Vec Literal Global)) (numbers : List ℕ) → IsLoaded given numbers it → IsLoaded given numbers (record it { trail = trail; propagator = propagator; queue = queue; in_lists = in_lists })
-loaded-trail it trail propagator queue in_lists given numbers loaded = record { clauses = loaded.clauses; requirements = loaded.requirements; inside = loaded.inside }
+pub loaded-trail : (it : ClauseSearch) (trail : Trail) (propagator : Propagator) (queue : DecideQueue)
+    (in_lists : ∥ AreInLists it.table.items propagator.watches ∥₁) (given : List (Vec Literal Global)) (numbers : List ℕ) → IsLoaded given numbers it →
+    IsLoaded given numbers (record it { trail = trail; propagator = propagator; queue = queue; in_lists = in_lists })
+loaded-trail it trail propagator queue in_lists given numbers loaded =
+    record { clauses = loaded.clauses; requirements = loaded.requirements; inside = loaded.inside }
 
 pub first-grown : (old new : Trail) (count variables : ℕ) → IsGrown old new variables → KeepsFirst old count new count
 first-grown old new count variables grown = first-after old new count (keeps_grown old new variables grown)
 
 -- a step of a run
-pub problem-descended : (a b : ClauseSearch) (trail : Trail) (propagator : Propagator) (queue : DecideQueue) (in_lists : ∥ AreInLists b.table.items propagator.watches ∥₁) → IsConsistent b → IsSameProblem a b → variable_count trail ≡ variable_count b.trail → KeepsPlaces b.trail trail (length_of b.trail) → AssumesNone b.trail trail → IsSameProblem a (record b { trail = trail; propagator = propagator; queue = queue; in_lists = in_lists })
+pub problem-descended : (a b : ClauseSearch) (trail : Trail) (propagator : Propagator) (queue : DecideQueue)
+    (in_lists : ∥ AreInLists b.table.items propagator.watches ∥₁) → IsConsistent b → IsSameProblem a b → variable_count trail ≡ variable_count b.trail →
+    KeepsPlaces b.trail trail (length_of b.trail) → AssumesNone b.trail trail →
+    IsSameProblem a (record b { trail = trail; propagator = propagator; queue = queue; in_lists = in_lists })
 problem-descended a b trail propagator queue in_lists it same size keeps assumed = record {
   loaded = λ given numbers loaded. loaded-trail b trail propagator queue in_lists given numbers (same.loaded given numbers loaded);
   variables = size ∙ same.variables;
   kept = λ base k. first-after b.trail trail b.kept keeps base (same.kept base k);
-  turn = turn-trans a b (record b { trail = trail; propagator = propagator; queue = queue; in_lists = in_lists }) same.turn (turn-descended b trail propagator queue in_lists it assumed keeps);
+  turn = turn-trans a b (record b { trail = trail; propagator = propagator; queue = queue; in_lists = in_lists }) same.turn
+      (turn-descended b trail propagator queue in_lists it assumed keeps);
 }
 
 pub problem-trans : (a b c : ClauseSearch) → IsSameProblem a b → IsSameProblem b c → IsSameProblem a c

@@ -1,10 +1,12 @@
 -- The clauses of the marked rules, one clause more, and the marks of a core, one number more.
-use Rattle.std.proofs.Common.{◌≡◌, ◌≢◌, ℕ, zero, suc, ◌+◌, ◌<◌, ◌≤◌, List, [], ◌∷◌, ◌++◌, length, get_or, set, take, replicate, arith, refl, sym, ap, ◌∙◌, subst, length-append, length-set, get_or-set_same, get_or-set_other, Bool, true, false, Contains, All, ⊎_elim, Vec, Global}
+use Rattle.std.proofs.Common.{◌≡◌, ◌≢◌, ℕ, zero, suc, ◌+◌, ◌<◌, ◌≤◌, List, [], ◌∷◌, ◌++◌, length, get_or, set, take, replicate, arith, refl, sym, ap, ◌∙◌}
+use Rattle.std.proofs.Common.{subst, length-append, length-set, get_or-set_same, get_or-set_other, Bool, true, false, Contains, All, ⊎_elim, Vec, Global}
 use Rattle.std.specs.List.{slice_index_or}
 use Rattle.std.proofs.Math.Seq.{get_or-append_seam}
 use Rattle.std.proofs.lemmas.Bool.{cases_eq, cases_lt, false≢true}
 use Rattle.std.proofs.lemmas.List.{get_or_append_left, get_or_past, get_or_default, get_or-replicate, length-replicate, take_more}
-use Rattle.std.proofs.lemmas.List.Elements.{All-append, All-cons, All-contains, All-more, All-nil, All-weaker, Contains-append_left, Contains-append_right, Contains-get_or}
+use Rattle.std.proofs.lemmas.List.Elements.{All-append, All-cons, All-contains, All-more, All-nil, All-weaker, Contains-append_left, Contains-append_right}
+use Rattle.std.proofs.lemmas.List.Elements.{Contains-get_or}
 use Rattle.resolver_clause_store.specs.Formula.{clause_at}
 use Rattle.resolver_clause_store.specs.Lists.{IsWithin}
 use Rattle.resolver_clause_store.specs.declared.Literal.{Literal}
@@ -25,15 +27,28 @@ no_clauses marks = record {
 }
 
 -- a clause of a rule without a mark
-pub passed : (marks : List Bool) (from : List RuleClause) (clauses : List (Vec (Literal) Global)) (places numbers : List ℕ) (clause : RuleClause) → slice_index_or marks clause.rule false ≡ false → AreMarkedClauses marks from clauses places numbers → AreMarkedClauses marks (from ++ clause ∷ []) clauses places numbers
+pub passed : (marks : List Bool) (from : List RuleClause) (clauses : List (Vec (Literal) Global)) (places numbers : List ℕ) (clause : RuleClause) →
+    slice_index_or marks clause.rule false ≡ false → AreMarkedClauses marks from clauses places numbers →
+    AreMarkedClauses marks (from ++ clause ∷ []) clauses places numbers
 passed marks from clauses places numbers clause unmarked so = record {
   size = so.size;
-  each = λ number below. let it = so.each number below in record { clause = it.clause; among = Contains-append_left from (clause ∷ []) it.clause it.among; marked = it.marked; literals = it.literals; place = it.place };
-  all = All-append (λ (c : RuleClause). IsMarked marks c → IsThere clauses numbers c) from (clause ∷ []) so.all (All-cons (λ (c : RuleClause). IsMarked marks c → IsThere clauses numbers c) clause [] (λ marked. absurd (false≢true (sym unmarked ∙ marked))) (All-nil _));
+  each = λ number below. let it = so.each number below in
+      record {
+        clause = it.clause;
+        among = Contains-append_left from (clause ∷ []) it.clause it.among;
+        marked = it.marked;
+        literals = it.literals;
+        place = it.place;
+      };
+  all = All-append (λ (c : RuleClause). IsMarked marks c → IsThere clauses numbers c) from (clause ∷ []) so.all
+      (All-cons (λ (c : RuleClause). IsMarked marks c → IsThere clauses numbers c) clause [] (λ marked. absurd (false≢true (sym unmarked ∙ marked)))
+      (All-nil _));
   inside = so.inside;
 }
 
-module _ (marks : List Bool) (from : List RuleClause) (clauses : List (Vec (Literal) Global)) (places numbers more : List ℕ) (clause : RuleClause) (copy : Vec (Literal) Global) (marked : IsMarked marks clause) (same : copy.items ≡ clause.literals.items) (so : AreMarkedClauses marks from clauses places numbers) where
+module _ (marks : List Bool) (from : List RuleClause) (clauses : List (Vec (Literal) Global)) (places numbers more : List ℕ) (clause : RuleClause)
+    (copy : Vec (Literal) Global) (marked : IsMarked marks clause) (same : copy.items ≡ clause.literals.items)
+    (so : AreMarkedClauses marks from clauses places numbers) where
   abbrev now_clauses : List (Vec (Literal) Global)
   now_clauses = clauses ++ copy ∷ []
 
@@ -64,10 +79,13 @@ module _ (marks : List Bool) (from : List RuleClause) (clauses : List (Vec (Lite
   all_marked : (number : ℕ) → number < length now_clauses → IsMarkedClause marks (from ++ clause ∷ []) now_clauses now_places number
   all_marked number below = ⊎_elim
       (λ (less : number < length clauses). earlier number less)
-      (λ (more : length clauses ≤ number). let P : ℕ → Type 0 = λ n. IsMarkedClause marks (from ++ clause ∷ []) now_clauses now_places n in let at : length clauses ≡ number = omega (arith, count, below, more) in subst P at last)
+      (λ (more : length clauses ≤ number).
+      let P : ℕ → Type 0 = λ n. IsMarkedClause marks (from ++ clause ∷ []) now_clauses now_places n in let at : length clauses ≡ number =
+      omega (arith, count, below, more) in subst P at last)
       (cases_lt number (length clauses))
 
-  module _ (within : IsWithin numbers more) (listed : clause.asks ≡ true → Contains more (length clauses)) (inside : All (λ number. number < length clauses + 1) more) where
+  module _ (within : IsWithin numbers more) (listed : clause.asks ≡ true → Contains more (length clauses))
+      (inside : All (λ number. number < length clauses + 1) more) where
     still : (c : RuleClause) → (IsMarked marks c → IsThere clauses numbers c) → IsMarked marks c → IsThere now_clauses more c
     still c there m = let it = there m in record {
       number = it.number;
@@ -81,16 +99,25 @@ module _ (marks : List Bool) (from : List RuleClause) (clauses : List (Vec (Lite
       size = length-append places (clause.rule ∷ []) ∙ ap (λ n. n + 1) so.size ∙ sym count;
       each = all_marked;
       all = All-append (λ (c : RuleClause). IsMarked marks c → IsThere now_clauses more c) from (clause ∷ [])
-          (All-weaker (λ (c : RuleClause). IsMarked marks c → IsThere clauses numbers c) (λ (c : RuleClause). IsMarked marks c → IsThere now_clauses more c) still from so.all)
-          (All-cons (λ (c : RuleClause). IsMarked marks c → IsThere now_clauses more c) clause [] (λ m. record { number = length clauses; inside = omega (arith, count); literals = clause_at-last clauses copy ∙ same; listed = listed }) (All-nil _));
+          (All-weaker (λ (c : RuleClause). IsMarked marks c → IsThere clauses numbers c) (λ (c : RuleClause).
+          IsMarked marks c → IsThere now_clauses more c) still from so.all)
+          (All-cons (λ (c : RuleClause). IsMarked marks c → IsThere now_clauses more c) clause [] (λ m.
+          record { number = length clauses; inside = omega (arith, count); literals = clause_at-last clauses copy ∙ same; listed = listed }) (All-nil _));
       inside = All-weaker (λ number. number < length clauses + 1) (λ number. number < length now_clauses) (λ n below. omega (arith, count, below)) more inside;
     }
 
-pub added_plain : (marks : List Bool) (from : List RuleClause) (clauses : List (Vec (Literal) Global)) (places numbers : List ℕ) (clause : RuleClause) (copy : Vec (Literal) Global) → copy.items ≡ clause.literals.items → clause.asks ≡ false → IsMarked marks clause → AreMarkedClauses marks from clauses places numbers → AreMarkedClauses marks (from ++ clause ∷ []) (clauses ++ copy ∷ []) (places ++ clause.rule ∷ []) numbers
+pub added_plain : (marks : List Bool) (from : List RuleClause) (clauses : List (Vec (Literal) Global)) (places numbers : List ℕ) (clause : RuleClause)
+    (copy : Vec (Literal) Global) → copy.items ≡ clause.literals.items → clause.asks ≡ false → IsMarked marks clause →
+    AreMarkedClauses marks from clauses places numbers →
+    AreMarkedClauses marks (from ++ clause ∷ []) (clauses ++ copy ∷ []) (places ++ clause.rule ∷ []) numbers
 added_plain marks from clauses places numbers clause copy same plain marked so =
-    added marks from clauses places numbers numbers clause copy marked same so (λ x inside. inside) (λ asks. absurd (false≢true (sym plain ∙ asks))) (All-weaker (λ number. number < length clauses) (λ number. number < length clauses + 1) (λ n below. omega (arith, below)) numbers so.inside)
+    added marks from clauses places numbers numbers clause copy marked same so (λ x inside. inside) (λ asks. absurd (false≢true (sym plain ∙ asks)))
+    (All-weaker (λ number. number < length clauses) (λ number. number < length clauses + 1) (λ n below. omega (arith, below)) numbers so.inside)
 
-pub added_asking : (marks : List Bool) (from : List RuleClause) (clauses : List (Vec (Literal) Global)) (places numbers : List ℕ) (clause : RuleClause) (copy : Vec (Literal) Global) (number : ℕ) → copy.items ≡ clause.literals.items → number ≡ length clauses → IsMarked marks clause → AreMarkedClauses marks from clauses places numbers → AreMarkedClauses marks (from ++ clause ∷ []) (clauses ++ copy ∷ []) (places ++ clause.rule ∷ []) (numbers ++ number ∷ [])
+pub added_asking : (marks : List Bool) (from : List RuleClause) (clauses : List (Vec (Literal) Global)) (places numbers : List ℕ) (clause : RuleClause)
+    (copy : Vec (Literal) Global) (number : ℕ) → copy.items ≡ clause.literals.items → number ≡ length clauses → IsMarked marks clause →
+    AreMarkedClauses marks from clauses places numbers →
+    AreMarkedClauses marks (from ++ clause ∷ []) (clauses ++ copy ∷ []) (places ++ clause.rule ∷ []) (numbers ++ number ∷ [])
 added_asking marks from clauses places numbers clause copy number same is marked so =
     let P : ℕ → Type 0 = λ n. Contains (numbers ++ number ∷ []) n in
     added marks from clauses places numbers (numbers ++ number ∷ []) clause copy marked same so
@@ -101,7 +128,9 @@ added_asking marks from clauses places numbers clause copy number same is marked
     (All-cons (λ n. n < length clauses + 1) number [] (omega (arith, is)) (All-nil _)))
 
 -- the clauses up to one, and that one
-pub next_clause : (marks : List Bool) (from : List RuleClause) (clauses : List (Vec (Literal) Global)) (places numbers : List ℕ) (index : ℕ) (clause : RuleClause) → index < length from → clause ≡ get_or from index clause → AreMarkedClauses marks (take index from ++ clause ∷ []) clauses places numbers → AreMarkedClauses marks (take (index + 1) from) clauses places numbers
+pub next_clause : (marks : List Bool) (from : List RuleClause) (clauses : List (Vec (Literal) Global)) (places numbers : List ℕ) (index : ℕ)
+    (clause : RuleClause) → index < length from → clause ≡ get_or from index clause →
+    AreMarkedClauses marks (take index from ++ clause ∷ []) clauses places numbers → AreMarkedClauses marks (take (index + 1) from) clauses places numbers
 next_clause marks from clauses places numbers index clause below is so =
     let P : List RuleClause → Type 0 = λ xs. AreMarkedClauses marks xs clauses places numbers in
     let same : take (index + 1) from ≡ take index from ++ clause ∷ [] = take_more from index clause below ∙ ap (λ z. take index from ++ z ∷ []) (sym is) in
@@ -121,7 +150,9 @@ no_numbers places count marks is = record {
   only = λ place marked. absurd (false≢true (sym (unmarked count place marks is) ∙ marked));
 }
 
-module _ (places numbers : List ℕ) (count index : ℕ) (marks : List Bool) (below : index < length numbers) (inside : All (λ number. number < length places) numbers) (small : All (λ place. place < count) places) (so : AreMarksOf places (take index numbers) count marks) where
+module _ (places numbers : List ℕ) (count index : ℕ) (marks : List Bool) (below : index < length numbers)
+    (inside : All (λ number. number < length places) numbers) (small : All (λ place. place < count) places)
+    (so : AreMarksOf places (take index numbers) count marks) where
   abbrev number : ℕ
   number = slice_index_or numbers index 0
 
@@ -162,7 +193,8 @@ module _ (places numbers : List ℕ) (count index : ℕ) (marks : List Bool) (be
   next_number = record {
     size = length-set marks place true ∙ so.size;
     all = All-more (λ n. slice_index_or later (slice_index_or places n 0) false ≡ true) numbers index 0 below
-        (All-weaker (λ n. slice_index_or marks (slice_index_or places n 0) false ≡ true) (λ n. slice_index_or later (slice_index_or places n 0) false ≡ true) (λ n m. kept (slice_index_or places n 0) m) (take index numbers) so.all)
+        (All-weaker (λ n. slice_index_or marks (slice_index_or places n 0) false ≡ true) (λ n.
+        slice_index_or later (slice_index_or places n 0) false ≡ true) (λ n m. kept (slice_index_or places n 0) m) (take index numbers) so.all)
         (get_or-set_same marks place true false fits);
     only = only_these;
   }

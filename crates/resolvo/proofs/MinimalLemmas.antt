@@ -1,5 +1,7 @@
 -- What is left of rules that have their turns one after another.
-use Rattle.std.proofs.Common.{◌≡◌, ℕ, zero, suc, ◌+◌, ◌-◌, ◌<◌, ◌≤◌, ◌⊎◌, inl, inr, List, [], ◌∷◌, ◌++◌, length, get_or, get_or-append-add, replicate, take, drop, drop-cons, arith, refl, sym, ap, ◌∙◌, subst, append_assoc, append-nil, length-append, Bool, true, false, cond, Contains, All, ⊎_elim}
+use Rattle.std.proofs.Common.{◌≡◌, ℕ, zero, suc, ◌+◌, ◌-◌, ◌<◌, ◌≤◌, ◌⊎◌, inl, inr, List, [], ◌∷◌, ◌++◌, length, get_or, get_or-append-add, replicate, take}
+use Rattle.std.proofs.Common.{drop, drop-cons, arith, refl, sym, ap, ◌∙◌, subst, append_assoc, append-nil, length-append, Bool, true, false, cond, Contains}
+use Rattle.std.proofs.Common.{All, ⊎_elim}
 use Rattle.std.specs.Prelude.{remove}
 use Rattle.std.specs.List.{AllZip}
 use Rattle.std.proofs.Math.Seq.{drop-length, get_or-append_seam}
@@ -53,7 +55,8 @@ pub left_refuted : {N S : Type 0} (rest kept left : List (Rule N S)) → LeavesI
 left_refuted {N} {S} [] kept left h refuted = let P : List (Rule N S) → Type 0 = λ q. IsRefuted q in subst P (sym h) (subst P (append-nil kept) refuted)
 left_refuted {N} {S} (rule ∷ rest) kept left h refuted = let P : List (Rule N S) → Type 0 = λ q. IsRefuted q in ⊎_elim
     (λ (out : IsRefuted (kept ++ rest) × LeavesInTurn kept rest left). left_refuted rest kept left out.1 out.0)
-    (λ (stays : (IsRefuted (kept ++ rest) → ⊥) × LeavesInTurn (kept ++ rule ∷ []) rest left). left_refuted rest (kept ++ rule ∷ []) left stays.1 (subst P (sym (regroup kept rule rest)) refuted))
+    (λ (stays : (IsRefuted (kept ++ rest) → ⊥) × LeavesInTurn (kept ++ rule ∷ []) rest left).
+    left_refuted rest (kept ++ rule ∷ []) left stays.1 (subst P (sym (regroup kept rule rest)) refuted))
     h
 
 remove_front : {X : Type 0} (xs : List X) (x : X) (k : ℕ) → k < length xs → remove (xs ++ x ∷ []) k ≡ remove xs k ++ x ∷ []
@@ -69,8 +72,10 @@ remove_last (y ∷ ys) x = ap (λ q. y ∷ q) (remove_last ys x)
 abbrev Needed : {N S : Type 0} → List (Rule N S) → List (Rule N S) → Type 0
 Needed kept rest = (k : ℕ) → k < length kept → IsRefuted (remove kept k ++ rest) → ⊥
 
-needed_push : {N S : Type 0} (kept rest : List (Rule N S)) (rule : Rule N S) → Needed kept (rule ∷ rest) → (IsRefuted (kept ++ rest) → ⊥) → Needed (kept ++ rule ∷ []) rest
-needed_push {N} {S} kept rest rule needed alone k below refuted = let P : List (Rule N S) → Type 0 = λ q. IsRefuted (q ++ rest) in let Q : List (Rule N S) → Type 0 = λ q. IsRefuted q in ⊎_elim
+needed_push : {N S : Type 0} (kept rest : List (Rule N S)) (rule : Rule N S) → Needed kept (rule ∷ rest) → (IsRefuted (kept ++ rest) → ⊥) →
+    Needed (kept ++ rule ∷ []) rest
+needed_push {N} {S} kept rest rule needed alone k below refuted = let P : List (Rule N S) → Type 0 = λ q. IsRefuted (q ++ rest) in
+    let Q : List (Rule N S) → Type 0 = λ q. IsRefuted q in ⊎_elim
     (λ (less : k < length kept). needed k less (subst Q (regroup (remove kept k) rule rest) (subst P (remove_front kept rule k less) refuted)))
     (λ (more : length kept ≤ k).
     let size : length (kept ++ rule ∷ []) ≡ length kept + length (rule ∷ []) = length-append kept (rule ∷ []) in
@@ -79,15 +84,20 @@ needed_push {N} {S} kept rest rule needed alone k below refuted = let P : List (
     alone (subst P (remove_last kept rule) (subst At last refuted)))
     (cases_lt k (length kept))
 
-left_needed : {N S : Type 0} (rest kept left : List (Rule N S)) → LeavesInTurn kept rest left → Needed kept rest → (k : ℕ) → k < length left → IsRefuted (remove left k) → ⊥
+left_needed : {N S : Type 0} (rest kept left : List (Rule N S)) → LeavesInTurn kept rest left → Needed kept rest → (k : ℕ) → k < length left →
+    IsRefuted (remove left k) → ⊥
 left_needed {N} {S} [] kept left h needed k below refuted =
     let size : length left ≡ length kept = ap length h in
     let P : List (Rule N S) → Type 0 = λ q. IsRefuted q in
     let Q : List (Rule N S) → Type 0 = λ q. IsRefuted (remove q k) in
     needed k (omega (arith, below, size)) (subst P (sym (append-nil (remove kept k))) (subst Q h refuted))
 left_needed {N} {S} (rule ∷ rest) kept left h needed k below refuted = ⊎_elim
-    (λ (out : IsRefuted (kept ++ rest) × LeavesInTurn kept rest left). left_needed rest kept left out.1 (λ j less fewer. needed j less (IsRefuted-within (remove kept j ++ rest) (remove kept j ++ rule ∷ rest) (within_shorter (remove kept j) rule rest) fewer)) k below refuted)
-    (λ (stays : (IsRefuted (kept ++ rest) → ⊥) × LeavesInTurn (kept ++ rule ∷ []) rest left). left_needed rest (kept ++ rule ∷ []) left stays.1 (needed_push kept rest rule needed stays.0) k below refuted)
+    (λ (out : IsRefuted (kept ++ rest) × LeavesInTurn kept rest left).
+    left_needed rest kept left out.1 (λ j less fewer.
+    needed j less (IsRefuted-within (remove kept j ++ rest) (remove kept j ++ rule ∷ rest) (within_shorter (remove kept j) rule rest) fewer)) k below
+    refuted)
+    (λ (stays : (IsRefuted (kept ++ rest) → ⊥) × LeavesInTurn (kept ++ rule ∷ []) rest left).
+    left_needed rest (kept ++ rule ∷ []) left stays.1 (needed_push kept rest rule needed stays.0) k below refuted)
     h
 
 -- what is left in the end is irreducible
@@ -95,11 +105,13 @@ pub left_irreducible : {N S : Type 0} (rules left : List (Rule N S)) → LeavesI
 left_irreducible rules left h refuted = (left_refuted rules [] left h refuted, left_needed rules [] left h (λ k below. absurd (omega (arith, below))))
 
 -- what is left in the end is a part of what there was, in its order
-pub left_cut : {N S : Type 0} (rest kept left : List (Rule N S)) → LeavesInTurn kept rest left → (stays : List (Rule N S)) × (dropped : List (Rule N S)) × (left ≡ kept ++ stays) × IsCut rest stays dropped
+pub left_cut : {N S : Type 0} (rest kept left : List (Rule N S)) → LeavesInTurn kept rest left → (stays : List (Rule N S)) × (dropped : List (Rule N S)) ×
+    (left ≡ kept ++ stays) × IsCut rest stays dropped
 left_cut [] kept left h = ([], [], h ∙ sym (append-nil kept), cut_none)
 left_cut {N} {S} (rule ∷ rest) kept left h = ⊎_elim
     (λ (out : IsRefuted (kept ++ rest) × LeavesInTurn kept rest left). let w = left_cut rest kept left out.1 in (w.0, rule ∷ w.1, w.2, cut_right w.3))
-    (λ (stays : (IsRefuted (kept ++ rest) → ⊥) × LeavesInTurn (kept ++ rule ∷ []) rest left). let w = left_cut rest (kept ++ rule ∷ []) left stays.1 in (rule ∷ w.0, w.1, w.2 ∙ regroup kept rule w.0, cut_left w.3))
+    (λ (stays : (IsRefuted (kept ++ rest) → ⊥) × LeavesInTurn (kept ++ rule ∷ []) rest left).
+    let w = left_cut rest (kept ++ rule ∷ []) left stays.1 in (rule ∷ w.0, w.1, w.2 ∙ regroup kept rule w.0, cut_left w.3))
     h
 
 -- of rules that some set obeys all are left
@@ -109,7 +121,10 @@ all_left {N} {S} (rule ∷ rest) kept obeyed =
     let P : List (Rule N S) → Type 0 = λ q. IsRefuted q in
     let Q : List (Rule N S) → Type 0 = λ q. LeavesInTurn (kept ++ rule ∷ []) rest q in
     let same : (kept ++ rule ∷ []) ++ rest ≡ kept ++ rule ∷ rest = regroup kept rule rest in
-    inr (λ refuted. obeyed (IsRefuted-within (kept ++ rest) (kept ++ rule ∷ rest) (within_shorter kept rule rest) refuted), subst Q same (all_left rest (kept ++ rule ∷ []) (λ refuted. obeyed (subst P same refuted))))
+    inr (
+      λ refuted. obeyed (IsRefuted-within (kept ++ rest) (kept ++ rule ∷ rest) (within_shorter kept rule rest) refuted),
+      subst Q same (all_left rest (kept ++ rule ∷ []) (λ refuted. obeyed (subst P same refuted))),
+    )
 
 -- a part has nothing else
 pub cut_within : {X : Type 0} {xs ys zs : List X} → IsCut xs ys zs → IsWithin ys xs
@@ -128,7 +143,12 @@ cut_or {X} (cut_left {x = y} {xs = xs} {ys = ys} rest) = ⊎_elim
     (λ (w : (k : ℕ) × (k < length xs) × IsWithin ys (remove xs k)).
     let less : suc w.0 < length (y ∷ xs) = omega (arith, w.1) in
     let Has : X → Type 0 = λ x. Contains (y ∷ remove xs w.0) x in
-    inr (suc w.0, less, λ x inside. ⊎_elim (λ (same : y ≡ x). subst Has same (at_front y (remove xs w.0))) (λ (there : Contains ys x). further y (remove xs w.0) x (w.2 x there)) (front_cases y ys x inside)))
+    inr (
+      suc w.0,
+      less,
+      λ x inside. ⊎_elim (λ (same : y ≡ x). subst Has same (at_front y (remove xs w.0))) (λ (there : Contains ys x).
+          further y (remove xs w.0) x (w.2 x there)) (front_cases y ys x inside),
+    ))
     (cut_or rest)
 cut_or (cut_right {x = y} {xs = xs} rest) = let less : 0 < length (y ∷ xs) = omega arith in inr (zero, less, cut_within rest)
 
@@ -136,7 +156,8 @@ cut_or (cut_right {x = y} {xs = xs} rest) = let less : 0 < length (y ∷ xs) = o
 pub irreducible_cut : {N S : Type 0} (rules left dropped : List (Rule N S)) → IsIrreducible rules → IsCut rules left dropped → IsRefuted left → left ≡ rules
 irreducible_cut rules left dropped irreducible cut refuted = ⊎_elim
     (λ (same : left ≡ rules). same)
-    (λ (w : (k : ℕ) × (k < length rules) × IsWithin left (remove rules k)). absurd (irreducible.1 w.0 w.1 (IsRefuted-within left (remove rules w.0) w.2 refuted)))
+    (λ (w : (k : ℕ) × (k < length rules) × IsWithin left (remove rules k)).
+    absurd (irreducible.1 w.0 w.1 (IsRefuted-within left (remove rules w.0) w.2 refuted)))
     (cut_or cut)
 
 -- a part of a part is a part
@@ -147,7 +168,8 @@ cut_again (cut_left {x = x} rest) (cut_right more) = let w = cut_again rest more
 cut_again (cut_right {x = x} rest) more = let w = cut_again rest more in (x ∷ w.0, cut_right w.1)
 
 -- a part of a list that agrees element by element
-pub cut_zip : {X : Type 0} (R : X → X → Type 0) (xs : List X) {ys vs ws : List X} → IsCut ys vs ws → AllZip R xs ys → (left : List X) × (dropped : List X) × IsCut xs left dropped × AllZip R left vs
+pub cut_zip : {X : Type 0} (R : X → X → Type 0) (xs : List X) {ys vs ws : List X} → IsCut ys vs ws → AllZip R xs ys → (left : List X) × (dropped : List X) ×
+    IsCut xs left dropped × AllZip R left vs
 cut_zip R [] cut_none h = ([], [], cut_none, tt)
 cut_zip R [] (cut_left rest) h = absurd h
 cut_zip R [] (cut_right rest) h = absurd h
@@ -165,13 +187,15 @@ marked_all (suc n) (x ∷ xs) fit = ap (λ q. x ∷ q) (marked_all n xs (omega (
 pub all_marked : {X : Type 0} (xs : List X) → marked (replicate (length xs) true) xs ≡ xs
 all_marked xs = marked_all (length xs) xs (omega arith)
 
-marked_others : {X : Type 0} (kept : List Bool) (n : ℕ) (xs : List X) → length kept < length xs → length xs ≤ length kept + suc n → marked (others_of kept n) xs ≡ marked kept xs ++ drop (suc (length kept)) xs
+marked_others : {X : Type 0} (kept : List Bool) (n : ℕ) (xs : List X) → length kept < length xs → length xs ≤ length kept + suc n →
+    marked (others_of kept n) xs ≡ marked kept xs ++ drop (suc (length kept)) xs
 marked_others kept n [] below fit = absurd (omega (arith, below))
 marked_others [] n (x ∷ xs) below fit = marked_all n xs (omega (arith, fit))
 marked_others (true ∷ kept) n (x ∷ xs) below fit = ap (λ q. x ∷ q) (marked_others kept n xs (omega (arith, below)) (omega (arith, fit)))
 marked_others (false ∷ kept) n (x ∷ xs) below fit = marked_others kept n xs (omega (arith, below)) (omega (arith, fit))
 
-marked_push : {X : Type 0} (kept : List Bool) (b : Bool) (xs : List X) (x : X) → length kept < length xs → x ≡ get_or xs (length kept) x → marked (kept ++ b ∷ []) xs ≡ marked kept xs ++ cond b (x ∷ []) []
+marked_push : {X : Type 0} (kept : List Bool) (b : Bool) (xs : List X) (x : X) → length kept < length xs → x ≡ get_or xs (length kept) x →
+    marked (kept ++ b ∷ []) xs ≡ marked kept xs ++ cond b (x ∷ []) []
 marked_push kept b [] x below is = absurd (omega (arith, below))
 marked_push [] b (y ∷ xs) x below is = ap (λ q. cond b (q ∷ []) []) (sym is)
 marked_push (true ∷ kept) b (y ∷ xs) x below is = ap (λ q. y ∷ q) (marked_push kept b xs x (omega (arith, below)) is)
@@ -188,7 +212,8 @@ marked_among (true ∷ marks) (true ∷ others) (y ∷ xs) among x inside = ⊎_
     (λ (there : Contains (marked marks xs) x). further y (marked others xs) x (marked_among marks others xs (λ k is. among (suc k) is) x there))
     (front_cases y (marked marks xs) x inside)
 marked_among (true ∷ marks) (false ∷ others) (y ∷ xs) among x inside = absurd (false≢true (among 0 refl))
-marked_among (false ∷ marks) (true ∷ others) (y ∷ xs) among x inside = further y (marked others xs) x (marked_among marks others xs (λ k is. among (suc k) is) x inside)
+marked_among (false ∷ marks) (true ∷ others) (y ∷ xs) among x inside =
+    further y (marked others xs) x (marked_among marks others xs (λ k is. among (suc k) is) x inside)
 marked_among (false ∷ marks) (false ∷ others) (y ∷ xs) among x inside = marked_among marks others xs (λ k is. among (suc k) is) x inside
 
 -- which of the others there are
@@ -201,7 +226,9 @@ others_at kept n = get_or-append_seam kept false (replicate n true) false
 others_behind : (kept : List Bool) (n k : ℕ) → length kept < k → k < length kept + suc n → get_or (others_of kept n) k false ≡ true
 others_behind kept n k behind below =
     let step : k ≡ length kept + suc (k - suc (length kept)) = omega (arith, behind) in
-    ap (λ j. get_or (others_of kept n) j false) step ∙ (get_or-append-add kept (false ∷ replicate n true) (suc (k - suc (length kept))) false ∙ get_or-replicate n (k - suc (length kept)) true false (omega (arith, below, behind)))
+    ap (λ j. get_or (others_of kept n) j false) step ∙
+    (get_or-append-add kept (false ∷ replicate n true) (suc (k - suc (length kept))) false ∙
+    get_or-replicate n (k - suc (length kept)) true false (omega (arith, below, behind)))
 
 past_end : (marks : List Bool) (k : ℕ) → length marks ≤ k → get_or marks k false ≡ true → ⊥
 past_end [] k past is = false≢true is
@@ -209,7 +236,9 @@ past_end (b ∷ marks) zero past is = absurd (omega (arith, past))
 past_end (b ∷ marks) (suc k) past is = past_end marks k (omega (arith, past)) is
 
 -- marks that are still there, and not that of the one that has its turn, are among the others'
-among_others : (core kept : List Bool) (n : ℕ) → length core ≤ length kept + suc n → ((k : ℕ) → k < length kept → get_or core k false ≡ true → get_or kept k false ≡ true) → get_or core (length kept) false ≡ false → AreAmong core (others_of kept n)
+among_others : (core kept : List Bool) (n : ℕ) → length core ≤ length kept + suc n →
+    ((k : ℕ) → k < length kept → get_or core k false ≡ true → get_or kept k false ≡ true) → get_or core (length kept) false ≡ false →
+    AreAmong core (others_of kept n)
 among_others core kept n fit there off k is = ⊎_elim
     (λ (below : k < length kept). others_before kept n k below ∙ there k below is)
     (λ (not_below : length kept ≤ k). ⊎_elim
@@ -224,14 +253,16 @@ among_others core kept n fit there off k is = ⊎_elim
     (cases_lt (length kept) k))
     (cases_lt k (length kept))
 
-module _ {N S : Type 0} (rules : List (Rule N S)) (kept : List Bool) (below : length kept < length rules) (spare : ℕ) (fit : length rules ≤ length kept + suc spare) where
+module _ {N S : Type 0} (rules : List (Rule N S)) (kept : List Bool) (below : length kept < length rules) (spare : ℕ)
+    (fit : length rules ≤ length kept + suc spare) where
   abbrev Refuted : List (Rule N S) → Type 0
   Refuted q = IsRefuted q
 
   abbrev there_of : List Bool → Type 0
   there_of core = (k : ℕ) → k < length kept → get_or core k false ≡ true → get_or kept k false ≡ true
 
-  there_push : (core : List Bool) (b : Bool) → there_of core → (get_or core (length kept) false ≡ true → b ≡ true) → (k : ℕ) → k < length (kept ++ b ∷ []) → get_or core k false ≡ true → get_or (kept ++ b ∷ []) k false ≡ true
+  there_push : (core : List Bool) (b : Bool) → there_of core → (get_or core (length kept) false ≡ true → b ≡ true) → (k : ℕ) → k < length (kept ++ b ∷ []) →
+      get_or core k false ≡ true → get_or (kept ++ b ∷ []) k false ≡ true
   there_push core b there here k less is = ⊎_elim
       (λ (before : k < length kept). get_or_append_left kept (b ∷ []) false k before ∙ there k before is)
       (λ (not_before : length kept ≤ k).
@@ -245,22 +276,28 @@ module _ {N S : Type 0} (rules : List (Rule N S)) (kept : List Bool) (below : le
   longer b = omega (arith, length-append kept (b ∷ []))
 
   -- one more rule had its turn
-  so_far_push : (b : Bool) (rule : Rule N S) → rule ≡ get_or rules (length kept) rule → ((left : List (Rule N S)) → LeavesInTurn (marked kept rules) (drop (length kept) rules) left → LeavesInTurn [] rules left) →
-      ((left : List (Rule N S)) → LeavesInTurn (marked kept rules ++ cond b (rule ∷ []) []) (drop (suc (length kept)) rules) left → LeavesInTurn (marked kept rules) (rule ∷ drop (suc (length kept)) rules) left) →
+  so_far_push : (b : Bool) (rule : Rule N S) → rule ≡ get_or rules (length kept) rule →
+      ((left : List (Rule N S)) → LeavesInTurn (marked kept rules) (drop (length kept) rules) left → LeavesInTurn [] rules left) →
+      ((left : List (Rule N S)) → LeavesInTurn (marked kept rules ++ cond b (rule ∷ []) []) (drop (suc (length kept)) rules) left →
+      LeavesInTurn (marked kept rules) (rule ∷ drop (suc (length kept)) rules) left) →
       (left : List (Rule N S)) → LeavesInTurn (marked (kept ++ b ∷ []) rules) (drop (length (kept ++ b ∷ [])) rules) left → LeavesInTurn [] rules left
   so_far_push b rule is so_far step left h =
-      let cut : drop (length kept) rules ≡ rule ∷ drop (suc (length kept)) rules = drop-cons rules (length kept) rule below ∙ ap (λ q. q ∷ drop (suc (length kept)) rules) (sym is) in
+      let cut : drop (length kept) rules ≡ rule ∷ drop (suc (length kept)) rules = drop-cons rules (length kept) rule below ∙
+      ap (λ q. q ∷ drop (suc (length kept)) rules) (sym is) in
       let Rest : List (Rule N S) → Type 0 = λ q. LeavesInTurn (marked kept rules) q left in
       let Kept : List (Rule N S) → Type 0 = λ q. LeavesInTurn q (drop (suc (length kept)) rules) left in
       let From : ℕ → Type 0 = λ n. LeavesInTurn (marked (kept ++ b ∷ []) rules) (drop n rules) left in
       so_far left (subst Rest (sym cut) (step left (subst Kept (marked_push kept b rules rule below is) (subst From (longer b) h))))
 
   -- a rule that is outside of what no set obeys is left out
-  turn_out_by : (core next : List Bool) (rule : Rule N S) → rule ≡ get_or rules (length kept) rule → IsUnderway rules kept core → length next ≡ length rules → IsRefuted (marked next rules) → there_of next → get_or next (length kept) false ≡ false → IsUnderway rules (kept ++ false ∷ []) next
+  turn_out_by : (core next : List Bool) (rule : Rule N S) → rule ≡ get_or rules (length kept) rule → IsUnderway rules kept core → length next ≡ length rules →
+      IsRefuted (marked next rules) → there_of next → get_or next (length kept) false ≡ false → IsUnderway rules (kept ++ false ∷ []) next
   turn_out_by core next rule is underway size refuted there off =
-      let within : IsWithin (marked next rules) (marked (others_of kept spare) rules) = marked_among next (others_of kept spare) rules (among_others next kept spare (omega (arith, size, fit)) there off) in
+      let within : IsWithin (marked next rules) (marked (others_of kept spare) rules) =
+      marked_among next (others_of kept spare) rules (among_others next kept spare (omega (arith, size, fit)) there off) in
       let others_refuted : IsRefuted (marked kept rules ++ drop (suc (length kept)) rules) =
-      subst Refuted (marked_others kept spare rules below (omega (arith, fit))) (IsRefuted-within (marked next rules) (marked (others_of kept spare) rules) within refuted) in
+      subst Refuted (marked_others kept spare rules below (omega (arith, fit)))
+      (IsRefuted-within (marked next rules) (marked (others_of kept spare) rules) within refuted) in
       record {
         size = size;
         refuted = refuted;
@@ -271,12 +308,14 @@ module _ {N S : Type 0} (rules : List (Rule N S)) (kept : List Bool) (below : le
       }
 
   -- a rule without which some set obeys the others is kept
-  turn_kept_by : (core : List Bool) (rule : Rule N S) → rule ≡ get_or rules (length kept) rule → IsUnderway rules kept core → (IsRefuted (marked (others_of kept spare) rules) → ⊥) → IsUnderway rules (kept ++ true ∷ []) core
+  turn_kept_by : (core : List Bool) (rule : Rule N S) → rule ≡ get_or rules (length kept) rule → IsUnderway rules kept core →
+      (IsRefuted (marked (others_of kept spare) rules) → ⊥) → IsUnderway rules (kept ++ true ∷ []) core
   turn_kept_by core rule is underway obeyed = record {
     size = underway.size;
     refuted = underway.refuted;
     there = there_push core true underway.there (λ on. refl);
-    so_far = so_far_push true rule is underway.so_far (λ left h. inr (λ refuted. obeyed (subst Refuted (sym (marked_others kept spare rules below (omega (arith, fit)))) refuted), h));
+    so_far = so_far_push true rule is underway.so_far (λ left h.
+        inr (λ refuted. obeyed (subst Refuted (sym (marked_others kept spare rules below (omega (arith, fit)))) refuted), h));
   }
 
 some_at : {X : Type 0} (xs : List X) (k : ℕ) → k < length xs → (x : X) × (x ≡ get_or xs k x)
@@ -285,29 +324,39 @@ some_at (x ∷ xs) zero below = (x, refl)
 some_at (x ∷ xs) (suc k) below = some_at xs k (omega (arith, below))
 
 -- a rule that is outside of the core is left out
-pub turn_skipped : {N S : Type 0} (rules : List (Rule N S)) (kept core : List Bool) → length kept < length rules → IsUnderway rules kept core → get_or core (length kept) false ≡ false → IsUnderway rules (kept ++ false ∷ []) core
-turn_skipped rules kept core below underway off = let w = some_at rules (length kept) below in turn_out_by rules kept below (length rules) (omega arith) core core w.0 w.1 underway underway.size underway.refuted underway.there off
+pub turn_skipped : {N S : Type 0} (rules : List (Rule N S)) (kept core : List Bool) → length kept < length rules → IsUnderway rules kept core →
+    get_or core (length kept) false ≡ false → IsUnderway rules (kept ++ false ∷ []) core
+turn_skipped rules kept core below underway off = let w = some_at rules (length kept) below in
+    turn_out_by rules kept below (length rules) (omega arith) core core w.0 w.1 underway underway.size underway.refuted underway.there off
 
 -- a rule is left out where no set obeys the others, of which there is a new core
-pub turn_left_out : {N S : Type 0} (rules : List (Rule N S)) (kept core next : List Bool) (spare : ℕ) → length kept < length rules → length rules ≤ length kept + suc spare → IsUnderway rules kept core → IsRefutedPart rules (others_of kept spare) next → IsUnderway rules (kept ++ false ∷ []) next
+pub turn_left_out : {N S : Type 0} (rules : List (Rule N S)) (kept core next : List Bool) (spare : ℕ) → length kept < length rules →
+    length rules ≤ length kept + suc spare → IsUnderway rules kept core → IsRefutedPart rules (others_of kept spare) next →
+    IsUnderway rules (kept ++ false ∷ []) next
 turn_left_out rules kept core next spare below fit underway part =
     let w = some_at rules (length kept) below in
-    turn_out_by rules kept below spare fit core next w.0 w.1 underway part.size part.refuted (λ k less is. sym (others_before kept spare k less) ∙ part.among k is)
+    turn_out_by rules kept below spare fit core next w.0 w.1 underway part.size part.refuted (λ k less is.
+    sym (others_before kept spare k less) ∙ part.among k is)
     (⊎_elim
     (λ (on : get_or next (length kept) false ≡ true). absurd (false≢true (sym (others_at kept spare) ∙ part.among (length kept) on)))
     (λ (off : get_or next (length kept) false ≡ false). off)
     (cases_Bool (get_or next (length kept) false)))
 
 -- a rule is kept where some set obeys the others
-pub turn_kept : {N S : Type 0} (rules : List (Rule N S)) (kept core : List Bool) (spare : ℕ) → length kept < length rules → length rules ≤ length kept + suc spare → IsUnderway rules kept core → (IsRefuted (marked (others_of kept spare) rules) → ⊥) → IsUnderway rules (kept ++ true ∷ []) core
-turn_kept rules kept core spare below fit underway obeyed = let w = some_at rules (length kept) below in turn_kept_by rules kept below spare fit core w.0 w.1 underway obeyed
+pub turn_kept : {N S : Type 0} (rules : List (Rule N S)) (kept core : List Bool) (spare : ℕ) → length kept < length rules →
+    length rules ≤ length kept + suc spare → IsUnderway rules kept core → (IsRefuted (marked (others_of kept spare) rules) → ⊥) →
+    IsUnderway rules (kept ++ true ∷ []) core
+turn_kept rules kept core spare below fit underway obeyed = let w = some_at rules (length kept) below in
+    turn_kept_by rules kept below spare fit core w.0 w.1 underway obeyed
 
 -- before the first turn
 pub underway_first : {N S : Type 0} (rules : List (Rule N S)) (core others : List Bool) → IsRefutedPart rules others core → IsUnderway rules [] core
-underway_first rules core others part = record { size = part.size; refuted = part.refuted; there = λ k below is. absurd (omega (arith, below)); so_far = λ left h. h }
+underway_first rules core others part =
+    record { size = part.size; refuted = part.refuted; there = λ k below is. absurd (omega (arith, below)); so_far = λ left h. h }
 
 -- after the last one
-pub underway_done : {N S : Type 0} (rules : List (Rule N S)) (kept core : List Bool) → length kept ≡ length rules → IsUnderway rules kept core → LeavesInTurn [] rules (marked kept rules)
+pub underway_done : {N S : Type 0} (rules : List (Rule N S)) (kept core : List Bool) → length kept ≡ length rules → IsUnderway rules kept core →
+    LeavesInTurn [] rules (marked kept rules)
 underway_done {N} {S} rules kept core end underway =
     let From : List (Rule N S) → Type 0 = λ q. LeavesInTurn (marked kept rules) q (marked kept rules) in
     let none : drop (length kept) rules ≡ [] = ap (λ n. drop n rules) end ∙ drop-length rules in
@@ -316,38 +365,48 @@ underway_done {N} {S} rules kept core end underway =
 take_longer : (marks : List Bool) (k : ℕ) (b : Bool) → k < length marks → get_or marks k false ≡ b → take (k + 1) marks ≡ take k marks ++ b ∷ []
 take_longer [] k b below is = absurd (omega (arith, below))
 take_longer (m ∷ marks) zero b below is = ap (λ q. q ∷ []) is
-take_longer (m ∷ marks) (suc k) b below is = let e : suc k + 1 ≡ suc (k + 1) = omega arith in ap (λ n. take n (m ∷ marks)) e ∙ ap (λ q. m ∷ q) (take_longer marks k b (omega (arith, below)) is)
+take_longer (m ∷ marks) (suc k) b below is = let e : suc k + 1 ≡ suc (k + 1) = omega arith in ap (λ n. take n (m ∷ marks)) e ∙
+    ap (λ q. m ∷ q) (take_longer marks k b (omega (arith, below)) is)
 
 -- one more mark
-marked_next : {X : Type 0} (marks : List Bool) (xs : List X) (k : ℕ) (b : Bool) (x : X) → length marks ≡ length xs → k < length xs → x ≡ get_or xs k x → get_or marks k false ≡ b → marked (take (k + 1) marks) xs ≡ marked (take k marks) xs ++ cond b (x ∷ []) []
+marked_next : {X : Type 0} (marks : List Bool) (xs : List X) (k : ℕ) (b : Bool) (x : X) → length marks ≡ length xs → k < length xs → x ≡ get_or xs k x →
+    get_or marks k false ≡ b → marked (take (k + 1) marks) xs ≡ marked (take k marks) xs ++ cond b (x ∷ []) []
 marked_next marks xs k b x size below is mark =
     let first : length (take k marks) ≡ k = omega (arith, length-take k marks, below, size) in
     let At : ℕ → Type 0 = λ j. x ≡ get_or xs j x in
-    ap (λ q. marked q xs) (take_longer marks k b (omega (arith, below, size)) mark) ∙ marked_push (take k marks) b xs x (omega (arith, first, below)) (subst At (sym first) is)
+    ap (λ q. marked q xs) (take_longer marks k b (omega (arith, below, size)) mark) ∙
+    marked_push (take k marks) b xs x (omega (arith, first, below)) (subst At (sym first) is)
 
-pub copied_not : {N S : Type 0} (marks : List Bool) (rules copies : List (Rule N S)) (k : ℕ) → length marks ≡ length rules → k < length rules → get_or marks k false ≡ false → AllZip StatesTheSame (marked (take k marks) rules) copies → AllZip StatesTheSame (marked (take (k + 1) marks) rules) copies
+pub copied_not : {N S : Type 0} (marks : List Bool) (rules copies : List (Rule N S)) (k : ℕ) → length marks ≡ length rules → k < length rules →
+    get_or marks k false ≡ false → AllZip StatesTheSame (marked (take k marks) rules) copies → AllZip StatesTheSame (marked (take (k + 1) marks) rules) copies
 copied_not {N} {S} marks rules copies k size below mark same =
     let w = some_at rules k below in
     let P : List (Rule N S) → Type 0 = λ q. AllZip StatesTheSame q copies in
     subst P (sym (marked_next marks rules k false w.0 size below w.1 mark ∙ append-nil (marked (take k marks) rules))) same
 
-pub copied : {N S : Type 0} (marks : List Bool) (rules copies : List (Rule N S)) (k : ℕ) (rule copy : Rule N S) → length marks ≡ length rules → k < length rules → rule ≡ get_or rules k rule → get_or marks k false ≡ true → StatesTheSame rule copy → AllZip StatesTheSame (marked (take k marks) rules) copies → AllZip StatesTheSame (marked (take (k + 1) marks) rules) (copies ++ copy ∷ [])
+pub copied : {N S : Type 0} (marks : List Bool) (rules copies : List (Rule N S)) (k : ℕ) (rule copy : Rule N S) → length marks ≡ length rules →
+    k < length rules → rule ≡ get_or rules k rule → get_or marks k false ≡ true → StatesTheSame rule copy →
+    AllZip StatesTheSame (marked (take k marks) rules) copies → AllZip StatesTheSame (marked (take (k + 1) marks) rules) (copies ++ copy ∷ [])
 copied {N} {S} marks rules copies k rule copy size below is mark here same =
     let P : List (Rule N S) → Type 0 = λ q. AllZip StatesTheSame q (copies ++ copy ∷ []) in
     subst P (sym (marked_next marks rules k true rule size below is mark)) (AllZip-push StatesTheSame (marked (take k marks) rules) copies rule copy same here)
 
-pub copied_all : {N S : Type 0} (marks : List Bool) (rules copies : List (Rule N S)) (k : ℕ) → length marks ≤ k → AllZip StatesTheSame (marked (take k marks) rules) copies → AllZip StatesTheSame (marked marks rules) copies
-copied_all {N} {S} marks rules copies k end same = let P : List Bool → Type 0 = λ q. AllZip StatesTheSame (marked q rules) copies in subst P (take_all k marks end) same
+pub copied_all : {N S : Type 0} (marks : List Bool) (rules copies : List (Rule N S)) (k : ℕ) → length marks ≤ k →
+    AllZip StatesTheSame (marked (take k marks) rules) copies → AllZip StatesTheSame (marked marks rules) copies
+copied_all {N} {S} marks rules copies k end same = let P : List Bool → Type 0 = λ q. AllZip StatesTheSame (marked q rules) copies in
+    subst P (take_all k marks end) same
 
 -- copies of what is left, of which those about what is not reached went
-module _ {N S : Type 0} (rules left copies kept : List (Rule N S)) (in_turn : LeavesInTurn [] rules left) (same : AllZip StatesTheSame left copies) (leaves : LeavesKept copies kept) where
+module _ {N S : Type 0} (rules left copies kept : List (Rule N S)) (in_turn : LeavesInTurn [] rules left) (same : AllZip StatesTheSame left copies)
+    (leaves : LeavesKept copies kept) where
   abbrev Same : List (Rule N S) → Type 0
   Same q = AllZip StatesTheSame left q
 
   -- nothing went where no set obeys the rules
   nothing_went : IsRefuted rules → (IsRefuted copies → IsRefuted kept) → kept ≡ copies
   nothing_went refuted stays =
-      irreducible_cut copies kept leaves.dropped (IsIrreducible-same left copies same (left_irreducible rules left in_turn refuted)) leaves.cut (stays (IsRefuted-same left copies same (left_refuted rules [] left in_turn refuted)))
+      irreducible_cut copies kept leaves.dropped (IsIrreducible-same left copies same (left_irreducible rules left in_turn refuted)) leaves.cut
+      (stays (IsRefuted-same left copies same (left_refuted rules [] left in_turn refuted)))
 
   pub minimal_part : CopiesPart rules kept
   minimal_part =
@@ -361,9 +420,11 @@ module _ {N S : Type 0} (rules left copies kept : List (Rule N S)) (in_turn : Le
   minimal_left refuted stays = record { left = left; in_turn = in_turn; same = subst Same (sym (nothing_went refuted stays)) same }
 
   pub minimal_irreducible : IsRefuted rules → (IsRefuted copies → IsRefuted kept) → IsIrreducible kept
-  minimal_irreducible refuted stays = let P : List (Rule N S) → Type 0 = λ q. IsIrreducible q in subst P (sym (nothing_went refuted stays)) (IsIrreducible-same left copies same (left_irreducible rules left in_turn refuted))
+  minimal_irreducible refuted stays = let P : List (Rule N S) → Type 0 = λ q. IsIrreducible q in
+      subst P (sym (nothing_went refuted stays)) (IsIrreducible-same left copies same (left_irreducible rules left in_turn refuted))
 
-  pub minimal_explains : (IsRefuted copies → IsRefuted kept) → All (IsKept kept) kept → (u : Universe N S) (root : Demands) → Explains u root rules → Explains u root kept
+  pub minimal_explains : (IsRefuted copies → IsRefuted kept) → All (IsKept kept) kept → (u : Universe N S) (root : Demands) → Explains u root rules →
+      Explains u root kept
   minimal_explains stays again u root explains = record {
     each_true = AllTrue-same u root minimal_part.left kept minimal_part.same (All-left (IsTrueRule u root) minimal_part.cut explains.each_true);
     refuted = stays (IsRefuted-same left copies same (left_refuted rules [] left in_turn explains.refuted));
@@ -371,5 +432,6 @@ module _ {N S : Type 0} (rules left copies kept : List (Rule N S)) (in_turn : Le
   }
 
 -- marks of rules that no set obeys
-pub whole_part : {N S : Type 0} (rules : List (Rule N S)) (marks : List Bool) → length marks ≡ length rules → IsRefuted (marked marks rules) → IsRefutedPart rules marks marks
+pub whole_part : {N S : Type 0} (rules : List (Rule N S)) (marks : List Bool) → length marks ≡ length rules → IsRefuted (marked marks rules) →
+    IsRefutedPart rules marks marks
 whole_part rules marks size refuted = record { size = size; among = λ k is. is; refuted = refuted }

@@ -24,15 +24,19 @@ negation variable slot = record { variable = variable; positive = not slot.value
 pub record NegatesBelow (trail : Trail) (marks : List Bool) (literals : List Literal) (count : ℕ) : Type 0 where
   pub falsified : IsFalsified trail literals
   pub only : All (λ (literal : Literal). is_marked marks literal.variable ≡ true) literals
-  pub each : (variable : ℕ) (slot : Slot) → is_marked marks variable ≡ true → slot_of trail variable ≡ Some slot → slot.place < count → Contains literals (negation variable slot)
+  pub each : (variable : ℕ) (slot : Slot) → is_marked marks variable ≡ true → slot_of trail variable ≡ Some slot → slot.place < count →
+      Contains literals (negation variable slot)
 
 pub beq-itself : (a : Bool) → beq a (not a) ≡ false
 beq-itself true = refl
 beq-itself false = refl
 
-pub negates-more : (trail : Trail) (marks : List Bool) (literals : List Literal) (count variable : ℕ) (slot : Slot) → NegatesBelow trail marks literals count → variable ≡ variable_at trail count → slot_of trail variable ≡ Some slot → is_marked marks variable ≡ true → NegatesBelow trail marks (literals ++ negation variable slot ∷ []) (count + 1)
+pub negates-more : (trail : Trail) (marks : List Bool) (literals : List Literal) (count variable : ℕ) (slot : Slot) → NegatesBelow trail marks literals count →
+    variable ≡ variable_at trail count → slot_of trail variable ≡ Some slot → is_marked marks variable ≡ true →
+    NegatesBelow trail marks (literals ++ negation variable slot ∷ []) (count + 1)
 negates-more trail marks literals count variable slot so here is marked = record {
-  falsified = All-push (λ l. literal_value trail l ≡ Some false) literals _ so.falsified (ap (λ o. option_map (λ (s : Slot). beq s.value (not slot.value)) o) is ∙ ap Some (beq-itself slot.value));
+  falsified = All-push (λ l. literal_value trail l ≡ Some false) literals _ so.falsified
+      (ap (λ o. option_map (λ (s : Slot). beq s.value (not slot.value)) o) is ∙ ap Some (beq-itself slot.value));
   only = All-push (λ (l : Literal). is_marked marks l.variable ≡ true) literals _ so.only marked;
   each = λ v s m at below. ⊎_elim
       (λ less. Contains-append_left literals _ _ (so.each v s m at less))
@@ -43,7 +47,8 @@ negates-more trail marks literals count variable slot so here is marked = record
       (cases_lt s.place count);
 }
 
-pub negates-skip : (trail : Trail) (marks : List Bool) (literals : List Literal) (count variable : ℕ) → NegatesBelow trail marks literals count → variable ≡ variable_at trail count → is_marked marks variable ≡ false → NegatesBelow trail marks literals (count + 1)
+pub negates-skip : (trail : Trail) (marks : List Bool) (literals : List Literal) (count variable : ℕ) → NegatesBelow trail marks literals count →
+    variable ≡ variable_at trail count → is_marked marks variable ≡ false → NegatesBelow trail marks literals (count + 1)
 negates-skip trail marks literals count variable so here unmarked = record {
   falsified = so.falsified;
   only = so.only;
@@ -55,7 +60,8 @@ negates-skip trail marks literals count variable so here unmarked = record {
       (cases_lt s.place count);
 }
 
-pub negates-absent : (trail : Trail) (marks : List Bool) (literals : List Literal) (count variable : ℕ) → NegatesBelow trail marks literals count → variable ≡ variable_at trail count → slot_of trail variable ≡ None → NegatesBelow trail marks literals (count + 1)
+pub negates-absent : (trail : Trail) (marks : List Bool) (literals : List Literal) (count variable : ℕ) → NegatesBelow trail marks literals count →
+    variable ≡ variable_at trail count → slot_of trail variable ≡ None → NegatesBelow trail marks literals (count + 1)
 negates-absent trail marks literals count variable so here free = record {
   falsified = so.falsified;
   only = so.only;
@@ -67,7 +73,8 @@ negates-absent trail marks literals count variable so here free = record {
       (cases_lt s.place count);
 }
 
-pub negates-all : (trail : Trail) (marks : List Bool) (literals : List Literal) (count : ℕ) → NegatesBelow trail marks literals count → length_of trail ≤ count → Negates trail marks literals
+pub negates-all : (trail : Trail) (marks : List Bool) (literals : List Literal) (count : ℕ) → NegatesBelow trail marks literals count →
+    length_of trail ≤ count → Negates trail marks literals
 negates-all trail marks literals count so all = record {
   falsified = so.falsified;
   only = so.only;
@@ -75,7 +82,8 @@ negates-all trail marks literals count so all = record {
 }
 
 -- where the causes hold, some variable differs from the trail
-pub learnt-follows : (table : List (Vec Literal Global)) (trail : Trail) (marks : List Bool) (causes : List ℕ) (literals : List Literal) → Refutes table trail marks causes → Negates trail marks literals → FollowsFrom table causes literals
+pub learnt-follows : (table : List (Vec Literal Global)) (trail : Trail) (marks : List Bool) (causes : List ℕ) (literals : List Literal) →
+    Refutes table trail marks causes → Negates trail marks literals → FollowsFrom table causes literals
 learnt-follows table trail marks causes literals refutes negates = λ values holds. ⊎_elim
     (λ yes. yes)
     (λ no. absurd (refutes.apart values holds (λ v s m at. beq-not _ _ (false-contains values literals _ no (negates.each v s m at)))))

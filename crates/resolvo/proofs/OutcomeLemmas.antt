@@ -25,11 +25,13 @@ use Rattle.resolvo.proofs.SolveLemmas.{shortage_weaker}
 pub found_at : {A E : Type 0} (P : A → Type 0) (r : Result A E) (x : A) → r ≡ Ok x → IfOk r P → P x
 found_at {A} {E} P r x is h = let At : Result A E → Type 0 = λ q. IfOk q P in subst At is h
 
-pub same_demands : (d : Demands) (rs : List ConditionalRequirement) (vs : List VersionSetId) → rs ≡ d.requirements → vs ≡ d.constraints → record { requirements = rs; constraints = vs } ≡ d
+pub same_demands : (d : Demands) (rs : List ConditionalRequirement) (vs : List VersionSetId) → rs ≡ d.requirements → vs ≡ d.constraints →
+    record { requirements = rs; constraints = vs } ≡ d
 same_demands d rs vs r v = λ i. record { requirements = r i; constraints = v i }
 
 -- a count of the rounds at its limit is one of the solver's
-pub at_limit : {D C N S : Type 0} (old new : Rounds N S) (s : Solver D C N S) → KeepsRoom old new → (notes_of old).variable_limit ≡ s.variable_limit → (notes_of old).clause_limit ≡ s.clause_limit → old.clause_limit ≡ s.clause_limit → old.learnt_limit ≡ s.learnt_limit → HasCounted new s →
+pub at_limit : {D C N S : Type 0} (old new : Rounds N S) (s : Solver D C N S) → KeepsRoom old new → (notes_of old).variable_limit ≡ s.variable_limit →
+    (notes_of old).clause_limit ≡ s.clause_limit → old.clause_limit ≡ s.clause_limit → old.learnt_limit ≡ s.learnt_limit → HasCounted new s →
     IsStuck new → IsAtLimit s
 at_limit old new s room variables kinds clauses learnt counts stuck = ⊎_elim
     (λ full. ⊎_elim
@@ -42,30 +44,45 @@ at_limit old new s room variables kinds clauses learnt counts stuck = ⊎_elim
     searched)
     stuck
 
-pub stop_weaker : {C : Type 0} (may_cancel : C → Type 0) (at other : Type 0) → (at → other) → (e : Interrupted C) → IsStop may_cancel at e → IsStop may_cancel other e
+pub stop_weaker : {C : Type 0} (may_cancel : C → Type 0) (at other : Type 0) → (at → other) → (e : Interrupted C) → IsStop may_cancel at e →
+    IsStop may_cancel other e
 stop_weaker may_cancel at other follows (IsCancelled value) h = h
 stop_weaker may_cancel at other follows (IsExhausted e) h = shortage_weaker at other follows e h
 
 -- what is kept of a provider's answers stays true where the counts alone change
-pub still_sound : {D C N S : Type 0} (universe : D → Universe N S) (old new : Solver D C N S) → IsTrueCache (universe old.provider) old.cache → old.variable_limit ≤ 2 ^ 31 → KeepsAllButCounts old new → IsSound (universe new.provider) new
+pub still_sound : {D C N S : Type 0} (universe : D → Universe N S) (old new : Solver D C N S) → IsTrueCache (universe old.provider) old.cache →
+    old.variable_limit ≤ 2 ^ 31 → KeepsAllButCounts old new → IsSound (universe new.provider) new
 still_sound {D} {C} {N} {S} universe old new is_true fits rest =
     let True : D → Cache N S → Type 0 = λ p k. IsTrueCache (universe p) k in
     let By : D → Type 0 = λ p. True p new.cache in
-    record { true_answers = subst By (sym rest.provider) (subst (True old.provider) (sym rest.cache) is_true); fits = omega (arith, fits, rest.limits.variables) }
+    record {
+      true_answers = subst By (sym rest.provider) (subst (True old.provider) (sym rest.cache) is_true);
+      fits = omega (arith, fits, rest.limits.variables);
+    }
 
 -- what the rounds were done with, and some list that the soft requirements are
-pub soft_given : {A E X : Type 0} (Gives : List X → Type 0) (IsAt : A → Type 0) (Is : List X → A → Type 0) (r : Result A E) → IfOk r (λ a. (xs : List X) × (IsAt a → Gives xs) × Is xs a) → (xs : List X) × (IfOk r (λ a. IsAt a → Gives xs)) × IfOk r (Is xs)
+pub soft_given : {A E X : Type 0} (Gives : List X → Type 0) (IsAt : A → Type 0) (Is : List X → A → Type 0) (r : Result A E) →
+    IfOk r (λ a. (xs : List X) × (IsAt a → Gives xs) × Is xs a) → (xs : List X) × (IfOk r (λ a. IsAt a → Gives xs)) × IfOk r (Is xs)
 soft_given Gives IsAt Is (Ok a) h = (h.0, h.1, h.2)
 soft_given Gives IsAt Is (Err e) h = ([], tt, tt)
 
 -- an answer with soft requirements
-pub soft_answer : {E S N : Type 0} (u : Universe N S) (rounds : Rounds N S) (result : Result (Vec S Global) E) (exempt : List S) → IfOk result (λ chosen. chosen.items ≡ chosen_of rounds) → OnOk result (exempt ≡ (notes_of rounds).exempt) → (root : Demands) (soft : List (SoftRequirement S)) → IsBetween u root soft rounds →
+pub soft_answer : {E S N : Type 0} (u : Universe N S) (rounds : Rounds N S) (result : Result (Vec S Global) E) (exempt : List S) →
+    IfOk result (λ chosen. chosen.items ≡ chosen_of rounds) → OnOk result (exempt ≡ (notes_of rounds).exempt) →
+    (root : Demands) (soft : List (SoftRequirement S)) → IsBetween u root soft rounds →
     IfOk result (λ chosen. IsSoftAnswer u root soft chosen.items exempt)
 soft_answer {E} {S} {N} u rounds (Ok chosen) exempt are free root soft b =
     let Run : List S → List S → Type 0 = λ c e. SoftRun u root b.first soft b.taken c e (notes_of rounds).asked in
     let RunFor : List S → Type 0 = λ c. Run c exempt in
     let Once : List S → Type 0 = λ list. HasNoRepeats list in
-    record { first = b.first; promise = b.promise; taken = b.taken; asked = (notes_of rounds).asked; run = subst RunFor (sym are) (subst (Run (chosen_of rounds)) (sym free) b.run); once = subst Once (sym are) b.standing.once }
+    record {
+      first = b.first;
+      promise = b.promise;
+      taken = b.taken;
+      asked = (notes_of rounds).asked;
+      run = subst RunFor (sym are) (subst (Run (chosen_of rounds)) (sym free) b.run);
+      once = subst Once (sym are) b.standing.once;
+    }
 soft_answer u rounds (Err e) exempt are free root soft b = tt
 
 pub OnOk-of : {A E : Type 0} (P : Type 0) → P → (r : Result A E) → OnOk r P

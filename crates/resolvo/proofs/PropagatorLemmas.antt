@@ -1,5 +1,6 @@
 -- What propagation keeps is kept where the trail gains literals, and leaves no clause unsettled.
-use Rattle.std.proofs.Common.{◌≡◌, ℕ, ◌*◌, ◌<◌, ◌≤◌, ◌⊎◌, List, [], length, get_or, Option, Some, None, Bool, true, false, inl, inr, refl, sym, ap, ◌∙◌, subst, ⊎_elim, arith}
+use Rattle.std.proofs.Common.{◌≡◌, ℕ, ◌*◌, ◌<◌, ◌≤◌, ◌⊎◌, List, [], length, get_or, Option, Some, None, Bool, true, false, inl, inr, refl, sym, ap, ◌∙◌, subst}
+use Rattle.std.proofs.Common.{⊎_elim, arith}
 use Rattle.std.specs.Prelude.{Any, Contains, Vec}
 use Rattle.std.specs.Bool.{beq}
 use Rattle.std.specs.Option.{option_map}
@@ -32,7 +33,8 @@ any-contains P xs x c h = (c.0, x, c.1, c.2, h)
 -- a longer trail
 
 -- a slot at a place that the old trail has stood there before
-pub slot-back : (old new : Trail) → Keeps old new → (variable : ℕ) (slot : Slot) → slot_of new variable ≡ Some slot → slot.place < length_of old → slot_of old variable ≡ Some slot
+pub slot-back : (old new : Trail) → Keeps old new → (variable : ℕ) (slot : Slot) → slot_of new variable ≡ Some slot → slot.place < length_of old →
+    slot_of old variable ≡ Some slot
 slot-back old new keeps variable slot at less =
     let places = keeps_all old new keeps in
     let s = slot_at old slot.place less in
@@ -47,28 +49,39 @@ true_at-kept old new level literal keeps t = record { slot = t.slot; is = keeps.
 pub true_before-kept : (old new : Trail) (place : ℕ) (literal : Literal) → Keeps old new → IsTrueBefore old place literal → IsTrueBefore new place literal
 true_before-kept old new place literal keeps t = record { slot = t.slot; is = keeps.kept _ _ t.is; true_there = t.true_there; earlier = t.earlier }
 
-pub excused-kept : (table : List (Vec Literal Global)) (old new : Trail) (late : List Late) (pending : List ℕ) (level number : ℕ) → Keeps old new → IsExcused table old late pending level number → IsExcused table new late pending level number
+pub excused-kept : (table : List (Vec Literal Global)) (old new : Trail) (late : List Late) (pending : List ℕ) (level number : ℕ) → Keeps old new →
+    IsExcused table old late pending level number → IsExcused table new late pending level number
 excused-kept table old new late pending level number keeps excused = ⊎_elim
-    (λ (h : Any (IsTrueAt old level) (clause_at table number)). inl (any-map (IsTrueAt old level) (IsTrueAt new level) (clause_at table number) (λ l t. true_at-kept old new level l keeps t) h))
+    (λ (h : Any (IsTrueAt old level) (clause_at table number)).
+    inl (any-map (IsTrueAt old level) (IsTrueAt new level) (clause_at table number) (λ l t. true_at-kept old new level l keeps t) h))
     (λ (n : IsNoted late pending number). inr n)
     excused
 
-pub covers-kept : (table : List (Vec Literal Global)) (old new : Trail) (pairs : List WatchedPair) (late : List Late) (pending : List ℕ) (head : ℕ) → Keeps old new → head ≤ length_of old → Covers table old pairs late pending head → Covers table new pairs late pending head
+pub covers-kept : (table : List (Vec Literal Global)) (old new : Trail) (pairs : List WatchedPair) (late : List Late) (pending : List ℕ) (head : ℕ) →
+    Keeps old new → head ≤ length_of old → Covers table old pairs late pending head → Covers table new pairs late pending head
 covers-kept table old new pairs late pending head keeps within covers = record {
   watched = λ number literal watching fails.
-      let was : IsFalseBefore old head literal = record { slot = fails.slot; is = slot-back old new keeps _ _ fails.is (omega (arith, fails.earlier, within)); false_there = fails.false_there; earlier = fails.earlier } in
+      let was : IsFalseBefore old head literal =
+      record {
+        slot = fails.slot;
+        is = slot-back old new keeps _ _ fails.is (omega (arith, fails.earlier, within));
+        false_there = fails.false_there;
+        earlier = fails.earlier;
+      } in
       excused-kept table old new late pending fails.slot.level number keeps (covers.watched number literal watching was);
   constant = covers.constant;
 }
 
 pub late-kept : (table : List (Vec Literal Global)) (old new : Trail) (late : List Late) → Keeps old new → AreLate table old late → AreLate table new late
 late-kept table old new late keeps noted = record {
-  each = λ k d below. any-map (IsTrueBefore old (get_or late k d).length) (IsTrueBefore new (get_or late k d).length) (clause_at table (get_or late k d).number) (λ l t. true_before-kept old new _ l keeps t) (noted.each k d below);
+  each = λ k d below. any-map (IsTrueBefore old (get_or late k d).length) (IsTrueBefore new (get_or late k d).length)
+      (clause_at table (get_or late k d).number) (λ l t. true_before-kept old new _ l keeps t) (noted.each k d below);
   within = λ k d below. omega (arith, noted.within k d below, (keeps_all old new keeps).are);
   rising = noted.rising;
 }
 
-pub propagator-kept : (table : List (Vec Literal Global)) (old new : Trail) (it : Propagator) → Keeps old new → length (lists_of it.watches) ≡ 2 * variable_count new → IsPropagator table old it → IsPropagator table new it
+pub propagator-kept : (table : List (Vec Literal Global)) (old new : Trail) (it : Propagator) → Keeps old new →
+    length (lists_of it.watches) ≡ 2 * variable_count new → IsPropagator table old it → IsPropagator table new it
 propagator-kept table old new it keeps size was = record {
   lists = size;
   watched = was.watched;
@@ -79,8 +92,10 @@ propagator-kept table old new it keeps size was = record {
   covers = covers-kept table old new _ _ _ _ keeps was.head was.covers;
 }
 
-pub propagator-gains : (table : List (Vec Literal Global)) (old new : Trail) (it : Propagator) (literal : Literal) (level : ℕ) (reason : Reason) → Gains old new literal level reason → slot_of old literal.variable ≡ None → IsPropagator table old it → IsPropagator table new it
-propagator-gains table old new it literal level reason gains free was = propagator-kept table old new it (keeps-gains old new literal level reason gains free) (was.lists ∙ ap (λ n. 2 * n) (sym gains.size)) was
+pub propagator-gains : (table : List (Vec Literal Global)) (old new : Trail) (it : Propagator) (literal : Literal) (level : ℕ) (reason : Reason) →
+    Gains old new literal level reason → slot_of old literal.variable ≡ None → IsPropagator table old it → IsPropagator table new it
+propagator-gains table old new it literal level reason gains free was =
+    propagator-kept table old new it (keeps-gains old new literal level reason gains free) (was.lists ∙ ap (λ n. 2 * n) (sym gains.size)) was
 
 -- what is left at the end
 
@@ -89,42 +104,55 @@ value-cases None = inl refl
 value-cases (Some true) = inr (inl refl)
 value-cases (Some false) = inr (inr refl)
 
-pub value-of : (trail : Trail) (literal : Literal) (slot : Slot) (value : Bool) → slot_of trail literal.variable ≡ Some slot → beq slot.value literal.positive ≡ value → literal_value trail literal ≡ Some value
+pub value-of : (trail : Trail) (literal : Literal) (slot : Slot) (value : Bool) → slot_of trail literal.variable ≡ Some slot →
+    beq slot.value literal.positive ≡ value → literal_value trail literal ≡ Some value
 value-of trail literal slot value is there = ap (λ (o : Option Slot). option_map (λ (s : Slot). beq s.value literal.positive) o) is ∙ ap Some there
 
-pub late-true : (table : List (Vec Literal Global)) (trail : Trail) (late : List Late) (number : ℕ) → AreLate table trail late → Any (λ (l : Late). l.number ≡ number) late → IsSatisfied trail (clause_at table number)
+pub late-true : (table : List (Vec Literal Global)) (trail : Trail) (late : List Late) (number : ℕ) → AreLate table trail late →
+    Any (λ (l : Late). l.number ≡ number) late → IsSatisfied trail (clause_at table number)
 late-true table trail late number noted h =
     let T : Late → Type 0 = λ (l : Late). Any (IsTrueBefore trail l.length) (clause_at table l.number) in
     let here : T h.1 = subst T h.3 (noted.each h.0 h.1 h.2) in
-    let there : Any (IsTrueBefore trail h.1.length) (clause_at table number) = subst (λ (n : ℕ). Any (IsTrueBefore trail h.1.length) (clause_at table n)) h.4 here in
-    any-map (IsTrueBefore trail h.1.length) (λ (l : Literal). literal_value trail l ≡ Some true) (clause_at table number) (λ l t. value-of trail l t.slot true t.is t.true_there) there
+    let there : Any (IsTrueBefore trail h.1.length) (clause_at table number) =
+    subst (λ (n : ℕ). Any (IsTrueBefore trail h.1.length) (clause_at table n)) h.4 here in
+    any-map (IsTrueBefore trail h.1.length) (λ (l : Literal). literal_value trail l ≡ Some true) (clause_at table number) (λ l t.
+    value-of trail l t.slot true t.is t.true_there) there
 
-pub noted-true : (table : List (Vec Literal Global)) (trail : Trail) (late : List Late) (pending : List ℕ) (number : ℕ) → AreLate table trail late → pending ≡ [] → IsNoted late pending number → IsSatisfied trail (clause_at table number)
+pub noted-true : (table : List (Vec Literal Global)) (trail : Trail) (late : List Late) (pending : List ℕ) (number : ℕ) → AreLate table trail late →
+    pending ≡ [] → IsNoted late pending number → IsSatisfied trail (clause_at table number)
 noted-true table trail late pending number noted none either = ⊎_elim
     (λ (h : Any (λ (l : Late). l.number ≡ number) late). late-true table trail late number noted h)
     (λ (c : Contains pending number). absurd (omega (arith, c.1, ap (λ (xs : List ℕ). length xs) none)))
     either
 
-pub excused-true : (table : List (Vec Literal Global)) (trail : Trail) (late : List Late) (pending : List ℕ) (level number : ℕ) → AreLate table trail late → pending ≡ [] → IsExcused table trail late pending level number → IsSatisfied trail (clause_at table number)
+pub excused-true : (table : List (Vec Literal Global)) (trail : Trail) (late : List Late) (pending : List ℕ) (level number : ℕ) → AreLate table trail late →
+    pending ≡ [] → IsExcused table trail late pending level number → IsSatisfied trail (clause_at table number)
 excused-true table trail late pending level number noted none excused = ⊎_elim
-    (λ (h : Any (IsTrueAt trail level) (clause_at table number)). any-map (IsTrueAt trail level) (λ (l : Literal). literal_value trail l ≡ Some true) (clause_at table number) (λ l t. value-of trail l t.slot true t.is t.true_there) h)
+    (λ (h : Any (IsTrueAt trail level) (clause_at table number)).
+    any-map (IsTrueAt trail level) (λ (l : Literal). literal_value trail l ≡ Some true) (clause_at table number) (λ l t.
+    value-of trail l t.slot true t.is t.true_there) h)
     (λ (n : IsNoted late pending number). noted-true table trail late pending number noted none n)
     excused
 
 -- a literal that a clause watches is open, or the clause is true
-watched-settled : (table : List (Vec Literal Global)) (trail : Trail) (it : Propagator) → IsPropagator table trail it → IsAttached table it → length_of trail ≤ head_of it → (number : ℕ) (literal : Literal) → IsWatching (pairs_of it.watches) number literal → (literal_value trail literal ≡ None) ⊎ IsSatisfied trail (clause_at table number)
+watched-settled : (table : List (Vec Literal Global)) (trail : Trail) (it : Propagator) → IsPropagator table trail it → IsAttached table it →
+    length_of trail ≤ head_of it → (number : ℕ) (literal : Literal) → IsWatching (pairs_of it.watches) number literal → (literal_value trail literal ≡ None) ⊎
+    IsSatisfied trail (clause_at table number)
 watched-settled table trail it is attached done number literal watching = ⊎_elim
     (λ (free : literal_value trail literal ≡ None). inl free)
     (λ (valued : (literal_value trail literal ≡ Some true) ⊎ (literal_value trail literal ≡ Some false)). inr (⊎_elim
-    (λ (yes : literal_value trail literal ≡ Some true). any-contains (λ (l : Literal). literal_value trail l ≡ Some true) (clause_at table number) literal (is.watched.own number literal watching) yes)
+    (λ (yes : literal_value trail literal ≡ Some true).
+    any-contains (λ (l : Literal). literal_value trail l ≡ Some true) (clause_at table number) literal (is.watched.own number literal watching) yes)
     (λ (no : literal_value trail literal ≡ Some false).
     let f = false-before trail literal no in
-    let fails : IsFalseBefore trail (head_of it) literal = record { slot = f.slot; is = f.is; false_there = f.false_there; earlier = omega (arith, f.earlier, done) } in
+    let fails : IsFalseBefore trail (head_of it) literal =
+    record { slot = f.slot; is = f.is; false_there = f.false_there; earlier = omega (arith, f.earlier, done) } in
     excused-true table trail _ _ _ number is.late attached.none (is.covers.watched number literal watching fails))
     valued))
     (value-cases (literal_value trail literal))
 
-pub all-settled : (table : List (Vec Literal Global)) (trail : Trail) (it : Propagator) → IsPropagator table trail it → IsAttached table it → length_of trail ≤ head_of it → AllSettled trail table
+pub all-settled : (table : List (Vec Literal Global)) (trail : Trail) (it : Propagator) → IsPropagator table trail it → IsAttached table it →
+    length_of trail ≤ head_of it → AllSettled trail table
 all-settled table trail it is attached done = λ number within.
     let pair = pair_at (pairs_of it.watches) number in
     let inside : number < attached_of it = omega (arith, within, attached.all) in

@@ -28,7 +28,8 @@ module _ {N S : Type 0} (u : Universe N S) where
     };
   }
 
-  pub reading_again : (set : List S) (old new : Notes N S) → IsReading u [] old → ((root : Demands) → IsReadSoFar u root [] old → IsReadSoFar u root set new) → IsReading u [] new
+  pub reading_again : (set : List S) (old new : Notes N S) → IsReading u [] old → ((root : Demands) → IsReadSoFar u root [] old → IsReadSoFar u root set new) →
+      IsReading u [] new
   reading_again set old new reading step = record { root = reading.root; so_far = for_none reading.root set new (step reading.root reading.so_far) }
 
 -- exemptions alone undo no reading

@@ -1,5 +1,6 @@
 -- Why a soft requirement that was refused fits nowhere.
-use Rattle.std.proofs.Common.{◌≡◌, ℕ, zero, suc, ◌+◌, ◌<◌, ◌≤◌, ◌⊎◌, List, ◌∷◌, ◌++◌, length, Some, Bool, true, false, arith, refl, sym, ap, ◌∙◌, subst, ⊎_elim, Contains, Vec, Global}
+use Rattle.std.proofs.Common.{◌≡◌, ℕ, zero, suc, ◌+◌, ◌<◌, ◌≤◌, ◌⊎◌, List, ◌∷◌, ◌++◌, length, Some, Bool, true, false, arith, refl, sym, ap, ◌∙◌, subst, ⊎_elim}
+use Rattle.std.proofs.Common.{Contains, Vec, Global}
 use Rattle.std.specs.Prelude.{slice_get}
 use Rattle.std.specs.Bool.{beq}
 use Rattle.std.specs.Option.{option_map}
@@ -46,30 +47,39 @@ unanswered_refused r refused = record {
 }
 
 -- values that make the given clauses true and have what was decided and assumed have all else that the trail has
-module _ (it : ClauseSearch) (given : List (Vec Literal Global)) (numbers : List ℕ) (consistent : IsConsistent it) (loaded : IsLoaded given numbers it) (values : ℕ → Bool) (holds : Satisfies values given) (level : ℕ)
-    (decided : (variable : ℕ) (slot : Slot) (number : ℕ) → slot_of (trail_of it) variable ≡ Some slot → slot.reason ≡ Decided number → slot.level ≤ level → values variable ≡ slot.value)
-    (assumed : (variable : ℕ) (slot : Slot) → slot_of (trail_of it) variable ≡ Some slot → slot.reason ≡ Assumed → slot.level ≤ level → values variable ≡ slot.value) where
+module _ (it : ClauseSearch) (given : List (Vec Literal Global)) (numbers : List ℕ) (consistent : IsConsistent it) (loaded : IsLoaded given numbers it)
+    (values : ℕ → Bool) (holds : Satisfies values given) (level : ℕ)
+    (decided : (variable : ℕ) (slot : Slot) (number : ℕ) → slot_of (trail_of it) variable ≡ Some slot → slot.reason ≡ Decided number → slot.level ≤ level →
+    values variable ≡ slot.value)
+    (assumed : (variable : ℕ) (slot : Slot) → slot_of (trail_of it) variable ≡ Some slot → slot.reason ≡ Assumed → slot.level ≤ level →
+    values variable ≡ slot.value) where
   -- a literal that was forced
   forced_true : (variable : ℕ) (slot : Slot) (number : ℕ) → slot_of (trail_of it) variable ≡ Some slot → slot.reason ≡ Forced number →
-      ((other : ℕ) (earlier : Slot) → slot_of (trail_of it) other ≡ Some earlier → earlier.place < slot.place → values other ≡ earlier.value) → values variable ≡ slot.value
+      ((other : ℕ) (earlier : Slot) → slot_of (trail_of it) other ≡ Some earlier → earlier.place < slot.place → values other ≡ earlier.value) →
+      values variable ≡ slot.value
   forced_true variable slot number at reason before =
       let clause : List Literal = clause_at it.table.items number in
       let literal : Literal = record { variable = variable; positive = slot.value } in
       let Forcing : Literal → Type 0 = λ other. (other ≡ literal) ⊎ IsFalseBefore (trail_of it) slot.place other in
       let True : Literal → Type 0 = λ l. literal_true values l ≡ true in
-      let w = list_any-witness (literal_true values) clause (implied given it.table.items it.sources.items number consistent.derived loaded.clauses.are (consistent.justified.within variable slot number at reason) values holds) in
+      let w = list_any-witness (literal_true values) clause
+      (implied given it.table.items it.sources.items number consistent.derived loaded.clauses.are
+      (consistent.justified.within variable slot number at reason) values holds) in
       ⊎_elim
       (λ (e : w.0 ≡ literal). beq-true (values variable) slot.value (subst True e w.2))
-      (λ (f : IsFalseBefore (trail_of it) slot.place w.0). absurd (both_ways _ (ap (λ b. beq b w.0.positive) (before w.0.variable f.slot f.is f.earlier) ∙ f.false_there) w.2))
+      (λ (f : IsFalseBefore (trail_of it) slot.place w.0). absurd
+      (both_ways _ (ap (λ b. beq b w.0.positive) (before w.0.variable f.slot f.is f.earlier) ∙ f.false_there) w.2))
       (All-contains Forcing clause w.0 (consistent.justified.forced variable slot number at reason) w.1)
 
-  agrees_before : (bound variable : ℕ) (slot : Slot) → slot_of (trail_of it) variable ≡ Some slot → slot.place < bound → slot.level ≤ level → values variable ≡ slot.value
+  agrees_before : (bound variable : ℕ) (slot : Slot) → slot_of (trail_of it) variable ≡ Some slot → slot.place < bound → slot.level ≤ level →
+      values variable ≡ slot.value
   agrees_before zero variable slot at below low = absurd (omega arith)
   agrees_before (suc bound) variable slot at below low = ⊎_elim
       (λ (w : (n : ℕ) × (slot.reason ≡ Decided n)). decided variable slot w.0 at w.1 low)
       (λ rest. ⊎_elim
       (λ (w : (n : ℕ) × (slot.reason ≡ Forced n)). forced_true variable slot w.0 at w.1 (λ other earlier is before.
-      agrees_before bound other earlier is (omega (arith, before, below)) (omega (arith, ((trail_of it).rising other variable earlier slot is at before).0, low))))
+      agrees_before bound other earlier is (omega (arith, before, below))
+      (omega (arith, ((trail_of it).rising other variable earlier slot is at before).0, low))))
       (λ (a : slot.reason ≡ Assumed). assumed variable slot at a low)
       rest)
       (why slot.reason)
@@ -78,19 +88,22 @@ module _ (it : ClauseSearch) (given : List (Vec Literal Global)) (numbers : List
   agrees variable slot at low = agrees_before (suc slot.place) variable slot at (omega arith) low
 
 -- what was decided is a solvable, and true
-module _ {N S : Type 0} (u : Universe N S) (root : Demands) (notes : Notes N S) (encoding : IsEncoding u root notes) (it : ClauseSearch) (consistent : IsConsistent it) (has : HasLoaded notes.table notes.requirements it) where
+module _ {N S : Type 0} (u : Universe N S) (root : Demands) (notes : Notes N S) (encoding : IsEncoding u root notes) (it : ClauseSearch)
+    (consistent : IsConsistent it) (has : HasLoaded notes.table notes.requirements it) where
   given_at_place : (number : ℕ) → Contains has.numbers number → clause_at it.table.items (place_of it.places.items number) ≡ clause_at notes.table number
   given_at_place number listed =
       let inside : number < length has.given = All-contains (λ n. n < length has.given) has.numbers number has.loaded.inside listed in
       has.loaded.clauses.are.same (place_of it.places.items number) number (has.loaded.clauses.placed number inside) ∙
       sym (clause_at-append has.given has.clauses.more number inside) ∙ ap (λ t. clause_at t number) (sym has.clauses.is)
 
-  pub decided_solvable : (variable : ℕ) (slot : Slot) (number : ℕ) → slot_of (trail_of it) variable ≡ Some slot → slot.reason ≡ Decided number → (slot.value ≡ true) × (s : S) × (slice_get notes.origins variable ≡ Some (Solvable s))
+  pub decided_solvable : (variable : ℕ) (slot : Slot) (number : ℕ) → slot_of (trail_of it) variable ≡ Some slot → slot.reason ≡ Decided number →
+      (slot.value ≡ true) × (s : S) × (slice_get notes.origins variable ≡ Some (Solvable s))
   decided_solvable variable slot number at reason =
       let c = consistent.chosen.each variable slot number at reason in
       let literal : Literal = record { variable = variable; positive = true } in
       let Among : List ℕ → Type 0 = λ list. Contains list c.requirement.number in
-      let w = Contains-map_back (place_of it.places.items) has.numbers c.requirement.number (subst Among has.loaded.requirements (Contains-map (λ (r : RequirementClause). r.number) it.requirements.items c.requirement c.listed)) in
+      let w = Contains-map_back (place_of it.places.items) has.numbers c.requirement.number
+      (subst Among has.loaded.requirements (Contains-map (λ (r : RequirementClause). r.number) it.requirements.items c.requirement c.listed)) in
       let is : clause_at notes.table w.0 ≡ c.before ++ literal ∷ c.after = sym (given_at_place w.0 w.1) ∙ ap (λ n. clause_at it.table.items n) w.2 ∙ c.clause in
       let Stands : List Literal → Type 0 = λ clause. Contains clause literal in
       let Asks : List ℕ → Type 0 = λ list. Contains list w.0 in
@@ -100,38 +113,48 @@ module _ {N S : Type 0} (u : Universe N S) (root : Demands) (notes : Notes N S) 
       (c.value, s.0, s.1)
 
   -- all that the trail has at these levels, where what is chosen is true, and what was assumed is chosen or left out
-  module _ (chosen taken refused : List S) (sized : variable_count (trail_of it) ≤ length notes.origins) (assumed : AreAssumed notes.origins taken refused (trail_of it)) (left_out : (s : S) → Contains refused s → IsLeftOut notes.origins notes.table chosen s)
+  module _ (chosen taken refused : List S) (sized : variable_count (trail_of it) ≤ length notes.origins)
+      (assumed : AreAssumed notes.origins taken refused (trail_of it)) (left_out : (s : S) → Contains refused s → IsLeftOut notes.origins notes.table chosen s)
       (values : ℕ → Bool) (holds : Satisfies values notes.table) (are : AreTrueIn values notes.origins chosen) where
     inside : (variable : ℕ) (slot : Slot) → slot_of (trail_of it) variable ≡ Some slot → variable < length notes.origins
     inside variable slot at =
         let below : variable < variable_count (trail_of it) = slot-within _ variable slot.place (ap (option_map (λ (q : Slot). q.place)) at) in
         omega (arith, below, sized)
 
-    origin_of : (variable : ℕ) (slot : Slot) (s : S) → slot_of (trail_of it) variable ≡ Some slot → origin_at notes.origins variable ≡ Solvable s → slice_get notes.origins variable ≡ Some (Solvable s)
+    origin_of : (variable : ℕ) (slot : Slot) (s : S) → slot_of (trail_of it) variable ≡ Some slot → origin_at notes.origins variable ≡ Solvable s →
+        slice_get notes.origins variable ≡ Some (Solvable s)
     origin_of variable slot s at is = slice_get-get_or notes.origins variable Root (inside variable slot at) ∙ ap Some is
 
     -- one that was assumed to be false
-    left_false : (variable : ℕ) (slot : Slot) → slot_of (trail_of it) variable ≡ Some slot → slot.reason ≡ Assumed → slot.value ≡ false → values variable ≡ false
+    left_false : (variable : ℕ) (slot : Slot) → slot_of (trail_of it) variable ≡ Some slot → slot.reason ≡ Assumed → slot.value ≡ false →
+        values variable ≡ false
     left_false variable slot at reason off =
         let w = assumed.left_out variable slot at reason off in
         let out = left_out w.0 w.2 in
         ap values (encoding.distinct.same variable out.variable (Solvable w.0) (origin_of variable slot w.0 at w.1) out.stands) ∙ out.never values holds are
 
-    pub assumed_agrees : ((s : S) → Contains taken s → (variable : ℕ) → slice_get notes.origins variable ≡ Some (Solvable s) → values variable ≡ true) → (variable : ℕ) (slot : Slot) → slot_of (trail_of it) variable ≡ Some slot → slot.reason ≡ Assumed → values variable ≡ slot.value
+    pub assumed_agrees : ((s : S) → Contains taken s → (variable : ℕ) → slice_get notes.origins variable ≡ Some (Solvable s) → values variable ≡ true) →
+        (variable : ℕ) (slot : Slot) → slot_of (trail_of it) variable ≡ Some slot → slot.reason ≡ Assumed → values variable ≡ slot.value
     assumed_agrees on variable slot at reason = ⊎_elim
         (λ (is : slot.value ≡ true). let w = assumed.taken variable slot at reason is in on w.0 w.2 variable (origin_of variable slot w.0 at w.1) ∙ sym is)
         (λ (off : slot.value ≡ false). left_false variable slot at reason off ∙ sym off)
         (cases_Bool slot.value)
 
-    pub decided_agrees : (level : ℕ) → ((variable : ℕ) (slot : Slot) (number : ℕ) (s : S) → slot_of (trail_of it) variable ≡ Some slot → slot.reason ≡ Decided number → slot.level ≤ level → slot.value ≡ true → slice_get notes.origins variable ≡ Some (Solvable s) → Contains chosen s) →
-        (variable : ℕ) (slot : Slot) (number : ℕ) → slot_of (trail_of it) variable ≡ Some slot → slot.reason ≡ Decided number → slot.level ≤ level → values variable ≡ slot.value
+    pub decided_agrees : (level : ℕ) →
+        ((variable : ℕ) (slot : Slot) (number : ℕ) (s : S) → slot_of (trail_of it) variable ≡ Some slot → slot.reason ≡ Decided number → slot.level ≤ level →
+        slot.value ≡ true → slice_get notes.origins variable ≡ Some (Solvable s) → Contains chosen s) →
+        (variable : ℕ) (slot : Slot) (number : ℕ) → slot_of (trail_of it) variable ≡ Some slot → slot.reason ≡ Decided number → slot.level ≤ level →
+        values variable ≡ slot.value
     decided_agrees level stays variable slot number at reason low =
         let w = decided_solvable variable slot number at reason in
         are variable w.1 (stays variable slot number w.1 at reason low w.0 w.2) w.2 ∙ sym w.0
 
     -- so the trail at these levels agrees with the values
-    pub trail_agrees : (level : ℕ) → ((s : S) → Contains taken s → (variable : ℕ) → slice_get notes.origins variable ≡ Some (Solvable s) → values variable ≡ true) →
-        ((variable : ℕ) (slot : Slot) (number : ℕ) (s : S) → slot_of (trail_of it) variable ≡ Some slot → slot.reason ≡ Decided number → slot.level ≤ level → slot.value ≡ true → slice_get notes.origins variable ≡ Some (Solvable s) → Contains chosen s) →
+    pub trail_agrees : (level : ℕ) →
+        ((s : S) → Contains taken s → (variable : ℕ) → slice_get notes.origins variable ≡ Some (Solvable s) → values variable ≡ true) →
+        ((variable : ℕ) (slot : Slot) (number : ℕ) (s : S) → slot_of (trail_of it) variable ≡ Some slot → slot.reason ≡ Decided number → slot.level ≤ level →
+        slot.value ≡ true → slice_get notes.origins variable ≡ Some (Solvable s) → Contains chosen s) →
         (variable : ℕ) (slot : Slot) → slot_of (trail_of it) variable ≡ Some slot → slot.level ≤ level → values variable ≡ slot.value
-    trail_agrees level on stays = agrees it has.given has.numbers consistent has.loaded values (satisfies_fewer values has.given notes.table has.clauses holds) level
+    trail_agrees level on stays = agrees it has.given has.numbers consistent has.loaded values
+        (satisfies_fewer values has.given notes.table has.clauses holds) level
         (decided_agrees level stays) (λ variable slot at reason low. assumed_agrees on variable slot at reason)

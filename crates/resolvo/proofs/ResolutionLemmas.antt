@@ -1,5 +1,6 @@
 -- What the marked variables contradict.
-use Rattle.std.proofs.Common.{◌≡◌, ◌≢◌, ℕ, List, [], ◌∷◌, ◌++◌, length, get_or, set, Bool, true, false, arith, sym, ap, ◌∙◌, subst, ⊎_elim, get_or-set_other, length-append}
+use Rattle.std.proofs.Common.{◌≡◌, ◌≢◌, ℕ, List, [], ◌∷◌, ◌++◌, length, get_or, set, Bool, true, false, arith, sym, ap, ◌∙◌, subst, ⊎_elim, get_or-set_other}
+use Rattle.std.proofs.Common.{length-append}
 use Rattle.std.proofs.Math.ListN.{get_or-append}
 use Rattle.std.proofs.Math.Seq.{get_or-append_seam}
 use Rattle.std.specs.Prelude.{Vec}
@@ -20,7 +21,8 @@ use Rattle.resolvo.specs.Resolvents.{is_marked, MarksAlso, Refutes, IsReason}
 use Rattle.resolver_clause_store.proofs.TrailLemmas.{value-false}
 
 -- the variables of a false clause contradict it
-pub refutes-begin : (table : List (Vec Literal Global)) (trail : Trail) (old marks : List Bool) (number : ℕ) → IsFalsified trail (clause_at table number) → MarksAlso old marks (clause_at table number) → Refutes table trail marks (number ∷ [])
+pub refutes-begin : (table : List (Vec Literal Global)) (trail : Trail) (old marks : List Bool) (number : ℕ) → IsFalsified trail (clause_at table number) →
+    MarksAlso old marks (clause_at table number) → Refutes table trail marks (number ∷ [])
 refutes-begin table trail old marks number falsified so = record {
   apart = λ values holds agrees.
       let each : All (λ literal. literal_true values literal ≡ false) (clause_at table number) = λ k d below.
@@ -30,15 +32,22 @@ refutes-begin table trail old marks number falsified so = record {
 }
 
 -- a variable's reason in its place
-pub refutes-resolve : (table : List (Vec Literal Global)) (trail : Trail) (old mid : List Bool) (causes : List ℕ) (variable number : ℕ) → Refutes table trail old causes → IsJustified table trail → IsReason trail variable number → MarksAlso old mid (clause_at table number) → Refutes table trail (set mid variable false) (causes ++ number ∷ [])
+pub refutes-resolve : (table : List (Vec Literal Global)) (trail : Trail) (old mid : List Bool) (causes : List ℕ) (variable number : ℕ) →
+    Refutes table trail old causes → IsJustified table trail → IsReason trail variable number → MarksAlso old mid (clause_at table number) →
+    Refutes table trail (set mid variable false) (causes ++ number ∷ [])
 refutes-resolve table trail old mid causes variable number refutes justified reason so = record {
   apart = λ values holds agrees.
       let s = reason.slot in
       let literal : Literal = record { variable = variable; positive = s.value } in
       let forced = justified.forced variable s number reason.is reason.reason in
-      let marked : (v : ℕ) → v ≢ variable → is_marked mid v ≡ true → is_marked (set mid variable false) v ≡ true = λ v ne m. get_or-set_other mid variable v false false ne ∙ m in
-      let here : clause_true values (clause_at table number) ≡ true = subst (λ n. clause_true values (clause_at table n) ≡ true) (get_or-append_seam causes number [] 0) (holds (length causes) 0 (simp length-append (omega arith))) in
-      let others : MakesTrue values table causes = λ k d below. subst (λ n. clause_true values (clause_at table n) ≡ true) (get_or-append causes (number ∷ []) d k below) (holds k d (simp length-append (omega arith))) in
+      let marked : (v : ℕ) → v ≢ variable → is_marked mid v ≡ true → is_marked (set mid variable false) v ≡ true =
+      λ v ne m. get_or-set_other mid variable v false false ne ∙ m in
+      let here : clause_true values (clause_at table number) ≡ true =
+      subst (λ n. clause_true values (clause_at table n) ≡ true) (get_or-append_seam causes number [] 0)
+      (holds (length causes) 0 (simp length-append (omega arith))) in
+      let others : MakesTrue values table causes =
+      λ k d below. subst (λ n. clause_true values (clause_at table n) ≡ true) (get_or-append causes (number ∷ []) d k below)
+      (holds k d (simp length-append (omega arith))) in
       let each : beq (values variable) s.value ≡ false → All (λ l. literal_true values l ≡ false) (clause_at table number) = λ wrong k d below. ⊎_elim
       (λ e. ap (λ l. literal_true values l) e ∙ wrong)
       (λ f.

@@ -19,12 +19,20 @@ lower-cut old new count cut within begins = record {
   stays = cut.stays;
   whole = λ variable other slot lower at there less. ⊎_elim
       (λ (before : lower.place < count). cut.kept other lower there before)
-      (λ (behind : count ≤ lower.place). absurd (omega (arith, less, begins.lower variable other slot lower (cut.stays variable slot at) there (omega (arith, (new.listed variable slot at).0, cut.length)) behind)))
+      (λ (behind : count ≤ lower.place). absurd
+      (omega (
+        arith,
+        less,
+        begins.lower variable other slot lower (cut.stays variable slot at) there
+            (omega (arith, (new.listed variable slot at).0, cut.length)) behind,
+      )))
       (cases_lt lower.place count);
 }
 
 -- a level begins with a decision or an assumption
-pub begins-decided : (trail : Trail) (place variable : ℕ) (first : Slot) → variable ≡ variable_at trail place → option_map (λ (slot : Slot). slot.place) (slot_of trail variable) ≡ Some place → slot_of trail variable ≡ Some first → is_decided first.reason ≡ true → BeginsLevel trail place
+pub begins-decided : (trail : Trail) (place variable : ℕ) (first : Slot) → variable ≡ variable_at trail place →
+    option_map (λ (slot : Slot). slot.place) (slot_of trail variable) ≡ Some place → slot_of trail variable ≡ Some first → is_decided first.reason ≡ true →
+    BeginsLevel trail place
 begins-decided trail place variable first standing placed is decided =
     let named : first.place ≡ place = same_Some first.place place (sym (ap (λ o. option_map (λ (slot : Slot). slot.place) o) is) ∙ placed) in
     record {

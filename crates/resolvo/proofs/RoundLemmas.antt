@@ -1,5 +1,6 @@
 -- What holds before each round of searching and reading, and after it.
-use Rattle.std.proofs.Common.{◌≡◌, ℕ, ◌+◌, ◌<◌, ◌≤◌, List, [], true, ◌++◌, length, length-append, get_or, take, append-nil, arith, refl, sym, ap, ◌∙◌, subst, ⊎_elim, Contains, All, Vec, Global}
+use Rattle.std.proofs.Common.{◌≡◌, ℕ, ◌+◌, ◌<◌, ◌≤◌, List, [], true, ◌++◌, length, length-append, get_or, take, append-nil, arith, refl, sym, ap, ◌∙◌, subst}
+use Rattle.std.proofs.Common.{⊎_elim, Contains, All, Vec, Global}
 use Rattle.std.specs.Prelude.{map}
 use Rattle.std.specs.Option.{option_map}
 use Rattle.std.proofs.Math.Seq.{take-append_seam}
@@ -33,9 +34,11 @@ use Rattle.resolver_encoding.proofs.EncodedLemmas.{encoded_below, requirements_i
 use Rattle.resolver_encoding.proofs.EncodingLemmas.{Extends-within}
 use Rattle.resolver_encoding.proofs.Lists.{Contains-slice}
 use Rattle.resolver_encoding.proofs.TrailLemmas.{before_extends, follows_still}
-use Rattle.resolvo.specs.ClauseSearches.{IsConsistent, IsLoaded, KeepsLoaded, KeepsMark, KeepsTurn, clause_count_of, kept_of, learnt_count_of, numbers_of, trail_of}
+use Rattle.resolvo.specs.ClauseSearches.{IsConsistent, IsLoaded, KeepsLoaded, KeepsMark, KeepsTurn, clause_count_of, kept_of, learnt_count_of, numbers_of}
+use Rattle.resolvo.specs.ClauseSearches.{trail_of}
 use Rattle.resolvo.specs.declared.owners.Owners.{Owners}
-use Rattle.resolvo.specs.RoundStates.{AreRounds, HasFollowed, HasLoaded, HasMark, IsFollowing, IsFresh, IsSearchOf, IsStill, IsUpToDate, KeepsRead, KeepsRoom, chosen_of, notes_of}
+use Rattle.resolvo.specs.RoundStates.{AreRounds, HasFollowed, HasLoaded, HasMark, IsFollowing, IsFresh, IsSearchOf, IsStill, IsUpToDate, KeepsRead, KeepsRoom}
+use Rattle.resolvo.specs.RoundStates.{chosen_of, notes_of}
 use Rattle.resolvo.specs.declared.clause_search.ClauseSearch.{ClauseSearch}
 use Rattle.resolvo.specs.declared.rounds.Rounds.{Rounds}
 
@@ -44,7 +47,8 @@ empty_trail : (trail : Trail) → variable_count trail ≡ 0 → length_of trail
 empty_trail trail none = ⊎_elim
     (λ (some : 0 < length_of trail).
     let w = slot_at trail 0 some in
-    let inside : variable_at trail 0 < variable_count trail = slot-within _ (variable_at trail 0) w.0.place (ap (option_map (λ (slot : Slot). slot.place)) w.1) in
+    let inside : variable_at trail 0 < variable_count trail =
+    slot-within _ (variable_at trail 0) w.0.place (ap (option_map (λ (slot : Slot). slot.place)) w.1) in
     absurd (omega (arith, inside, none)))
     (λ (empty : length_of trail ≤ 0). omega (arith, empty))
     (cases_lt 0 (length_of trail))
@@ -55,13 +59,15 @@ keeps_itself trail count inside = record { were = inside; are = inside; variable
 pub Keeps-longer : {X : Type 0} (old new : List X) (x : X) → Keeps old new → length old ≤ length new
 Keeps-longer old new x keeps = ⊎_elim
     (λ (less : length new < length old).
-    let inside = slice_get_within new (length new) (get_or old (length new) x) (keeps.kept (length new) (get_or old (length new) x) (slice_get-get_or old (length new) x less)) in
+    let inside = slice_get_within new (length new) (get_or old (length new) x)
+    (keeps.kept (length new) (get_or old (length new) x) (slice_get-get_or old (length new) x less)) in
     absurd (omega (arith, inside)))
     (λ (enough : length old ≤ length new). enough)
     (cases_lt (length new) (length old))
 
 -- each solvable that a trail makes true has a variable
-pub chosen_known : {N S : Type 0} (origins : List (Origin N S)) (trail : Trail) → variable_count trail ≡ length origins → (set : List S) → set ≡ solvables_before origins trail (length_of trail) → All (λ s. Contains origins (Solvable s)) set
+pub chosen_known : {N S : Type 0} (origins : List (Origin N S)) (trail : Trail) → variable_count trail ≡ length origins → (set : List S) →
+    set ≡ solvables_before origins trail (length_of trail) → All (λ s. Contains origins (Solvable s)) set
 chosen_known {N} {S} origins trail size set is = λ k d below.
     let Among : List S → Type 0 = λ list. Contains list (get_or set k d) in
     known (get_or set k d) (subst Among is (Contains-get_or set k d below))
@@ -73,22 +79,27 @@ chosen_known {N} {S} origins trail size set is = λ k d below.
         let p = slot_at trail w.0 w.1 in
         let inside : x < variable_count trail = slot-within _ x p.0.place (ap (option_map (λ (slot : Slot). slot.place)) p.1) in
         let Has : Origin N S → Type 0 = λ o. Contains origins o in
-        subst Has (ap (λ (a : Atom N S). a.origin) w.2) (Contains-slice origins x (origin_at origins x) (stands origins trail size x (omega (arith, inside, size))))
+        subst Has (ap (λ (a : Atom N S). a.origin) w.2)
+        (Contains-slice origins x (origin_at origins x) (stands origins trail size x (omega (arith, inside, size))))
 
 -- what was read for a set was read for a part of it
-pub so_far_less : {N S : Type 0} (u : Universe N S) (root : Demands) (part set : List S) (notes : Notes N S) → IsWithin part set → IsReadSoFar u root set notes → IsReadSoFar u root part notes
+pub so_far_less : {N S : Type 0} (u : Universe N S) (root : Demands) (part set : List S) (notes : Notes N S) → IsWithin part set →
+    IsReadSoFar u root set notes → IsReadSoFar u root part notes
 so_far_less u root part set notes within h = record {
   half = h.half;
   set_read = λ s inside. h.set_read s (within s inside);
   none = record {
     none = λ e left met. h.none.none e left
-        (All-weaker (λ xs. Meets xs part) (λ xs. Meets xs set) (λ xs m. record { shared = m.shared; in_first = m.in_first; in_second = within m.shared m.in_second }) (map (matching u) e.disjunct) met);
+        (All-weaker (λ xs. Meets xs part) (λ xs. Meets xs set) (λ xs m.
+        record { shared = m.shared; in_first = m.in_first; in_second = within m.shared m.in_second }) (map (matching u) e.disjunct) met);
   };
 }
 
 -- all was loaded, and stays so while the search runs
-pub loaded_all : (table clauses : List (Vec Literal Global)) (numbers : List ℕ) (requirements : List RequirementClause) (old mid : ClauseSearch) → HasLoaded table numbers old → clauses ≡ table → numbers_of requirements ≡ numbers →
-    ((given : List (Vec Literal Global)) (asking : List ℕ) → IsLoaded given asking old → (more : List (Vec Literal Global)) → clauses ≡ given ++ more → (more_asking : List ℕ) → numbers_of requirements ≡ asking ++ more_asking → IsLoaded clauses (numbers_of requirements) mid) →
+pub loaded_all : (table clauses : List (Vec Literal Global)) (numbers : List ℕ) (requirements : List RequirementClause) (old mid : ClauseSearch) →
+    HasLoaded table numbers old → clauses ≡ table → numbers_of requirements ≡ numbers →
+    ((given : List (Vec Literal Global)) (asking : List ℕ) → IsLoaded given asking old → (more : List (Vec Literal Global)) → clauses ≡ given ++ more →
+    (more_asking : List ℕ) → numbers_of requirements ≡ asking ++ more_asking → IsLoaded clauses (numbers_of requirements) mid) →
     IsLoaded table numbers mid
 loaded_all table clauses numbers requirements old mid l are asks loads =
     let all = loads l.given l.numbers l.loaded l.clauses.more (are ∙ l.clauses.is) l.asking.more (asks ∙ l.asking.is) in
@@ -98,7 +109,8 @@ loaded_all table clauses numbers requirements old mid l are asks loads =
 
 module _ {N S : Type 0} where
   -- the root was read
-  pub begun : (u : Universe N S) (root : Demands) (old : Rounds N S) (encoding : Encoding N S) → IsFresh old → IsBounded encoding → IsReadSoFar u root [] (notes_in encoding) →
+  pub begun : (u : Universe N S) (root : Demands) (old : Rounds N S) (encoding : Encoding N S) → IsFresh old → IsBounded encoding →
+      IsReadSoFar u root [] (notes_in encoding) →
       AreRounds u (record old { encoding = encoding })
   begun u root old encoding fresh bounded read =
       let base : Trail = trail_of old.search in
@@ -109,7 +121,13 @@ module _ {N S : Type 0} where
         bounded = bounded;
         reading = record { root = root; so_far = subst ReadFor (sym fresh.none) read };
         consistent = fresh.consistent;
-        loaded = record { given = []; numbers = []; loaded = fresh.loaded; clauses = record { more = (notes_in encoding).table; is = refl }; asking = record { more = (notes_in encoding).requirements; is = refl } };
+        loaded = record {
+          given = [];
+          numbers = [];
+          loaded = fresh.loaded;
+          clauses = record { more = (notes_in encoding).table; is = refl };
+          asking = record { more = (notes_in encoding).requirements; is = refl };
+        };
         variables = omega (arith, fresh.variables);
         mark = record {
           base = base;
@@ -120,13 +138,15 @@ module _ {N S : Type 0} where
       }
 
   -- what the search is given is well made
-  pub given_below : (u : Universe N S) (set : List S) (notes : Notes N S) (count : ℕ) (table : List (Vec Literal Global)) → IsReading u set notes → count ≡ length notes.origins → table ≡ notes.table → AreBelow count table
+  pub given_below : (u : Universe N S) (set : List S) (notes : Notes N S) (count : ℕ) (table : List (Vec Literal Global)) → IsReading u set notes →
+      count ≡ length notes.origins → table ≡ notes.table → AreBelow count table
   given_below u set notes count table reading counted are =
       let Below : ℕ → List (Vec Literal Global) → Type 0 = λ n list. AreBelow n list in
       let Counted : ℕ → Type 0 = λ n. Below n notes.table in
       subst (Below count) (sym are) (subst Counted (sym counted) (encoded_below u reading.root notes reading.so_far.half.encoding))
 
-  pub given_inside : (u : Universe N S) (set : List S) (notes : Notes N S) (table : List (Vec Literal Global)) (requirements : List RequirementClause) → IsReading u set notes → table ≡ notes.table → map (λ (r : RequirementClause). r.number) requirements ≡ notes.requirements →
+  pub given_inside : (u : Universe N S) (set : List S) (notes : Notes N S) (table : List (Vec Literal Global)) (requirements : List RequirementClause) →
+      IsReading u set notes → table ≡ notes.table → map (λ (r : RequirementClause). r.number) requirements ≡ notes.requirements →
       All (λ (r : RequirementClause). r.number < length table) requirements
   given_inside u set notes table requirements reading are numbers =
       let Inside : List (Vec Literal Global) → Type 0 = λ list. All (λ (r : RequirementClause). r.number < length list) requirements in
@@ -134,19 +154,35 @@ module _ {N S : Type 0} where
 
   -- the packages of variables do not matter
   pub rounds_owned : (u : Universe N S) (r : Rounds N S) (owners : Owners N) → AreRounds u r → AreRounds u (record r { owners = owners })
-  rounds_owned u r owners rounds = record { bounded = rounds.bounded; reading = rounds.reading; consistent = rounds.consistent; loaded = rounds.loaded; variables = rounds.variables; mark = rounds.mark }
+  rounds_owned u r owners rounds =
+      record {
+        bounded = rounds.bounded;
+        reading = rounds.reading;
+        consistent = rounds.consistent;
+        loaded = rounds.loaded;
+        variables = rounds.variables;
+        mark = rounds.mark;
+      }
 
   pub still_owned : (r : Rounds N S) (owners : Owners N) → IsStill r → IsStill (record r { owners = owners })
   still_owned r owners still = record { held = still.held; marked = still.marked; chosen = still.chosen }
 
   -- the search has run over all that was read
-  pub searched : (u : Universe N S) (old : Rounds N S) (new : ClauseSearch) → AreRounds u old → IsConsistent new → IsLoaded (notes_of old).table (notes_of old).requirements new → variable_count (trail_of new) ≡ length (notes_of old).origins →
+  pub searched : (u : Universe N S) (old : Rounds N S) (new : ClauseSearch) → AreRounds u old → IsConsistent new →
+      IsLoaded (notes_of old).table (notes_of old).requirements new → variable_count (trail_of new) ≡ length (notes_of old).origins →
       KeepsMark old.search new → AreRounds u (record old { search = new })
   searched u old new rounds consistent loaded size kept = record {
     bounded = rounds.bounded;
     reading = rounds.reading;
     consistent = consistent;
-    loaded = record { given = (notes_of old).table; numbers = (notes_of old).requirements; loaded = loaded; clauses = record { more = []; is = sym (append-nil (notes_of old).table) }; asking = record { more = []; is = sym (append-nil (notes_of old).requirements) } };
+    loaded = record {
+      given = (notes_of old).table;
+      numbers = (notes_of old).requirements;
+      loaded = loaded;
+      clauses = record { more = []; is = sym (append-nil (notes_of old).table) };
+      asking =
+          record { more = []; is = sym (append-nil (notes_of old).requirements) };
+    };
     variables = omega (arith, size);
     mark = record { base = rounds.mark.base; follows = rounds.mark.follows; kept = kept rounds.mark.base rounds.mark.kept; known = rounds.mark.known };
   }
@@ -159,7 +195,8 @@ module _ {N S : Type 0} where
 
   cut_again : (old : Rounds N S) (kept : ℕ) (cut new : Chosen S) → IsUpToDate old → HasMark old → kept ≡ kept_of old.search →
       ((origins : List (Origin N S)) (trail : Trail) (count : ℕ) → Follows old.chosen origins trail count → kept ≤ count → Follows cut origins trail kept) →
-      ((count : ℕ) → Follows cut (notes_of old).origins (trail_of old.search) count → Follows new (notes_of old).origins (trail_of old.search) (length_of (trail_of old.search))) →
+      ((count : ℕ) → Follows cut (notes_of old).origins (trail_of old.search) count →
+      Follows new (notes_of old).origins (trail_of old.search) (length_of (trail_of old.search))) →
       IsCutAgain old kept cut new
   cut_again old kept cut new up mark is cuts follows =
       let origins : List (Origin N S) = (notes_of old).origins in
@@ -171,20 +208,27 @@ module _ {N S : Type 0} where
       let WithinAll : List S → Type 0 = λ list. IsWithin (solvables_before origins mark.base kept) list in
       record {
         at_base = now;
-        inside = subst Within (sym first.is) (subst WithinAll (sym mark.follows.is) (Extends-within (solvables_before origins mark.base kept) (solvables_before origins mark.base (length_of mark.base)) (before_extends origins mark.base kept (length_of mark.base) places.were)));
+        inside = subst Within (sym first.is)
+            (subst WithinAll (sym mark.follows.is)
+            (Extends-within (solvables_before origins mark.base kept) (solvables_before origins mark.base (length_of mark.base))
+            (before_extends origins mark.base kept (length_of mark.base) places.were)));
         follows = follows kept now;
       }
 
-  pub following : (old : Rounds N S) (kept from : ℕ) (cut new : Chosen S) (search : ClauseSearch) → IsConsistent search → IsUpToDate old → HasMark old → kept ≡ kept_of old.search →
+  pub following : (old : Rounds N S) (kept from : ℕ) (cut new : Chosen S) (search : ClauseSearch) → IsConsistent search → IsUpToDate old → HasMark old →
+      kept ≡ kept_of old.search →
       ((origins : List (Origin N S)) (trail : Trail) (count : ℕ) → Follows old.chosen origins trail count → kept ≤ count → Follows cut origins trail kept) →
-      ((count : ℕ) → Follows cut (notes_of old).origins (trail_of old.search) count → Follows new (notes_of old).origins (trail_of old.search) (length_of (trail_of old.search))) →
-      Extends (chosen_in cut) (chosen_in new) → from ≡ length (chosen_in cut) → KeepsLoaded old.search search → trail_of search ≡ trail_of old.search → KeepsPlaces (trail_of search) (trail_of search) (kept_of search) →
+      ((count : ℕ) → Follows cut (notes_of old).origins (trail_of old.search) count →
+      Follows new (notes_of old).origins (trail_of old.search) (length_of (trail_of old.search))) →
+      Extends (chosen_in cut) (chosen_in new) → from ≡ length (chosen_in cut) → KeepsLoaded old.search search → trail_of search ≡ trail_of old.search →
+      KeepsPlaces (trail_of search) (trail_of search) (kept_of search) →
       IsFollowing old (record old { chosen = new; search = search }) from
   following old kept from cut new search consistent up mark is cuts follows more count loaded same places =
       let origins : List (Origin N S) = (notes_of old).origins in
       let again = cut_again old kept cut new up mark is cuts follows in
       let FollowsOn : Trail → Type 0 = λ t. Follows new origins t (length_of t) in
-      let taken : take from (chosen_in new) ≡ chosen_in cut = ap (λ n. take n (chosen_in new)) count ∙ ap (take (length (chosen_in cut))) more.is ∙ take-append_seam (chosen_in cut) more.more in
+      let taken : take from (chosen_in new) ≡ chosen_in cut = ap (λ n. take n (chosen_in new)) count ∙ ap (take (length (chosen_in cut))) more.is ∙
+      take-append_seam (chosen_in cut) more.more in
       let longer : length (chosen_in new) ≡ length (chosen_in cut) + length more.more = ap length more.is ∙ length-append (chosen_in cut) more.more in
       let Within : List S → Type 0 = λ list. IsWithin list (chosen_of old) in
       let size : variable_count (trail_of search) ≡ length origins = ap variable_count same ∙ up.variables in
@@ -199,8 +243,10 @@ module _ {N S : Type 0} where
 
   pub followed : (old : Rounds N S) (kept : ℕ) (cut new : Chosen S) (search : ClauseSearch) → IsUpToDate old → HasMark old → kept ≡ kept_of old.search →
       ((origins : List (Origin N S)) (trail : Trail) (count : ℕ) → Follows old.chosen origins trail count → kept ≤ count → Follows cut origins trail kept) →
-      ((count : ℕ) → Follows cut (notes_of old).origins (trail_of old.search) count → Follows new (notes_of old).origins (trail_of old.search) (length_of (trail_of old.search))) →
-      trail_of search ≡ trail_of old.search → clause_count_of search ≡ clause_count_of old.search → learnt_count_of search ≡ learnt_count_of old.search → KeepsTurn old.search search → kept_of search ≡ length_of (trail_of search) →
+      ((count : ℕ) → Follows cut (notes_of old).origins (trail_of old.search) count →
+      Follows new (notes_of old).origins (trail_of old.search) (length_of (trail_of old.search))) →
+      trail_of search ≡ trail_of old.search → clause_count_of search ≡ clause_count_of old.search → learnt_count_of search ≡ learnt_count_of old.search →
+      KeepsTurn old.search search → kept_of search ≡ length_of (trail_of search) →
       HasFollowed old (record old { chosen = new; search = search })
   followed old kept cut new search up mark is cuts follows trail clauses learnt turn count = record {
     trail = trail;
@@ -212,38 +258,55 @@ module _ {N S : Type 0} where
   }
 
   -- what was read for the old list was read for the first ones of the new list
-  pub read_first : (u : Universe N S) (root : Demands) (old new : Rounds N S) (from : ℕ) (keys : List S) → IsFollowing old new from → keys ≡ chosen_of new → IsReadSoFar u root (chosen_of old) (notes_of old) → IsReadSoFar u root (take from keys) (notes_of new)
+  pub read_first : (u : Universe N S) (root : Demands) (old new : Rounds N S) (from : ℕ) (keys : List S) → IsFollowing old new from → keys ≡ chosen_of new →
+      IsReadSoFar u root (chosen_of old) (notes_of old) → IsReadSoFar u root (take from keys) (notes_of new)
   read_first u root old new from keys following is h =
       let Encoded : Encoding N S → Type 0 = λ e. IsReadSoFar u root (chosen_of old) (notes_in e) in
       let Within : List S → Type 0 = λ list. IsWithin (take from list) (chosen_of old) in
       so_far_less u root (take from keys) (chosen_of old) (notes_of new) (subst Within (sym is) following.earlier) (subst Encoded (sym following.encoding) h)
 
-  pub reading_first : (u : Universe N S) (old new : Rounds N S) (from : ℕ) (keys : List S) → IsFollowing old new from → keys ≡ chosen_of new → IsReading u (chosen_of old) (notes_of old) → IsReading u (take from keys) (notes_of new)
+  pub reading_first : (u : Universe N S) (old new : Rounds N S) (from : ℕ) (keys : List S) → IsFollowing old new from → keys ≡ chosen_of new →
+      IsReading u (chosen_of old) (notes_of old) → IsReading u (take from keys) (notes_of new)
   reading_first u old new from keys following is h = record { root = h.root; so_far = read_first u h.root old new from keys following is h.so_far }
 
   -- more was read
-  pub read_more : (u : Universe N S) (old mid : Rounds N S) (from : ℕ) (keys : List S) (encoding : Encoding N S) → AreRounds u old → IsFollowing old mid from → keys ≡ chosen_of mid → IsBounded encoding → IsReadMore u keys (notes_of mid) (notes_in encoding) →
-      ((root : Demands) → IsReadSoFar u root (take from keys) (notes_of mid) → IsReadSoFar u root keys (notes_in encoding)) → AreRounds u (record mid { encoding = encoding })
+  pub read_more : (u : Universe N S) (old mid : Rounds N S) (from : ℕ) (keys : List S) (encoding : Encoding N S) → AreRounds u old → IsFollowing old mid from →
+      keys ≡ chosen_of mid → IsBounded encoding → IsReadMore u keys (notes_of mid) (notes_in encoding) →
+      ((root : Demands) → IsReadSoFar u root (take from keys) (notes_of mid) → IsReadSoFar u root keys (notes_in encoding)) →
+      AreRounds u (record mid { encoding = encoding })
   read_more u old mid from keys encoding rounds following is bounded more reads =
       let ReadFor : List S → Type 0 = λ set. IsReadSoFar u rounds.reading.root set (notes_in encoding) in
-      let longer : length (notes_of mid).origins ≤ length (notes_in encoding).origins = Keeps-longer (notes_of mid).origins (notes_in encoding).origins Root more.origins in
+      let longer : length (notes_of mid).origins ≤ length (notes_in encoding).origins =
+      Keeps-longer (notes_of mid).origins (notes_in encoding).origins Root more.origins in
       let mark : HasMark mid = following.mark in
       record {
         bounded = bounded;
-        reading = record { root = rounds.reading.root; so_far = subst ReadFor is (reads rounds.reading.root (read_first u rounds.reading.root old mid from keys following is rounds.reading.so_far)) };
+        reading = record {
+          root = rounds.reading.root;
+          so_far = subst ReadFor is (reads rounds.reading.root (read_first u rounds.reading.root old mid from keys following is rounds.reading.so_far));
+        };
         consistent = following.consistent;
-        loaded = record { given = (notes_of mid).table; numbers = (notes_of mid).requirements; loaded = following.loaded.loaded; clauses = more.table; asking = more.requirements };
+        loaded = record {
+          given = (notes_of mid).table;
+          numbers = (notes_of mid).requirements;
+          loaded = following.loaded.loaded;
+          clauses = more.table;
+          asking = more.requirements;
+        };
         variables = omega (arith, longer, following.loaded.variables);
         mark = record {
           base = mark.base;
-          follows = follows_still (notes_of mid).origins (notes_in encoding).origins mark.base mark.base (length_of mark.base) more.origins mark.known (keeps_itself mark.base (length_of mark.base) (omega arith)) mid.chosen mark.follows;
+          follows = follows_still (notes_of mid).origins (notes_in encoding).origins mark.base mark.base (length_of mark.base) more.origins mark.known
+              (keeps_itself mark.base (length_of mark.base) (omega arith)) mid.chosen mark.follows;
           kept = mark.kept;
           known = omega (arith, mark.known, longer);
         };
       }
 
-  pub keeps_more : (u : Universe N S) (old mid : Rounds N S) (from : ℕ) (keys : List S) (encoding : Encoding N S) → IsFollowing old mid from → keys ≡ chosen_of mid →
-      ((root : Demands) → IsReadSoFar u root (take from keys) (notes_of mid) → IsReadSoFar u root keys (notes_in encoding)) → KeepsRead u old (record mid { encoding = encoding })
+  pub keeps_more : (u : Universe N S) (old mid : Rounds N S) (from : ℕ) (keys : List S) (encoding : Encoding N S) → IsFollowing old mid from →
+      keys ≡ chosen_of mid →
+      ((root : Demands) → IsReadSoFar u root (take from keys) (notes_of mid) → IsReadSoFar u root keys (notes_in encoding)) →
+      KeepsRead u old (record mid { encoding = encoding })
   keeps_more u old mid from keys encoding following is reads = λ root h.
       let ReadFor : List S → Type 0 = λ set. IsReadSoFar u root set (notes_in encoding) in
       subst ReadFor is (reads root (read_first u root old mid from keys following is h))

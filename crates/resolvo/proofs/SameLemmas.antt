@@ -13,11 +13,13 @@ use Rattle.resolver_clause_store.specs.declared.Rule.TheVariants.{Requires, Cons
 pub StatesTheSame-flip : {N S : Type 0} (rule other : Rule N S) → StatesTheSame rule other → StatesTheSame other rule
 StatesTheSame-flip rule other same = sym same
 
-pub ObeysAlone-same : {N S : Type 0} (set : List S) (rule other : Rule N S) → StatesTheSame rule other → ObeysAlone set (statement_of rule) → ObeysAlone set (statement_of other)
+pub ObeysAlone-same : {N S : Type 0} (set : List S) (rule other : Rule N S) → StatesTheSame rule other → ObeysAlone set (statement_of rule) →
+    ObeysAlone set (statement_of other)
 ObeysAlone-same set rule other same h = subst (ObeysAlone set) same h
 
 -- what states the same is true of the same
-pub IsTrueRule-same : {N S : Type 0} (u : Universe N S) (root : Demands) (rule other : Rule N S) → StatesTheSame rule other → IsTrueRule u root rule → IsTrueRule u root other
+pub IsTrueRule-same : {N S : Type 0} (u : Universe N S) (root : Demands) (rule other : Rule N S) → StatesTheSame rule other → IsTrueRule u root rule →
+    IsTrueRule u root other
 IsTrueRule-same u root rule other same h = subst (IsTrueStatement u root) same h
 
 -- an element stands in a longer list
@@ -29,7 +31,8 @@ pub zip_left : {X : Type 0} (R : X → X → Type 0) (xs ys : List X) → AllZip
 zip_left R [] ys h x inside = absurd (omega (arith, inside.1))
 zip_left R (x ∷ xs) [] h z inside = absurd h
 zip_left {X} R (x ∷ xs) (y ∷ ys) (here, rest) z (zero, below, is) = let At : X → Type 0 = λ q. R q y in (y, (zero, omega arith, refl), subst At is here)
-zip_left R (x ∷ xs) (y ∷ ys) (here, rest) z (suc k, below, is) = let w = zip_left R xs ys rest z (k, omega (arith, below), is) in (w.0, further y ys w.0 w.1, w.2)
+zip_left R (x ∷ xs) (y ∷ ys) (here, rest) z (suc k, below, is) = let w = zip_left R xs ys rest z (k, omega (arith, below), is) in
+    (w.0, further y ys w.0 w.1, w.2)
 
 pub zip_flip : {X : Type 0} (R : X → X → Type 0) → ((x y : X) → R x y → R y x) → (xs ys : List X) → AllZip R xs ys → AllZip R ys xs
 zip_flip R flip [] [] h = tt
@@ -69,8 +72,10 @@ is_mark (Excluded solvable reason) name instance e = absurd cc
 is_mark (OnePerPackage name' instance') name instance e = cc
 
 -- the mark that states the same is the same one
-marked_too : {N S : Type 0} (rules : List (Rule N S)) (name : N) (instance : S) (other : Rule N S) → StatesTheSame (OnePerPackage name instance) other → Contains rules other → Contains rules (OnePerPackage name instance)
-marked_too {N} {S} rules name instance other same inside = let Has : Rule N S → Type 0 = λ rule. Contains rules rule in subst Has (sym (is_mark other name instance same)) inside
+marked_too : {N S : Type 0} (rules : List (Rule N S)) (name : N) (instance : S) (other : Rule N S) → StatesTheSame (OnePerPackage name instance) other →
+    Contains rules other → Contains rules (OnePerPackage name instance)
+marked_too {N} {S} rules name instance other same inside = let Has : Rule N S → Type 0 = λ rule. Contains rules rule in
+    subst Has (sym (is_mark other name instance same)) inside
 
 pub Obeys-same : {N S : Type 0} (rules others : List (Rule N S)) → AllZip StatesTheSame rules others → (set : List S) → Obeys set others → Obeys set rules
 Obeys-same {N} {S} rules others same set obeys = record {
@@ -93,10 +98,12 @@ pub IsIrreducible-same : {N S : Type 0} (rules others : List (Rule N S)) → All
 IsIrreducible-same rules others same (refuted, needed) = (
   IsRefuted-same rules others same refuted,
   λ k below less.
-      needed k (omega (arith, below, length_all_zip StatesTheSame rules others same)) (IsRefuted-same (remove others k) (remove rules k) (zip_remove StatesTheSame others rules k (same_flipped rules others same)) less),
+      needed k (omega (arith, below, length_all_zip StatesTheSame rules others same))
+      (IsRefuted-same (remove others k) (remove rules k) (zip_remove StatesTheSame others rules k (same_flipped rules others same)) less),
 )
 
-pub AllTrue-same : {N S : Type 0} (u : Universe N S) (root : Demands) (rules others : List (Rule N S)) → AllZip StatesTheSame rules others → All (IsTrueRule u root) rules → All (IsTrueRule u root) others
+pub AllTrue-same : {N S : Type 0} (u : Universe N S) (root : Demands) (rules others : List (Rule N S)) → AllZip StatesTheSame rules others →
+    All (IsTrueRule u root) rules → All (IsTrueRule u root) others
 AllTrue-same u root rules others same all = λ k d below.
     let w = zip_left StatesTheSame others rules (same_flipped rules others same) (get_or others k d) (Contains-get_or others k d below) in
     IsTrueRule-same u root w.0 (get_or others k d) (StatesTheSame-flip (get_or others k d) w.0 w.2) (All-contains (IsTrueRule u root) rules w.0 all w.1)

@@ -1,5 +1,6 @@
 -- What a soft requirement's turn does to the rounds.
-use Rattle.std.proofs.Common.{◌≡◌, ◌≢◌, ℕ, suc, ◌+◌, ◌-◌, ◌<◌, ◌≤◌, ◌⊎◌, List, [], ◌∷◌, rules, Bool, true, false, ◌++◌, append-nil, length, length-append, take, arith, inl, inr, refl, sym, ap, ◌∙◌, subst, ⊎_elim, Contains, Option, Some, None, Vec, Global}
+use Rattle.std.proofs.Common.{◌≡◌, ◌≢◌, ℕ, suc, ◌+◌, ◌-◌, ◌<◌, ◌≤◌, ◌⊎◌, List, [], ◌∷◌, rules, Bool, true, false, ◌++◌, append-nil, length, length-append, take}
+use Rattle.std.proofs.Common.{arith, inl, inr, refl, sym, ap, ◌∙◌, subst, ⊎_elim, Contains, Option, Some, None, Vec, Global}
 use Rattle.std.specs.List.{flat_map}
 use Rattle.std.specs.Prelude.{slice_get}
 use Rattle.std.specs.Option.{option_map, option_map_or}
@@ -45,7 +46,8 @@ use Rattle.resolver_encoding.proofs.LeftOutLemmas.{left_out_more, left_out_nowhe
 use Rattle.resolver_encoding.proofs.Lists.{cons_cases, here, none_in, there}
 use Rattle.resolver_encoding.proofs.TrailLemmas.{before_extends, follows_still, none_at, same_before, same_origin}
 use Rattle.resolvo.specs.ClauseSearches.{IsConsistent, IsRootTurn, KeepsLoaded, KeepsMark, KeepsTurn, base_of, held_of, kept_of, trail_of}
-use Rattle.resolvo.specs.RoundStates.{AreRounds, GoesOn, HasAssumed, HasMark, HasTurned, IsAnswering, IsFollowing, IsBetween, IsRefusing, IsSearchOf, IsStanding, IsStill, IsTurned, IsUnanswered, is_accepted, is_refused, was_chosen, chosen_of, notes_of}
+use Rattle.resolvo.specs.RoundStates.{AreRounds, GoesOn, HasAssumed, HasMark, HasTurned, IsAnswering, IsFollowing, IsBetween, IsRefusing, IsSearchOf}
+use Rattle.resolvo.specs.RoundStates.{IsStanding, IsStill, IsTurned, IsUnanswered, is_accepted, is_refused, was_chosen, chosen_of, notes_of}
 use Rattle.resolvo.specs.declared.clause_search.ClauseSearch.{ClauseSearch}
 use Rattle.resolvo.specs.declared.rounds.Rounds.{Rounds}
 use Rattle.resolvo.proofs.RoundLemmas.{Keeps-longer, keeps_itself, so_far_less}
@@ -67,18 +69,42 @@ pub record IsAddition {N S : Type 0} (u : Universe N S) (old new : Notes N S) : 
 pub registered_adds : {N S : Type 0} (u : Universe N S) (s : S) (old new : Notes N S) → IsRegistered u s old new → IsAddition u old new
 registered_adds {N} {S} u s old new r =
     let Asked : List N → Type 0 = λ list. IsWithin old.asked list in
-    record { origins = r.origins; table = r.table; requirements = r.requirements; asked = subst Asked (sym r.asked) (λ n h. h); seen = Extends-within old.seen new.seen r.seen; read = r.read; keeps = r.stays.so_far }
+    record {
+      origins = r.origins;
+      table = r.table;
+      requirements = r.requirements;
+      asked = subst Asked (sym r.asked) (λ n h. h);
+      seen = Extends-within old.seen new.seen r.seen;
+      read = r.read;
+      keeps = r.stays.so_far;
+    }
 
 pub asking_adds : {N S : Type 0} (u : Universe N S) (n : N) (old new : Notes N S) → AsksOnly u n old new → IsAddition u old new
 asking_adds {N} {S} u n old new a =
     let Seen : List S → Type 0 = λ list. IsWithin old.seen list in
-    record { origins = a.origins; table = a.table; requirements = a.requirements; asked = a.asked.stays; seen = subst Seen (sym a.seen) (λ s h. h); read = a.read; keeps = a.stays.so_far }
+    record {
+      origins = a.origins;
+      table = a.table;
+      requirements = a.requirements;
+      asked = a.asked.stays;
+      seen = subst Seen (sym a.seen) (λ s h. h);
+      read = a.read;
+      keeps = a.stays.so_far;
+    }
 
 pub ended_adds : {N S : Type 0} (u : Universe N S) (old new : Notes N S) → IsTurnEnd u old new → IsAddition u old new
 ended_adds {N} {S} u old new e =
     let Asked : List N → Type 0 = λ list. IsWithin old.asked list in
     let Seen : List S → Type 0 = λ list. IsWithin old.seen list in
-    record { origins = e.origins; table = e.table; requirements = e.requirements; asked = subst Asked (sym e.asked) (λ n h. h); seen = subst Seen (sym e.seen) (λ s h. h); read = e.read; keeps = e.stays.so_far }
+    record {
+      origins = e.origins;
+      table = e.table;
+      requirements = e.requirements;
+      asked = subst Asked (sym e.asked) (λ n h. h);
+      seen = subst Seen (sym e.seen) (λ s h. h);
+      read = e.read;
+      keeps = e.stays.so_far;
+    }
 
 -- a list with one more behind
 pub last_in : {X : Type 0} (xs : List X) (x : X) → Contains (xs ++ x ∷ []) x
@@ -107,7 +133,8 @@ in_or_not eq same (y ∷ xs) x = ⊎_elim
 -- what was assumed last is so while the turn goes on
 pub still_assumed : (old new : ClauseSearch) (v : ℕ) → IsConsistent old → KeepsTurn old new → HasAssumed old v → HasAssumed new v
 still_assumed old new v consistent turn it =
-    let places : KeepsPlaces (trail_of old) (trail_of new) (held_of new) = turn.places (trail_of old) (keeps_itself (trail_of old) (held_of old) consistent.turn.inside) in
+    let places : KeepsPlaces (trail_of old) (trail_of new) (held_of new) =
+    turn.places (trail_of old) (keeps_itself (trail_of old) (held_of old) consistent.turn.inside) in
     let some : 0 < held_of old = consistent.turn.some it.base in
     record {
       base = omega (arith, it.base, turn.base);
@@ -117,31 +144,41 @@ still_assumed old new v consistent turn it =
 pub assumed_inside : (it : ClauseSearch) (v : ℕ) → IsConsistent it → HasAssumed it v → v < variable_count (trail_of it)
 assumed_inside it v consistent assumed =
     let w = slot_at (trail_of it) (held_of it - 1) (omega (arith, consistent.turn.some assumed.base, consistent.turn.inside)) in
-    let inside : variable_at (trail_of it) (held_of it - 1) < variable_count (trail_of it) = slot-within _ (variable_at (trail_of it) (held_of it - 1)) w.0.place (ap (option_map (λ (slot : Slot). slot.place)) w.1) in
+    let inside : variable_at (trail_of it) (held_of it - 1) < variable_count (trail_of it) =
+    slot-within _ (variable_at (trail_of it) (held_of it - 1)) w.0.place (ap (option_map (λ (slot : Slot). slot.place)) w.1) in
     omega (arith, inside, assumed.place)
 
 module _ {N S : Type 0} where
   -- the variable of a solvable that a trail makes true
-  pub chosen_slot : (origins : List (Origin N S)) (trail : Trail) → variable_count trail ≡ length origins → (s : S) → Contains (solvables_before origins trail (length_of trail)) s →
+  pub chosen_slot : (origins : List (Origin N S)) (trail : Trail) → variable_count trail ≡ length origins → (s : S) →
+      Contains (solvables_before origins trail (length_of trail)) s →
       (v : ℕ) × (slot : Slot) × (slot_of trail v ≡ Some slot) × (slice_get origins v ≡ Some (Solvable s)) × (slot.value ≡ true)
   chosen_slot origins trail size s h =
       let w = before-back origins trail size (length_of trail) (atom (Solvable s) true) (true_before origins trail (length_of trail) s h) in
       let v : ℕ = variable_at trail w.0 in
       let p = slot_at trail w.0 w.1 in
-      let inside : v < variable_count trail = slot-within _ v p.0.place (ap (option_map (λ (slot : Slot). slot.place)) p.1) in
-      (v, p.0, p.1, stands origins trail size v (omega (arith, inside, size)) ∙ ap (λ (a : Atom N S). Some a.origin) w.2, sym (ap (λ o. option_map_or (λ (q : Slot). q.value) o false) p.1) ∙ ap (λ (a : Atom N S). a.positive) w.2)
+      let inside : v < variable_count trail = slot-within _ v p.0.place (ap (option_map (λ (slot : Slot). slot.place)) p.1) in (
+        v,
+        p.0,
+        p.1,
+        stands origins trail size v (omega (arith, inside, size)) ∙ ap (λ (a : Atom N S). Some a.origin) w.2,
+        sym (ap (λ o. option_map_or (λ (q : Slot). q.value) o false) p.1) ∙ ap (λ (a : Atom N S). a.positive) w.2,
+      )
 
   -- and back
-  pub slot_chosen : (origins : List (Origin N S)) (trail : Trail) → variable_count trail ≡ length origins → (v : ℕ) (slot : Slot) (s : S) → slot_of trail v ≡ Some slot → origin_at origins v ≡ Solvable s → slot.value ≡ true →
+  pub slot_chosen : (origins : List (Origin N S)) (trail : Trail) → variable_count trail ≡ length origins → (v : ℕ) (slot : Slot) (s : S) →
+      slot_of trail v ≡ Some slot → origin_at origins v ≡ Solvable s → slot.value ≡ true →
       Contains (solvables_before origins trail (length_of trail)) s
   slot_chosen origins trail size v slot s at origin value =
       let Entry : Origin N S → Bool → Type 0 = λ o b. Contains (atoms_before origins trail (length_of trail)) (atom o b) in
       let Valued : Bool → Type 0 = λ b. Entry (Solvable s) b in
       let Stands : Origin N S → Type 0 = λ o. Entry o slot.value in
-      (is_chosen origins trail).each_chosen s (subst Valued value (subst Stands origin (has_value origins trail size (length_of trail) v slot at (trail.listed v slot at).0)))
+      (is_chosen origins trail).each_chosen s
+      (subst Valued value (subst Stands origin (has_value origins trail size (length_of trail) v slot at (trail.listed v slot at).0)))
 
   -- a solvable whose variable is not true is not chosen
-  pub unchosen : (origins : List (Origin N S)) (trail : Trail) → AreDistinct origins → variable_count trail ≡ length origins → (v : ℕ) (s : S) → slice_get origins v ≡ Some (Solvable s) → ((slot : Slot) → slot_of trail v ≡ Some slot → slot.value ≡ true → ⊥) →
+  pub unchosen : (origins : List (Origin N S)) (trail : Trail) → AreDistinct origins → variable_count trail ≡ length origins → (v : ℕ) (s : S) →
+      slice_get origins v ≡ Some (Solvable s) → ((slot : Slot) → slot_of trail v ≡ Some slot → slot.value ≡ true → ⊥) →
       Contains (solvables_before origins trail (length_of trail)) s → ⊥
   unchosen origins trail distinct size v s origin never h =
       let w = chosen_slot origins trail size s h in
@@ -149,13 +186,17 @@ module _ {N S : Type 0} where
       never w.1 (ap (slot_of trail) (sym same) ∙ w.2) w.4
 
   -- what is asked for, where what was read is near the soft requirements
-  pub asked_for : (u : Universe N S) (root : Demands) (chosen : List S) (soft : List (SoftRequirement S)) (notes : Notes N S) → IsReadSoFar u root chosen notes → AreNear u root (flat_map (options u) soft) (flat_map (own_packages u) soft) notes → IsAsked u root chosen soft notes.asked
+  pub asked_for : (u : Universe N S) (root : Demands) (chosen : List S) (soft : List (SoftRequirement S)) (notes : Notes N S) →
+      IsReadSoFar u root chosen notes → AreNear u root (flat_map (options u) soft) (flat_map (own_packages u) soft) notes →
+      IsAsked u root chosen soft notes.asked
   asked_for u root chosen soft notes so near = record { named = asked_named u root chosen notes so; near = near.asked }
 
   -- clauses that were added change nothing of the rounds
-  pub rounds_added : (u : Universe N S) (old : Rounds N S) (encoding : Encoding N S) → AreRounds u old → IsBounded encoding → IsAddition u (notes_of old) (notes_in encoding) → AreRounds u (record old { encoding = encoding })
+  pub rounds_added : (u : Universe N S) (old : Rounds N S) (encoding : Encoding N S) → AreRounds u old → IsBounded encoding →
+      IsAddition u (notes_of old) (notes_in encoding) → AreRounds u (record old { encoding = encoding })
   rounds_added u old encoding rounds bounded adds =
-      let longer : length (notes_of old).origins ≤ length (notes_in encoding).origins = Keeps-longer (notes_of old).origins (notes_in encoding).origins Root adds.origins in
+      let longer : length (notes_of old).origins ≤ length (notes_in encoding).origins =
+      Keeps-longer (notes_of old).origins (notes_in encoding).origins Root adds.origins in
       let Asking : List ℕ → Type 0 = λ list. Extends rounds.loaded.numbers list in
       let mark : HasMark old = rounds.mark in
       record {
@@ -172,23 +213,27 @@ module _ {N S : Type 0} where
         variables = omega (arith, rounds.variables, longer);
         mark = record {
           base = mark.base;
-          follows = follows_still (notes_of old).origins (notes_in encoding).origins mark.base mark.base (length_of mark.base) adds.origins mark.known (keeps_itself mark.base (length_of mark.base) (omega arith)) old.chosen mark.follows;
+          follows = follows_still (notes_of old).origins (notes_in encoding).origins mark.base mark.base (length_of mark.base) adds.origins mark.known
+              (keeps_itself mark.base (length_of mark.base) (omega arith)) old.chosen mark.follows;
           kept = mark.kept;
           known = omega (arith, mark.known, longer);
         };
       }
 
-  pub still_added : (u : Universe N S) (old : Rounds N S) (encoding : Encoding N S) → AreRounds u old → Keeps (notes_of old).origins (notes_in encoding).origins → IsStill old → IsStill (record old { encoding = encoding })
+  pub still_added : (u : Universe N S) (old : Rounds N S) (encoding : Encoding N S) → AreRounds u old →
+      Keeps (notes_of old).origins (notes_in encoding).origins → IsStill old → IsStill (record old { encoding = encoding })
   still_added u old encoding rounds keeps still =
       let trail : Trail = trail_of old.search in
       record {
         held = still.held;
         marked = still.marked;
-        chosen = still.chosen ∙ sym (same_before (notes_of old).origins (notes_in encoding).origins trail trail (length_of trail) keeps rounds.variables (keeps_itself trail (length_of trail) (omega arith)) (length_of trail) (omega arith));
+        chosen = still.chosen ∙ sym (same_before (notes_of old).origins (notes_in encoding).origins trail trail (length_of trail) keeps rounds.variables
+            (keeps_itself trail (length_of trail) (omega arith)) (length_of trail) (omega arith));
       }
 
   -- where clauses were added that are near, what stands goes on to stand
-  module _ (u : Universe N S) (root : Demands) (taken refused seeds : List S) (packages : List N) (old : Rounds N S) (encoding : Encoding N S) (rounds : AreRounds u old) (adds : IsAddition u (notes_of old) (notes_in encoding)) (exempt : (notes_in encoding).exempt ≡ (notes_of old).exempt)
+  module _ (u : Universe N S) (root : Demands) (taken refused seeds : List S) (packages : List N) (old : Rounds N S) (encoding : Encoding N S)
+      (rounds : AreRounds u old) (adds : IsAddition u (notes_of old) (notes_in encoding)) (exempt : (notes_in encoding).exempt ≡ (notes_of old).exempt)
       (b : IsStanding u root taken refused seeds packages old) where
     pub standing_added : AreNear u root seeds packages (notes_in encoding) → IsStanding u root taken refused seeds packages (record old { encoding = encoding })
     standing_added near =
@@ -197,8 +242,10 @@ module _ {N S : Type 0} where
         record {
           read = adds.keeps root (chosen_of old) b.read;
           once = b.once;
-          assumed = assumed_still (notes_of old).origins (notes_in encoding).origins (trail_of old.search) (trail_of old.search) taken refused adds.origins rounds.variables (λ v slot at reason. at) b.assumed;
-          left_out = λ t h. left_out_more (notes_of old).origins (notes_in encoding).origins (notes_of old).table (notes_in encoding).table (chosen_of old) (chosen_of old) t adds.origins adds.table (λ x k. k) (b.left_out t h);
+          assumed = assumed_still (notes_of old).origins (notes_in encoding).origins (trail_of old.search)
+              (trail_of old.search) taken refused adds.origins rounds.variables (λ v slot at reason. at) b.assumed;
+          left_out = λ t h. left_out_more (notes_of old).origins (notes_in encoding).origins (notes_of old).table (notes_in encoding).table (chosen_of old)
+              (chosen_of old) t adds.origins adds.table (λ x k. k) (b.left_out t h);
           seeded = subst Seeds (sym exempt) (record {
             seed_chosen = b.seeded.seed_chosen;
             seed_registered = λ t h. adds.seen t (b.seeded.seed_registered t h);
@@ -210,7 +257,8 @@ module _ {N S : Type 0} where
         }
 
     -- a seed was registered
-    pub standing_registered : (s : S) → Contains seeds s → ((t : S) → Contains (notes_in encoding).seen t → Contains (notes_of old).seen t ⊎ (t ≡ s)) → (notes_in encoding).asked ≡ (notes_of old).asked → IsStanding u root taken refused seeds packages (record old { encoding = encoding })
+    pub standing_registered : (s : S) → Contains seeds s → ((t : S) → Contains (notes_in encoding).seen t → Contains (notes_of old).seen t ⊎ (t ≡ s)) →
+        (notes_in encoding).asked ≡ (notes_of old).asked → IsStanding u root taken refused seeds packages (record old { encoding = encoding })
     standing_registered s seed only asked =
         let Near : S → Type 0 = λ t. IsNear u root seeds t in
         let Read : List S → Type 0 = λ list. (t : S) → Contains list t → Near t in
@@ -222,7 +270,8 @@ module _ {N S : Type 0} where
         })
 
     -- one of the packages was asked
-    pub standing_asked : (n : N) → Contains packages n → AsksOnly u n (notes_of old) (notes_in encoding) → IsStanding u root taken refused seeds packages (record old { encoding = encoding })
+    pub standing_asked : (n : N) → Contains packages n → AsksOnly u n (notes_of old) (notes_in encoding) →
+        IsStanding u root taken refused seeds packages (record old { encoding = encoding })
     standing_asked n own alone =
         let Near : List S → Type 0 = λ list. (t : S) → Contains list t → IsNear u root seeds t in
         let Own : N → Type 0 = λ m. Contains packages m in
@@ -233,7 +282,9 @@ module _ {N S : Type 0} where
         })
 
   -- what was added was loaded
-  pub standing_loaded : (u : Universe N S) (root : Demands) (taken refused seeds : List S) (packages : List N) (old new : Rounds N S) → variable_count (trail_of old.search) ≤ length (notes_of old).origins → IsSearchOf old new → KeepsTurn old.search new.search → IsStanding u root taken refused seeds packages old → IsStanding u root taken refused seeds packages new
+  pub standing_loaded : (u : Universe N S) (root : Demands) (taken refused seeds : List S) (packages : List N) (old new : Rounds N S) →
+      variable_count (trail_of old.search) ≤ length (notes_of old).origins → IsSearchOf old new → KeepsTurn old.search new.search →
+      IsStanding u root taken refused seeds packages old → IsStanding u root taken refused seeds packages new
   standing_loaded u root taken refused seeds packages old new known same turn b =
       let Standing : Encoding N S → Chosen S → Type 0 = λ e c. IsStanding u root taken refused seeds packages (record new { encoding = e; chosen = c }) in
       let WithChosen : Chosen S → Type 0 = λ c. Standing new.encoding c in
@@ -241,7 +292,8 @@ module _ {N S : Type 0} where
       subst WithChosen (sym same.chosen) (subst WithEncoding (sym same.encoding) (record {
         read = b.read;
         once = b.once;
-        assumed = assumed_still (notes_of old).origins (notes_of old).origins (trail_of old.search) (trail_of new.search) taken refused (Keeps-same (notes_of old).origins) known turn.assumed.was b.assumed;
+        assumed = assumed_still (notes_of old).origins (notes_of old).origins (trail_of old.search) (trail_of new.search) taken refused
+            (Keeps-same (notes_of old).origins) known turn.assumed.was b.assumed;
         left_out = b.left_out;
         seeded = b.seeded;
         within = b.within;
@@ -250,7 +302,9 @@ module _ {N S : Type 0} where
       }))
 
   -- a turn may be told of from an earlier state in which as much was chosen, exempt and asked for
-  pub turned_from : (u : Universe N S) (root : Demands) (taken refused seeds : List S) (packages : List N) (s : S) (before old new : Rounds N S) (is_chosen : Bool) → chosen_of old ≡ chosen_of before → (notes_of old).exempt ≡ (notes_of before).exempt → (notes_of old).asked ≡ (notes_of before).asked →
+  pub turned_from : (u : Universe N S) (root : Demands) (taken refused seeds : List S) (packages : List N) (s : S) (before old new : Rounds N S)
+      (is_chosen : Bool) → chosen_of old ≡ chosen_of before → (notes_of old).exempt ≡ (notes_of before).exempt →
+      (notes_of old).asked ≡ (notes_of before).asked →
       HasTurned u root taken refused seeds packages s old new is_chosen → HasTurned u root taken refused seeds packages s before new is_chosen
   turned_from u root taken refused seeds packages s before old new is_chosen chosen exempt asked h =
       let Turned : List S → List S → List N → Type 0 = λ c e a. IsTurned u root taken c e a s h.taken_now (chosen_of new) (notes_of new).exempt is_chosen in
@@ -267,37 +321,55 @@ module _ {N S : Type 0} where
       }
 
   -- one that is decided is skipped
-  pub skipped : (u : Universe N S) → HasLawfulSolvables u → (eq : N → N → Bool) → IsIdentity eq → (root : Demands) (taken refused seeds : List S) (packages : List N) (s : S) (v : ℕ) (slot : Slot) (r : Rounds N S) → AreRounds u r → variable_count (trail_of r.search) ≡ length (notes_of r).origins → IsStill r →
-      slice_get (notes_of r).origins v ≡ Some (Solvable s) → slot_of (trail_of r.search) v ≡ Some slot → IsStanding u root taken refused seeds packages r → HasTurned u root taken refused seeds packages s r r slot.value
+  pub skipped : (u : Universe N S) → HasLawfulSolvables u → (eq : N → N → Bool) → IsIdentity eq →
+      (root : Demands) (taken refused seeds : List S) (packages : List N) (s : S) (v : ℕ) (slot : Slot) (r : Rounds N S) → AreRounds u r →
+      variable_count (trail_of r.search) ≡ length (notes_of r).origins → IsStill r →
+      slice_get (notes_of r).origins v ≡ Some (Solvable s) → slot_of (trail_of r.search) v ≡ Some slot → IsStanding u root taken refused seeds packages r →
+      HasTurned u root taken refused seeds packages s r r slot.value
   skipped u lawful eq names root taken refused seeds packages s v slot r rounds size still origin at b =
       let encoding = b.read.half.encoding in
-      let stays : (x : ℕ) (other : Slot) (n : ℕ) (t : S) → slot_of (trail_of r.search) x ≡ Some other → other.reason ≡ Decided n → other.level ≤ slot.level → other.value ≡ true → slice_get (notes_of r).origins x ≡ Some (Solvable t) → Contains (chosen_of r) t =
+      let stays : (x : ℕ) (other : Slot) (n : ℕ) (t : S) → slot_of (trail_of r.search) x ≡ Some other → other.reason ≡ Decided n → other.level ≤ slot.level →
+      other.value ≡ true → slice_get (notes_of r).origins x ≡ Some (Solvable t) → Contains (chosen_of r) t =
       λ x other n t is reason low on stands. let Chosen : List S → Type 0 = λ list. Contains list t in
-      subst Chosen (sym still.chosen) (slot_chosen (notes_of r).origins (trail_of r.search) size x other t is (get_or_from_slice_get (notes_of r).origins x (Solvable t) Root stands) on)
+      subst Chosen (sym still.chosen)
+      (slot_chosen (notes_of r).origins (trail_of r.search) size x other t is (get_or_from_slice_get (notes_of r).origins x (Solvable t) Root stands) on)
       in
       let left : slot.value ≡ false → IsLeftOut (notes_of r).origins (notes_of r).table (chosen_of r) s = λ off. record {
         variable = v;
         stands = origin;
-        never = λ values holds are. trail_agrees u root (notes_of r) encoding r.search rounds.consistent rounds.loaded (chosen_of r) taken refused rounds.variables b.assumed b.left_out values holds are slot.level
+        never = λ values holds are. trail_agrees u root (notes_of r) encoding r.search rounds.consistent rounds.loaded
+            (chosen_of r) taken refused rounds.variables b.assumed b.left_out values holds are slot.level
             (λ t h x is. are x t (b.seeded.seed_chosen t h) is) stays v slot at (omega arith) ∙ off;
       } in
-      let Turned : Bool → Type 0 = λ on. IsTurned u root taken (chosen_of r) (notes_of r).exempt (notes_of r).asked s taken (chosen_of r) (notes_of r).exempt on in
+      let Turned : Bool → Type 0 = λ on. IsTurned u root taken (chosen_of r) (notes_of r).exempt (notes_of r).asked s taken (chosen_of r)
+      (notes_of r).exempt on in
       let Has : List S → Type 0 = λ list. Contains list s in
       let turned : Turned slot.value = ⊎_elim
-      (λ (on : slot.value ≡ true). subst Turned (sym on) (was_chosen (subst Has (sym still.chosen) (slot_chosen (notes_of r).origins (trail_of r.search) size v slot s at (get_or_from_slice_get (notes_of r).origins v (Solvable s) Root origin) on))))
+      (λ (on : slot.value ≡ true). subst Turned (sym on)
+      (was_chosen (subst Has (sym still.chosen)
+      (slot_chosen (notes_of r).origins (trail_of r.search) size v slot s at (get_or_from_slice_get (notes_of r).origins v (Solvable s) Root origin) on))))
       (λ (off : slot.value ≡ false).
-      let never : Contains (chosen_of r) s → ⊥ = λ h. unchosen (notes_of r).origins (trail_of r.search) encoding.distinct size v s origin (λ other is on. false≢true (sym off ∙ ap (λ (q : Slot). q.value) (same_Some _ _ (sym at ∙ is)) ∙ on)) (subst Has still.chosen h) in
+      let never : Contains (chosen_of r) s → ⊥ =
+      λ h. unchosen (notes_of r).origins (trail_of r.search) encoding.distinct size v s origin (λ other is on.
+      false≢true (sym off ∙ ap (λ (q : Slot). q.value) (same_Some _ _ (sym at ∙ is)) ∙ on)) (subst Has still.chosen h) in
       subst Turned (sym off) (⊎_elim
-      (λ was. is_refused never (asked_before was) (left_out_nowhere u root (notes_of r) encoding lawful (chosen_of r) (notes_of r).exempt s (spares_present u (notes_of r).asked (notes_of r).exempt (notes_of r).kinds encoding.due) (left off)))
-      (λ not. is_refused never (not_asked not) (left_out_nowhere u root (notes_of r) encoding lawful (chosen_of r) ((notes_of r).exempt ++ s ∷ []) s (spares_exempting u (notes_of r).asked (notes_of r).exempt s ((notes_of r).exempt ++ s ∷ []) (notes_of r).kinds encoding.due (not_asked not)) (left off)))
+      (λ was. is_refused never (asked_before was)
+      (left_out_nowhere u root (notes_of r) encoding lawful (chosen_of r) (notes_of r).exempt s
+      (spares_present u (notes_of r).asked (notes_of r).exempt (notes_of r).kinds encoding.due) (left off)))
+      (λ not. is_refused never (not_asked not)
+      (left_out_nowhere u root (notes_of r) encoding lawful (chosen_of r) ((notes_of r).exempt ++ s ∷ []) s
+      (spares_exempting u (notes_of r).asked (notes_of r).exempt s ((notes_of r).exempt ++ s ∷ []) (notes_of r).kinds encoding.due (not_asked not))
+      (left off)))
       (in_or_not eq names (notes_of r).asked (u.name s))))
       (cases_Bool slot.value)
       in
       record { taken_now = taken; refused_now = refused; turned = turned; standing = b; asked = λ n h. h }
 
   -- what is chosen once the turn was undone was chosen before
-  pub refused_within : (u : Universe N S) (old : Rounds N S) (cut new : Trail) (v : ℕ) (chosen : List S) → AreRounds u old → 0 < base_of old.search → IsCut (trail_of old.search) cut (held_of old.search - 1) →
-      Gains cut new (record { variable = v; positive = false }) (level_of cut + 1) Assumed → slot_of cut v ≡ None → chosen ≡ solvables_before (notes_of old).origins new (length_of new) → IsWithin chosen (chosen_of old)
+  pub refused_within : (u : Universe N S) (old : Rounds N S) (cut new : Trail) (v : ℕ) (chosen : List S) → AreRounds u old → 0 < base_of old.search →
+      IsCut (trail_of old.search) cut (held_of old.search - 1) →
+      Gains cut new (record { variable = v; positive = false }) (level_of cut + 1) Assumed → slot_of cut v ≡ None →
+      chosen ≡ solvables_before (notes_of old).origins new (length_of new) → IsWithin chosen (chosen_of old)
   refused_within u old cut new v chosen rounds base is_cut gains free is t h =
       let origins : List (Origin N S) = (notes_of old).origins in
       let n : ℕ = held_of old.search - 1 in
@@ -308,34 +380,58 @@ module _ {N S : Type 0} where
       let stands_last : variable_at new n ≡ v = ap (variable_at new) (sym is_cut.length) ∙ (new.listed v made gains.here).1 in
       let off : value_of new v ≡ false = ap (λ o. option_map_or (λ (q : Slot). q.value) o false) gains.here in
       let size : length_of new ≡ suc n = omega (arith, gains.count, is_cut.length) in
-      let nothing : [] ≡ solvable_if (origin_at origins (variable_at new n)) (value_of new (variable_at new n)) = none_at (origin_at origins (variable_at new n)) (value_of new (variable_at new n)) (ap (value_of new) stands_last ∙ off) in
-      let cut_kept : KeepsPlaces (trail_of old.search) cut n = keeps_places (trail_of old.search) cut n (omega (arith, rounds.consistent.turn.inside)) (λ x slot at below. is_cut.kept x slot at below) in
-      let all_kept : KeepsPlaces (trail_of old.search) new n = keeps_through (trail_of old.search) cut new n (length_of cut) cut_kept (keeps_all cut new (keeps-gains cut new (record { variable = v; positive = false }) (level_of cut + 1) Assumed gains free)) (omega (arith, is_cut.length)) in
-      let first : solvables_before origins new n ≡ solvables_before origins (trail_of old.search) n = same_before origins origins (trail_of old.search) new n (Keeps-same origins) rounds.variables all_kept n (omega arith) in
-      let again : solvables_before origins (trail_of old.search) n ≡ solvables_before origins mark.base n = same_before origins origins mark.base (trail_of old.search) (kept_of old.search) (Keeps-same origins) mark.known mark.kept n marked in
+      let nothing : [] ≡ solvable_if (origin_at origins (variable_at new n)) (value_of new (variable_at new n)) =
+      none_at (origin_at origins (variable_at new n)) (value_of new (variable_at new n)) (ap (value_of new) stands_last ∙ off) in
+      let cut_kept : KeepsPlaces (trail_of old.search) cut n =
+      keeps_places (trail_of old.search) cut n (omega (arith, rounds.consistent.turn.inside)) (λ x slot at below. is_cut.kept x slot at below) in
+      let all_kept : KeepsPlaces (trail_of old.search) new n =
+      keeps_through (trail_of old.search) cut new n (length_of cut) cut_kept
+      (keeps_all cut new (keeps-gains cut new (record { variable = v; positive = false }) (level_of cut + 1) Assumed gains free))
+      (omega (arith, is_cut.length)) in
+      let first : solvables_before origins new n ≡ solvables_before origins (trail_of old.search) n =
+      same_before origins origins (trail_of old.search) new n (Keeps-same origins) rounds.variables all_kept n (omega arith) in
+      let again : solvables_before origins (trail_of old.search) n ≡ solvables_before origins mark.base n =
+      same_before origins origins mark.base (trail_of old.search) (kept_of old.search) (Keeps-same origins) mark.known mark.kept n marked in
       let Has : List S → Type 0 = λ list. Contains list t in
-      let there_before : Contains (solvables_before origins mark.base n) t = subst Has (is ∙ ap (solvables_before origins new) size ∙ ap (λ list. solvables_before origins new n ++ list) (sym nothing) ∙ append-nil (solvables_before origins new n) ∙ first ∙ again) h in
-      subst Has (sym mark.follows.is) (Extends-within (solvables_before origins mark.base n) (solvables_before origins mark.base (length_of mark.base)) (before_extends origins mark.base n (length_of mark.base) (omega (arith, marked, mark.kept.were))) t there_before)
+      let there_before : Contains (solvables_before origins mark.base n) t =
+      subst Has (is ∙ ap (solvables_before origins new) size ∙ ap (λ list. solvables_before origins new n ++ list) (sym nothing) ∙
+      append-nil (solvables_before origins new n) ∙ first ∙ again) h in
+      subst Has (sym mark.follows.is)
+      (Extends-within (solvables_before origins mark.base n) (solvables_before origins mark.base (length_of mark.base))
+      (before_extends origins mark.base n (length_of mark.base) (omega (arith, marked, mark.kept.were))) t there_before)
 
   -- a list that follows the trail again, and has no more than before
-  pub rounds_followed : (u : Universe N S) (before old new : Rounds N S) (from : ℕ) → AreRounds u before → old.encoding ≡ before.encoding → IsFollowing old new from → IsWithin (chosen_of new) (chosen_of before) → AreRounds u new
+  pub rounds_followed : (u : Universe N S) (before old new : Rounds N S) (from : ℕ) → AreRounds u before → old.encoding ≡ before.encoding →
+      IsFollowing old new from → IsWithin (chosen_of new) (chosen_of before) → AreRounds u new
   rounds_followed u before old new from rounds same following within =
       let encoding : before.encoding ≡ new.encoding = sym (following.encoding ∙ same) in
       let Bounded : Encoding N S → Type 0 = λ e. IsBounded e in
       let Read : Encoding N S → Type 0 = λ e. IsReadSoFar u rounds.reading.root (chosen_of new) (notes_in e) in
       record {
         bounded = subst Bounded encoding rounds.bounded;
-        reading = record { root = rounds.reading.root; so_far = subst Read encoding (so_far_less u rounds.reading.root (chosen_of new) (chosen_of before) (notes_of before) within rounds.reading.so_far) };
+        reading = record {
+          root = rounds.reading.root;
+          so_far = subst Read encoding (so_far_less u rounds.reading.root (chosen_of new) (chosen_of before)
+              (notes_of before) within rounds.reading.so_far);
+        };
         consistent = following.consistent;
-        loaded = record { given = (notes_of new).table; numbers = (notes_of new).requirements; loaded = following.loaded.loaded; clauses = Extends-same (notes_of new).table; asking = Extends-same (notes_of new).requirements };
+        loaded = record {
+          given = (notes_of new).table;
+          numbers = (notes_of new).requirements;
+          loaded = following.loaded.loaded;
+          clauses = Extends-same (notes_of new).table;
+          asking = Extends-same (notes_of new).requirements;
+        };
         variables = omega (arith, following.loaded.variables);
         mark = following.mark;
       }
 
   -- the turn of a soft requirement that is not decided: it may be exempt, and is assumed
-  module _ (u : Universe N S) (root : Demands) (taken refused seeds : List S) (packages : List N) (s : S) (v : ℕ) (old : Rounds N S) (encoding : Encoding N S) (search : ClauseSearch)
+  module _ (u : Universe N S) (root : Demands) (taken refused seeds : List S) (packages : List N) (s : S) (v : ℕ) (old : Rounds N S) (encoding : Encoding N S)
+      (search : ClauseSearch)
       (known : variable_count (trail_of old.search) ≡ length (notes_of old).origins) (distinct : AreDistinct (notes_of old).origins) (still : IsStill old)
-      (origin : slice_get (notes_of old).origins v ≡ Some (Solvable s)) (free : slot_of (trail_of old.search) v ≡ None) (seen : Contains (notes_of old).seen s) (seed : Contains seeds s)
+      (origin : slice_get (notes_of old).origins v ≡ Some (Solvable s)) (free : slot_of (trail_of old.search) v ≡ None) (seen : Contains (notes_of old).seen s)
+      (seed : Contains seeds s)
       (only : notes_in encoding ≡ record (notes_of old) { exempt = (notes_in encoding).exempt })
       (exempts : (Contains (notes_of old).exempt s → ⊥) → Exempts u (notes_of old).asked (notes_of old).exempt s (notes_in encoding).exempt)
       (stays : (d : Demands) (set : List S) → IsReadSoFar u d set (notes_of old) → IsReadSoFar u d set (notes_in encoding))
@@ -354,16 +450,19 @@ module _ {N S : Type 0} where
     same_origins = ap (λ (n : Notes N S). n.origins) only
 
     keeps_begun : Keeps (notes_of old).origins (notes_in encoding).origins
-    keeps_begun = let Kept : List (Origin N S) → Type 0 = λ os. Keeps (notes_of old).origins os in subst Kept (sym same_origins) (Keeps-same (notes_of old).origins)
+    keeps_begun = let Kept : List (Origin N S) → Type 0 = λ os. Keeps (notes_of old).origins os in
+        subst Kept (sym same_origins) (Keeps-same (notes_of old).origins)
 
     begun_known : variable_count (trail_of search) ≤ length (notes_in encoding).origins
     begun_known = omega (arith, gains.size, known, ap length same_origins)
 
     first_places : KeepsPlaces t0 (trail_of search) n0
-    first_places = keeps_all t0 (trail_of search) (keeps-gains t0 (trail_of search) (record { variable = v; positive = true }) (level_of t0 + 1) Assumed gains free)
+    first_places = keeps_all t0 (trail_of search)
+        (keeps-gains t0 (trail_of search) (record { variable = v; positive = true }) (level_of t0 + 1) Assumed gains free)
 
     not_chosen : Contains (chosen_of old) s → ⊥
-    not_chosen h = let Has : List S → Type 0 = λ list. Contains list s in unchosen (notes_of old).origins t0 distinct known v s origin (λ slot at on. none-some _ (sym free ∙ at)) (subst Has still.chosen h)
+    not_chosen h = let Has : List S → Type 0 = λ list. Contains list s in
+        unchosen (notes_of old).origins t0 distinct known v s origin (λ slot at on. none-some _ (sym free ∙ at)) (subst Has still.chosen h)
 
     made_exempt : Exempts u (notes_of old).asked (notes_of old).exempt s (notes_in encoding).exempt
     made_exempt = exempts (λ h. not_chosen (b.seeded.seed_chosen s (b.exempt s h)))
@@ -376,7 +475,11 @@ module _ {N S : Type 0} where
         let Kept : List (Origin N S) → Type 0 = λ os. AreAssumed os taken_now refused (trail_of search) in
         subst Kept (sym same_origins) (record {
           taken = λ x slot at reason value. ⊎_elim
-              (λ made. (s, ap (origin_at (notes_of old).origins) made.0 ∙ get_or_from_slice_get (notes_of old).origins v (Solvable s) Root origin, last_in taken s))
+              (λ made. (
+                s,
+                ap (origin_at (notes_of old).origins) made.0 ∙ get_or_from_slice_get (notes_of old).origins v (Solvable s) Root origin,
+                last_in taken s,
+              ))
               (λ was. let w = b.assumed.taken x slot was reason value in (w.0, w.1, earlier_in taken s w.0 w.2))
               (gains-cases t0 (trail_of search) (record { variable = v; positive = true }) (level_of t0 + 1) Assumed gains x slot at);
           left_out = λ x slot at reason value. ⊎_elim
@@ -386,7 +489,8 @@ module _ {N S : Type 0} where
         })
 
     begun_near : AreNear u root seeds packages (notes_in encoding)
-    begun_near = let Near : Notes N S → Type 0 = λ n. AreNear u root seeds packages n in subst Near (sym only) (record { seen = b.near.seen; read = b.near.read; asked = b.near.asked })
+    begun_near = let Near : Notes N S → Type 0 = λ n. AreNear u root seeds packages n in
+        subst Near (sym only) (record { seen = b.near.seen; read = b.near.read; asked = b.near.asked })
 
     same_asked : (notes_in encoding).asked ≡ (notes_of old).asked
     same_asked = ap (λ (n : Notes N S). n.asked) only
@@ -405,7 +509,8 @@ module _ {N S : Type 0} where
       o2 = (notes_of rest).origins
 
       places : KeepsPlaces (trail_of search) t2 (held_of search)
-      places = let Held : ℕ → Type 0 = λ n. KeepsPlaces (trail_of search) t2 n in subst Held goes.turn.held (goes.turn.places (trail_of search) (keeps_itself (trail_of search) (held_of search) (omega (arith, held))))
+      places = let Held : ℕ → Type 0 = λ n. KeepsPlaces (trail_of search) t2 n in
+          subst Held goes.turn.held (goes.turn.places (trail_of search) (keeps_itself (trail_of search) (held_of search) (omega (arith, held))))
 
       keeps_rest : Keeps (notes_of old).origins o2
       keeps_rest = Keeps-trans (notes_of old).origins (notes_in encoding).origins o2 keeps_begun goes.origins
@@ -432,7 +537,8 @@ module _ {N S : Type 0} where
       seen_rest t h = let Has : List S → Type 0 = λ list. Contains list t in goes.seen t (subst Has (sym same_seen) h)
 
       table_rest : Extends (notes_of old).table (notes_of rest).table
-      table_rest = let From : List (Vec Literal Global) → Type 0 = λ table. Extends table (notes_of rest).table in subst From (ap (λ (n : Notes N S). n.table) only) goes.table
+      table_rest = let From : List (Vec Literal Global) → Type 0 = λ table. Extends table (notes_of rest).table in
+          subst From (ap (λ (n : Notes N S). n.table) only) goes.table
 
       -- the assumption
       abbrev assumption : Slot
@@ -442,17 +548,21 @@ module _ {N S : Type 0} where
       made_rest = places.slots v assumption gains.here (omega (arith, held, gains.count))
 
       rest_assumed : AreAssumed o2 taken_now refused t2
-      rest_assumed = assumed_still (notes_in encoding).origins o2 (trail_of search) t2 taken_now refused goes.origins begun_known goes.turn.assumed.was begun_assumed
+      rest_assumed = assumed_still (notes_in encoding).origins o2
+          (trail_of search) t2 taken_now refused goes.origins begun_known goes.turn.assumed.was begun_assumed
 
       left_rest : (larger : List S) → IsWithin (chosen_of old) larger → (t : S) → Contains refused t → IsLeftOut o2 (notes_of rest).table larger t
-      left_rest larger within t h = left_out_more (notes_of old).origins o2 (notes_of old).table (notes_of rest).table (chosen_of old) larger t keeps_rest table_rest within (b.left_out t h)
+      left_rest larger within t h = left_out_more (notes_of old).origins o2 (notes_of old).table (notes_of rest).table
+          (chosen_of old) larger t keeps_rest table_rest within (b.left_out t h)
 
       -- it was accepted
       module _ (answering : IsAnswering u rest) where
         stays_chosen : IsWithin (chosen_of old) (chosen_of rest)
         stays_chosen t h =
             let Has : List S → Type 0 = λ list. Contains list t in
-            subst Has (sym answering.chosen) (Extends-within (solvables_before o2 t2 n0) (solvables_before o2 t2 (length_of t2)) (before_extends o2 t2 n0 (length_of t2) first_rest.are) t (subst Has (sym prefix) h))
+            subst Has (sym answering.chosen)
+            (Extends-within (solvables_before o2 t2 n0) (solvables_before o2 t2 (length_of t2)) (before_extends o2 t2 n0 (length_of t2) first_rest.are) t
+            (subst Has (sym prefix) h))
 
         now_chosen : Contains (chosen_of rest) s
         now_chosen =
@@ -468,7 +578,9 @@ module _ {N S : Type 0} where
 
         few_exempt : (e : List S) → Exempts u (notes_of old).asked (notes_of old).exempt s e → IsWithin e taken_now
         few_exempt e (asked_before was) = λ t h. earlier_in taken s t (b.exempt t h)
-        few_exempt e (not_asked not) = λ t h. ⊎_elim (λ was. earlier_in taken s t (b.exempt t was)) (λ same. let Has : S → Type 0 = λ x. Contains taken_now x in subst Has same (last_in taken s)) (pushed_cases (notes_of old).exempt s t h)
+        few_exempt e (not_asked not) =
+            λ t h. ⊎_elim (λ was. earlier_in taken s t (b.exempt t was)) (λ same.
+            let Has : S → Type 0 = λ x. Contains taken_now x in subst Has same (last_in taken s)) (pushed_cases (notes_of old).exempt s t h)
 
         freed : (e : List S) → Exempts u (notes_of old).asked (notes_of old).exempt s e → Contains e s ⊎ Contains (notes_of old).asked (u.name s)
         freed e (asked_before was) = inr was
@@ -476,11 +588,15 @@ module _ {N S : Type 0} where
 
         now_seeded : AreSeeds u taken_now (chosen_of rest) (notes_of rest).asked (notes_of rest).seen (notes_of rest).exempt
         now_seeded = record {
-          seed_chosen = λ t h. ⊎_elim (λ was. stays_chosen t (b.seeded.seed_chosen t was)) (λ e. let Has : S → Type 0 = λ x. Contains (chosen_of rest) x in subst Has e now_chosen) (pushed_cases taken s t h);
-          seed_registered = λ t h. ⊎_elim (λ was. seen_rest t (b.seeded.seed_registered t was)) (λ e. let Has : S → Type 0 = λ x. Contains (notes_of rest).seen x in subst Has e (seen_rest s seen)) (pushed_cases taken s t h);
+          seed_chosen = λ t h. ⊎_elim (λ was. stays_chosen t (b.seeded.seed_chosen t was)) (λ e.
+              let Has : S → Type 0 = λ x. Contains (chosen_of rest) x in subst Has e now_chosen) (pushed_cases taken s t h);
+          seed_registered = λ t h. ⊎_elim (λ was. seen_rest t (b.seeded.seed_registered t was)) (λ e.
+              let Has : S → Type 0 = λ x. Contains (notes_of rest).seen x in subst Has e (seen_rest s seen)) (pushed_cases taken s t h);
           seed_free = λ t h. ⊎_elim
-              (λ was. ⊎_elim (λ free_before. inl (more_exempt (notes_of rest).exempt rest_exempts t free_before)) (λ asked. inr (asked_rest (u.name t) asked)) (b.seeded.seed_free t was))
-              (λ e. let Free : S → Type 0 = λ x. Contains (notes_of rest).exempt x ⊎ Contains (notes_of rest).asked (u.name x) in subst Free e (⊎_elim (λ is. inl is) (λ asked. inr (asked_rest (u.name s) asked)) (freed (notes_of rest).exempt rest_exempts)))
+              (λ was. ⊎_elim (λ free_before. inl (more_exempt (notes_of rest).exempt rest_exempts t free_before)) (λ asked. inr (asked_rest (u.name t) asked))
+              (b.seeded.seed_free t was))
+              (λ e. let Free : S → Type 0 = λ x. Contains (notes_of rest).exempt x ⊎ Contains (notes_of rest).asked (u.name x) in
+              subst Free e (⊎_elim (λ is. inl is) (λ asked. inr (asked_rest (u.name s) asked)) (freed (notes_of rest).exempt rest_exempts)))
               (pushed_cases taken s t h);
         }
 
@@ -505,7 +621,9 @@ module _ {N S : Type 0} where
             }
 
       -- it was refused
-      module _ (lawful : HasLawfulSolvables u) (base : base_of search ≡ level_of t0 + 1) (unanswered : IsUnanswered rest) (count : ℕ) (counted : count ≡ length (notes_of old).exempt) (rounds : AreRounds u rest) (after : Rounds N S) (refusing : IsRefusing u v count rest after) (quiet : IsStill after) where
+      module _ (lawful : HasLawfulSolvables u) (base : base_of search ≡ level_of t0 + 1) (unanswered : IsUnanswered rest) (count : ℕ)
+          (counted : count ≡ length (notes_of old).exempt) (rounds : AreRounds u rest) (after : Rounds N S) (refusing : IsRefusing u v count rest after)
+          (quiet : IsStill after) where
         abbrev t3 : Trail
         t3 = trail_of after.search
 
@@ -520,18 +638,21 @@ module _ {N S : Type 0} where
 
         loaded_places : KeepsPlaces t0 (trail_of refusing.loaded) n0
         loaded_places =
-            let all : KeepsPlaces (trail_of search) (trail_of refusing.loaded) (held_of search) = let Held : ℕ → Type 0 = λ n. KeepsPlaces (trail_of search) t2 n in
+            let all : KeepsPlaces (trail_of search) (trail_of refusing.loaded) (held_of search) = let Held : ℕ → Type 0 =
+            λ n. KeepsPlaces (trail_of search) t2 n in
             let Later : ℕ → Type 0 = λ n. KeepsPlaces (trail_of search) (trail_of refusing.loaded) n in
             subst Later (refusing.turn.held ∙ goes.turn.held) (refusing.turn.places (trail_of search) (subst Held (sym goes.turn.held) places)) in
             keeps_through t0 (trail_of search) (trail_of refusing.loaded) n0 (held_of search) first_places all (omega (arith, held, gains.count))
 
         cut_places : KeepsPlaces (trail_of refusing.loaded) refusing.cut n0
-        cut_places = keeps_places (trail_of refusing.loaded) refusing.cut n0 loaded_places.are (λ x slot at below. refusing.is_cut.kept x slot at (omega (arith, below, held_rest)))
+        cut_places = keeps_places (trail_of refusing.loaded) refusing.cut n0 loaded_places.are (λ x slot at below.
+            refusing.is_cut.kept x slot at (omega (arith, below, held_rest)))
 
         last_places : KeepsPlaces t0 t3 n0
         last_places = keeps_through t0 refusing.cut t3 n0 (length_of refusing.cut)
             (keeps_through t0 (trail_of refusing.loaded) refusing.cut n0 n0 loaded_places cut_places (omega arith))
-            (keeps_all refusing.cut t3 (keeps-gains refusing.cut t3 (record { variable = v; positive = false }) (level_of refusing.cut + 1) Assumed refusing.gains refusing.free))
+            (keeps_all refusing.cut t3 (keeps-gains refusing.cut t3 (record { variable = v; positive = false })
+            (level_of refusing.cut + 1) Assumed refusing.gains refusing.free))
             (omega (arith, size_cut))
 
         keeps_after : Keeps (notes_of old).origins o3
@@ -543,17 +664,23 @@ module _ {N S : Type 0} where
             let stands_last : variable_at t3 n0 ≡ v = ap (variable_at t3) (sym size_cut) ∙ (t3.listed v made refusing.gains.here).1 in
             let off : value_of t3 v ≡ false = ap (λ o. option_map_or (λ (q : Slot). q.value) o false) refusing.gains.here in
             let size : length_of t3 ≡ suc n0 = omega (arith, refusing.gains.count, size_cut) in
-            let nothing : [] ≡ solvable_if (origin_at o3 (variable_at t3 n0)) (value_of t3 (variable_at t3 n0)) = none_at (origin_at o3 (variable_at t3 n0)) (value_of t3 (variable_at t3 n0)) (ap (value_of t3) stands_last ∙ off) in
-            let first : solvables_before o3 t3 n0 ≡ chosen_of old = same_before (notes_of old).origins o3 t0 t3 n0 keeps_after (omega (arith, known)) last_places n0 (omega arith) ∙ sym still.chosen in
-            quiet.chosen ∙ ap (solvables_before o3 t3) size ∙ ap (λ list. solvables_before o3 t3 n0 ++ list) (sym nothing) ∙ append-nil (solvables_before o3 t3 n0) ∙ first
+            let nothing : [] ≡ solvable_if (origin_at o3 (variable_at t3 n0)) (value_of t3 (variable_at t3 n0)) =
+            none_at (origin_at o3 (variable_at t3 n0)) (value_of t3 (variable_at t3 n0)) (ap (value_of t3) stands_last ∙ off) in
+            let first : solvables_before o3 t3 n0 ≡ chosen_of old =
+            same_before (notes_of old).origins o3 t0 t3 n0 keeps_after (omega (arith, known)) last_places n0 (omega arith) ∙ sym still.chosen in
+            quiet.chosen ∙ ap (solvables_before o3 t3) size ∙ ap (λ list. solvables_before o3 t3 n0 ++ list) (sym nothing) ∙
+            append-nil (solvables_before o3 t3 n0) ∙ first
 
         old_within : IsWithin (chosen_of old) (chosen_of rest)
         old_within t h =
             let mark : HasMark rest = rounds.mark in
             let marked : n0 ≤ kept_of rest.search = omega (arith, rounds.consistent.turn.marked, held_rest) in
             let Has : List S → Type 0 = λ list. Contains list t in
-            let same : solvables_before o2 t2 n0 ≡ solvables_before o2 mark.base n0 = same_before o2 o2 mark.base t2 (kept_of rest.search) (Keeps-same o2) mark.known mark.kept n0 marked in
-            subst Has (sym mark.follows.is) (Extends-within (solvables_before o2 mark.base n0) (solvables_before o2 mark.base (length_of mark.base)) (before_extends o2 mark.base n0 (length_of mark.base) (omega (arith, marked, mark.kept.were))) t (subst Has (sym prefix ∙ same) h))
+            let same : solvables_before o2 t2 n0 ≡ solvables_before o2 mark.base n0 =
+            same_before o2 o2 mark.base t2 (kept_of rest.search) (Keeps-same o2) mark.known mark.kept n0 marked in
+            subst Has (sym mark.follows.is)
+            (Extends-within (solvables_before o2 mark.base n0) (solvables_before o2 mark.base (length_of mark.base))
+            (before_extends o2 mark.base n0 (length_of mark.base) (omega (arith, marked, mark.kept.were))) t (subst Has (sym prefix ∙ same) h))
 
         after_assumed : AreAssumed o3 taken (refused ++ s ∷ []) t3
         after_assumed =
@@ -562,7 +689,8 @@ module _ {N S : Type 0} where
             same_origin (notes_of old).origins o3 t0 t0 0 keeps_after (omega (arith, known)) (keeps_itself t0 0 (omega arith)) x (omega (arith, inside, known))
             in
             let back : (x : ℕ) (slot : Slot) → slot_of refusing.cut x ≡ Some slot → slot.reason ≡ Assumed → slot_of t0 x ≡ Some slot = λ x slot at reason.
-            let before : slot_of (trail_of search) x ≡ Some slot = goes.turn.assumed.was x slot (refusing.turn.assumed.was x slot (refusing.is_cut.stays x slot at) reason) reason in
+            let before : slot_of (trail_of search) x ≡ Some slot =
+            goes.turn.assumed.was x slot (refusing.turn.assumed.was x slot (refusing.is_cut.stays x slot at) reason) reason in
             ⊎_elim
             (λ made. absurd (none-some _ (sym refusing.free ∙ ap (slot_of refusing.cut) (sym made.0) ∙ at)))
             (λ was. was)
@@ -571,15 +699,22 @@ module _ {N S : Type 0} where
             record {
               taken = λ x slot at reason value. ⊎_elim
                   (λ made. absurd (false≢true (sym (ap (λ (q : Slot). q.value) made.1) ∙ value)))
-                  (λ was. let w = b.assumed.taken x slot (back x slot was reason) reason value in (w.0, origin_after x slot (back x slot was reason) ∙ w.1, w.2))
+                  (λ was. let w = b.assumed.taken x slot (back x slot was reason) reason value in
+                  (w.0, origin_after x slot (back x slot was reason) ∙ w.1, w.2))
                   (gains-cases refusing.cut t3 (record { variable = v; positive = false }) (level_of refusing.cut + 1) Assumed refusing.gains x slot at);
               left_out = λ x slot at reason value. ⊎_elim
-                  (λ made. (s, ap (origin_at o3) made.0 ∙ get_or_from_slice_get o3 v (Solvable s) Root (keeps_after.kept v (Solvable s) origin), last_in refused s))
-                  (λ was. let w = b.assumed.left_out x slot (back x slot was reason) reason value in (w.0, origin_after x slot (back x slot was reason) ∙ w.1, earlier_in refused s w.0 w.2))
+                  (λ made. (
+                    s,
+                    ap (origin_at o3) made.0 ∙ get_or_from_slice_get o3 v (Solvable s) Root (keeps_after.kept v (Solvable s) origin),
+                    last_in refused s,
+                  ))
+                  (λ was. let w = b.assumed.left_out x slot (back x slot was reason) reason value in
+                  (w.0, origin_after x slot (back x slot was reason) ∙ w.1, earlier_in refused s w.0 w.2))
                   (gains-cases refusing.cut t3 (record { variable = v; positive = false }) (level_of refusing.cut + 1) Assumed refusing.gains x slot at);
             }
 
-        exempt_cases : (e : List S) → Exempts u (notes_of old).asked (notes_of old).exempt s e → (e ≡ (notes_of old).exempt) ⊎ (e ≡ (notes_of old).exempt ++ s ∷ [])
+        exempt_cases : (e : List S) → Exempts u (notes_of old).asked (notes_of old).exempt s e → (e ≡ (notes_of old).exempt) ⊎
+            (e ≡ (notes_of old).exempt ++ s ∷ [])
         exempt_cases e (asked_before was) = inl refl
         exempt_cases e (not_asked not) = inr refl
 
@@ -599,7 +734,11 @@ module _ {N S : Type 0} where
         near_same =
             let Read : List S → Type 0 = λ list. (t : S) → Contains list t → IsNear u root seeds t in
             let Asked : List N → Type 0 = λ list. (n : N) → Contains list n → IsNamed u root (IsNear u root seeds) n ⊎ Contains packages n in
-            record { seen = subst Read (sym refusing.ended.seen) rest_near.seen; read = subst Read (sym refusing.ended.read) rest_near.read; asked = subst Asked (sym refusing.ended.asked) rest_near.asked }
+            record {
+              seen = subst Read (sym refusing.ended.seen) rest_near.seen;
+              read = subst Read (sym refusing.ended.read) rest_near.read;
+              asked = subst Asked (sym refusing.ended.asked) rest_near.asked;
+            }
 
         -- what was decided at the levels up to the assumption's was chosen before
         decided_before : (x : ℕ) (slot : Slot) (n : ℕ) → slot_of t2 x ≡ Some slot → slot.reason ≡ Decided n → slot.level ≤ base_of rest.search → slot.place < n0
@@ -616,13 +755,17 @@ module _ {N S : Type 0} where
             (cases_eq slot.place n0))
             (cases_lt n0 slot.place)
 
-        decided_chosen : (x : ℕ) (slot : Slot) (n : ℕ) (t : S) → slot_of t2 x ≡ Some slot → slot.reason ≡ Decided n → slot.level ≤ base_of rest.search → slot.value ≡ true → slice_get o2 x ≡ Some (Solvable t) → Contains (chosen_of old) t
+        decided_chosen : (x : ℕ) (slot : Slot) (n : ℕ) (t : S) → slot_of t2 x ≡ Some slot → slot.reason ≡ Decided n → slot.level ≤ base_of rest.search →
+            slot.value ≡ true → slice_get o2 x ≡ Some (Solvable t) → Contains (chosen_of old) t
         decided_chosen x slot n t at reason low on stands =
             let was : slot_of t0 x ≡ Some slot = keeps-back t0 t2 n0 x slot first_rest at (decided_before x slot n at reason low) in
             let inside : x < variable_count t0 = slot-within _ x slot.place (ap (option_map (λ (q : Slot). q.place)) was) in
-            let origin_before : origin_at o2 x ≡ origin_at (notes_of old).origins x = same_origin (notes_of old).origins o2 t0 t0 0 keeps_rest (omega (arith, known)) (keeps_itself t0 0 (omega arith)) x (omega (arith, inside, known)) in
+            let origin_before : origin_at o2 x ≡ origin_at (notes_of old).origins x =
+            same_origin (notes_of old).origins o2 t0 t0 0 keeps_rest (omega (arith, known)) (keeps_itself t0 0 (omega arith)) x
+            (omega (arith, inside, known)) in
             let Chosen : List S → Type 0 = λ list. Contains list t in
-            subst Chosen (sym still.chosen) (slot_chosen (notes_of old).origins t0 known x slot t was (sym origin_before ∙ get_or_from_slice_get o2 x (Solvable t) Root stands) on)
+            subst Chosen (sym still.chosen)
+            (slot_chosen (notes_of old).origins t0 known x slot t was (sym origin_before ∙ get_or_from_slice_get o2 x (Solvable t) Root stands) on)
 
         out_rest : IsLeftOut o2 (notes_of rest).table (chosen_of old) s
         out_rest =
@@ -635,10 +778,14 @@ module _ {N S : Type 0} where
                   (λ (on : values v ≡ true).
                   let seeds_true : (t : S) → Contains taken_now t → (x : ℕ) → slice_get o2 x ≡ Some (Solvable t) → values x ≡ true = λ t h x is. ⊎_elim
                   (λ was. are x t (b.seeded.seed_chosen t was) is)
-                  (λ e. let Stands : S → Type 0 = λ y. slice_get o2 v ≡ Some (Solvable y) in ap values (encoding_rest.distinct.same x v (Solvable t) is (subst Stands e stands_rest)) ∙ on)
+                  (λ e. let Stands : S → Type 0 = λ y. slice_get o2 v ≡ Some (Solvable y) in
+                  ap values (encoding_rest.distinct.same x v (Solvable t) is (subst Stands e stands_rest)) ∙ on)
                   (pushed_cases taken s t h)
                   in
-                  absurd (unanswered.none values holds (trail_agrees u root (notes_of rest) encoding_rest rest.search rounds.consistent rounds.loaded (chosen_of old) taken_now refused rounds.variables rest_assumed (left_rest (chosen_of old) (λ t h. h)) values holds are (base_of rest.search) seeds_true decided_chosen)))
+                  absurd (unanswered.none values holds
+                  (trail_agrees u root (notes_of rest) encoding_rest rest.search rounds.consistent rounds.loaded
+                  (chosen_of old) taken_now refused rounds.variables rest_assumed (left_rest (chosen_of old) (λ t h. h)) values holds are
+                  (base_of rest.search) seeds_true decided_chosen)))
                   (λ (off : values v ≡ false). off)
                   (cases_Bool (values v));
             }
@@ -647,17 +794,20 @@ module _ {N S : Type 0} where
         fits_nowhere =
             let Spared : List S → Type 0 = λ e. Spares u e (notes_of rest).kinds in
             left_out_nowhere u root (notes_of rest) rest_read.half.encoding lawful (chosen_of old) (notes_in encoding).exempt s
-            (subst Spared goes.exempt (spares_present u (notes_of rest).asked (notes_of rest).exempt (notes_of rest).kinds rest_read.half.encoding.due)) out_rest
+            (subst Spared goes.exempt (spares_present u (notes_of rest).asked (notes_of rest).exempt (notes_of rest).kinds rest_read.half.encoding.due))
+            out_rest
 
         left_after : (t : S) → Contains (refused ++ s ∷ []) t → IsLeftOut o3 (notes_of after).table (chosen_of old) t
         left_after t h =
             let Left : S → Type 0 = λ x. IsLeftOut o2 (notes_of rest).table (chosen_of old) x in
-            left_out_more o2 o3 (notes_of rest).table (notes_of after).table (chosen_of old) (chosen_of old) t refusing.ended.origins refusing.ended.table (λ x k. k)
+            left_out_more o2 o3 (notes_of rest).table (notes_of after).table (chosen_of old)
+            (chosen_of old) t refusing.ended.origins refusing.ended.table (λ x k. k)
             (⊎_elim (λ was. left_rest (chosen_of old) (λ x k. k) t was) (λ e. subst Left e out_rest) (pushed_cases refused s t h))
 
         pub not_accepted : HasTurned u root taken refused seeds packages s old after false
         not_accepted =
-            let read_after : IsReadSoFar u root (chosen_of old) (notes_of after) = so_far_less u root (chosen_of old) (chosen_of rest) (notes_of after) old_within (refusing.ended.stays.so_far root (chosen_of rest) rest_read) in
+            let read_after : IsReadSoFar u root (chosen_of old) (notes_of after) =
+            so_far_less u root (chosen_of old) (chosen_of rest) (notes_of after) old_within (refusing.ended.stays.so_far root (chosen_of rest) rest_read) in
             let Read : List S → Type 0 = λ list. IsReadSoFar u root list (notes_of after) in
             let Turned : List S → List S → Type 0 = λ c e. IsTurned u root taken (chosen_of old) (notes_of old).exempt (notes_of old).asked s taken c e false in
             let TurnedTo : List S → Type 0 = λ c. Turned c (notes_of after).exempt in
@@ -677,7 +827,8 @@ module _ {N S : Type 0} where
                 left_out = subst Left (sym same_chosen) left_after;
                 seeded = subst SeededFor (sym same_chosen) (subst (Seeded (chosen_of old)) (sym exempt_after) (record {
                   seed_chosen = b.seeded.seed_chosen;
-                  seed_registered = λ t h. let Seen : List S → Type 0 = λ list. Contains list t in subst Seen (sym refusing.ended.seen) (seen_rest t (b.seeded.seed_registered t h));
+                  seed_registered = λ t h. let Seen : List S → Type 0 = λ list. Contains list t in
+                      subst Seen (sym refusing.ended.seen) (seen_rest t (b.seeded.seed_registered t h));
                   seed_free = λ t h. ⊎_elim (λ e. inl e) (λ asked. inr (asked_after (u.name t) asked)) (b.seeded.seed_free t h);
                 }));
                 within = b.within;
@@ -688,8 +839,10 @@ module _ {N S : Type 0} where
             }
 
   -- before a turn, where nothing but the exemptions changed and a variable was assumed
-  pub rounds_assumed : (u : Universe N S) (old : Rounds N S) (encoding : Encoding N S) (search : ClauseSearch) (v : ℕ) → AreRounds u old → IsBounded encoding → notes_in encoding ≡ record (notes_of old) { exempt = (notes_in encoding).exempt } →
-      ((d : Demands) (set : List S) → IsReadSoFar u d set (notes_of old) → IsReadSoFar u d set (notes_in encoding)) → IsConsistent search → KeepsLoaded old.search search → variable_count (trail_of search) ≡ variable_count (trail_of old.search) → KeepsMark old.search search →
+  pub rounds_assumed : (u : Universe N S) (old : Rounds N S) (encoding : Encoding N S) (search : ClauseSearch) (v : ℕ) → AreRounds u old → IsBounded encoding →
+      notes_in encoding ≡ record (notes_of old) { exempt = (notes_in encoding).exempt } →
+      ((d : Demands) (set : List S) → IsReadSoFar u d set (notes_of old) → IsReadSoFar u d set (notes_in encoding)) → IsConsistent search →
+      KeepsLoaded old.search search → variable_count (trail_of search) ≡ variable_count (trail_of old.search) → KeepsMark old.search search →
       AreRounds u (record old { encoding = encoding; search = search })
   rounds_assumed u old encoding search v rounds bounded only stays consistent loads size mark =
       let origins : (notes_of old).origins ≡ (notes_in encoding).origins = sym (ap (λ (n : Notes N S). n.origins) only) in
@@ -708,11 +861,17 @@ module _ {N S : Type 0} where
           asking = subst Asking (sym (ap (λ (n : Notes N S). n.requirements) only)) rounds.loaded.asking;
         };
         variables = omega (arith, size, rounds.variables, ap length origins);
-        mark = record { base = rounds.mark.base; follows = subst Follow origins rounds.mark.follows; kept = mark rounds.mark.base rounds.mark.kept; known = omega (arith, rounds.mark.known, ap length origins) };
+        mark = record {
+          base = rounds.mark.base;
+          follows = subst Follow origins rounds.mark.follows;
+          kept = mark rounds.mark.base rounds.mark.kept;
+          known = omega (arith, rounds.mark.known, ap length origins);
+        };
       }
 
   -- what is held from now on
-  module _ (u : Universe N S) (old : Rounds N S) (search : ClauseSearch) (trail : trail_of search ≡ trail_of old.search) (count : kept_of search ≡ kept_of old.search) where
+  module _ (u : Universe N S) (old : Rounds N S) (search : ClauseSearch) (trail : trail_of search ≡ trail_of old.search)
+      (count : kept_of search ≡ kept_of old.search) where
     pub rounds_held : AreRounds u old → IsConsistent search → KeepsLoaded old.search search → AreRounds u (record old { search = search })
     rounds_held rounds consistent loads =
         let Kept : Trail → ℕ → Type 0 = λ t n. KeepsPlaces rounds.mark.base t n in
@@ -721,42 +880,93 @@ module _ {N S : Type 0} where
           bounded = rounds.bounded;
           reading = rounds.reading;
           consistent = consistent;
-          loaded = record { given = rounds.loaded.given; numbers = rounds.loaded.numbers; loaded = loads rounds.loaded.given rounds.loaded.numbers rounds.loaded.loaded; clauses = rounds.loaded.clauses; asking = rounds.loaded.asking };
+          loaded = record {
+            given = rounds.loaded.given;
+            numbers = rounds.loaded.numbers;
+            loaded = loads rounds.loaded.given rounds.loaded.numbers rounds.loaded.loaded;
+            clauses = rounds.loaded.clauses;
+            asking = rounds.loaded.asking;
+          };
           variables = omega (arith, ap variable_count trail, rounds.variables);
-          mark = record { base = rounds.mark.base; follows = rounds.mark.follows; kept = subst KeptIn (sym trail) (subst (Kept (trail_of old.search)) (sym count) rounds.mark.kept); known = rounds.mark.known };
+          mark = record {
+            base = rounds.mark.base;
+            follows = rounds.mark.follows;
+            kept = subst KeptIn (sym trail) (subst (Kept (trail_of old.search)) (sym count) rounds.mark.kept);
+            known = rounds.mark.known;
+          };
         }
 
-    pub still_held : held_of search ≡ length_of (trail_of search) → kept_of old.search ≡ length_of (trail_of old.search) → chosen_of old ≡ solvables_before (notes_of old).origins (trail_of old.search) (length_of (trail_of old.search)) → IsStill (record old { search = search })
+    pub still_held : held_of search ≡ length_of (trail_of search) → kept_of old.search ≡ length_of (trail_of old.search) →
+        chosen_of old ≡ solvables_before (notes_of old).origins (trail_of old.search) (length_of (trail_of old.search)) →
+        IsStill (record old { search = search })
     still_held held marked chosen = record {
       held = held;
       marked = count ∙ marked ∙ ap length_of (sym trail);
       chosen = chosen ∙ ap (λ (t : Trail). solvables_before (notes_of old).origins t (length_of t)) (sym trail);
     }
 
-    standing_held : (root : Demands) (taken refused seeds : List S) (packages : List N) → IsStanding u root taken refused seeds packages old → IsStanding u root taken refused seeds packages (record old { search = search })
+    standing_held : (root : Demands) (taken refused seeds : List S) (packages : List N) → IsStanding u root taken refused seeds packages old →
+        IsStanding u root taken refused seeds packages (record old { search = search })
     standing_held root taken refused seeds packages b =
         let Assuming : Trail → Type 0 = λ t. AreAssumed (notes_of old).origins taken refused t in
-        record { read = b.read; once = b.once; assumed = subst Assuming (sym trail) b.assumed; left_out = b.left_out; seeded = b.seeded; within = b.within; exempt = b.exempt; near = b.near }
+        record {
+          read = b.read;
+          once = b.once;
+          assumed = subst Assuming (sym trail) b.assumed;
+          left_out = b.left_out;
+          seeded = b.seeded;
+          within = b.within;
+          exempt = b.exempt;
+          near = b.near;
+        }
 
     pub between_held : (root : Demands) (done : List (SoftRequirement S)) → IsBetween u root done old → IsBetween u root done (record old { search = search })
-    between_held root done b = record { first = b.first; promise = b.promise; taken = b.taken; refused = b.refused; run = b.run; standing = standing_held root b.taken b.refused (flat_map (options u) done) (flat_map (own_packages u) done) b.standing }
+    between_held root done b = record {
+      first = b.first;
+      promise = b.promise;
+      taken = b.taken;
+      refused = b.refused;
+      run = b.run;
+      standing = standing_held root b.taken b.refused (flat_map (options u) done) (flat_map (own_packages u) done) b.standing;
+    }
 
-    pub turned_held : (root : Demands) (taken refused seeds : List S) (packages : List N) (s : S) (before : Rounds N S) (is_chosen : Bool) → HasTurned u root taken refused seeds packages s before old is_chosen → HasTurned u root taken refused seeds packages s before (record old { search = search }) is_chosen
-    turned_held root taken refused seeds packages s before on h = record { taken_now = h.taken_now; refused_now = h.refused_now; turned = h.turned; standing = standing_held root h.taken_now h.refused_now seeds packages h.standing; asked = h.asked }
+    pub turned_held : (root : Demands) (taken refused seeds : List S) (packages : List N) (s : S) (before : Rounds N S) (is_chosen : Bool) →
+        HasTurned u root taken refused seeds packages s before old is_chosen →
+        HasTurned u root taken refused seeds packages s before (record old { search = search }) is_chosen
+    turned_held root taken refused seeds packages s before on h =
+        record {
+          taken_now = h.taken_now;
+          refused_now = h.refused_now;
+          turned = h.turned;
+          standing = standing_held root h.taken_now h.refused_now seeds packages h.standing;
+          asked = h.asked;
+        }
 
 -- the variable that was assumed
-pub just_assumed : (old new : ClauseSearch) (v : ℕ) → Gains (trail_of old) (trail_of new) (record { variable = v; positive = true }) (level_of (trail_of old) + 1) Assumed → base_of new ≡ level_of (trail_of old) + 1 → held_of new ≡ length_of (trail_of new) → HasAssumed new v
+pub just_assumed : (old new : ClauseSearch) (v : ℕ) →
+    Gains (trail_of old) (trail_of new) (record { variable = v; positive = true }) (level_of (trail_of old) + 1) Assumed →
+    base_of new ≡ level_of (trail_of old) + 1 → held_of new ≡ length_of (trail_of new) → HasAssumed new v
 just_assumed old new v gains base held =
     let made : Slot = record { value = true; level = level_of (trail_of old) + 1; place = length_of (trail_of old); reason = Assumed } in
     let place : held_of new - 1 ≡ length_of (trail_of old) = omega (arith, held, gains.count) in
     record { base = omega (arith, base); place = ap (variable_at (trail_of new)) place ∙ ((trail_of new).listed v made gains.here).1 }
 
 -- the root's turn ended with an answer: no soft requirement had its turn yet
-pub between_begun : {N S : Type 0} (u : Universe N S) (root : Demands) (old rest : Rounds N S) → IsReadSoFar u root (chosen_of old) (notes_of old) → AreNear u root [] [] (notes_of old) → (notes_of old).exempt ≡ [] → IsRootTurn old.search → GoesOn u old rest → IsAnswering u rest → IsBetween u root [] rest
+pub between_begun : {N S : Type 0} (u : Universe N S) (root : Demands) (old rest : Rounds N S) → IsReadSoFar u root (chosen_of old) (notes_of old) →
+    AreNear u root [] [] (notes_of old) → (notes_of old).exempt ≡ [] → IsRootTurn old.search → GoesOn u old rest → IsAnswering u rest → IsBetween u root [] rest
 between_begun {N} {S} u root old rest read near exempt turn goes answering =
-    let none_old : AreAssumed (notes_of old).origins [] [] (trail_of old.search) = record { taken = λ v slot at reason value. absurd (turn.none v slot at reason); left_out = λ v slot at reason value. absurd (turn.none v slot at reason) } in
-    let none : AreAssumed (notes_of rest).origins [] [] (trail_of rest.search) = record { taken = λ v slot at reason value. absurd (turn.none v slot (goes.turn.assumed.was v slot at reason) reason); left_out = λ v slot at reason value. absurd (turn.none v slot (goes.turn.assumed.was v slot at reason) reason) } in
-    let seeded : AreSeeds u [] (chosen_of rest) (notes_of rest).asked (notes_of rest).seen (notes_of rest).exempt = record { seed_chosen = λ s h. absurd (none_in s h); seed_registered = λ s h. absurd (none_in s h); seed_free = λ s h. absurd (none_in s h) } in
+    let none_old : AreAssumed (notes_of old).origins [] [] (trail_of old.search) =
+    record {
+      taken = λ v slot at reason value. absurd (turn.none v slot at reason);
+      left_out = λ v slot at reason value. absurd (turn.none v slot at reason);
+    } in
+    let none : AreAssumed (notes_of rest).origins [] [] (trail_of rest.search) =
+    record {
+      taken = λ v slot at reason value. absurd (turn.none v slot (goes.turn.assumed.was v slot at reason) reason);
+      left_out = λ v slot at reason value. absurd (turn.none v slot (goes.turn.assumed.was v slot at reason) reason);
+    } in
+    let seeded : AreSeeds u [] (chosen_of rest) (notes_of rest).asked (notes_of rest).seen (notes_of rest).exempt =
+    record { seed_chosen = λ s h. absurd (none_in s h); seed_registered = λ s h. absurd (none_in s h); seed_free = λ s h. absurd (none_in s h) } in
     let now : IsReadSoFar u root (chosen_of rest) (notes_of rest) = goes.read root read in
     let close : AreNear u root [] [] (notes_of rest) = goes.near root [] [] [] [] read (λ s h. h) none_old near in
     let answer = answering.answer root [] [] now none seeded in

@@ -28,9 +28,11 @@ use Rattle.resolvo.specs.declared.clause_search.ClauseSearch.{ClauseSearch}
 use Rattle.resolvo.specs.ClauseSearches.{IsConsistent, IsLoaded, clause_count_of, learnt_count_of}
 
 -- a core of an encoding explains itself
-pub explained : {N S : Type 0} (u : Universe N S) (same_name : N → N → Bool) (root : Demands) (notes : Notes N S) (core : List ℕ) (rules kept : List (Rule N S)) →
+pub explained : {N S : Type 0} (u : Universe N S) (same_name : N → N → Bool) (root : Demands) (notes : Notes N S) (core : List ℕ)
+    (rules kept : List (Rule N S)) →
     HasLawfulSolvables u → IsIdentity same_name → IsEncoding u root notes → IsCore notes.table core →
-    AreListed u (implied_in u same_name (kinds_at notes.kinds core)) (kinds_at notes.kinds core) rules → AreStated u (implied_in u same_name (kinds_at notes.kinds core)) (kinds_at notes.kinds core) rules →
+    AreListed u (implied_in u same_name (kinds_at notes.kinds core)) (kinds_at notes.kinds core) rules →
+    AreStated u (implied_in u same_name (kinds_at notes.kinds core)) (kinds_at notes.kinds core) rules →
     LeavesKept rules kept → (IsRefuted rules → IsRefuted kept) → All (IsKept kept) kept → Explains u root kept
 explained u same_name root notes core rules kept lawful names encoding is_core listed stated left still again =
     let it = encoding_core_explained u same_name root notes core rules lawful names encoding is_core listed stated in

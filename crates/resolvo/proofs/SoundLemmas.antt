@@ -1,5 +1,6 @@
 -- A set that obeys marked rules gives values that make their clauses true.
-use Rattle.std.proofs.Common.{◌≡◌, ℕ, zero, suc, ◌+◌, ◌<◌, ◌≤◌, List, [], ◌∷◌, ◌++◌, length, get_or, Bool, true, false, arith, refl, sym, ap, ◌∙◌, subst, ⊎_elim, Contains, Vec, Global}
+use Rattle.std.proofs.Common.{◌≡◌, ℕ, zero, suc, ◌+◌, ◌<◌, ◌≤◌, List, [], ◌∷◌, ◌++◌, length, get_or, Bool, true, false, arith, refl, sym, ap, ◌∙◌, subst}
+use Rattle.std.proofs.Common.{⊎_elim, Contains, Vec, Global}
 use Rattle.std.specs.Prelude.{Option, Some, slice_get, slice_index_or, not, ◌&&◌, ◌||◌, ⊤}
 use Rattle.std.specs.Bool.{beq}
 use Rattle.std.specs.List.{AllZip, list_any}
@@ -22,7 +23,8 @@ use Rattle.resolver_clause_store.specs.declared.Rule.TheVariants.{Requires, Cons
 use Rattle.resolvo.proofs.LineLemmas.{cons_cases, none_in, All-each, marked_in, zip_left, zip_both, bit_line_from, member_line_from, line_from, rule_of_line}
 use Rattle.resolver_encoding.specs.Codes.{bit}
 use Rattle.resolvo.specs.Minimal.{marked}
-use Rattle.resolvo.specs.RuleClauses.{Line, atom, plain, asking, asker_atoms, list_atoms, candidate_atoms, condition_lines, lines_of, all_lines, IsLiteralOf, IsClauseOf, HasCode, AreClausesOf, MakesMarkedTrue}
+use Rattle.resolvo.specs.RuleClauses.{Line, atom, plain, asking, asker_atoms, list_atoms, candidate_atoms, condition_lines, lines_of, all_lines, IsLiteralOf}
+use Rattle.resolvo.specs.RuleClauses.{IsClauseOf, HasCode, AreClausesOf, MakesMarkedTrue}
 use Rattle.resolvo.specs.declared.minimal.rule_clauses.Atom.{Atom}
 use Rattle.resolvo.specs.declared.minimal.rule_clauses.Proposition.{Proposition}
 use Rattle.resolvo.specs.declared.minimal.rule_clauses.Proposition.TheVariants.{Member, Listed, Bit}
@@ -42,7 +44,8 @@ other_value false false is = absurd cc
 
 -- whether the rule's list with this number has a member that passes
 abbrev pub list_passes : {N S : Type 0} → (S → Bool) → ℕ → Rule N S → Bool
-list_passes has list (Requires by requirement candidates when) = option_map_or (λ (one : Vec _ Global). list_any has one.items) (slice_get when.items list) false
+list_passes has list (Requires by requirement candidates when) =
+    option_map_or (λ (one : Vec _ Global). list_any has one.items) (slice_get when.items list) false
 list_passes has list (Constrains by version_set candidate) = false
 list_passes has list (Lock locked forbidden) = false
 list_passes has list (Excluded solvable reason) = false
@@ -63,7 +66,9 @@ some_bit named has i (b ∷ marks) [] codes = false
 some_bit named has i (b ∷ marks) (rule ∷ rules) [] = false
 some_bit named has i (b ∷ marks) (rule ∷ rules) (code ∷ codes) = (b && gives_bit named has i rule code) || some_bit named has i marks rules codes
 
-some_bit_at : {N S : Type 0} (named : N → Bool) (has : S → Bool) (i : ℕ) (marks : List Bool) (rules : List (Rule N S)) (codes : List ℕ) (k : ℕ) (rule : Rule N S) (code : ℕ) → slice_index_or marks k false ≡ true → slice_get rules k ≡ Some rule → slice_get codes k ≡ Some code → gives_bit named has i rule code ≡ true → some_bit named has i marks rules codes ≡ true
+some_bit_at : {N S : Type 0} (named : N → Bool) (has : S → Bool) (i : ℕ) (marks : List Bool) (rules : List (Rule N S)) (codes : List ℕ) (k : ℕ)
+    (rule : Rule N S) (code : ℕ) → slice_index_or marks k false ≡ true → slice_get rules k ≡ Some rule → slice_get codes k ≡ Some code →
+    gives_bit named has i rule code ≡ true → some_bit named has i marks rules codes ≡ true
 some_bit_at named has i [] rules codes k rule code mark at coded gives = absurd (false≢true mark)
 some_bit_at named has i (b ∷ marks) [] codes k rule code mark at coded gives = absurd (none-some rule at)
 some_bit_at named has i (b ∷ marks) (r ∷ rules) [] k rule code mark at coded gives = absurd (none-some code coded)
@@ -73,7 +78,8 @@ some_bit_at {N} {S} named has i (b ∷ marks) (r ∷ rules) (c ∷ codes) zero r
     let with_rule : Gives r c = subst (λ q. Gives q c) (sym (same_Some r rule at)) with_code in
     or_left (b && gives_bit named has i r c) (some_bit named has i marks rules codes) (and_from b (gives_bit named has i r c) mark with_rule)
 some_bit_at named has i (b ∷ marks) (r ∷ rules) (c ∷ codes) (suc k) rule code mark at coded gives =
-    or_right (b && gives_bit named has i r c) (some_bit named has i marks rules codes) (some_bit_at named has i marks rules codes k rule code mark at coded gives)
+    or_right (b && gives_bit named has i r c) (some_bit named has i marks rules codes)
+    (some_bit_at named has i marks rules codes k rule code mark at coded gives)
 
 -- a marked rule that gives the bit
 pub record GivesBit {N S : Type 0} (named : N → Bool) (has : S → Bool) (i : ℕ) (marks : List Bool) (rules : List (Rule N S)) (codes : List ℕ) : Type 0 where
@@ -88,7 +94,8 @@ pub record GivesBit {N S : Type 0} (named : N → Bool) (has : S → Bool) (i : 
   pub there : has instance ≡ true
   pub on : bit code i ≡ true
 
-first_gives : {N S : Type 0} (named : N → Bool) (has : S → Bool) (i : ℕ) (b : Bool) (marks : List Bool) (rule : Rule N S) (rules : List (Rule N S)) (code : ℕ) (codes : List ℕ) → b ≡ true → gives_bit named has i rule code ≡ true → GivesBit named has i (b ∷ marks) (rule ∷ rules) (code ∷ codes)
+first_gives : {N S : Type 0} (named : N → Bool) (has : S → Bool) (i : ℕ) (b : Bool) (marks : List Bool) (rule : Rule N S) (rules : List (Rule N S)) (code : ℕ)
+    (codes : List ℕ) → b ≡ true → gives_bit named has i rule code ≡ true → GivesBit named has i (b ∷ marks) (rule ∷ rules) (code ∷ codes)
 first_gives named has i b marks (Requires by requirement candidates when) rules code codes mark e = absurd (false≢true e)
 first_gives named has i b marks (Constrains by version_set candidate) rules code codes mark e = absurd (false≢true e)
 first_gives named has i b marks (Lock locked forbidden) rules code codes mark e = absurd (false≢true e)
@@ -96,17 +103,41 @@ first_gives named has i b marks (Excluded solvable reason) rules code codes mark
 first_gives named has i b marks (OnePerPackage name instance) rules code codes mark e =
     let first = and_parts (named name) (has instance && bit code i) e in
     let second = and_parts (has instance) (bit code i) first.1 in
-    record { place = 0; name = name; instance = instance; code = code; mark = mark; at = refl; coded = refl; is_named = first.0; there = second.0; on = second.1 }
+    record {
+      place = 0;
+      name = name;
+      instance = instance;
+      code = code;
+      mark = mark;
+      at = refl;
+      coded = refl;
+      is_named = first.0;
+      there = second.0;
+      on = second.1;
+    }
 
-some_bit_from : {N S : Type 0} (named : N → Bool) (has : S → Bool) (i : ℕ) (marks : List Bool) (rules : List (Rule N S)) (codes : List ℕ) → some_bit named has i marks rules codes ≡ true → GivesBit named has i marks rules codes
+some_bit_from : {N S : Type 0} (named : N → Bool) (has : S → Bool) (i : ℕ) (marks : List Bool) (rules : List (Rule N S)) (codes : List ℕ) →
+    some_bit named has i marks rules codes ≡ true → GivesBit named has i marks rules codes
 some_bit_from named has i [] rules codes e = absurd (false≢true e)
 some_bit_from named has i (b ∷ marks) [] codes e = absurd (false≢true e)
 some_bit_from named has i (b ∷ marks) (rule ∷ rules) [] e = absurd (false≢true e)
 some_bit_from named has i (b ∷ marks) (rule ∷ rules) (code ∷ codes) e = ⊎_elim
-    (λ (now : (b && gives_bit named has i rule code) ≡ true). let parts = and_parts b (gives_bit named has i rule code) now in first_gives named has i b marks rule rules code codes parts.0 parts.1)
+    (λ (now : (b && gives_bit named has i rule code) ≡ true).
+    let parts = and_parts b (gives_bit named has i rule code) now in first_gives named has i b marks rule rules code codes parts.0 parts.1)
     (λ (later : some_bit named has i marks rules codes ≡ true).
     let w = some_bit_from named has i marks rules codes later in
-    record { place = suc w.place; name = w.name; instance = w.instance; code = w.code; mark = w.mark; at = w.at; coded = w.coded; is_named = w.is_named; there = w.there; on = w.on })
+    record {
+      place = suc w.place;
+      name = w.name;
+      instance = w.instance;
+      code = w.code;
+      mark = w.mark;
+      at = w.at;
+      coded = w.coded;
+      is_named = w.is_named;
+      there = w.there;
+      on = w.on;
+    })
     (or_cases (b && gives_bit named has i rule code) (some_bit named has i marks rules codes) e)
 
 -- each of the atoms is false
@@ -123,7 +154,8 @@ module _ {N S : Type 0} (value : Proposition N S → Bool) where
 
   all_false : (atoms : List (Atom N S)) → some_true atoms ≡ false → None_of atoms
   all_false [] e = tt
-  all_false (a ∷ atoms) e = let parts = or_parts (beq (value a.proposition) a.positive) (some_true atoms) e in (other_value (value a.proposition) a.positive parts.0, all_false atoms parts.1)
+  all_false (a ∷ atoms) e = let parts = or_parts (beq (value a.proposition) a.positive) (some_true atoms) e in
+      (other_value (value a.proposition) a.positive parts.0, all_false atoms parts.1)
 
   some_true_unless : (atoms : List (Atom N S)) → (None_of atoms → ⊥) → some_true atoms ≡ true
   some_true_unless atoms h = true_from_ne_false (some_true atoms) (λ wrong. h (all_false atoms wrong))
@@ -155,22 +187,27 @@ module _ {N S : Type 0} (value : Proposition N S → Bool) where
   abbrev values_of : List (Proposition N S) → ℕ → Bool
   values_of propositions v = option_map_or value (slice_get propositions v) false
 
-  clause_as_atoms : (propositions : List (Proposition N S)) (literals : List Literal) (atoms : List (Atom N S)) → AllZip (IsLiteralOf propositions) literals atoms → clause_true (values_of propositions) literals ≡ some_true atoms
+  clause_as_atoms : (propositions : List (Proposition N S)) (literals : List Literal) (atoms : List (Atom N S)) →
+      AllZip (IsLiteralOf propositions) literals atoms → clause_true (values_of propositions) literals ≡ some_true atoms
   clause_as_atoms propositions [] [] zip = refl
   clause_as_atoms propositions [] (a ∷ atoms) zip = absurd zip
   clause_as_atoms propositions (l ∷ literals) [] zip = absurd zip
   clause_as_atoms propositions (l ∷ literals) (a ∷ atoms) (first, rest) =
       let one : literal_true (values_of propositions) l ≡ beq (value a.proposition) a.positive =
       ap (λ (o : Option (Proposition N S)). beq (option_map_or value o false) l.positive) first.stands ∙ ap (beq (value a.proposition)) first.sign in
-      ap (λ b. b || clause_true (values_of propositions) literals) one ∙ ap (λ b. beq (value a.proposition) a.positive || b) (clause_as_atoms propositions literals atoms rest)
+      ap (λ b. b || clause_true (values_of propositions) literals) one ∙
+      ap (λ b. beq (value a.proposition) a.positive || b) (clause_as_atoms propositions literals atoms rest)
 
 -- what a proposition says of a set and the marked rules
 abbrev pub value_in : {N S : Type 0} → (N → N → Bool) → (S → S → Bool) → List S → List Bool → List (Rule N S) → List ℕ → Proposition N S → Bool
 value_in names solvables set marks rules codes (Member s) = list_any (solvables s) set
-value_in names solvables set marks rules codes (Listed rule list) = option_map_or (list_passes (λ s. list_any (solvables s) set) list) (slice_get rules rule) false
+value_in names solvables set marks rules codes (Listed rule list) =
+    option_map_or (list_passes (λ s. list_any (solvables s) set) list) (slice_get rules rule) false
 value_in names solvables set marks rules codes (Bit name index) = some_bit (names name) (λ s. list_any (solvables s) set) index marks rules codes
 
-module _ {N S : Type 0} (names : N → N → Bool) (solvables : S → S → Bool) (same_names : IsIdentity names) (same_solvables : IsIdentity solvables) (rules : List (Rule N S)) (propositions : List (Proposition N S)) (clauses : List RuleClause) (are : AreClausesOf rules propositions clauses) (marks : List Bool) (set : List S) (obeys : Obeys set (marked marks rules)) where
+module _ {N S : Type 0} (names : N → N → Bool) (solvables : S → S → Bool) (same_names : IsIdentity names) (same_solvables : IsIdentity solvables)
+    (rules : List (Rule N S)) (propositions : List (Proposition N S)) (clauses : List RuleClause) (are : AreClausesOf rules propositions clauses)
+    (marks : List Bool) (set : List S) (obeys : Obeys set (marked marks rules)) where
   abbrev value : Proposition N S → Bool
   value p = value_in names solvables set marks rules are.codes p
 
@@ -216,14 +253,17 @@ module _ {N S : Type 0} (names : N → N → Bool) (solvables : S → S → Bool
         (λ (none : Contains [] line). none_in line none)
         (cons_cases only [] line inside)
 
-    asking_line : (by : By S) (candidates : Vec S Global) (lists : List (Vec S Global)) → ((j : ℕ) → value (Listed place j) ≡ passes (slice_get lists j)) → (IsPresent by set → AllMeet set (lists_of lists) → Meets candidates.items set) → None_true (asker_atoms by ++ (list_atoms place (length lists) ++ candidate_atoms candidates.items)) → ⊥
+    asking_line : (by : By S) (candidates : Vec S Global) (lists : List (Vec S Global)) → ((j : ℕ) → value (Listed place j) ≡ passes (slice_get lists j)) →
+        (IsPresent by set → AllMeet set (lists_of lists) → Meets candidates.items set) →
+        None_true (asker_atoms by ++ (list_atoms place (length lists) ++ candidate_atoms candidates.items)) → ⊥
     asking_line by candidates lists is alone wrong =
         let first = false_parts value (asker_atoms by) (list_atoms place (length lists) ++ candidate_atoms candidates.items) wrong in
         let second = false_parts value (list_atoms place (length lists)) (candidate_atoms candidates.items) first.1 in
         let met = alone (present by first.0) (lists_meet lists (λ j below. sym (is j) ∙ false_lists value place (length lists) second.0 j below)) in
         both_ways (has met.shared) (false_candidates value candidates.items second.1 met.shared met.in_first) (has_it met.shared met.in_second)
 
-    member_line_true : (lists : List (Vec S Global)) → ((j : ℕ) → value (Listed place j) ≡ passes (slice_get lists j)) → (line : Line N S) → Contains (condition_lines place 0 lists) line → None_true line.atoms → ⊥
+    member_line_true : (lists : List (Vec S Global)) → ((j : ℕ) → value (Listed place j) ≡ passes (slice_get lists j)) → (line : Line N S) →
+        Contains (condition_lines place 0 lists) line → None_true line.atoms → ⊥
     member_line_true lists is line inside wrong =
         let w = member_line_from place 0 lists line inside in
         let Wrong : Line N S → Type 0 = λ (l : Line N S). None_true l.atoms in
@@ -233,26 +273,33 @@ module _ {N S : Type 0} (names : N → N → Bool) (solvables : S → S → Bool
         let on : list_any has w.members.items ≡ true = any_of has w.members.items w.member w.inside parts.0 in
         both_ways (value (Listed place w.index)) (subst At same parts.1.0) (is w.index ∙ (ap passes w.at ∙ on))
 
-    bit_true : (name : N) (instance : S) → slice_get rules place ≡ Some (OnePerPackage name instance) → slice_get are.codes place ≡ Some code → (i : ℕ) → has instance ≡ true → value (Bit name i) ≡ not (bit code i) → ⊥
+    bit_true : (name : N) (instance : S) → slice_get rules place ≡ Some (OnePerPackage name instance) → slice_get are.codes place ≡ Some code → (i : ℕ) →
+        has instance ≡ true → value (Bit name i) ≡ not (bit code i) → ⊥
     bit_true name instance at coded i there_it is =
         let Value : Bool → Type 0 = λ b. value (Bit name i) ≡ not b in
         ⊎_elim
         (λ (on : bit code i ≡ true).
         both_ways (value (Bit name i)) (subst Value on is)
-        (some_bit_at (names name) has i marks rules are.codes place (OnePerPackage name instance) code mark at coded (and_from (names name name) (has instance && bit code i) (same_names.itself name) (and_from (has instance) (bit code i) there_it on))))
+        (some_bit_at (names name) has i marks rules are.codes place (OnePerPackage name instance) code mark at coded
+        (and_from (names name name) (has instance && bit code i) (same_names.itself name) (and_from (has instance) (bit code i) there_it on))))
         (λ (off : bit code i ≡ false).
         let w = some_bit_from (names name) has i marks rules are.codes (subst Value off is) in
         let same_name : name ≡ w.name = same_names.alone name w.name w.is_named in
         let At : N → Type 0 = λ n. Contains (marked marks rules) (OnePerPackage n w.instance) in
         let other : At name = subst At (sym same_name) (marked_in marks rules w.place (OnePerPackage w.name w.instance) w.mark w.at) in
-        let same : instance ≡ w.instance = obeys.one_each name instance w.instance (marked_in marks rules place (OnePerPackage name instance) mark at) other (in_set instance there_it) (in_set w.instance w.there) in
-        let of_one : slice_get are.instances code ≡ Some instance = zip_both (HasCode are.instances) rules are.codes are.coded place (OnePerPackage name instance) code at coded in
-        let of_other : slice_get are.instances w.code ≡ Some w.instance = zip_both (HasCode are.instances) rules are.codes are.coded w.place (OnePerPackage w.name w.instance) w.code w.at w.coded in
+        let same : instance ≡ w.instance =
+        obeys.one_each name instance w.instance (marked_in marks rules place (OnePerPackage name instance) mark at) other (in_set instance there_it)
+        (in_set w.instance w.there) in
+        let of_one : slice_get are.instances code ≡ Some instance =
+        zip_both (HasCode are.instances) rules are.codes are.coded place (OnePerPackage name instance) code at coded in
+        let of_other : slice_get are.instances w.code ≡ Some w.instance =
+        zip_both (HasCode are.instances) rules are.codes are.coded w.place (OnePerPackage w.name w.instance) w.code w.at w.coded in
         let same_code : code ≡ w.code = are.apart.same code w.code w.instance (of_one ∙ ap Some same) of_other in
         both_ways (bit code i) off (ap (λ c. bit c i) same_code ∙ w.on))
         (cases_Bool (bit code i))
 
-    line_true : (rule : Rule N S) → slice_get rules place ≡ Some rule → slice_get are.codes place ≡ Some code → (line : Line N S) → Contains (lines_of are.width place code rule) line → None_true line.atoms → ⊥
+    line_true : (rule : Rule N S) → slice_get rules place ≡ Some rule → slice_get are.codes place ≡ Some code → (line : Line N S) →
+        Contains (lines_of are.width place code rule) line → None_true line.atoms → ⊥
     line_true (Requires by requirement candidates when) at coded line inside wrong =
         let first : Line N S = asking place (asker_atoms by ++ (list_atoms place (length when.items) ++ candidate_atoms candidates.items)) in
         let Wrong : Line N S → Type 0 = λ (l : Line N S). None_true l.atoms in
@@ -261,11 +308,15 @@ module _ {N S : Type 0} (names : N → N → Bool) (solvables : S → S → Bool
         (λ (same : first ≡ line). asking_line by candidates when.items (λ j. listed_is place j rule at) (obeyed rule at) (subst Wrong (sym same) wrong))
         (λ (later : Contains (condition_lines place 0 when.items) line). member_line_true when.items (λ j. listed_is place j rule at) line later wrong)
         (cons_cases first (condition_lines place 0 when.items) line inside)
-    line_true (Constrains by version_set candidate) at coded line inside wrong = only_line (plain place (asker_atoms by ++ atom (Member candidate) false ∷ [])) line
-        (λ h. let parts = false_parts value (asker_atoms by) (atom (Member candidate) false ∷ []) h in obeyed (Constrains by version_set candidate) at (present by parts.0) (in_set candidate parts.1.0))
+    line_true (Constrains by version_set candidate) at coded line inside wrong =
+        only_line (plain place (asker_atoms by ++ atom (Member candidate) false ∷ [])) line
+        (λ h. let parts = false_parts value (asker_atoms by) (atom (Member candidate) false ∷ []) h in
+        obeyed (Constrains by version_set candidate) at (present by parts.0) (in_set candidate parts.1.0))
         inside wrong
-    line_true (Lock locked forbidden) at coded line inside wrong = only_line (plain place (atom (Member forbidden) false ∷ [])) line (λ h. obeyed (Lock locked forbidden) at (in_set forbidden h.0)) inside wrong
-    line_true (Excluded solvable reason) at coded line inside wrong = only_line (plain place (atom (Member solvable) false ∷ [])) line (λ h. obeyed (Excluded solvable reason) at (in_set solvable h.0)) inside wrong
+    line_true (Lock locked forbidden) at coded line inside wrong =
+        only_line (plain place (atom (Member forbidden) false ∷ [])) line (λ h. obeyed (Lock locked forbidden) at (in_set forbidden h.0)) inside wrong
+    line_true (Excluded solvable reason) at coded line inside wrong =
+        only_line (plain place (atom (Member solvable) false ∷ [])) line (λ h. obeyed (Excluded solvable reason) at (in_set solvable h.0)) inside wrong
     line_true (OnePerPackage name instance) at coded line inside wrong =
         let w = bit_line_from place name instance code are.width line inside in
         let Wrong : Line N S → Type 0 = λ (l : Line N S). None_true l.atoms in
@@ -275,7 +326,8 @@ module _ {N S : Type 0} (names : N → N → Bool) (solvables : S → S → Bool
   pub values_true : (values : ℕ → Bool) × MakesMarkedTrue values marks clauses
   values_true = (
     values_of value propositions,
-    All-each (λ (clause : RuleClause). slice_index_or marks clause.rule false ≡ true → clause_true (values_of value propositions) clause.literals.items ≡ true) clauses (λ clause inside mark.
+    All-each (λ (clause : RuleClause).
+        slice_index_or marks clause.rule false ≡ true → clause_true (values_of value propositions) clause.literals.items ≡ true) clauses (λ clause inside mark.
         let w = zip_left (IsClauseOf propositions) clauses (all_lines are.width 0 rules are.codes) are.lines clause inside in
         let at = line_from are.width 0 rules are.codes w.0 w.1 in
         let same : 0 + at.index ≡ at.index = omega arith in
@@ -283,5 +335,6 @@ module _ {N S : Type 0} (names : N → N → Bool) (solvables : S → S → Bool
         let line : Has at.index = subst Has same at.inside in
         let is_rule : clause.rule ≡ at.index = w.2.rule ∙ rule_of_line are.width at.index at.code at.rule w.0 line in
         let Marked : ℕ → Type 0 = λ p. slice_index_or marks p false ≡ true in
-        clause_as_atoms value propositions clause.literals.items w.0.atoms w.2.literals ∙ some_true_unless value w.0.atoms (line_true at.index at.code (subst Marked is_rule mark) at.rule at.at at.coded w.0 line)),
+        clause_as_atoms value propositions clause.literals.items w.0.atoms w.2.literals ∙
+        some_true_unless value w.0.atoms (line_true at.index at.code (subst Marked is_rule mark) at.rule at.at at.coded w.0 line)),
   )

@@ -1,5 +1,6 @@
 -- Where the clauses of a table come from.
-use Rattle.std.proofs.Common.{◌≡◌, ℕ, ◌<◌, ◌≤◌, ◌⊎◌, List, [], ◌∷◌, ◌++◌, length, get_or, Option, Some, None, arith, inl, inr, refl, sym, ap, ◌∙◌, ⊎_elim, length-append}
+use Rattle.std.proofs.Common.{◌≡◌, ℕ, ◌<◌, ◌≤◌, ◌⊎◌, List, [], ◌∷◌, ◌++◌, length, get_or, Option, Some, None, arith, inl, inr, refl, sym, ap, ◌∙◌, ⊎_elim}
+use Rattle.std.proofs.Common.{length-append}
 use Rattle.std.specs.Option.{option_map_or}
 use Rattle.std.proofs.Math.ListN.{get_or-append}
 use Rattle.std.proofs.Math.Seq.{get_or-append_seam}
@@ -28,20 +29,27 @@ given_within sources place number is = ⊎_elim
     (λ (past : length sources ≤ place). absurd (none-some _ (sym (given_at-past sources place past) ∙ is)))
     (cases_lt place (length sources))
 
-pub given_at-push : (sources : List Source) (source : Source) (place : ℕ) → place < length sources → given_at (sources ++ source ∷ []) place ≡ given_at sources place
-given_at-push sources source place within = given_at-get_or (sources ++ source ∷ []) place source (simp length-append (omega arith)) ∙ ap number_of (get_or-append sources (source ∷ []) source place within) ∙ sym (given_at-get_or sources place source within)
+pub given_at-push : (sources : List Source) (source : Source) (place : ℕ) → place < length sources →
+    given_at (sources ++ source ∷ []) place ≡ given_at sources place
+given_at-push sources source place within = given_at-get_or (sources ++ source ∷ []) place source (simp length-append (omega arith)) ∙
+    ap number_of (get_or-append sources (source ∷ []) source place within) ∙ sym (given_at-get_or sources place source within)
 
 pub given_at-last : (sources : List Source) (source : Source) → given_at (sources ++ source ∷ []) (length sources) ≡ number_of source
-given_at-last sources source = given_at-get_or (sources ++ source ∷ []) (length sources) source (simp length-append (omega arith)) ∙ ap number_of (get_or-append_seam sources source [] source)
+given_at-last sources source = given_at-get_or (sources ++ source ∷ []) (length sources) source (simp length-append (omega arith)) ∙
+    ap number_of (get_or-append_seam sources source [] source)
 
-pub causes_at-push : (sources : List Source) (source : Source) (place : ℕ) → place < length sources → causes_at (sources ++ source ∷ []) place ≡ causes_at sources place
-causes_at-push sources source place within = causes_at-get_or (sources ++ source ∷ []) place source (simp length-append (omega arith)) ∙ ap causes_of (get_or-append sources (source ∷ []) source place within) ∙ sym (causes_at-get_or sources place source within)
+pub causes_at-push : (sources : List Source) (source : Source) (place : ℕ) → place < length sources →
+    causes_at (sources ++ source ∷ []) place ≡ causes_at sources place
+causes_at-push sources source place within = causes_at-get_or (sources ++ source ∷ []) place source (simp length-append (omega arith)) ∙
+    ap causes_of (get_or-append sources (source ∷ []) source place within) ∙ sym (causes_at-get_or sources place source within)
 
 pub causes_at-last : (sources : List Source) (source : Source) → causes_at (sources ++ source ∷ []) (length sources) ≡ causes_of source
-causes_at-last sources source = causes_at-get_or (sources ++ source ∷ []) (length sources) source (simp length-append (omega arith)) ∙ ap causes_of (get_or-append_seam sources source [] source)
+causes_at-last sources source = causes_at-get_or (sources ++ source ∷ []) (length sources) source (simp length-append (omega arith)) ∙
+    ap causes_of (get_or-append_seam sources source [] source)
 
 -- a clause of the longer table is one of the table or the last
-pub given_at-cases : (sources : List Source) (source : Source) (place number : ℕ) → given_at (sources ++ source ∷ []) place ≡ Some number → ((place < length sources) × (given_at sources place ≡ Some number)) ⊎ ((place ≡ length sources) × (number_of source ≡ Some number))
+pub given_at-cases : (sources : List Source) (source : Source) (place number : ℕ) → given_at (sources ++ source ∷ []) place ≡ Some number →
+    ((place < length sources) × (given_at sources place ≡ Some number)) ⊎ ((place ≡ length sources) × (number_of source ≡ Some number))
 given_at-cases sources source place number is = ⊎_elim
     (λ (less : place < length sources). inl (less, sym (given_at-push sources source place less) ∙ is))
     (λ (more : length sources ≤ place).

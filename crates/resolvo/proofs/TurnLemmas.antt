@@ -14,7 +14,8 @@ use Rattle.resolver_clause_store.specs.declared.Trail.{Trail}
 use Rattle.resolver_clause_store.specs.Formula.{FollowsFrom}
 use Rattle.resolver_clause_store.specs.Outcomes.{IsFalseBefore, IsImplied}
 use Rattle.resolver_clause_store.specs.Slots.{is_decided}
-use Rattle.resolver_clause_store.specs.TrailView.{Gains, IsCut, IsGrown, IsTop, IsUndone, KeepsPlaces, length_of, level_of, slot_of, variable_at, variable_count}
+use Rattle.resolver_clause_store.specs.TrailView.{Gains, IsCut, IsGrown, IsTop, IsUndone, KeepsPlaces, length_of, level_of, slot_of, variable_at}
+use Rattle.resolver_clause_store.specs.TrailView.{variable_count}
 use Rattle.resolver_clause_store.proofs.KeptLemmas.{keeps_all, keeps_grown, keeps_places, keeps_through, keeps_trans, slot_at}
 use Rattle.resolver_clause_store.proofs.SlotLemmas.{level-last, none-from}
 use Rattle.resolver_clause_store.proofs.TrailLemmas.{Keeps, gains-cases, keeps-gains, value-false}
@@ -37,7 +38,8 @@ use Rattle.resolver_clause_store.specs.Queues.{IsQueued}
 use Rattle.resolver_clause_store.proofs.QueueLemmas.{queued-left, queued-longer}
 
 -- a slot at a place that is kept was there
-pub keeps-back : (old new : Trail) (count variable : ℕ) (slot : Slot) → KeepsPlaces old new count → slot_of new variable ≡ Some slot → slot.place < count → slot_of old variable ≡ Some slot
+pub keeps-back : (old new : Trail) (count variable : ℕ) (slot : Slot) → KeepsPlaces old new count → slot_of new variable ≡ Some slot → slot.place < count →
+    slot_of old variable ≡ Some slot
 keeps-back old new count variable slot keeps at below =
     let s = slot_at old slot.place (omega (arith, below, keeps.were)) in
     let named : variable_at old slot.place ≡ variable = sym (keeps.variables slot.place below) ∙ (new.listed variable slot at).1 in
@@ -66,23 +68,28 @@ turn-kept old new base held kept left turn keeps marked = record {
 
 -- what is held stays where the levels above the base are undone
 pub held-undone : (old new : Trail) (base held kept level : ℕ) → IsTurn old base held kept → IsUndone old new level → base ≤ level → KeepsPlaces old new held
-held-undone old new base held kept level turn undone high = keeps_places old new held turn.inside (λ v s at below. undone.kept v s at (omega (arith, turn.low v s at below, high)))
+held-undone old new base held kept level turn undone high =
+    keeps_places old new held turn.inside (λ v s at below. undone.kept v s at (omega (arith, turn.low v s at below, high)))
 
-pub turn-undone : (old new : Trail) (base held kept level left : ℕ) → IsTurn old base held kept → IsUndone old new level → base ≤ level → left ≡ min kept (length_of new) → IsTurn new base held left
+pub turn-undone : (old new : Trail) (base held kept level left : ℕ) → IsTurn old base held kept → IsUndone old new level → base ≤ level →
+    left ≡ min kept (length_of new) → IsTurn new base held left
 turn-undone old new base held kept level left turn undone high is =
     let keeps = held-undone old new base held kept level turn undone high in
     turn-kept old new base held kept left turn keeps (omega (arith, turn.marked, keeps.are, is))
 
 -- and where a literal is set then
-pub held-jumped : (old middle new : Trail) (base held kept level : ℕ) → IsTurn old base held kept → IsUndone old middle level → base ≤ level → Keeps middle new → KeepsPlaces old new held
+pub held-jumped : (old middle new : Trail) (base held kept level : ℕ) → IsTurn old base held kept → IsUndone old middle level → base ≤ level →
+    Keeps middle new → KeepsPlaces old new held
 held-jumped old middle new base held kept level turn undone high keeps =
     let first = held-undone old middle base held kept level turn undone high in
     keeps_through old middle new held held first (keeps-fewer middle new (length_of middle) held (keeps_all middle new keeps) first.are) (omega arith)
 
-pub turn-jumped : (old middle new : Trail) (base held kept level left : ℕ) → IsTurn old base held kept → IsUndone old middle level → base ≤ level → Keeps middle new → left ≡ min kept (length_of middle) → IsTurn new base held left
+pub turn-jumped : (old middle new : Trail) (base held kept level left : ℕ) → IsTurn old base held kept → IsUndone old middle level → base ≤ level →
+    Keeps middle new → left ≡ min kept (length_of middle) → IsTurn new base held left
 turn-jumped old middle new base held kept level left turn undone high keeps is =
     let first = held-undone old middle base held kept level turn undone high in
-    turn-kept old new base held kept left turn (held-jumped old middle new base held kept level turn undone high keeps) (omega (arith, turn.marked, first.are, is))
+    turn-kept old new base held kept left turn (held-jumped old middle new base held kept level turn undone high keeps)
+    (omega (arith, turn.marked, first.are, is))
 
 -- no step but the beginning of a turn assumes a variable
 pub none-undone : (old new : Trail) (level : ℕ) → IsUndone old new level → AssumesNone old new
@@ -92,12 +99,14 @@ pub none-grown : (old new : Trail) (variables : ℕ) → IsGrown old new variabl
 none-grown old new variables grown = record { was = λ v s at reason. sym (grown.slots v) ∙ at }
 
 pub none-extends : (old new : Trail) → Extends old new → AssumesNone old new
-none-extends old new extends = record { was = λ v s at reason. ⊎_elim (λ was. was) (λ forced. absurd (both_ways _ forced (ap is_decided reason))) (extends.only v s at) }
+none-extends old new extends =
+    record { was = λ v s at reason. ⊎_elim (λ was. was) (λ forced. absurd (both_ways _ forced (ap is_decided reason))) (extends.only v s at) }
 
 pub none-trans : (a b c : Trail) → AssumesNone a b → AssumesNone b c → AssumesNone a c
 none-trans a b c first second = record { was = λ v s at reason. first.was v s (second.was v s at reason) reason }
 
-pub none-gains : (old new : Trail) (literal : Literal) (level : ℕ) (reason : Reason) → Gains old new literal level reason → (reason ≡ Assumed → ⊥) → AssumesNone old new
+pub none-gains : (old new : Trail) (literal : Literal) (level : ℕ) (reason : Reason) → Gains old new literal level reason → (reason ≡ Assumed → ⊥) →
+    AssumesNone old new
 none-gains old new literal level reason gains other = record {
   was = λ v s at assumed. ⊎_elim
       (λ w. absurd (other (sym (ap (λ (t : Slot). t.reason) w.1) ∙ assumed)))
@@ -129,7 +138,8 @@ turn-trans a b c first second = record {
 }
 
 -- the turn stays where the trail keeps what is held
-pub keeps-turn : (old new : ClauseSearch) → new.base ≡ old.base → new.held ≡ old.held → AssumesNone old.trail new.trail → KeepsPlaces old.trail new.trail old.held → KeepsTurn old new
+pub keeps-turn : (old new : ClauseSearch) → new.base ≡ old.base → new.held ≡ old.held → AssumesNone old.trail new.trail →
+    KeepsPlaces old.trail new.trail old.held → KeepsTurn old new
 keeps-turn old new base held assumed keeps = record {
   base = base;
   held = held;
@@ -144,7 +154,8 @@ root-kept old new keeps root = record {
 }
 
 -- where the whole trail is held
-pub turn-whole : (trail : Trail) (base held kept : ℕ) → IsTop trail base → base ≤ length_of trail → held ≡ length_of trail → held ≤ kept + 1 → IsTurn trail base held kept
+pub turn-whole : (trail : Trail) (base held kept : ℕ) → IsTop trail base → base ≤ length_of trail → held ≡ length_of trail → held ≤ kept + 1 →
+    IsTurn trail base held kept
 turn-whole trail base held kept top bound whole marked = record {
   inside = omega (arith, whole);
   low = λ v s at below. top v s at;
@@ -156,7 +167,8 @@ pub level-gained : (old new : Trail) (literal : Literal) (level : ℕ) (reason :
 level-gained old new literal level reason gains = level-last new literal.variable _ gains.here (omega (arith, gains.count))
 
 -- an assumption is no decision for a requirement
-chosen-assumes : (table : List (Vec Literal Global)) (requirements : List RequirementClause) (old new : Trail) (literal : Literal) (level : ℕ) → AreChosen table requirements old → Gains old new literal level Assumed → slot_of old literal.variable ≡ None → AreChosen table requirements new
+chosen-assumes : (table : List (Vec Literal Global)) (requirements : List RequirementClause) (old new : Trail) (literal : Literal) (level : ℕ) →
+    AreChosen table requirements old → Gains old new literal level Assumed → slot_of old literal.variable ≡ None → AreChosen table requirements new
 chosen-assumes table requirements old new literal level chosen gains free = record {
   each = λ v s n at decided. ⊎_elim
       (λ w. absurd (assumed-decided n (sym (ap (λ (t : Slot). t.reason) w.1) ∙ decided)))
@@ -164,7 +176,10 @@ chosen-assumes table requirements old new literal level chosen gains free = reco
       (gains-cases old new literal level _ gains v s at);
 }
 
-pub consistent-assumed : (it : ClauseSearch) (trail : Trail) (literal : Literal) (level base held : ℕ) (in_lists : ∥ AreInLists it.table.items it.propagator.watches ∥₁) → IsConsistent it → Gains it.trail trail literal level Assumed → slot_of it.trail literal.variable ≡ None → it.kept ≡ length_of it.trail → IsTop trail base → base ≤ length_of trail → held ≡ length_of trail → IsConsistent (record it { trail = trail; base = base; held = held; in_lists = in_lists })
+pub consistent-assumed : (it : ClauseSearch) (trail : Trail) (literal : Literal) (level base held : ℕ)
+    (in_lists : ∥ AreInLists it.table.items it.propagator.watches ∥₁) → IsConsistent it → Gains it.trail trail literal level Assumed →
+    slot_of it.trail literal.variable ≡ None → it.kept ≡ length_of it.trail → IsTop trail base → base ≤ length_of trail → held ≡ length_of trail →
+    IsConsistent (record it { trail = trail; base = base; held = held; in_lists = in_lists })
 consistent-assumed it trail literal level base held in_lists holds gains free marked top bound whole = record {
   below = λ n k d b. omega (arith, holds.below n k d b, gains.size);
   derived = holds.derived;
@@ -176,10 +191,12 @@ consistent-assumed it trail literal level base held in_lists holds gains free ma
   kept = omega (arith, holds.kept, gains.count);
   propagator = propagator-gains it.table.items it.trail trail it.propagator literal level Assumed gains free holds.propagator;
   turn = turn-whole trail base held it.kept top bound whole (omega (arith, whole, marked, gains.count));
-  queued = queued-longer it.queue it.trail trail it.table.items it.requirements.items (keeps_all it.trail trail (keeps-gains it.trail trail literal level _ gains free)) holds.queued;
+  queued = queued-longer it.queue it.trail trail it.table.items it.requirements.items
+      (keeps_all it.trail trail (keeps-gains it.trail trail literal level _ gains free)) holds.queued;
 }
 
-pub consistent-marked : (it : ClauseSearch) (kept : ℕ) (in_lists : ∥ AreInLists it.table.items it.propagator.watches ∥₁) → kept ≡ length_of it.trail → IsConsistent it → IsConsistent (record it { kept = kept; in_lists = in_lists })
+pub consistent-marked : (it : ClauseSearch) (kept : ℕ) (in_lists : ∥ AreInLists it.table.items it.propagator.watches ∥₁) → kept ≡ length_of it.trail →
+    IsConsistent it → IsConsistent (record it { kept = kept; in_lists = in_lists })
 consistent-marked it kept in_lists whole holds = record {
   below = holds.below;
   derived = holds.derived;
@@ -194,7 +211,9 @@ consistent-marked it kept in_lists whole holds = record {
   queued = holds.queued;
 }
 
-pub consistent-held : (it : ClauseSearch) (base held : ℕ) (in_lists : ∥ AreInLists it.table.items it.propagator.watches ∥₁) → it.kept ≡ length_of it.trail → IsTop it.trail base → base ≤ length_of it.trail → held ≡ length_of it.trail → IsConsistent it → IsConsistent (record it { base = base; held = held; in_lists = in_lists })
+pub consistent-held : (it : ClauseSearch) (base held : ℕ) (in_lists : ∥ AreInLists it.table.items it.propagator.watches ∥₁) → it.kept ≡ length_of it.trail →
+    IsTop it.trail base → base ≤ length_of it.trail → held ≡ length_of it.trail → IsConsistent it →
+    IsConsistent (record it { base = base; held = held; in_lists = in_lists })
 consistent-held it base held in_lists marked top bound whole holds = record {
   below = holds.below;
   derived = holds.derived;
@@ -210,7 +229,8 @@ consistent-held it base held in_lists marked top bound whole holds = record {
 }
 
 -- a trail of which the first places are left
-false_before-cut : (old new : Trail) (count variable : ℕ) (slot : Slot) (literal : Literal) → IsCut old new count → slot_of new variable ≡ Some slot → IsFalseBefore old slot.place literal → IsFalseBefore new slot.place literal
+false_before-cut : (old new : Trail) (count variable : ℕ) (slot : Slot) (literal : Literal) → IsCut old new count → slot_of new variable ≡ Some slot →
+    IsFalseBefore old slot.place literal → IsFalseBefore new slot.place literal
 false_before-cut old new count variable slot literal cut at f = record {
   slot = f.slot;
   is = cut.kept _ _ f.is (omega (arith, f.earlier, (new.listed variable slot at).0, cut.length));
@@ -221,11 +241,13 @@ false_before-cut old new count variable slot literal cut at f = record {
 justified-cut : (table : List (Vec Literal Global)) (old new : Trail) (count : ℕ) → IsJustified table old → IsCut old new count → IsJustified table new
 justified-cut table old new count justified cut = record {
   within = λ v s n at reason. justified.within v s n (cut.stays v s at) reason;
-  forced = λ v s n at reason k d below. ⊎_elim (λ e. inl e) (λ f. inr (false_before-cut old new count v s _ cut at f)) (justified.forced v s n (cut.stays v s at) reason k d below);
+  forced = λ v s n at reason k d below. ⊎_elim (λ e. inl e) (λ f. inr (false_before-cut old new count v s _ cut at f))
+      (justified.forced v s n (cut.stays v s at) reason k d below);
   contains = λ v s n at reason. justified.contains v s n (cut.stays v s at) reason;
 }
 
-chosen-cut : (table : List (Vec Literal Global)) (requirements : List RequirementClause) (old new : Trail) (count : ℕ) → AreChosen table requirements old → IsCut old new count → AreChosen table requirements new
+chosen-cut : (table : List (Vec Literal Global)) (requirements : List RequirementClause) (old new : Trail) (count : ℕ) → AreChosen table requirements old →
+    IsCut old new count → AreChosen table requirements new
 chosen-cut table requirements old new count chosen cut = record {
   each = λ v s n at decided.
       let c = chosen.each v s n (cut.stays v s at) decided in
@@ -240,8 +262,11 @@ chosen-cut table requirements old new count chosen cut = record {
       };
 }
 
-pub consistent-cut : (it : ClauseSearch) (trail : Trail) (propagator : Propagator) (queue : DecideQueue) (count kept base : ℕ) (in_lists : ∥ AreInLists it.table.items propagator.watches ∥₁) → IsConsistent it → IsCut it.trail trail count → count + 1 ≡ it.held → kept ≡ min it.kept count → IsTop trail base → base ≤ length_of trail → IsPropagator it.table.items trail propagator →
-    ((before after : Trail) (clauses : List (Vec Literal Global)) (wanted : List RequirementClause) → KeepsPlaces before after (min it.queue.kept count) → IsQueued it.queue before clauses wanted → IsQueued queue after clauses wanted) →
+pub consistent-cut : (it : ClauseSearch) (trail : Trail) (propagator : Propagator) (queue : DecideQueue) (count kept base : ℕ)
+    (in_lists : ∥ AreInLists it.table.items propagator.watches ∥₁) → IsConsistent it → IsCut it.trail trail count → count + 1 ≡ it.held →
+    kept ≡ min it.kept count → IsTop trail base → base ≤ length_of trail → IsPropagator it.table.items trail propagator →
+    ((before after : Trail) (clauses : List (Vec Literal Global)) (wanted : List RequirementClause) → KeepsPlaces before after (min it.queue.kept count) →
+    IsQueued it.queue before clauses wanted → IsQueued queue after clauses wanted) →
     IsConsistent (record it { trail = trail; propagator = propagator; queue = queue; kept = kept; base = base; held = count; in_lists = in_lists })
 consistent-cut it trail propagator queue count kept base in_lists holds cut last is top bound propagates noted = record {
   below = λ n k d b. omega (arith, holds.below n k d b, cut.size);
@@ -254,7 +279,8 @@ consistent-cut it trail propagator queue count kept base in_lists holds cut last
   kept = omega (arith, is, cut.length);
   propagator = propagates;
   turn = turn-whole trail base count kept top bound (sym cut.length) (omega (arith, is, last, holds.turn.marked));
-  queued = queued-left it.queue queue it.trail trail it.table.items it.requirements.items count count noted (keeps_places it.trail trail count (omega (arith, last, holds.turn.inside)) (λ v s at below. cut.kept v s at below)) refl holds.queued;
+  queued = queued-left it.queue queue it.trail trail it.table.items it.requirements.items count count noted
+      (keeps_places it.trail trail count (omega (arith, last, holds.turn.inside)) (λ v s at below. cut.kept v s at below)) refl holds.queued;
 }
 
 pub cut-free : (old new : Trail) (count : ℕ) → IsCut old new count → count < length_of old → slot_of new (variable_at old count) ≡ None
@@ -269,17 +295,33 @@ first-cut old new kept count left cut within is =
     subst Left (sym is) (λ base k. keeps_trans base old new kept count k (keeps_places old new count within (λ v s at below. cut.kept v s at below)))
 
 -- what is loaded does not depend on the turn
-pub loaded-turn : (it : ClauseSearch) (trail : Trail) (propagator : Propagator) (queue : DecideQueue) (kept base held : ℕ) (in_lists : ∥ AreInLists it.table.items propagator.watches ∥₁) (given : List (Vec Literal Global)) (numbers : List ℕ) → IsLoaded given numbers it → IsLoaded given numbers (record it { trail = trail; propagator = propagator; queue = queue; kept = kept; base = base; held = held; in_lists = in_lists })
-loaded-turn it trail propagator queue kept base held in_lists given numbers loaded = record { clauses = loaded.clauses; requirements = loaded.requirements; inside = loaded.inside }
+pub loaded-turn : (it : ClauseSearch) (trail : Trail) (propagator : Propagator) (queue : DecideQueue) (kept base held : ℕ)
+    (in_lists : ∥ AreInLists it.table.items propagator.watches ∥₁) (given : List (Vec Literal Global)) (numbers : List ℕ) → IsLoaded given numbers it →
+    IsLoaded given numbers (record it { trail = trail; propagator = propagator; queue = queue; kept = kept; base = base; held = held; in_lists = in_lists })
+loaded-turn it trail propagator queue kept base held in_lists given numbers loaded =
+    record { clauses = loaded.clauses; requirements = loaded.requirements; inside = loaded.inside }
 
 -- more variables, and a descent
-pub turn-grown : (it : ClauseSearch) (trail : Trail) (propagator : Propagator) (queue : DecideQueue) (variables : ℕ) (in_lists : ∥ AreInLists it.table.items propagator.watches ∥₁) → IsConsistent it → IsGrown it.trail trail variables → KeepsTurn it (record it { trail = trail; propagator = propagator; queue = queue; in_lists = in_lists })
-turn-grown it trail propagator queue variables in_lists holds grown = keeps-turn it (record it { trail = trail; propagator = propagator; queue = queue; in_lists = in_lists }) refl refl (none-grown it.trail trail variables grown) (keeps-fewer it.trail trail (length_of it.trail) it.held (keeps_grown it.trail trail variables grown) holds.turn.inside)
+pub turn-grown : (it : ClauseSearch) (trail : Trail) (propagator : Propagator) (queue : DecideQueue) (variables : ℕ)
+    (in_lists : ∥ AreInLists it.table.items propagator.watches ∥₁) → IsConsistent it → IsGrown it.trail trail variables →
+    KeepsTurn it (record it { trail = trail; propagator = propagator; queue = queue; in_lists = in_lists })
+turn-grown it trail propagator queue variables in_lists holds grown =
+    keeps-turn it (record it { trail = trail; propagator = propagator; queue = queue; in_lists = in_lists }) refl refl
+    (none-grown it.trail trail variables grown)
+    (keeps-fewer it.trail trail (length_of it.trail) it.held (keeps_grown it.trail trail variables grown) holds.turn.inside)
 
-pub turn-descended : (it : ClauseSearch) (trail : Trail) (propagator : Propagator) (queue : DecideQueue) (in_lists : ∥ AreInLists it.table.items propagator.watches ∥₁) → IsConsistent it → AssumesNone it.trail trail → KeepsPlaces it.trail trail (length_of it.trail) → KeepsTurn it (record it { trail = trail; propagator = propagator; queue = queue; in_lists = in_lists })
-turn-descended it trail propagator queue in_lists holds assumed keeps = keeps-turn it (record it { trail = trail; propagator = propagator; queue = queue; in_lists = in_lists }) refl refl assumed (keeps-fewer it.trail trail (length_of it.trail) it.held keeps holds.turn.inside)
+pub turn-descended : (it : ClauseSearch) (trail : Trail) (propagator : Propagator) (queue : DecideQueue)
+    (in_lists : ∥ AreInLists it.table.items propagator.watches ∥₁) → IsConsistent it → AssumesNone it.trail trail →
+    KeepsPlaces it.trail trail (length_of it.trail) → KeepsTurn it (record it { trail = trail; propagator = propagator; queue = queue; in_lists = in_lists })
+turn-descended it trail propagator queue in_lists holds assumed keeps =
+    keeps-turn it (record it { trail = trail; propagator = propagator; queue = queue; in_lists = in_lists }) refl refl assumed
+    (keeps-fewer it.trail trail (length_of it.trail) it.held keeps holds.turn.inside)
 
-pub consistent-descended : (it : ClauseSearch) (trail : Trail) (propagator : Propagator) (queue : DecideQueue) (in_lists : ∥ AreInLists it.table.items propagator.watches ∥₁) → IsConsistent it → variable_count trail ≡ variable_count it.trail → IsJustified it.table.items trail → AreChosen it.table.items it.requirements.items trail → KeepsPlaces it.trail trail (length_of it.trail) → IsPropagator it.table.items trail propagator → IsQueued queue trail it.table.items it.requirements.items → IsConsistent (record it { trail = trail; propagator = propagator; queue = queue; in_lists = in_lists })
+pub consistent-descended : (it : ClauseSearch) (trail : Trail) (propagator : Propagator) (queue : DecideQueue)
+    (in_lists : ∥ AreInLists it.table.items propagator.watches ∥₁) → IsConsistent it → variable_count trail ≡ variable_count it.trail →
+    IsJustified it.table.items trail → AreChosen it.table.items it.requirements.items trail → KeepsPlaces it.trail trail (length_of it.trail) →
+    IsPropagator it.table.items trail propagator → IsQueued queue trail it.table.items it.requirements.items →
+    IsConsistent (record it { trail = trail; propagator = propagator; queue = queue; in_lists = in_lists })
 consistent-descended it trail propagator queue in_lists holds size justified chosen keeps propagates queued = record {
   below = λ n k d b. omega (arith, holds.below n k d b, size);
   derived = holds.derived;
@@ -290,23 +332,28 @@ consistent-descended it trail propagator queue in_lists holds size justified cho
   count = holds.count;
   kept = omega (arith, holds.kept, keeps.are);
   propagator = propagates;
-  turn = turn-kept it.trail trail it.base it.held it.kept it.kept holds.turn (keeps-fewer it.trail trail (length_of it.trail) it.held keeps holds.turn.inside) holds.turn.marked;
+  turn = turn-kept it.trail trail it.base it.held it.kept it.kept holds.turn
+      (keeps-fewer it.trail trail (length_of it.trail) it.held keeps holds.turn.inside) holds.turn.marked;
   queued = queued;
 }
 
 -- a learnt clause is implied by the given ones
-implied-learnt : (given table : List (Vec Literal Global)) (sources : List Source) (causes : List ℕ) (literals : List Literal) → IsDerived table sources → AreGiven given table sources → All (λ n. n < length table) causes → FollowsFrom table causes literals → IsImplied given literals
-implied-learnt given table sources causes literals derived are within follows = λ values holds. follows values (λ k d below. implied given table sources _ derived are (within k d below) values holds)
+implied-learnt : (given table : List (Vec Literal Global)) (sources : List Source) (causes : List ℕ) (literals : List Literal) → IsDerived table sources →
+    AreGiven given table sources → All (λ n. n < length table) causes → FollowsFrom table causes literals → IsImplied given literals
+implied-learnt given table sources causes literals derived are within follows =
+    λ values holds. follows values (λ k d below. implied given table sources _ derived are (within k d below) values holds)
 
 -- a learnt clause that is false at the base refuses
-pub refused : (it : ClauseSearch) (given : List (Vec Literal Global)) (numbers : List ℕ) (learnt : Learnt) → IsConsistent it → IsLoaded given numbers it → IsLearnt it.table.items it.trail learnt → level_in it.trail learnt.literal.variable ≤ it.base → IsRefused given it.trail it.base
+pub refused : (it : ClauseSearch) (given : List (Vec Literal Global)) (numbers : List ℕ) (learnt : Learnt) → IsConsistent it → IsLoaded given numbers it →
+    IsLearnt it.table.items it.trail learnt → level_in it.trail learnt.literal.variable ≤ it.base → IsRefused given it.trail it.base
 refused it given numbers learnt holds loaded is low =
     let a = is.asserting in
     let top : a.slot.level ≤ it.base = omega (arith, low, level-in it.trail learnt.literal.variable a.slot a.is) in
     record {
       turn = omega (arith, a.above, top);
       clause = learnt.literals.items;
-      implied = implied-learnt given it.table.items it.sources.items learnt.causes.items learnt.literals.items holds.derived loaded.clauses.are is.within is.follows;
+      implied = implied-learnt given it.table.items it.sources.items learnt.causes.items learnt.literals.items holds.derived loaded.clauses.are is.within
+          is.follows;
       low = λ k d below.
           let v = value-false _ _ (is.falsified k d below) in
           record {
@@ -321,8 +368,10 @@ refused it given numbers learnt holds loaded is low =
     }
 
 -- the level that is jumped to is below the one of the literal that is set
-pub below-asserted : (trail : Trail) (jump base back : ℕ) (literal : Literal) (literals : List Literal) → IsAsserting trail jump literal literals → base < level_in trail literal.variable → back ≡ max jump base → back < level_in trail literal.variable
-below-asserted trail jump base back literal literals asserting above is = omega (arith, is, asserting.above, above, level-in trail literal.variable asserting.slot asserting.is)
+pub below-asserted : (trail : Trail) (jump base back : ℕ) (literal : Literal) (literals : List Literal) → IsAsserting trail jump literal literals →
+    base < level_in trail literal.variable → back ≡ max jump base → back < level_in trail literal.variable
+below-asserted trail jump base back literal literals asserting above is =
+    omega (arith, is, asserting.above, above, level-in trail literal.variable asserting.slot asserting.is)
 
 -- a trail that was taken back to where a turn began is as it was then
 pub record IsBack (start back : Trail) : Type 0 where
@@ -331,10 +380,13 @@ pub record IsBack (start back : Trail) : Type 0 where
   pub kept : (variable : ℕ) (slot : Slot) → slot_of start variable ≡ Some slot → slot_of back variable ≡ Some slot
   pub stays : (variable : ℕ) (slot : Slot) → slot_of back variable ≡ Some slot → slot_of start variable ≡ Some slot
 
-pub turned-back : (start begun ended back : Trail) (literal : Literal) (level : ℕ) → Gains start begun literal level Assumed → slot_of start literal.variable ≡ None → KeepsPlaces begun ended (length_of begun) → variable_count ended ≡ variable_count begun → IsCut ended back (length_of begun - 1) → IsBack start back
+pub turned-back : (start begun ended back : Trail) (literal : Literal) (level : ℕ) → Gains start begun literal level Assumed →
+    slot_of start literal.variable ≡ None → KeepsPlaces begun ended (length_of begun) → variable_count ended ≡ variable_count begun →
+    IsCut ended back (length_of begun - 1) → IsBack start back
 turned-back start begun ended back literal level gains free keeps size cut =
     let count : length_of begun ≡ length_of start + 1 = gains.count in
-    let first = keeps_through start begun ended (length_of start) (length_of begun) (keeps_all start begun (keeps-gains start begun literal level Assumed gains free)) keeps (omega (arith, count)) in
+    let first = keeps_through start begun ended (length_of start) (length_of begun)
+    (keeps_all start begun (keeps-gains start begun literal level Assumed gains free)) keeps (omega (arith, count)) in
     let long : length_of back ≡ length_of start = omega (arith, cut.length, count) in
     record {
       size = cut.size ∙ size ∙ gains.size;

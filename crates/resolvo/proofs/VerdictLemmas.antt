@@ -1,5 +1,6 @@
 -- What a search over the clauses of the marked rules decides of these.
-use Rattle.std.proofs.Common.{◌≡◌, ◌≢◌, ℕ, zero, suc, ◌<◌, ◌≤◌, ◌⊎◌, inl, inr, List, [], ◌∷◌, length, map, get_or, arith, refl, sym, ap, ◌∙◌, subst, Bool, true, false, Contains, All, Any, ⊎_elim, Vec, Global, Option, Some, None}
+use Rattle.std.proofs.Common.{◌≡◌, ◌≢◌, ℕ, zero, suc, ◌<◌, ◌≤◌, ◌⊎◌, inl, inr, List, [], ◌∷◌, length, map, get_or, arith, refl, sym, ap, ◌∙◌, subst, Bool, true}
+use Rattle.std.proofs.Common.{false, Contains, All, Any, ⊎_elim, Vec, Global, Option, Some, None}
 use Rattle.std.specs.Bool.{beq}
 use Rattle.std.specs.List.{slice_index_or}
 use Rattle.std.specs.Option.{option_map, option_map_or}
@@ -44,11 +45,13 @@ open_in (Some slot) literal is negative = absurd cc
 literal_true_on : (trail : Trail) (literal : Literal) → literal_value trail literal ≡ Some true → literal_true (reads trail) literal ≡ true
 literal_true_on trail literal is = true_in (slot_of trail literal.variable) literal is
 
-negation_open_on : (trail : Trail) (literal : Literal) → literal_value trail literal ≡ None → literal.positive ≡ false → literal_true (reads trail) literal ≡ true
+negation_open_on : (trail : Trail) (literal : Literal) → literal_value trail literal ≡ None → literal.positive ≡ false →
+    literal_true (reads trail) literal ≡ true
 negation_open_on trail literal is negative = open_in (slot_of trail literal.variable) literal is negative
 
 -- a clause with a true literal is true
-one_true : (values : ℕ → Bool) (clause : List Literal) (literal : Literal) → Contains clause literal → literal_true values literal ≡ true → clause_true values clause ≡ true
+one_true : (values : ℕ → Bool) (clause : List Literal) (literal : Literal) → Contains clause literal → literal_true values literal ≡ true →
+    clause_true values clause ≡ true
 one_true values clause literal inside is = ⊎_elim
     (λ (is_true : clause_true values clause ≡ true). is_true)
     (λ (is_false : clause_true values clause ≡ false). absurd (false≢true (sym (false-contains values clause literal is_false inside) ∙ is)))
@@ -83,33 +86,48 @@ guarded_true trail (first ∷ []) guarded propagated = value_cases (literal_valu
 guarded_true trail (first ∷ second ∷ []) guarded propagated = value_cases (literal_value trail first)
     (λ is_open. one_true (reads trail) (first ∷ second ∷ []) first (first_in first (second ∷ [])) (negation_open_on trail first is_open guarded))
     (λ is_true. one_true (reads trail) (first ∷ second ∷ []) first (first_in first (second ∷ [])) (literal_true_on trail first is_true))
-    (λ is_false. one_true (reads trail) (first ∷ second ∷ []) second (second_in first second []) (literal_true_on trail second (propagated.last second (second_in first second []) (λ other inside. of_two is_false other inside))))
+    (λ is_false. one_true (reads trail) (first ∷ second ∷ []) second (second_in first second [])
+    (literal_true_on trail second (propagated.last second (second_in first second []) (λ other inside. of_two is_false other inside))))
   where
-    of_two : literal_value trail first ≡ Some false → (other : Literal) → Contains (first ∷ second ∷ []) other → (other ≡ second) ⊎ (literal_value trail other ≡ Some false)
+    of_two : literal_value trail first ≡ Some false → (other : Literal) → Contains (first ∷ second ∷ []) other → (other ≡ second) ⊎
+        (literal_value trail other ≡ Some false)
     of_two is_false other (zero, below, is) = let P : Literal → Type 0 = λ l. literal_value trail l ≡ Some false in inr (subst P is is_false)
     of_two is_false other (suc zero, below, is) = inl (sym is)
     of_two is_false other (suc (suc k), below, is) = absurd (omega (arith, below))
 guarded_true trail (first ∷ second ∷ third ∷ rest) guarded propagated = absurd guarded
 
 -- each number that a list of requirements names
-named : (P : ℕ → Type 0) (requirements : List RequirementClause) → All (λ (requirement : RequirementClause). P requirement.number) requirements → All P (numbers_of requirements)
+named : (P : ℕ → Type 0) (requirements : List RequirementClause) → All (λ (requirement : RequirementClause). P requirement.number) requirements →
+    All P (numbers_of requirements)
 named P requirements all = All-map P (λ (requirement : RequirementClause). requirement.number) requirements all
 
 -- a search that ended with values makes the clauses of the marked rules true
-pub finished_true : (marks : List Bool) (from : List RuleClause) (clauses : List (Vec Literal Global)) (places : List ℕ) (requirements : List RequirementClause) (trail : Trail) → AreMarkedClauses marks from clauses places (numbers_of requirements) → All (λ (clause : RuleClause). clause.asks ≡ false → IsGuarded clause.literals.items) from → IsFinished clauses requirements trail → MakesMarkedTrue (reads trail) marks from
+pub finished_true : (marks : List Bool) (from : List RuleClause) (clauses : List (Vec Literal Global)) (places : List ℕ) (requirements : List RequirementClause)
+    (trail : Trail) → AreMarkedClauses marks from clauses places (numbers_of requirements) →
+    All (λ (clause : RuleClause). clause.asks ≡ false → IsGuarded clause.literals.items) from → IsFinished clauses requirements trail →
+    MakesMarkedTrue (reads trail) marks from
 finished_true marks from clauses places requirements trail are guarded finished = λ k d below marked_one.
     let clause : RuleClause = get_or from k d in
     let there = are.all k d below marked_one in
     let P : List Literal → Type 0 = λ literals. clause_true (reads trail) literals ≡ true in
     subst P there.literals (⊎_elim
-    (λ (asks : clause.asks ≡ true). met_true trail (clause_at clauses there.number) (All-contains (λ number. IsMet trail (clause_at clauses number)) (numbers_of requirements) there.number (named (λ number. IsMet trail (clause_at clauses number)) requirements finished.met) (there.listed asks)))
-    (λ (plain : clause.asks ≡ false). let Q : List Literal → Type 0 = IsGuarded in guarded_true trail (clause_at clauses there.number) (subst Q (sym there.literals) (guarded k d below plain)) (finished.propagated there.number there.inside))
+    (λ (asks : clause.asks ≡ true). met_true trail (clause_at clauses there.number)
+    (All-contains (λ number. IsMet trail (clause_at clauses number)) (numbers_of requirements) there.number
+    (named (λ number. IsMet trail (clause_at clauses number)) requirements finished.met) (there.listed asks)))
+    (λ (plain : clause.asks ≡ false). let Q : List Literal → Type 0 = IsGuarded in
+    guarded_true trail (clause_at clauses there.number) (subst Q (sym there.literals) (guarded k d below plain))
+    (finished.propagated there.number there.inside))
     (cases_Bool clause.asks))
 
-pub obeyed : {N S : Type 0} (rules : List (Rule N S)) (variables : ℕ) (marks : List Bool) (from : List RuleClause) (clauses : List (Vec Literal Global)) (places : List ℕ) (requirements : List RequirementClause) (trail : Trail) → length marks ≡ length rules → DecideRules rules variables from → AreMarkedClauses marks from clauses places (numbers_of requirements) → IsFinished clauses requirements trail → IsRefuted (marked marks rules) → ⊥
-obeyed rules variables marks from clauses places requirements trail size decide are finished = decide.complete marks (reads trail) size (finished_true marks from clauses places requirements trail are decide.guarded finished)
+pub obeyed : {N S : Type 0} (rules : List (Rule N S)) (variables : ℕ) (marks : List Bool) (from : List RuleClause) (clauses : List (Vec Literal Global))
+    (places : List ℕ) (requirements : List RequirementClause) (trail : Trail) → length marks ≡ length rules → DecideRules rules variables from →
+    AreMarkedClauses marks from clauses places (numbers_of requirements) → IsFinished clauses requirements trail → IsRefuted (marked marks rules) → ⊥
+obeyed rules variables marks from clauses places requirements trail size decide are finished =
+    decide.complete marks (reads trail) size (finished_true marks from clauses places requirements trail are decide.guarded finished)
 
-module _ {N S : Type 0} (rules : List (Rule N S)) (variables : ℕ) (marks part : List Bool) (from : List RuleClause) (clauses : List (Vec Literal Global)) (places numbers core : List ℕ) (decide : DecideRules rules variables from) (are : AreMarkedClauses marks from clauses places numbers) (is_core : IsCore clauses core) (of : AreMarksOf places core (length rules) part) where
+module _ {N S : Type 0} (rules : List (Rule N S)) (variables : ℕ) (marks part : List Bool) (from : List RuleClause) (clauses : List (Vec Literal Global))
+    (places numbers core : List ℕ) (decide : DecideRules rules variables from) (are : AreMarkedClauses marks from clauses places numbers)
+    (is_core : IsCore clauses core) (of : AreMarksOf places core (length rules) part) where
   core_among : AreAmong part marks
   core_among k m =
       let w = of.only k m in
@@ -123,7 +141,9 @@ module _ {N S : Type 0} (rules : List (Rule N S)) (variables : ℕ) (marks part 
       let it = are.each number (is_core.within k d below) in
       let P : ℕ → Type 0 = λ place. slice_index_or part place false ≡ true in
       let Q : List Literal → Type 0 = λ literals. clause_true values literals ≡ true in
-      subst Q (sym it.literals) (All-contains (λ (clause : RuleClause). slice_index_or part clause.rule false ≡ true → clause_true values clause.literals.items ≡ true) from it.clause all it.among (subst P it.place (of.all k d below)))
+      subst Q (sym it.literals) (All-contains (λ (clause : RuleClause).
+      slice_index_or part clause.rule false ≡ true → clause_true values clause.literals.items ≡ true) from it.clause all it.among
+      (subst P it.place (of.all k d below)))
 
   pub core_refuted : IsRefutedPart rules marks part
   core_refuted = record {
@@ -133,7 +153,9 @@ module _ {N S : Type 0} (rules : List (Rule N S)) (variables : ℕ) (marks part 
   }
 
 -- the rules of the marked clauses are among the rules
-pub places_inside : {N S : Type 0} (rules : List (Rule N S)) (variables : ℕ) (marks : List Bool) (from : List RuleClause) (clauses : List (Vec Literal Global)) (places numbers : List ℕ) → DecideRules rules variables from → AreMarkedClauses marks from clauses places numbers → All (λ place. place < length rules) places
+pub places_inside : {N S : Type 0} (rules : List (Rule N S)) (variables : ℕ) (marks : List Bool) (from : List RuleClause) (clauses : List (Vec Literal Global))
+    (places numbers : List ℕ) → DecideRules rules variables from → AreMarkedClauses marks from clauses places numbers →
+    All (λ place. place < length rules) places
 places_inside rules variables marks from clauses places numbers decide are = λ k d below.
     let it = are.each k (omega (arith, below, are.size)) in
     let same : get_or places k d ≡ it.clause.rule = get_or_default places k d 0 below ∙ it.place in
@@ -141,7 +163,8 @@ places_inside rules variables marks from clauses places numbers decide are = λ 
     omega (arith, same, small)
 
 -- the variables of the marked clauses are those of all
-pub marked_below : {N S : Type 0} (rules : List (Rule N S)) (variables : ℕ) (marks : List Bool) (from : List RuleClause) (clauses : List (Vec Literal Global)) (places numbers : List ℕ) → DecideRules rules variables from → AreMarkedClauses marks from clauses places numbers → AreBelow variables clauses
+pub marked_below : {N S : Type 0} (rules : List (Rule N S)) (variables : ℕ) (marks : List Bool) (from : List RuleClause) (clauses : List (Vec Literal Global))
+    (places numbers : List ℕ) → DecideRules rules variables from → AreMarkedClauses marks from clauses places numbers → AreBelow variables clauses
 marked_below rules variables marks from clauses places numbers decide are = λ number. ⊎_elim
     (λ (inside : number < length clauses).
     let it = are.each number inside in
@@ -152,7 +175,8 @@ marked_below rules variables marks from clauses places numbers decide are = λ n
     subst P (sym (clause_at-past clauses number past)) (All-nil _))
     (cases_lt number (length clauses))
 
-pub requirements_inside : (count : ℕ) (requirements : List RequirementClause) → All (λ number. number < count) (numbers_of requirements) → All (λ (requirement : RequirementClause). requirement.number < count) requirements
+pub requirements_inside : (count : ℕ) (requirements : List RequirementClause) → All (λ number. number < count) (numbers_of requirements) →
+    All (λ (requirement : RequirementClause). requirement.number < count) requirements
 requirements_inside count [] all = All-nil _
 requirements_inside count (r ∷ rest) all =
     All-cons (λ (requirement : RequirementClause). requirement.number < count) r rest

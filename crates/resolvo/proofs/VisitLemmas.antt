@@ -1,5 +1,6 @@
 -- What a look at a clause that watches a false literal leaves.
-use Rattle.std.proofs.Common.{◌≡◌, ◌≢◌, ℕ, ◌+◌, ◌-◌, ◌<◌, ◌≤◌, ◌⊎◌, List, [], ◌∷◌, ◌++◌, length, get_or, Option, Some, None, Bool, true, false, inl, inr, refl, sym, ap, ◌∙◌, subst, ⊎_elim, arith}
+use Rattle.std.proofs.Common.{◌≡◌, ◌≢◌, ℕ, ◌+◌, ◌-◌, ◌<◌, ◌≤◌, ◌⊎◌, List, [], ◌∷◌, ◌++◌, length, get_or, Option, Some, None, Bool, true, false, inl, inr, refl}
+use Rattle.std.proofs.Common.{sym, ap, ◌∙◌, subst, ⊎_elim, arith}
 use Rattle.std.specs.Prelude.{All, Any, Contains, Vec, slice_get, if◌then◌else◌}
 use Rattle.std.specs.Bool.{beq}
 use Rattle.std.specs.Option.{option_eq, option_map_or}
@@ -18,9 +19,11 @@ use Rattle.resolver_clause_store.specs.TrailView.{slot_of, length_of, level_of, 
 use Rattle.resolver_clause_store.proofs.PlaceLemmas.{place_cases}
 use Rattle.resolver_clause_store.proofs.TrailLemmas.{Keeps, gains-cases, keeps-gains, value-true}
 use Rattle.resolvo.specs.Propagation.{IsUnit}
-use Rattle.resolvo.specs.Propagators.{AreLate, AreWatched, Covers, IsExcused, IsNoted, IsPropagator, IsTrueAt, IsTrueBefore, WatchesTwo, attached_of, head_of, late_of, pending_of}
+use Rattle.resolvo.specs.Propagators.{AreLate, AreWatched, Covers, IsExcused, IsNoted, IsPropagator, IsTrueAt, IsTrueBefore, WatchesTwo, attached_of, head_of}
+use Rattle.resolvo.specs.Propagators.{late_of, pending_of}
 use Rattle.resolvo.specs.Visits.{GoesOn, IsPaired, IsVisiting, Replaces, StandsAt, watchers_of}
-use Rattle.resolver_clause_store.specs.Watches.{HasBlockers, IsPair, IsWatching, MovesWatch, SameClauses, list_at, list_number, pair_at, unwatched, watched_pair}
+use Rattle.resolver_clause_store.specs.Watches.{HasBlockers, IsPair, IsWatching, MovesWatch, SameClauses, list_at, list_number, pair_at, unwatched}
+use Rattle.resolver_clause_store.specs.Watches.{watched_pair}
 use Rattle.resolver_clause_store.specs.WatchesView.{lists_of, pairs_of}
 use Rattle.resolvo.specs.declared.propagator.Late.{Late}
 use Rattle.resolvo.specs.declared.propagator.Propagator.{Propagator}
@@ -36,16 +39,21 @@ all-at P xs k x all at = subst P (get_or_from_slice_get xs k x x at) (all k x (s
 any-left : {X : Type 0} (P : X → Type 0) (xs ys : List X) → Any P xs → Any P (xs ++ ys)
 any-left P xs ys h = any-contains P (xs ++ ys) h.1 (Contains-append_left xs ys h.1 (h.0, h.2, h.3)) h.4
 
-pub below-contains : (table : List (Vec Literal Global)) (variables number : ℕ) (literal : Literal) → AreBelow variables table → Contains (clause_at table number) literal → literal.variable < variables
+pub below-contains : (table : List (Vec Literal Global)) (variables number : ℕ) (literal : Literal) → AreBelow variables table →
+    Contains (clause_at table number) literal → literal.variable < variables
 below-contains table variables number literal below c = subst (λ (l : Literal). l.variable < variables) c.2 (below number c.0 literal c.1)
 
 -- a clause that is true
 
 satisfied-low : (trail : Trail) (clause : List Literal) (level : ℕ) → IsTop trail level → IsSatisfied trail clause → Any (IsTrueAt trail level) clause
-satisfied-low trail clause level top h = any-map (λ (l : Literal). literal_value trail l ≡ Some true) (IsTrueAt trail level) clause (λ l e. let v = value-true _ _ e in record { slot = v.0; is = v.1; true_there = v.2; low = top _ v.0 v.1 }) h
+satisfied-low trail clause level top h =
+    any-map (λ (l : Literal). literal_value trail l ≡ Some true) (IsTrueAt trail level) clause (λ l e.
+    let v = value-true _ _ e in record { slot = v.0; is = v.1; true_there = v.2; low = top _ v.0 v.1 }) h
 
 pub satisfied-before : (trail : Trail) (clause : List Literal) → IsSatisfied trail clause → Any (IsTrueBefore trail (length_of trail)) clause
-satisfied-before trail clause h = any-map (λ (l : Literal). literal_value trail l ≡ Some true) (IsTrueBefore trail (length_of trail)) clause (λ l e. let v = value-true _ _ e in record { slot = v.0; is = v.1; true_there = v.2; earlier = (trail.listed _ _ v.1).0 }) h
+satisfied-before trail clause h =
+    any-map (λ (l : Literal). literal_value trail l ≡ Some true) (IsTrueBefore trail (length_of trail)) clause (λ l e.
+    let v = value-true _ _ e in record { slot = v.0; is = v.1; true_there = v.2; earlier = (trail.listed _ _ v.1).0 }) h
 
 -- what is noted of a clause that is true
 pub record NotesMore (table : List (Vec Literal Global)) (trail : Trail) (old new : List Late) (pending : List ℕ) (attached level number : ℕ) : Type 0 where
@@ -54,7 +62,8 @@ pub record NotesMore (table : List (Vec Literal Global)) (trail : Trail) (old ne
   pub kept : (n : ℕ) → IsNoted old pending n → IsNoted new pending n
   pub excused : IsExcused table trail new pending level number
 
-pub late-pushed : (table : List (Vec Literal Global)) (trail : Trail) (late : List Late) (number : ℕ) → AreLate table trail late → IsSatisfied trail (clause_at table number) → AreLate table trail (late ++ record { number = number; length = length_of trail } ∷ [])
+pub late-pushed : (table : List (Vec Literal Global)) (trail : Trail) (late : List Late) (number : ℕ) → AreLate table trail late →
+    IsSatisfied trail (clause_at table number) → AreLate table trail (late ++ record { number = number; length = length_of trail } ∷ [])
 late-pushed table trail late number noted satisfied =
     let last : Late = record { number = number; length = length_of trail } in
     let Each : Late → Type 0 = λ (l : Late). Any (IsTrueBefore trail l.length) (clause_at table l.number) in
@@ -82,10 +91,18 @@ noted-more late last pending n noted = ⊎_elim
     (λ (c : Contains pending n). inr c)
     noted
 
-notes : (b : Bool) (table : List (Vec Literal Global)) (trail : Trail) (old new : List Late) (pending : List ℕ) (attached level number : ℕ) → AreLate table trail old → All (λ (l : Late). l.number < attached) old → number < attached → IsSatisfied trail (clause_at table number) → (b ≡ true → IsTop trail level) → new ≡ (if b then old else old ++ record { number = number; length = length_of trail } ∷ []) → NotesMore table trail old new pending attached level number
+notes : (b : Bool) (table : List (Vec Literal Global)) (trail : Trail) (old new : List Late) (pending : List ℕ) (attached level number : ℕ) →
+    AreLate table trail old → All (λ (l : Late). l.number < attached) old → number < attached → IsSatisfied trail (clause_at table number) →
+    (b ≡ true → IsTop trail level) → new ≡ (if b then old else old ++ record { number = number; length = length_of trail } ∷ []) →
+    NotesMore table trail old new pending attached level number
 notes true table trail old new pending attached level number noted within inside satisfied top is =
     let N : List Late → Type 0 = λ l. NotesMore table trail old l pending attached level number in
-    subst N (sym is) (record { late = noted; inside = within; kept = λ n h. h; excused = inl (satisfied-low trail (clause_at table number) level (top refl) satisfied) })
+    subst N (sym is) (record {
+      late = noted;
+      inside = within;
+      kept = λ n h. h;
+      excused = inl (satisfied-low trail (clause_at table number) level (top refl) satisfied);
+    })
 notes false table trail old new pending attached level number noted within inside satisfied top is =
     let N : List Late → Type 0 = λ l. NotesMore table trail old l pending attached level number in
     let last : Late = record { number = number; length = length_of trail } in
@@ -97,20 +114,26 @@ notes false table trail old new pending attached level number noted within insid
       excused = inr (inl (Any-push (λ (l : Late). l.number ≡ number) old last refl));
     })
 
-excused-noted : (table : List (Vec Literal Global)) (trail : Trail) (old new : List Late) (pending : List ℕ) (level number : ℕ) → (IsNoted old pending number → IsNoted new pending number) → IsExcused table trail old pending level number → IsExcused table trail new pending level number
+excused-noted : (table : List (Vec Literal Global)) (trail : Trail) (old new : List Late) (pending : List ℕ) (level number : ℕ) →
+    (IsNoted old pending number → IsNoted new pending number) → IsExcused table trail old pending level number → IsExcused table trail new pending level number
 excused-noted table trail old new pending level number more excused = ⊎_elim
     (λ (h : Any (IsTrueAt trail level) (clause_at table number)). inl h)
     (λ (n : IsNoted old pending number). inr (more n))
     excused
 
-pub covers-noted : (table : List (Vec Literal Global)) (trail : Trail) (pairs : List WatchedPair) (old new : List Late) (pending : List ℕ) (head : ℕ) → ((n : ℕ) → IsNoted old pending n → IsNoted new pending n) → Covers table trail pairs old pending head → Covers table trail pairs new pending head
+pub covers-noted : (table : List (Vec Literal Global)) (trail : Trail) (pairs : List WatchedPair) (old new : List Late) (pending : List ℕ) (head : ℕ) →
+    ((n : ℕ) → IsNoted old pending n → IsNoted new pending n) → Covers table trail pairs old pending head → Covers table trail pairs new pending head
 covers-noted table trail pairs old new pending head more covers = record {
   watched = λ number literal watching fails. excused-noted table trail old new pending _ number (more number) (covers.watched number literal watching fails);
   constant = λ number inside none. more number (covers.constant number inside none);
 }
 
 -- a clause that is passed by
-pub passes : (table : List (Vec Literal Global)) (trail : Trail) (old new : Propagator) (falsified : FalseLiteral) (place number : ℕ) → IsVisiting table trail old falsified place → StandsAt (watchers_of old falsified.literal) place number → number < attached_of old → IsSatisfied trail (clause_at table number) → new.watches ≡ old.watches → new.pending ≡ old.pending → new.head ≡ old.head → late_of new ≡ (if falsified.is_top then late_of old else late_of old ++ record { number = number; length = length_of trail } ∷ []) → GoesOn table trail old new falsified place (place + 1)
+pub passes : (table : List (Vec Literal Global)) (trail : Trail) (old new : Propagator) (falsified : FalseLiteral) (place number : ℕ) →
+    IsVisiting table trail old falsified place → StandsAt (watchers_of old falsified.literal) place number → number < attached_of old →
+    IsSatisfied trail (clause_at table number) → new.watches ≡ old.watches → new.pending ≡ old.pending → new.head ≡ old.head →
+    late_of new ≡ (if falsified.is_top then late_of old else late_of old ++ record { number = number; length = length_of trail } ∷ []) →
+    GoesOn table trail old new falsified place (place + 1)
 passes table trail old new falsified place number v stands inside satisfied watches pending head late =
     let made : Propagator = record { watches = old.watches; late = new.late; pending = old.pending; head = old.head } in
     let w = sym watches in
@@ -118,7 +141,8 @@ passes table trail old new falsified place number v stands inside satisfied watc
     let h = sym head in
     let same : made ≡ new = λ i. record { watches = w i; late = new.late; pending = p i; head = h i } in
     let was = v.propagator in
-    let n = notes falsified.is_top table trail (late_of old) (late_of new) (pending_of old) (attached_of old) falsified.level number was.late was.inside inside satisfied v.fails.top late in
+    let n = notes falsified.is_top table trail (late_of old) (late_of new) (pending_of old)
+    (attached_of old) falsified.level number was.late was.inside inside satisfied v.fails.top late in
     let E : ℕ → Type 0 = λ m. IsExcused table trail (late_of new) (pending_of old) falsified.level m in
     let G : Propagator → Type 0 = λ it. GoesOn table trail old it falsified place (place + 1) in
     subst G same (record {
@@ -137,7 +161,8 @@ passes table trail old new falsified place number v stands inside satisfied watc
         fails = v.fails;
         excused = record {
           each = λ k watch less at. ⊎_elim
-              (λ (before : k < place). excused-noted table trail (late_of old) (late_of new) (pending_of old) _ _ (n.kept watch.number) (v.excused.each k watch before at))
+              (λ (before : k < place). excused-noted table trail (late_of old) (late_of new) (pending_of old) _ _ (n.kept watch.number)
+              (v.excused.each k watch before at))
               (λ (behind : place ≤ k).
               let here : k ≡ place = omega (arith, less, behind) in
               let one : watch ≡ stands.watch = same_Some _ _ (sym at ∙ ap (λ m. slice_get (watchers_of old falsified.literal) m) here ∙ stands.is) in
@@ -154,7 +179,9 @@ abbrev pub with_watches : Propagator → Watches → Propagator
 with_watches it watches = record { watches = watches; late = it.late; pending = it.pending; head = it.head }
 
 -- another blocker
-pub sets : (table : List (Vec Literal Global)) (trail : Trail) (old : Propagator) (watches : Watches) (falsified : FalseLiteral) (place : ℕ) → IsVisiting table trail old falsified place → SameClauses (lists_of old.watches) (lists_of watches) → pairs_of watches ≡ pairs_of old.watches → HasBlockers table (lists_of watches) → IsVisiting table trail (with_watches old watches) falsified place
+pub sets : (table : List (Vec Literal Global)) (trail : Trail) (old : Propagator) (watches : Watches) (falsified : FalseLiteral) (place : ℕ) →
+    IsVisiting table trail old falsified place → SameClauses (lists_of old.watches) (lists_of watches) → pairs_of watches ≡ pairs_of old.watches →
+    HasBlockers table (lists_of watches) → IsVisiting table trail (with_watches old watches) falsified place
 sets table trail old watches falsified place v same pairs blockers =
     let was = v.propagator in
     let w = was.watched in
@@ -184,7 +211,8 @@ sets table trail old watches falsified place v same pairs blockers =
       };
     }
 
-pub stands-same : (old new : List (Vec Watch Global)) (list place number : ℕ) → SameClauses old new → StandsAt (list_at old list) place number → StandsAt (list_at new list) place number
+pub stands-same : (old new : List (Vec Watch Global)) (list place number : ℕ) → SameClauses old new → StandsAt (list_at old list) place number →
+    StandsAt (list_at new list) place number
 stands-same old new list place number same stands =
     let inside : place < length (list_at new list) = omega (arith, slice_get_within (list_at old list) place stands.watch stands.is, same.count list) in
     let at = slice_get-get_or (list_at new list) place stands.watch inside in
@@ -200,7 +228,8 @@ paired-other pairs number one other pair = ⊎_elim
     (λ (e : pair_at pairs number ≡ watched_pair other one). inl (ap (λ (p : WatchedPair). p.first) e))
     pair
 
-pair-either : (pair : WatchedPair) (one other literal : Literal) → IsPair pair one other → (pair.first ≡ Some literal) ⊎ (pair.second ≡ Some literal) → (literal ≡ one) ⊎ (literal ≡ other)
+pair-either : (pair : WatchedPair) (one other literal : Literal) → IsPair pair one other → (pair.first ≡ Some literal) ⊎ (pair.second ≡ Some literal) →
+    (literal ≡ one) ⊎ (literal ≡ other)
 pair-either pair one other literal is watching = ⊎_elim
     (λ (e : pair ≡ watched_pair one other). ⊎_elim
     (λ (f : pair.first ≡ Some literal). inl (same_Some _ _ (sym f ∙ ap (λ (p : WatchedPair). p.first) e)))
@@ -224,11 +253,14 @@ unwatched-none pair literal none watching = ⊎_elim
     (λ (s : pair.second ≡ Some literal). none-some _ (sym (ap (λ (p : WatchedPair). p.second) none) ∙ s))
     watching
 
-pub paired : (table : List (Vec Literal Global)) (lists : List (Vec Watch Global)) (pairs : List WatchedPair) (number : ℕ) (literal found : Literal) → AreWatched table lists pairs → number < length pairs → IsWatching pairs number literal → ((other : Literal) → literal ≢ other → IsPair (pair_at pairs number) literal other → found ≡ other) → IsPaired pairs number literal found
+pub paired : (table : List (Vec Literal Global)) (lists : List (Vec Watch Global)) (pairs : List WatchedPair) (number : ℕ) (literal found : Literal) →
+    AreWatched table lists pairs → number < length pairs → IsWatching pairs number literal →
+    ((other : Literal) → literal ≢ other → IsPair (pair_at pairs number) literal other → found ≡ other) → IsPaired pairs number literal found
 paired table lists pairs number literal found w inside watching only =
     let pair = pair_at pairs number in
     let P : Literal → Type 0 = λ l. IsPaired pairs number literal l in
-    let make : (other : Literal) → literal ≢ other → IsPair pair literal other → IsPaired pairs number literal found = λ other differ is. subst P (sym (only other differ is)) (record { is = is; differ = differ }) in
+    let make : (other : Literal) → literal ≢ other → IsPair pair literal other → IsPaired pairs number literal found =
+    λ other differ is. subst P (sym (only other differ is)) (record { is = is; differ = differ }) in
     ⊎_elim
     (λ (none : pair ≡ unwatched). absurd (unwatched-none pair literal none watching))
     (λ (two : WatchesTwo pair). ⊎_elim
@@ -242,7 +274,11 @@ paired table lists pairs number literal found w inside watching only =
     (w.two number inside)
 
 -- a watch that has moved
-pub moves : (table : List (Vec Literal Global)) (trail : Trail) (old : Propagator) (watches : Watches) (falsified : FalseLiteral) (place number : ℕ) (other to : Literal) → IsVisiting table trail old falsified place → MovesWatch (lists_of old.watches) (lists_of watches) (pairs_of old.watches) (pairs_of watches) falsified.literal to place number → HasBlockers table (lists_of watches) → IsPaired (pairs_of old.watches) number falsified.literal other → Replaces trail (clause_at table number) other to → place < length (watchers_of old falsified.literal) → GoesOn table trail old (with_watches old watches) falsified place place
+pub moves : (table : List (Vec Literal Global)) (trail : Trail) (old : Propagator) (watches : Watches) (falsified : FalseLiteral) (place number : ℕ)
+    (other to : Literal) → IsVisiting table trail old falsified place →
+    MovesWatch (lists_of old.watches) (lists_of watches) (pairs_of old.watches) (pairs_of watches) falsified.literal to place number →
+    HasBlockers table (lists_of watches) → IsPaired (pairs_of old.watches) number falsified.literal other → Replaces trail (clause_at table number) other to →
+    place < length (watchers_of old falsified.literal) → GoesOn table trail old (with_watches old watches) falsified place place
 moves table trail old watches falsified place number other to v m blockers p r within =
     let was = v.propagator in
     let w = was.watched in
@@ -266,16 +302,20 @@ moves table trail old watches falsified place number other to v m blockers p r w
             own = λ n literal watching. ⊎_elim
                 (λ (e : n ≡ number). subst (λ k. Contains (clause_at table k) literal) (sym e) (⊎_elim
                 (λ (t : literal ≡ to). subst (λ (l : Literal). Contains (clause_at table number) l) (sym t) r.inside)
-                (λ (o : literal ≡ other). subst (λ (l : Literal). Contains (clause_at table number) l) (sym o) (w.own number other (paired-other before number falsified.literal other p.is)))
+                (λ (o : literal ≡ other). subst (λ (l : Literal). Contains (clause_at table number) l) (sym o)
+                (w.own number other (paired-other before number falsified.literal other p.is)))
                 (of_new n literal e watching)))
                 (λ (ne : n ≢ number). w.own n literal (of_old n literal ne watching))
                 (cases_eq n number);
             two = λ n inside. ⊎_elim
-                (λ (e : n ≡ number). inr (subst (λ k. WatchesTwo (pair_at after k)) (sym e) (pair-two (pair_at after number) to other here (λ same. r.differ (sym same)))))
-                (λ (ne : n ≢ number). subst (λ (pair : WatchedPair). (pair ≡ unwatched) ⊎ WatchesTwo pair) (sym (m.others n ne)) (w.two n (omega (arith, inside, m.attached))))
+                (λ (e : n ≡ number). inr (subst (λ k. WatchesTwo (pair_at after k)) (sym e)
+                (pair-two (pair_at after number) to other here (λ same. r.differ (sym same)))))
+                (λ (ne : n ≢ number). subst (λ (pair : WatchedPair). (pair ≡ unwatched) ⊎ WatchesTwo pair) (sym (m.others n ne))
+                (w.two n (omega (arith, inside, m.attached))))
                 (cases_eq n number);
             constant = λ n inside none. ⊎_elim
-                (λ (e : n ≡ number). absurd (unwatched-none (pair_at after number) other (subst (λ k. pair_at after k ≡ unwatched) e none) (paired-other after number to other here)))
+                (λ (e : n ≡ number). absurd (unwatched-none (pair_at after number) other (subst (λ k. pair_at after k ≡ unwatched) e none)
+                (paired-other after number to other here)))
                 (λ (ne : n ≢ number). w.constant n (omega (arith, inside, m.attached)) (sym (m.others n ne) ∙ none))
                 (cases_eq n number);
             blockers = blockers;
@@ -287,15 +327,19 @@ moves table trail old watches falsified place number other to v m blockers p r w
           covers = record {
             watched = λ n literal watching fails. ⊎_elim
                 (λ (e : n ≡ number). ⊎_elim
-                (λ (t : literal ≡ to). absurd (r.not_false (ap (λ (l : Literal). literal_value trail l) (sym t) ∙ value-of trail literal fails.slot false fails.is fails.false_there)))
+                (λ (t : literal ≡ to). absurd (r.not_false
+                (ap (λ (l : Literal). literal_value trail l) (sym t) ∙ value-of trail literal fails.slot false fails.is fails.false_there)))
                 (λ (o : literal ≡ other).
-                let watched_before : IsWatching before number literal = subst (λ (l : Literal). IsWatching before number l) (sym o) (paired-other before number falsified.literal other p.is) in
-                subst (λ k. IsExcused table trail (late_of old) (pending_of old) fails.slot.level k) (sym e) (was.covers.watched number literal watched_before fails))
+                let watched_before : IsWatching before number literal =
+                subst (λ (l : Literal). IsWatching before number l) (sym o) (paired-other before number falsified.literal other p.is) in
+                subst (λ k. IsExcused table trail (late_of old) (pending_of old) fails.slot.level k) (sym e)
+                (was.covers.watched number literal watched_before fails))
                 (of_new n literal e watching))
                 (λ (ne : n ≢ number). was.covers.watched n literal (of_old n literal ne watching) fails)
                 (cases_eq n number);
             constant = λ n inside none. ⊎_elim
-                (λ (e : n ≡ number). absurd (unwatched-none (pair_at after number) other (subst (λ k. pair_at after k ≡ unwatched) e none) (paired-other after number to other here)))
+                (λ (e : n ≡ number). absurd (unwatched-none (pair_at after number) other (subst (λ k. pair_at after k ≡ unwatched) e none)
+                (paired-other after number to other here)))
                 (λ (ne : n ≢ number). was.covers.constant n (omega (arith, inside, m.attached)) (sym (m.others n ne) ∙ none))
                 (cases_eq n number);
           };
@@ -321,7 +365,9 @@ top-gains old new literal number level gains top = λ variable slot at. ⊎_elim
     (λ w. top variable slot w)
     (gains-cases old new literal (level_of old) _ gains variable slot at)
 
-pub forces : (table : List (Vec Literal Global)) (old new : Trail) (it : Propagator) (falsified : FalseLiteral) (place number : ℕ) (literal : Literal) → IsVisiting table old it falsified place → Gains old new literal (level_of old) (Forced number) → slot_of old literal.variable ≡ None → IsVisiting table new it falsified place
+pub forces : (table : List (Vec Literal Global)) (old new : Trail) (it : Propagator) (falsified : FalseLiteral) (place number : ℕ) (literal : Literal) →
+    IsVisiting table old it falsified place → Gains old new literal (level_of old) (Forced number) → slot_of old literal.variable ≡ None →
+    IsVisiting table new it falsified place
 forces table old new it falsified place number literal v gains free =
     let keeps : Keeps old new = keeps-gains old new literal (level_of old) _ gains free in
     let f = v.fails in
@@ -341,7 +387,8 @@ forces table old new it falsified place number literal v gains free =
     }
 
 -- all literals of the clause are false
-pub falsifies : (trail : Trail) (clause : List Literal) (other : Literal) → IsUnit trail other clause → literal_value trail other ≡ Some false → IsFalsified trail clause
+pub falsifies : (trail : Trail) (clause : List Literal) (other : Literal) → IsUnit trail other clause → literal_value trail other ≡ Some false →
+    IsFalsified trail clause
 falsifies trail clause other unit fails = λ k d below. ⊎_elim
     (λ (e : get_or clause k d ≡ other). ap (λ (l : Literal). literal_value trail l) e ∙ fails)
     (λ (f : literal_value trail (get_or clause k d) ≡ Some false). f)
@@ -361,7 +408,10 @@ other_value false true true is also = refl
 other_value false true false is also = absurd cc
 other_value false false b is also = absurd cc
 
-pub visited : (table : List (Vec Literal Global)) (trail : Trail) (it : Propagator) (falsified : FalseLiteral) (count : ℕ) → IsVisiting table trail it falsified count → length (watchers_of it falsified.literal) ≤ count → ((number : ℕ) → IsWatching (pairs_of it.watches) number falsified.literal → (place : ℕ) × StandsAt (watchers_of it falsified.literal) place number) → IsPropagator table trail (record { watches = it.watches; late = it.late; pending = it.pending; head = it.head + 1 })
+pub visited : (table : List (Vec Literal Global)) (trail : Trail) (it : Propagator) (falsified : FalseLiteral) (count : ℕ) →
+    IsVisiting table trail it falsified count → length (watchers_of it falsified.literal) ≤ count →
+    ((number : ℕ) → IsWatching (pairs_of it.watches) number falsified.literal → (place : ℕ) × StandsAt (watchers_of it falsified.literal) place number) →
+    IsPropagator table trail (record { watches = it.watches; late = it.late; pending = it.pending; head = it.head + 1 })
 visited table trail it falsified count v all stands =
     let was = v.propagator in
     let f = v.fails in
@@ -375,34 +425,44 @@ visited table trail it falsified count v all stands =
       head = omega (arith, f.placed, (trail.listed _ _ f.is).0);
       covers = record {
         watched = λ n literal watching fails. ⊎_elim
-            (λ (before : fails.slot.place < head_of it). was.covers.watched n literal watching (record { slot = fails.slot; is = fails.is; false_there = fails.false_there; earlier = before }))
+            (λ (before : fails.slot.place < head_of it). was.covers.watched n literal watching
+            (record { slot = fails.slot; is = fails.is; false_there = fails.false_there; earlier = before }))
             (λ (behind : head_of it ≤ fails.slot.place).
             let here : fails.slot.place ≡ f.slot.place = omega (arith, behind, fails.earlier, f.placed) in
-            let named : literal.variable ≡ falsified.literal.variable = sym (trail.listed _ _ fails.is).1 ∙ ap (λ k. variable_at trail k) here ∙ (trail.listed _ _ f.is).1 in
+            let named : literal.variable ≡ falsified.literal.variable = sym (trail.listed _ _ fails.is).1 ∙ ap (λ k. variable_at trail k) here ∙
+            (trail.listed _ _ f.is).1 in
             let one : fails.slot ≡ f.slot = same_Some _ _ (sym fails.is ∙ ap (λ k. slot_of trail k) named ∙ f.is) in
-            let sign : literal.positive ≡ falsified.literal.positive = other_value f.slot.value literal.positive falsified.literal.positive (subst (λ (s : Slot). beq s.value literal.positive ≡ false) one fails.false_there) f.false_there in
+            let sign : literal.positive ≡ falsified.literal.positive =
+            other_value f.slot.value literal.positive falsified.literal.positive
+            (subst (λ (s : Slot). beq s.value literal.positive ≡ false) one fails.false_there) f.false_there in
             let same : literal ≡ falsified.literal = λ i. record { variable = named i; positive = sign i } in
             let s = stands n (subst (λ (l : Literal). IsWatching pairs n l) same watching) in
             let level : falsified.level ≡ fails.slot.level = sym f.level ∙ ap (λ (x : Slot). x.level) (sym one) in
             let e = v.excused.each s.0 s.1.watch (omega (arith, all, slice_get_within _ s.0 s.1.watch s.1.is)) s.1.is in
-            subst (λ m. IsExcused table trail (late_of it) (pending_of it) m n) level (subst (λ m. IsExcused table trail (late_of it) (pending_of it) falsified.level m) s.1.named e))
+            subst (λ m. IsExcused table trail (late_of it) (pending_of it) m n) level
+            (subst (λ m. IsExcused table trail (late_of it) (pending_of it) falsified.level m) s.1.named e))
             (cases_lt fails.slot.place (head_of it));
         constant = was.covers.constant;
       };
     }
 
 -- the other literal that is watched stands in the clause
-pub own-other : (table : List (Vec Literal Global)) (trail : Trail) (it : Propagator) (number : ℕ) (literal other : Literal) → IsPropagator table trail it → IsPaired (pairs_of it.watches) number literal other → Contains (clause_at table number) other
+pub own-other : (table : List (Vec Literal Global)) (trail : Trail) (it : Propagator) (number : ℕ) (literal other : Literal) → IsPropagator table trail it →
+    IsPaired (pairs_of it.watches) number literal other → Contains (clause_at table number) other
 own-other table trail it number literal other is p = is.watched.own number other (paired-other (pairs_of it.watches) number literal other p.is)
 
-pub stands-own : (table : List (Vec Literal Global)) (list : List Watch) (place number : ℕ) (literal : Literal) → (stands : StandsAt list place number) → Contains (clause_at table number) literal → Contains (clause_at table stands.watch.number) literal
+pub stands-own : (table : List (Vec Literal Global)) (list : List Watch) (place number : ℕ) (literal : Literal) → (stands : StandsAt list place number) →
+    Contains (clause_at table number) literal → Contains (clause_at table stands.watch.number) literal
 stands-own table list place number literal stands c = subst (λ k. Contains (clause_at table k) literal) (sym stands.named) c
 
-pub makes-true : (table : List (Vec Literal Global)) (trail : Trail) (number : ℕ) (literal : Literal) → Contains (clause_at table number) literal → literal_value trail literal ≡ Some true → IsSatisfied trail (clause_at table number)
+pub makes-true : (table : List (Vec Literal Global)) (trail : Trail) (number : ℕ) (literal : Literal) → Contains (clause_at table number) literal →
+    literal_value trail literal ≡ Some true → IsSatisfied trail (clause_at table number)
 makes-true table trail number literal c is = any-contains (λ (l : Literal). literal_value trail l ≡ Some true) (clause_at table number) literal c is
 
-pub blocker-own : (table : List (Vec Literal Global)) (lists : List (Vec Watch Global)) (list place : ℕ) (watch : Watch) → HasBlockers table lists → slice_get (list_at lists list) place ≡ Some watch → Contains (clause_at table watch.number) watch.blocker
-blocker-own table lists list place watch blockers at = all-at (λ (w : Watch). Contains (clause_at table w.number) w.blocker) (list_at lists list) place watch (blockers list) at
+pub blocker-own : (table : List (Vec Literal Global)) (lists : List (Vec Watch Global)) (list place : ℕ) (watch : Watch) → HasBlockers table lists →
+    slice_get (list_at lists list) place ≡ Some watch → Contains (clause_at table watch.number) watch.blocker
+blocker-own table lists list place watch blockers at =
+    all-at (λ (w : Watch). Contains (clause_at table w.number) w.blocker) (list_at lists list) place watch (blockers list) at
 
 -- a value that passed a test for true
 pub tested-true : (o value : Option Bool) → true ≡ option_eq beq o (Some true) → o ≡ value → value ≡ Some true
@@ -410,7 +470,11 @@ tested-true None value test same = absurd cc
 tested-true (Some true) value test same = sym same
 tested-true (Some false) value test same = absurd cc
 
-pub moves-stands : (table : List (Vec Literal Global)) (trail : Trail) (old : Propagator) (watches : Watches) (falsified : FalseLiteral) (place number : ℕ) (other to : Literal) → IsVisiting table trail old falsified place → (stands : StandsAt (watchers_of old falsified.literal) place number) → MovesWatch (lists_of old.watches) (lists_of watches) (pairs_of old.watches) (pairs_of watches) falsified.literal to place stands.watch.number → HasBlockers table (lists_of watches) → IsPaired (pairs_of old.watches) number falsified.literal other → Replaces trail (clause_at table number) other to → GoesOn table trail old (with_watches old watches) falsified place place
+pub moves-stands : (table : List (Vec Literal Global)) (trail : Trail) (old : Propagator) (watches : Watches) (falsified : FalseLiteral) (place number : ℕ)
+    (other to : Literal) → IsVisiting table trail old falsified place → (stands : StandsAt (watchers_of old falsified.literal) place number) →
+    MovesWatch (lists_of old.watches) (lists_of watches) (pairs_of old.watches) (pairs_of watches) falsified.literal to place stands.watch.number →
+    HasBlockers table (lists_of watches) → IsPaired (pairs_of old.watches) number falsified.literal other → Replaces trail (clause_at table number) other to →
+    GoesOn table trail old (with_watches old watches) falsified place place
 moves-stands table trail old watches falsified place number other to v stands m blockers p r =
     let M : ℕ → Type 0 = λ n. MovesWatch (lists_of old.watches) (lists_of watches) (pairs_of old.watches) (pairs_of watches) falsified.literal to place n in
     moves table trail old watches falsified place number other to v (subst M stands.named m) blockers p r (slice_get_within _ place stands.watch stands.is)

@@ -1,5 +1,6 @@
 -- Where each clause watches two literals of its own, each stands in two lists.
-use Rattle.std.proofs.Common.{◌≡◌, ℕ, ◌<◌, ◌≤◌, List, [], ◌∷◌, ◌++◌, length, Option, Some, None, Result, Ok, Err, OnErr, OnOk, arith, inl, inr, refl, sym, ap, ◌∙◌, subst, ⊎_elim, length-append}
+use Rattle.std.proofs.Common.{◌≡◌, ℕ, ◌<◌, ◌≤◌, List, [], ◌∷◌, ◌++◌, length, Option, Some, None, Result, Ok, Err, OnErr, OnOk, arith, inl, inr, refl, sym, ap}
+use Rattle.std.proofs.Common.{◌∙◌, subst, ⊎_elim, length-append}
 use Rattle.std.specs.Prelude.{Vec}
 use Rattle.std.specs.Option.{MatchOption}
 use Rattle.std.specs.declared.alloc.Global.{Global}
@@ -46,18 +47,26 @@ owned-of table trail it is = λ number inside one other apart.
 pub owned-same : (table : List (Vec Literal Global)) (old new : List WatchedPair) → new ≡ old → AreOwned table old → AreOwned table new
 owned-same table old new same owned = subst (λ (pairs : List WatchedPair). AreOwned table pairs) (sym same) owned
 
-pub owned-either : {A B : Type 0} (r : Result A B) (table : List (Vec Literal Global)) (trail : Trail) (it : Propagator) → OnOk r (IsPropagator table trail it) → OnErr r (AreOwned table (pairs_of it.watches)) → AreOwned table (pairs_of it.watches)
+pub owned-either : {A B : Type 0} (r : Result A B) (table : List (Vec Literal Global)) (trail : Trail) (it : Propagator) →
+    OnOk r (IsPropagator table trail it) → OnErr r (AreOwned table (pairs_of it.watches)) → AreOwned table (pairs_of it.watches)
 owned-either (Ok x) table trail it is refused = owned-of table trail it is
 owned-either (Err e) table trail it is refused = refused
 
 -- more pairs
-pub owned-kept : (table : List (Vec Literal Global)) (old new : List WatchedPair) → length old ≡ length table → ((number : ℕ) → number < length old → pair_at new number ≡ pair_at old number) → AreOwned table old → AreOwned table new
-owned-kept table old new size kept owned = λ number inside. subst (λ (pair : WatchedPair). OwnsPair (clause_at table number) pair) (sym (kept number (omega (arith, inside, size)))) (owned number inside)
+pub owned-kept : (table : List (Vec Literal Global)) (old new : List WatchedPair) → length old ≡ length table →
+    ((number : ℕ) → number < length old → pair_at new number ≡ pair_at old number) → AreOwned table old → AreOwned table new
+owned-kept table old new size kept owned =
+    λ number inside. subst (λ (pair : WatchedPair). OwnsPair (clause_at table number) pair) (sym (kept number (omega (arith, inside, size))))
+    (owned number inside)
 
 -- a clause behind the others
-pub owned-added : (table : List (Vec Literal Global)) (clause : Vec Literal Global) (old new : List WatchedPair) → length old ≡ length table → ((number : ℕ) → number < length old → pair_at new number ≡ pair_at old number) → OwnsPair clause.items (pair_at new (length old)) → AreOwned table old → AreOwned (table ++ clause ∷ []) new
+pub owned-added : (table : List (Vec Literal Global)) (clause : Vec Literal Global) (old new : List WatchedPair) → length old ≡ length table →
+    ((number : ℕ) → number < length old → pair_at new number ≡ pair_at old number) → OwnsPair clause.items (pair_at new (length old)) → AreOwned table old →
+    AreOwned (table ++ clause ∷ []) new
 owned-added table clause old new size kept own owned = λ number inside. ⊎_elim
-    (λ (less : number < length table). subst (λ (c : List Literal). OwnsPair c (pair_at new number)) (sym (clause_at-push table clause number less)) (owned-kept table old new size kept owned number less))
+    (λ (less : number < length table).
+    subst (λ (c : List Literal). OwnsPair c (pair_at new number)) (sym (clause_at-push table clause number less))
+    (owned-kept table old new size kept owned number less))
     (λ (past : length table ≤ number).
     let end : number ≡ length table = omega (arith, past, inside, length-append table (clause ∷ [])) in
     let more = table ++ clause ∷ [] in
@@ -66,14 +75,17 @@ owned-added table clause old new size kept own owned = λ number inside. ⊎_eli
     subst (λ (c : List Literal). OwnsPair c (pair_at new number)) (sym last) here)
     (cases_lt number (length table))
 
-owns-chosen : (clause : List Literal) (pair : Option (Literal × Literal)) → MatchOption pair (IsConstant clause) (λ two. AreApart clause two.0 two.1) → OwnsPair clause (pair_from pair)
+owns-chosen : (clause : List Literal) (pair : Option (Literal × Literal)) → MatchOption pair (IsConstant clause) (λ two. AreApart clause two.0 two.1) →
+    OwnsPair clause (pair_from pair)
 owns-chosen clause None constant one other apart = absurd (apart.differ (constant one other apart.has_first apart.has_second))
 owns-chosen clause (Some (first, second)) chosen one other apart = record { first = first; second = second; is = refl; apart = chosen }
 
 -- the pair of a clause that was attached
-pub owns-push : (clause : List Literal) (old new : List WatchedPair) (pair : Option (Literal × Literal)) → new ≡ old ++ pair_from pair ∷ [] → MatchOption pair (IsConstant clause) (λ two. AreApart clause two.0 two.1) → OwnsPair clause (pair_at new (length old))
+pub owns-push : (clause : List Literal) (old new : List WatchedPair) (pair : Option (Literal × Literal)) → new ≡ old ++ pair_from pair ∷ [] →
+    MatchOption pair (IsConstant clause) (λ two. AreApart clause two.0 two.1) → OwnsPair clause (pair_at new (length old))
 owns-push clause old new pair is chosen =
-    let last : pair_at new (length old) ≡ pair_from pair = ap (λ (ps : List WatchedPair). pair_at ps (length old)) is ∙ get_or_push old (pair_from pair) unwatched (length old) refl in
+    let last : pair_at new (length old) ≡ pair_from pair = ap (λ (ps : List WatchedPair). pair_at ps (length old)) is ∙
+    get_or_push old (pair_from pair) unwatched (length old) refl in
     subst (λ (p : WatchedPair). OwnsPair clause p) (sym last) (owns-chosen clause pair chosen)
 
 -- who watches two literals stands in their lists
@@ -89,17 +101,26 @@ in_lists table watches owned = λ number inside one other apart.
 pub in_lists-of : (table : List (Vec Literal Global)) (trail : Trail) (it : Propagator) → IsPropagator table trail it → ∥ AreInLists table it.watches ∥₁
 in_lists-of table trail it is = ∣ in_lists table it.watches (owned-of table trail it is) ∣₁
 
-pub in_lists-same : (table : List (Vec Literal Global)) (trail : Trail) (it : Propagator) (watches : Watches) → IsPropagator table trail it → pairs_of watches ≡ pairs_of it.watches → ∥ AreInLists table watches ∥₁
+pub in_lists-same : (table : List (Vec Literal Global)) (trail : Trail) (it : Propagator) (watches : Watches) → IsPropagator table trail it →
+    pairs_of watches ≡ pairs_of it.watches → ∥ AreInLists table watches ∥₁
 in_lists-same table trail it watches is same = ∣ in_lists table watches (owned-same table _ _ same (owned-of table trail it is)) ∣₁
 
-pub in_lists-kept : (table : List (Vec Literal Global)) (trail : Trail) (it : Propagator) (watches : Watches) → IsPropagator table trail it → ((number : ℕ) → number < attached_of it → pair_at (pairs_of watches) number ≡ pair_at (pairs_of it.watches) number) → ∥ AreInLists table watches ∥₁
+pub in_lists-kept : (table : List (Vec Literal Global)) (trail : Trail) (it : Propagator) (watches : Watches) → IsPropagator table trail it →
+    ((number : ℕ) → number < attached_of it → pair_at (pairs_of watches) number ≡ pair_at (pairs_of it.watches) number) → ∥ AreInLists table watches ∥₁
 in_lists-kept table trail it watches is kept = ∣ in_lists table watches (owned-kept table _ _ is.watched.attached kept (owned-of table trail it is)) ∣₁
 
-pub in_lists-added : (table : List (Vec Literal Global)) (clause : Vec Literal Global) (literals : List Literal) (trail : Trail) (it : Propagator) (watches : Watches) → clause.items ≡ literals → IsPropagator table trail it → ((number : ℕ) → number < attached_of it → pair_at (pairs_of watches) number ≡ pair_at (pairs_of it.watches) number) → OwnsPair literals (pair_at (pairs_of watches) (attached_of it)) → ∥ AreInLists (table ++ clause ∷ []) watches ∥₁
+pub in_lists-added : (table : List (Vec Literal Global)) (clause : Vec Literal Global) (literals : List Literal) (trail : Trail) (it : Propagator)
+    (watches : Watches) → clause.items ≡ literals → IsPropagator table trail it →
+    ((number : ℕ) → number < attached_of it → pair_at (pairs_of watches) number ≡ pair_at (pairs_of it.watches) number) →
+    OwnsPair literals (pair_at (pairs_of watches) (attached_of it)) → ∥ AreInLists (table ++ clause ∷ []) watches ∥₁
 in_lists-added table clause literals trail it watches same is kept own =
-    let here : OwnsPair clause.items (pair_at (pairs_of watches) (attached_of it)) = subst (λ (ls : List Literal). OwnsPair ls (pair_at (pairs_of watches) (attached_of it))) (sym same) own in
+    let here : OwnsPair clause.items (pair_at (pairs_of watches) (attached_of it)) =
+    subst (λ (ls : List Literal). OwnsPair ls (pair_at (pairs_of watches) (attached_of it))) (sym same) own in
     ∣ in_lists (table ++ clause ∷ []) watches (owned-added table clause _ _ is.watched.attached kept here (owned-of table trail it is)) ∣₁
 
 -- the same clauses, and the same watches
-pub in_lists-equal : (old new : List (Vec Literal Global)) (before after : Watches) → new ≡ old → after ≡ before → ∥ AreInLists old before ∥₁ → ∥ AreInLists new after ∥₁
-in_lists-equal old new before after table watches holds = subst (λ (clauses : List (Vec Literal Global)). ∥ AreInLists clauses after ∥₁) (sym table) (subst (λ (w : Watches). ∥ AreInLists old w ∥₁) (sym watches) holds)
+pub in_lists-equal : (old new : List (Vec Literal Global)) (before after : Watches) → new ≡ old → after ≡ before → ∥ AreInLists old before ∥₁ →
+    ∥ AreInLists new after ∥₁
+in_lists-equal old new before after table watches holds =
+    subst (λ (clauses : List (Vec Literal Global)). ∥ AreInLists clauses after ∥₁) (sym table)
+    (subst (λ (w : Watches). ∥ AreInLists old w ∥₁) (sym watches) holds)

@@ -1,5 +1,6 @@
 -- What attaching clauses and cutting a trail do to what propagation keeps.
-use Rattle.std.specs.Prelude.{◌≡◌, ◌≢◌, ℕ, ◌+◌, ◌<◌, ◌≤◌, ◌++◌, ◌∷◌, Bool, true, false, Option, Some, None, List, [], length, Vec, All, Any, Contains, slice_get, slice_index_or}
+use Rattle.std.specs.Prelude.{◌≡◌, ◌≢◌, ℕ, ◌+◌, ◌<◌, ◌≤◌, ◌++◌, ◌∷◌, Bool, true, false, Option, Some, None, List, [], length, Vec, All, Any, Contains}
+use Rattle.std.specs.Prelude.{slice_get, slice_index_or}
 use Rattle.std.specs.Bool.{beq}
 use Rattle.std.specs.declared.alloc.Global.{Global}
 use Rattle.resolver_clause_store.specs.declared.Literal.{Literal}
@@ -18,7 +19,8 @@ pub record IsLower (old new : Trail) : Type 0 where
   pub size : variable_count new ≡ variable_count old
   pub places : KeepsPlaces old new (length_of new)
   pub stays : (variable : ℕ) (slot : Slot) → slot_of new variable ≡ Some slot → slot_of old variable ≡ Some slot
-  pub whole : (variable other : ℕ) (slot lower : Slot) → slot_of new variable ≡ Some slot → slot_of old other ≡ Some lower → lower.level ≤ slot.level → slot_of new other ≡ Some lower
+  pub whole : (variable other : ℕ) (slot lower : Slot) → slot_of new variable ≡ Some slot → slot_of old other ≡ Some lower → lower.level ≤ slot.level →
+      slot_of new other ≡ Some lower
 
 -- the lengths that are noted never fall
 abbrev pub IsRising : List Late → Type 0

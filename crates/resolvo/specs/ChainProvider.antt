@@ -1,4 +1,6 @@
--- What the provider of packages in a row says, and that it keeps the laws. Package n lists n alone, and version set n takes n. Each solvable below a number requires the next version set. The last id bears the name 0, and is listed nowhere.
+-- What the provider of packages in a row says, and that it keeps the laws. Package n lists n alone, and version set n
+-- takes n. Each solvable below a number requires the next version set. The last id bears the name 0, and is listed
+-- nowhere.
 use Rattle.std.specs.Prelude.{◌≡◌, ◌≢◌, ℕ, ◌+◌, Bool, true, false, cond, not, nat_eq, nat_lt, List, [], ◌∷◌, None, AllPairs, filter, refl, length, ◌≤◌}
 use Rattle.std.proofs.Common.{arith}
 use Rattle.std.proofs.lemmas.List.Elements.{All-nil, All-cons, All-contains}

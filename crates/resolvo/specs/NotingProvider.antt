@@ -1,5 +1,7 @@
--- What the provider that writes down its questions says, and that it keeps the laws. Package n has the solvables 10 n + 1 to 10 n + 3, and version set 10 n + k takes those up to 10 n + k.
-use Rattle.std.specs.Prelude.{◌≡◌, ◌≢◌, ℕ, ◌+◌, ◌*◌, ◌/◌, ◌%◌, Bool, true, false, cond, not, nat_eq, nat_lt, nat_le, List, [], ◌∷◌, Some, None, All, AllPairs, filter, reverse, codes, refl, length, ◌<◌}
+-- What the provider that writes down its questions says, and that it keeps the laws. Package n has the solvables 10 n +
+-- 1 to 10 n + 3, and version set 10 n + k takes those up to 10 n + k.
+use Rattle.std.specs.Prelude.{◌≡◌, ◌≢◌, ℕ, ◌+◌, ◌*◌, ◌/◌, ◌%◌, Bool, true, false, cond, not, nat_eq, nat_lt, nat_le, List, [], ◌∷◌, Some, None, All, AllPairs}
+use Rattle.std.specs.Prelude.{filter, reverse, codes, refl, length, ◌<◌}
 use Rattle.std.proofs.Common.{arith, ap}
 use Rattle.std.proofs.lemmas.Bool.{eqb-true, eq-eqb}
 use Rattle.std.proofs.lemmas.List.Elements.{All-nil, All-cons, All-contains}
@@ -82,7 +84,8 @@ three_apart a b d first second =
 
 known_is_lawful : (members : List VersionSetId) (n : ℕ) → IsLawfulPackage (test_universe members) n (known_package n)
 known_is_lawful members n = record {
-  listed = λ s h. All-contains (λ t. t / 10 ≡ n) (known_package n).listed s (all_three (λ t. t / 10 ≡ n) (10 * n + 1) (10 * n + 2) (10 * n + 3) (omega arith) (omega arith) (omega arith)) h;
+  listed = λ s h. All-contains (λ t. t / 10 ≡ n) (known_package n).listed s
+      (all_three (λ t. t / 10 ≡ n) (10 * n + 1) (10 * n + 2) (10 * n + 3) (omega arith) (omega arith) (omega arith)) h;
   favored = omega arith;
   locked = tt;
   excluded = All-nil _;

@@ -30,17 +30,22 @@ StateIs trail clause Open = IsOpen trail clause
 abbrev pub HasSeen : Trail → List Literal → ℕ → Option ℕ → Type 0
 HasSeen trail clause count None = (k : ℕ) (d : Literal) → k < count → literal_value trail (slice_index_or clause k d) ≡ Some false
 HasSeen trail clause count (Some place) =
-    (place < count) × ((d : Literal) → literal_value trail (slice_index_or clause place d) ≡ None) × ((k : ℕ) (d : Literal) → k < count → (slice_index_or clause k d ≡ slice_index_or clause place d) ⊎ (literal_value trail (slice_index_or clause k d) ≡ Some false))
+    (place < count) × ((d : Literal) → literal_value trail (slice_index_or clause place d) ≡ None) ×
+    ((k : ℕ) (d : Literal) → k < count → (slice_index_or clause k d ≡ slice_index_or clause place d) ⊎
+    (literal_value trail (slice_index_or clause k d) ≡ Some false))
 
 -- each variable that a clause forced was forced by it, as one of its literals
 pub record IsJustified (table : List (Vec Literal Global)) (trail : Trail) : Type 0 where
   pub within : (variable : ℕ) (slot : Slot) (number : ℕ) → slot_of trail variable ≡ Some slot → slot.reason ≡ Forced number → number < length table
-  pub forced : (variable : ℕ) (slot : Slot) (number : ℕ) → slot_of trail variable ≡ Some slot → slot.reason ≡ Forced number → IsForcing trail slot.place (record { variable = variable; positive = slot.value }) (clause_at table number)
-  pub contains : (variable : ℕ) (slot : Slot) (number : ℕ) → slot_of trail variable ≡ Some slot → slot.reason ≡ Forced number → Contains (clause_at table number) (record { variable = variable; positive = slot.value })
+  pub forced : (variable : ℕ) (slot : Slot) (number : ℕ) → slot_of trail variable ≡ Some slot → slot.reason ≡ Forced number →
+      IsForcing trail slot.place (record { variable = variable; positive = slot.value }) (clause_at table number)
+  pub contains : (variable : ℕ) (slot : Slot) (number : ℕ) → slot_of trail variable ≡ Some slot → slot.reason ≡ Forced number →
+      Contains (clause_at table number) (record { variable = variable; positive = slot.value })
 
 -- each variable that was decided for a clause was decided for a requirement
 pub record AreChosen (table : List (Vec Literal Global)) (requirements : List RequirementClause) (trail : Trail) : Type 0 where
-  pub each : (variable : ℕ) (slot : Slot) (number : ℕ) → slot_of trail variable ≡ Some slot → slot.reason ≡ Decided number → IsChosen table requirements trail variable slot
+  pub each : (variable : ℕ) (slot : Slot) (number : ℕ) → slot_of trail variable ≡ Some slot → slot.reason ≡ Decided number →
+      IsChosen table requirements trail variable slot
 
 -- the values stay, and no other variable was decided or assumed
 pub record Extends (old new : Trail) : Type 0 where

@@ -82,7 +82,8 @@ IsExcused table trail late pending level number =
 
 -- Where a watched literal is false that was propagated, its clause is true by a literal of no higher level, or it is noted.
 pub record Covers (table : List (Vec Literal Global)) (trail : Trail) (pairs : List WatchedPair) (late : List Late) (pending : List ℕ) (head : ℕ) : Type 0 where
-  pub watched : (number : ℕ) (literal : Literal) → IsWatching pairs number literal → (fails : IsFalseBefore trail head literal) → IsExcused table trail late pending fails.slot.level number
+  pub watched : (number : ℕ) (literal : Literal) → IsWatching pairs number literal → (fails : IsFalseBefore trail head literal) →
+      IsExcused table trail late pending fails.slot.level number
   pub constant : (number : ℕ) → number < length pairs → pair_at pairs number ≡ unwatched → IsNoted late pending number
 
 -- what propagation keeps

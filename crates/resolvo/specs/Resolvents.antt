@@ -52,7 +52,8 @@ pub record IsDrawn (table : List (Vec Literal Global)) (numbers : List ℕ) (lit
 
 -- what negates a marked variable stands in one of the causes
 pub record AreDrawn (table : List (Vec Literal Global)) (trail : Trail) (marks : List Bool) (causes : List ℕ) : Type 0 where
-  pub each : (variable : ℕ) (slot : Slot) → is_marked marks variable ≡ true → slot_of trail variable ≡ Some slot → IsDrawn table causes (record { variable = variable; positive = not slot.value })
+  pub each : (variable : ℕ) (slot : Slot) → is_marked marks variable ≡ true → slot_of trail variable ≡ Some slot →
+      IsDrawn table causes (record { variable = variable; positive = not slot.value })
 
 -- the marks contradict the causes, which are clauses of the table
 pub record IsResolvent (table : List (Vec Literal Global)) (trail : Trail) (resolvent : Resolvent) : Type 0 where
@@ -113,14 +114,16 @@ pub record IsReason (trail : Trail) (variable number : ℕ) : Type 0 where
 pub record Negates (trail : Trail) (marks : List Bool) (literals : List Literal) : Type 0 where
   pub falsified : IsFalsified trail literals
   pub only : All (λ (literal : Literal). is_marked marks literal.variable ≡ true) literals
-  pub each : (variable : ℕ) (slot : Slot) → is_marked marks variable ≡ true → slot_of trail variable ≡ Some slot → Contains literals (record { variable = variable; positive = not slot.value })
+  pub each : (variable : ℕ) (slot : Slot) → is_marked marks variable ≡ true → slot_of trail variable ≡ Some slot →
+      Contains literals (record { variable = variable; positive = not slot.value })
 
 -- the literal of the variable that is false is put behind the others, where the variable is marked and has a value
 pub record AddsNegation (trail : Trail) (marks : List Bool) (variable : ℕ) (old new : List Literal) : Type 0 where
   pub kept : (literal : Literal) → Contains old literal → Contains new literal
   pub falsified : IsFalsified trail old → IsFalsified trail new
   pub only : All (λ (literal : Literal). is_marked marks literal.variable ≡ true) old → All (λ (literal : Literal). is_marked marks literal.variable ≡ true) new
-  pub added : (slot : Slot) → is_marked marks variable ≡ true → slot_of trail variable ≡ Some slot → Contains new (record { variable = variable; positive = not slot.value })
+  pub added : (slot : Slot) → is_marked marks variable ≡ true → slot_of trail variable ≡ Some slot →
+      Contains new (record { variable = variable; positive = not slot.value })
 
 -- the literal is false, and is so at this level or a lower one
 pub record IsFalseAt (trail : Trail) (level : ℕ) (literal : Literal) : Type 0 where

@@ -6,4 +6,5 @@ use Rattle.resolver_clause_store.specs.TrailView.{slot_of}
 
 -- what stands before the place has lower levels than what stands there and behind it
 pub record BeginsLevel (trail : Trail) (place : ℕ) : Type 0 where
-  pub lower : (variable other : ℕ) (slot later : Slot) → slot_of trail variable ≡ Some slot → slot_of trail other ≡ Some later → slot.place < place → place ≤ later.place → slot.level < later.level
+  pub lower : (variable other : ℕ) (slot later : Slot) → slot_of trail variable ≡ Some slot → slot_of trail other ≡ Some later → slot.place < place →
+      place ≤ later.place → slot.level < later.level

@@ -28,7 +28,8 @@ use Rattle.resolver_encoding.specs.TrailAtoms.{IsAnswerBy}
 use Rattle.resolver_encoding.specs.Turns.{IsTurnEnd}
 use Rattle.resolver_encoding.specs.Trails.{AreAssumed, Follows, chosen_in, solvables_before}
 use Rattle.resolver_encoding.specs.declared.chosen.Chosen.{Chosen}
-use Rattle.resolvo.specs.ClauseSearches.{IsConsistent, IsLoaded, IsRefused, IsRootTurn, KeepsTurn, base_of, held_of, clause_count_of, kept_of, learnt_count_of, trail_of}
+use Rattle.resolvo.specs.ClauseSearches.{IsConsistent, IsLoaded, IsRefused, IsRootTurn, KeepsTurn, base_of, held_of, clause_count_of, kept_of, learnt_count_of}
+use Rattle.resolvo.specs.ClauseSearches.{trail_of}
 use Rattle.resolvo.specs.declared.clause_search.ClauseSearch.{ClauseSearch}
 use Rattle.resolvo.specs.declared.rounds.Found.{Found}
 use Rattle.resolvo.specs.declared.rounds.Found.TheVariants.{Answer, Contradiction, Refused}
@@ -45,15 +46,21 @@ pub record HasLoaded (table : List (Vec Literal Global)) (requirements : List �
   pub asking : Extends numbers requirements
 
 -- After the turn of a solvable these are taken, chosen and exempt, and it is chosen or not.
-pub data IsTurned {N S : Type 0} (u : Universe N S) (root : Demands) (taken chosen exempt : List S) (asked : List N) (s : S) : (taken_now chosen_now exempt_now : List S) → Bool → Type 0 where
+pub data IsTurned {N S : Type 0} (u : Universe N S) (root : Demands) (taken chosen exempt : List S) (asked : List N) (s : S) :
+    (taken_now chosen_now exempt_now : List S) → Bool → Type 0 where
   was_chosen : Contains chosen s → IsTurned u root taken chosen exempt asked s taken chosen exempt true
-  is_accepted : {chosen_now exempt_now : List S} → (Contains chosen s → ⊥) → Exempts u asked exempt s exempt_now → IsWithin chosen chosen_now → Contains chosen_now s →
-      IsValid u root chosen_now exempt_now → AllReached u root chosen_now (taken ++ s ∷ []) → IsTurned u root taken chosen exempt asked s (taken ++ s ∷ []) chosen_now exempt_now true
-  is_refused : {exempt_now : List S} → (Contains chosen s → ⊥) → Exempts u asked exempt s exempt_now → FitsNowhere u root chosen exempt_now s → IsTurned u root taken chosen exempt asked s taken chosen exempt false
+  is_accepted : {chosen_now exempt_now : List S} → (Contains chosen s → ⊥) → Exempts u asked exempt s exempt_now → IsWithin chosen chosen_now →
+      Contains chosen_now s →
+      IsValid u root chosen_now exempt_now → AllReached u root chosen_now (taken ++ s ∷ []) →
+      IsTurned u root taken chosen exempt asked s (taken ++ s ∷ []) chosen_now exempt_now true
+  is_refused : {exempt_now : List S} → (Contains chosen s → ⊥) → Exempts u asked exempt s exempt_now → FitsNowhere u root chosen exempt_now s →
+      IsTurned u root taken chosen exempt asked s taken chosen exempt false
 
 -- After the turns of candidates none of which was chosen one is taken, or none.
-pub data IsOneTaken {N S : Type 0} (u : Universe N S) (root : Demands) (taken chosen exempt candidates : List S) : (taken_now chosen_now : List S) → Bool → Type 0 where
-  one_fits : {s : S} {chosen_now : List S} → Contains candidates s → IsWithin chosen chosen_now → Contains chosen_now s → IsValid u root chosen_now exempt → AllReached u root chosen_now (taken ++ s ∷ []) →
+pub data IsOneTaken {N S : Type 0} (u : Universe N S) (root : Demands) (taken chosen exempt candidates : List S) : (taken_now chosen_now : List S) → Bool →
+    Type 0 where
+  one_fits : {s : S} {chosen_now : List S} → Contains candidates s → IsWithin chosen chosen_now → Contains chosen_now s → IsValid u root chosen_now exempt →
+      AllReached u root chosen_now (taken ++ s ∷ []) →
       IsOneTaken u root taken chosen exempt candidates (taken ++ s ∷ []) chosen_now true
   none_fits : ((s : S) → Contains candidates s → FitsNowhere u root chosen exempt s) → IsOneTaken u root taken chosen exempt candidates taken chosen false
 
@@ -129,7 +136,8 @@ module _ {N S : Type 0} where
 
   -- These taken and refused ones alone are assumed. Then what was near the seeds stays so.
   abbrev pub KeepsNear : Universe N S → Rounds N S → Rounds N S → Type 0
-  KeepsNear u old new = (root : Demands) (seeds taken refused : List S) (packages : List N) → IsReadSoFar u root (chosen_of old) (notes_of old) → IsWithin taken seeds → AreAssumed (notes_of old).origins taken refused (trail_of old.search) →
+  KeepsNear u old new = (root : Demands) (seeds taken refused : List S) (packages : List N) → IsReadSoFar u root (chosen_of old) (notes_of old) →
+      IsWithin taken seeds → AreAssumed (notes_of old).origins taken refused (trail_of old.search) →
       AreNear u root seeds packages (notes_of old) → AreNear u root seeds packages (notes_of new)
 
   -- a later state of the same turn
@@ -162,7 +170,8 @@ module _ {N S : Type 0} where
     pub near : AreNear u root seeds packages (notes_of r)
 
   -- A solvable had its turn: it was chosen before, it is accepted, or it is refused.
-  pub record HasTurned (u : Universe N S) (root : Demands) (taken refused seeds : List S) (packages : List N) (s : S) (old new : Rounds N S) (is_chosen : Bool) : Type 0 where
+  pub record HasTurned (u : Universe N S) (root : Demands) (taken refused seeds : List S) (packages : List N) (s : S) (old new : Rounds N S)
+      (is_chosen : Bool) : Type 0 where
     pub taken_now : List S
     pub refused_now : List S
     pub turned : IsTurned u root taken (chosen_of old) (notes_of old).exempt (notes_of old).asked s taken_now (chosen_of new) (notes_of new).exempt is_chosen
@@ -170,7 +179,8 @@ module _ {N S : Type 0} where
     pub asked : IsWithin (notes_of old).asked (notes_of new).asked
 
   -- Candidates had their turns, and none of them was exempt. The last one is accepted, or each is refused.
-  pub record HaveTurned (u : Universe N S) (root : Demands) (taken seeds : List S) (packages : List N) (candidates : List S) (old new : Rounds N S) (is_chosen : Bool) : Type 0 where
+  pub record HaveTurned (u : Universe N S) (root : Demands) (taken seeds : List S) (packages : List N) (candidates : List S) (old new : Rounds N S)
+      (is_chosen : Bool) : Type 0 where
     pub taken_now : List S
     pub refused_now : List S
     pub turned : IsOneTaken u root taken (chosen_of old) (notes_of old).exempt candidates taken_now (chosen_of new) is_chosen
@@ -232,9 +242,11 @@ module _ {N S : Type 0} where
     pub chosen : chosen_of r ≡ solvables_before (notes_of r).origins (trail_of r.search) (length_of (trail_of r.search))
     pub variables : variable_count (trail_of r.search) ≡ length (notes_of r).origins
     pub once : HasNoRepeats (chosen_of r)
-    pub answer : (root : Demands) (seeds refused : List S) → IsReadSoFar u root (chosen_of r) (notes_of r) → AreAssumed (notes_of r).origins seeds refused (trail_of r.search) →
+    pub answer : (root : Demands) (seeds refused : List S) → IsReadSoFar u root (chosen_of r) (notes_of r) →
+        AreAssumed (notes_of r).origins seeds refused (trail_of r.search) →
         AreSeeds u seeds (chosen_of r) (notes_of r).asked (notes_of r).seen (notes_of r).exempt → IsAnswerBy u root (chosen_of r) seeds (notes_of r).exempt
-    pub promise : (root : Demands) → IsReadSoFar u root (chosen_of r) (notes_of r) → AreAssumed (notes_of r).origins [] [] (trail_of r.search) → TakesFirstChoices u root (chosen_of r)
+    pub promise : (root : Demands) → IsReadSoFar u root (chosen_of r) (notes_of r) → AreAssumed (notes_of r).origins [] [] (trail_of r.search) →
+        TakesFirstChoices u root (chosen_of r)
 
   -- no values that make the clauses true are those of the trail at the levels up to the base
   pub record IsUnanswered (r : Rounds N S) : Type 0 where

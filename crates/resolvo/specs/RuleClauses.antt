@@ -60,7 +60,8 @@ condition_lines rule list (members ∷ rest) = member_lines rule list members.it
 -- for each of so many bits: where the instance is there, the name's bit is that of the instance's code
 abbrev pub bit_lines : {N S : Type 0} → ℕ → N → S → ℕ → ℕ → List (Line N S)
 bit_lines rule name instance code zero = []
-bit_lines rule name instance code (suc n) = bit_lines rule name instance code n ++ plain rule (atom (Member instance) false ∷ atom (Bit name n) (bit code n) ∷ []) ∷ []
+bit_lines rule name instance code (suc n) = bit_lines rule name instance code n ++
+    plain rule (atom (Member instance) false ∷ atom (Bit name n) (bit code n) ∷ []) ∷ []
 
 -- the clauses of the rule at a place; of a mark, with the code of its instance in so many bits
 abbrev pub lines_of : {N S : Type 0} → ℕ → ℕ → ℕ → Rule N S → List (Line N S)
@@ -106,7 +107,8 @@ pub record AreClausesOf {N S : Type 0} (rules : List (Rule N S)) (propositions :
 
 -- the values make each clause of a marked rule true
 abbrev pub MakesMarkedTrue : (ℕ → Bool) → List Bool → List RuleClause → Type 0
-MakesMarkedTrue values marks clauses = All (λ (clause : RuleClause). slice_index_or marks clause.rule false ≡ true → clause_true values clause.literals.items ≡ true) clauses
+MakesMarkedTrue values marks clauses =
+    All (λ (clause : RuleClause). slice_index_or marks clause.rule false ≡ true → clause_true values clause.literals.items ≡ true) clauses
 
 -- one literal or two, of which the first is a negation
 abbrev pub IsGuarded : List Literal → Type 0
@@ -118,9 +120,11 @@ IsGuarded (first ∷ second ∷ third ∷ rest) = ⊥
 -- what the clauses are there for, with any of the rules marked
 pub record DecideRules {N S : Type 0} (rules : List (Rule N S)) (variables : ℕ) (clauses : List RuleClause) : Type 0 where
   -- where a set obeys the marked rules, some values make their clauses true
-  pub sound : (marks : List Bool) (set : List S) → length marks ≡ length rules → Obeys set (marked marks rules) → (values : ℕ → Bool) × MakesMarkedTrue values marks clauses
+  pub sound : (marks : List Bool) (set : List S) → length marks ≡ length rules → Obeys set (marked marks rules) → (values : ℕ → Bool) ×
+      MakesMarkedTrue values marks clauses
   -- where some values make their clauses true, the marked rules are not refuted
-  pub complete : (marks : List Bool) (values : ℕ → Bool) → length marks ≡ length rules → MakesMarkedTrue values marks clauses → IsRefuted (marked marks rules) → ⊥
+  pub complete : (marks : List Bool) (values : ℕ → Bool) → length marks ≡ length rules → MakesMarkedTrue values marks clauses → IsRefuted (marked marks rules) →
+      ⊥
   -- only a clause whose candidates are to be tried may have more than one literal that is no negation
   pub guarded : All (λ (clause : RuleClause). clause.asks ≡ false → IsGuarded clause.literals.items) clauses
   pub places : All (λ (clause : RuleClause). clause.rule < length rules) clauses

@@ -1,5 +1,8 @@
--- What the provider of the tests says, and that it keeps the laws. Package n has the solvables 10 n + 1 and 10 n + 4, and version set 10 n + k takes 10 n + k, and with k = 0 both. In an endless universe 10 n + 1 requires version set 10 (n + 1).
-use Rattle.std.specs.Prelude.{◌≡◌, ◌≢◌, ℕ, ◌+◌, ◌*◌, ◌/◌, ◌%◌, Bool, true, false, cond, not, nat_eq, nat_lt, List, [], ◌∷◌, ◌++◌, Some, None, All, AllPairs, IfSome, filter, map, reverse, refl, length, ◌<◌, ◌≤◌}
+-- What the provider of the tests says, and that it keeps the laws. Package n has the solvables 10 n + 1 and 10 n + 4,
+-- and version set 10 n + k takes 10 n + k, and with k = 0 both. In an endless universe 10 n + 1 requires version set 10
+-- (n + 1).
+use Rattle.std.specs.Prelude.{◌≡◌, ◌≢◌, ℕ, ◌+◌, ◌*◌, ◌/◌, ◌%◌, Bool, true, false, cond, not, nat_eq, nat_lt, List, [], ◌∷◌, ◌++◌, Some, None, All, AllPairs}
+use Rattle.std.specs.Prelude.{IfSome, filter, map, reverse, refl, length, ◌<◌, ◌≤◌}
 use Rattle.std.proofs.Common.{arith}
 use Rattle.std.proofs.lemmas.Bool.{eqb-true, eq-eqb}
 use Rattle.std.proofs.lemmas.List.Elements.{All-nil, All-cons, All-contains}
@@ -28,7 +31,8 @@ stated_by statements s = map (λ e. e.1) (filter (λ e. nat_eq e.0 s) statements
 
 -- what an older solvable requires of the package after its own, as far as the ids go
 abbrev pub next_of : ℕ → List ConditionalRequirement
-next_of s = cond (nat_eq (s % 10) 1) (cond (nat_lt (s / 10) 429496728) (record { condition = None; requirement = Single (record { 0 = 10 * (s / 10 + 1) }) } ∷ []) []) []
+next_of s = cond (nat_eq (s % 10) 1)
+    (cond (nat_lt (s / 10) 429496728) (record { condition = None; requirement = Single (record { 0 = 10 * (s / 10 + 1) }) } ∷ []) []) []
 
 -- what a solvable requires
 abbrev pub required_by : Bool → List (ℕ × ConditionalRequirement) → ℕ → List ConditionalRequirement
@@ -75,7 +79,8 @@ test_universe endless requirements constraints = record {
   string_text = λ r. [];
   merged_text = λ xs. [];
   package_named = λ n. cond (nat_lt n (package_count endless)) (known_package n) unknown_package;
-  needs = λ s. cond (nat_eq s 94) (unknown (record { 0 = 6 })) (known (record { requirements = required_by endless requirements s; constraints = stated_by constraints s }));
+  needs = λ s. cond (nat_eq s 94) (unknown (record { 0 = 6 }))
+      (known (record { requirements = required_by endless requirements s; constraints = stated_by constraints s }));
   matching_of = λ xs v. filter (takes v) xs;
   others_of = λ xs v. filter (λ s. not (takes v s)) xs;
   sorted_of = reverse;
@@ -85,14 +90,16 @@ pub numbers_are_values : IsIdentity nat_eq
 numbers_are_values = record { alone = eqb-true; itself = λ a. eq-eqb a a refl }
 
 -- the parts of a condition that is decided by this test
-left_part : (n : ℕ) (below : Bool) → nat_lt n 1000 ≡ below → (a b : ConditionId) (op : LogicalOperator) → cond below (Requirement (record { 0 = n })) (Binary (joined_by n) (record { 0 = n / 1000 }) (record { 0 = n % 1000 })) ≡ Binary op a b → a.0 < n
+left_part : (n : ℕ) (below : Bool) → nat_lt n 1000 ≡ below → (a b : ConditionId) (op : LogicalOperator) →
+    cond below (Requirement (record { 0 = n })) (Binary (joined_by n) (record { 0 = n / 1000 }) (record { 0 = n % 1000 })) ≡ Binary op a b → a.0 < n
 left_part n true is a b op e = absurd cc
 left_part n false is a b op e =
     let same : n / 1000 ≡ a.0 = cc in
     let large : 1000 ≤ n = grind arith in
     omega arith
 
-right_part : (n : ℕ) (below : Bool) → nat_lt n 1000 ≡ below → (a b : ConditionId) (op : LogicalOperator) → cond below (Requirement (record { 0 = n })) (Binary (joined_by n) (record { 0 = n / 1000 }) (record { 0 = n % 1000 })) ≡ Binary op a b → b.0 < n
+right_part : (n : ℕ) (below : Bool) → nat_lt n 1000 ≡ below → (a b : ConditionId) (op : LogicalOperator) →
+    cond below (Requirement (record { 0 = n })) (Binary (joined_by n) (record { 0 = n / 1000 }) (record { 0 = n % 1000 })) ≡ Binary op a b → b.0 < n
 right_part n true is a b op e = absurd cc
 right_part n false is a b op e =
     let same : n % 1000 ≡ b.0 = cc in
@@ -125,11 +132,13 @@ module _ (endless : Bool) (requirements : List (ℕ × ConditionalRequirement)) 
       let last : OfThis (10 * n + 4) = omega arith in
       let apart : Apart (10 * n + 4) = omega arith in
       record {
-        listed = λ s h. All-contains OfThis (known_package n).listed s (All-cons OfThis (10 * n + 1) ((10 * n + 4) ∷ []) first (All-cons OfThis (10 * n + 4) [] last (All-nil OfThis))) h;
+        listed = λ s h. All-contains OfThis (known_package n).listed s
+            (All-cons OfThis (10 * n + 1) ((10 * n + 4) ∷ []) first (All-cons OfThis (10 * n + 4) [] last (All-nil OfThis))) h;
         favored = tt;
         locked = locked_is_lawful n (nat_eq n 7);
         excluded = excluded_is_lawful n (nat_eq n 8);
-        once = AllPairs-cons ◌≢◌ (10 * n + 1) ((10 * n + 4) ∷ []) (All-cons Apart (10 * n + 4) [] apart (All-nil Apart)) (no_pairs ((10 * n + 4) ∷ []) (omega arith));
+        once = AllPairs-cons ◌≢◌ (10 * n + 1) ((10 * n + 4) ∷ []) (All-cons Apart (10 * n + 4) [] apart (All-nil Apart))
+            (no_pairs ((10 * n + 4) ∷ []) (omega arith));
       }
 
   package_is_lawful : (n : ℕ) (b : Bool) → IsLawfulPackage (test_universe endless requirements constraints) n (cond b (known_package n) unknown_package)

@@ -33,7 +33,8 @@ abbrev pub watchers_of : Propagator → Literal → List Watch
 watchers_of propagator literal = list_at (lists_of propagator.watches) (list_number literal)
 
 -- so many first clauses of the list are true by a literal of this level or a lower one, or noted
-pub record AreExcused (table : List (Vec Literal Global)) (trail : Trail) (watchers : List Watch) (late : List Late) (pending : List ℕ) (level count : ℕ) : Type 0 where
+pub record AreExcused (table : List (Vec Literal Global)) (trail : Trail) (watchers : List Watch) (late : List Late) (pending : List ℕ)
+    (level count : ℕ) : Type 0 where
   pub each : (place : ℕ) (watch : Watch) → place < count → slice_get watchers place ≡ Some watch → IsExcused table trail late pending level watch.number
 
 -- what is kept while the clauses that watch the literal are looked at, so many of which were

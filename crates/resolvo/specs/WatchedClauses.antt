@@ -31,4 +31,5 @@ pub record StandsInTwo (clause : List Literal) (watches : Watches) (number : ℕ
 
 -- each clause of the table that has two different literals does so
 abbrev pub AreInLists : List (Vec Literal Global) → Watches → Type 0
-AreInLists table watches = (number : ℕ) → number < length table → (one other : Literal) → AreApart (clause_at table number) one other → StandsInTwo (clause_at table number) watches number
+AreInLists table watches = (number : ℕ) → number < length table → (one other : Literal) → AreApart (clause_at table number) one other →
+    StandsInTwo (clause_at table number) watches number

@@ -7,7 +7,8 @@ ghost use Rattle.resolver_clause_store.specs.TrailView.{length_of, place_of, slo
 ghost use Rattle.resolvo.specs.Propagation.{IsConflict, IsJustified};
 ghost use Rattle.resolver_clause_store.specs.declared.Slot.{Slot};
 ghost use Rattle.resolver_clause_store.specs.declared.Literal.{Literal};
-ghost use Rattle.resolvo.specs.Resolvents.{AddsNegation, AllBefore, IsLevelled, IsReason, IsResolvent, IsSingle, IsUnmarked, LessonIs, ListsMarks, MarksAlso, Negates, StandsAt, level_in, is_marked};
+ghost use Rattle.resolvo.specs.Resolvents.{AddsNegation, AllBefore, IsLevelled, IsReason, IsResolvent, IsSingle, IsUnmarked, LessonIs, ListsMarks, MarksAlso};
+ghost use Rattle.resolvo.specs.Resolvents.{Negates, StandsAt, level_in, is_marked};
 
 use resolver_clause_store::{Literal, Reason, Trail, Variable, clause};
 use std::alloc::{AllocError, Global};
@@ -172,7 +173,8 @@ pub fn lower_place(trail: &Trail, variable: Variable, level: usize, lowest: usiz
 pub fn lowest_place(trail: &Trail, clause: &[Literal], level: usize, start: usize) -> usize
     requires { IsBelow (variable_count trail.now) clause.now }
     ensures low { result ≤ start }
-    ensures least { All (λ (literal : Literal). (slot : Slot) → slot_of trail.now literal.variable ≡ Some slot → slot.level ≡ level → result ≤ slot.place) clause.now }
+    ensures least { All (λ (literal : Literal).
+        (slot : Slot) → slot_of trail.now literal.variable ≡ Some slot → slot.level ≡ level → result ≤ slot.place) clause.now }
     ensures reached { (result ≡ start) ⊎ Any (λ (literal : Literal). StandsAt trail.now level result literal.variable) clause.now }
 {
     let mut lowest = start;
@@ -263,7 +265,8 @@ pub fn resolve_level(
     requires levelled { IsLevelled trail.now resolvent.old (length_of trail.now) }
     ensures resolvent { OnOk result (IsResolvent table.now trail.now resolvent.new) }
     ensures inside { OnOk result (0 < resolvent.new.level → resolvent.new.lowest < length_of trail.now) }
-    ensures single { OnOk result (0 < resolvent.new.level → IsSingle trail.now resolvent.new.marks.items resolvent.new.level (variable_at trail.now resolvent.new.lowest)) }
+    ensures single { OnOk result (0 < resolvent.new.level →
+        IsSingle trail.now resolvent.new.marks.items resolvent.new.level (variable_at trail.now resolvent.new.lowest)) }
     ensures none { OnOk result (resolvent.new.level ≡ 0 → AllBefore trail.now resolvent.new.marks.items 0) }
 {
     let mut place = trail.len();

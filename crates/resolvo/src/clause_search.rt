@@ -1,11 +1,13 @@
 //! A search over clauses: it decides and propagates, learns from conflicts and jumps back.
 
-ghost use Rattle.std.specs.Prelude.{◌<◌, ◌≡◌, ◌≤◌, ◌+◌, ◌++◌, ◌∷◌, ◌⊎◌, ◌-◌, [], ℕ, All, IfErr, IfNone, IfOk, IfSome, List, None, OnErr, OnOk, Vec, length, max};
+ghost use Rattle.std.specs.Prelude.{◌<◌, ◌≡◌, ◌≤◌, ◌+◌, ◌++◌, ◌∷◌, ◌⊎◌, ◌-◌, [], ℕ, All, IfErr, IfNone, IfOk, IfSome, List, None, OnErr, OnOk, Vec, length};
+ghost use Rattle.std.specs.Prelude.{max};
 ghost use Rattle.std.specs.declared.alloc.Global.{Global};
 ghost use Rattle.resolver_clause_store.specs.Formula.{AreBelow, IsBelow, clause_at};
 ghost use Rattle.resolver_clause_store.specs.Interruptions.{IsInterruption};
 ghost use Rattle.resolver_clause_store.specs.Outcomes.{IsFalsified, IsMet};
-ghost use Rattle.resolver_clause_store.specs.TrailView.{Gains, IsCut, IsUndone, KeepsPlaces, length_of, level_of, open_count, slot_of, variable_at, variable_count};
+ghost use Rattle.resolver_clause_store.specs.TrailView.{Gains, IsCut, IsUndone, KeepsPlaces, length_of, level_of, open_count, slot_of, variable_at};
+ghost use Rattle.resolver_clause_store.specs.TrailView.{variable_count};
 ghost use Rattle.resolver_clause_store.specs.declared.Exhausted.TheVariants.{Ids, Memory};
 ghost use Rattle.resolver_clause_store.specs.declared.Literal.{Literal};
 ghost use Rattle.resolver_clause_store.specs.declared.Reason.TheVariants.{Assumed};
@@ -78,7 +80,8 @@ pub fn take(trail: &mut Trail, table: &[Vec<Literal>], choice: Choice) -> Result
     requires first { IsFirst trail.old (clause_at table.now choice.number) choice.place }
     requires justified { IsJustified table.now trail.old }
     ensures justified { OnOk result (IsJustified table.now trail.new) }
-    ensures chosen { OnOk result ((requirements : List RequirementClause) → IsChoice trail.old table.now requirements choice → AreChosen table.now requirements trail.old → AreChosen table.now requirements trail.new) }
+    ensures chosen { OnOk result ((requirements : List RequirementClause) → IsChoice trail.old table.now requirements choice →
+        AreChosen table.now requirements trail.old → AreChosen table.now requirements trail.new) }
     ensures size { OnOk result (variable_count trail.new ≡ variable_count trail.old) }
     ensures fewer { OnOk result (open_count trail.new < open_count trail.old) }
     ensures kept { OnOk result (KeepsPlaces trail.old trail.new (length_of trail.old)) }
@@ -109,7 +112,8 @@ pub fn descend<D: DependencyProvider>(
     requires queued { IsQueued queue.old trail.old table.now requirements.now }
     ensures conflict { IfOk result (λ answer. IfSome answer (IsConflict trail.new table.now)) }
     ensures settled { IfOk result (λ answer. IfNone answer (AllSettled trail.new table.now)) }
-    ensures met { IfOk result (λ answer. IfNone answer (All (λ (requirement : RequirementClause). IsMet trail.new (clause_at table.now requirement.number)) requirements.now)) }
+    ensures met { IfOk result (λ answer.
+        IfNone answer (All (λ (requirement : RequirementClause). IsMet trail.new (clause_at table.now requirement.number)) requirements.now)) }
     ensures propagator { OnOk result (IsPropagator table.now trail.new propagator.new) }
     ensures refused { OnErr result (AreOwned table.now (pairs_of propagator.new.watches)) }
     ensures justified { OnOk result (IsJustified table.now trail.new) }
@@ -149,7 +153,9 @@ fn level_for(trail: &Trail, literals: &[Literal], base: usize) -> usize
 }
 
 impl ClauseSearch {
-    ghost use Rattle.resolvo.specs.ClauseSearches.{IsConsistent, IsJump, IsLoaded, IsRootTurn, IsSameProblem, IsSameSearch, SetsNone, StaysMarked, KeepsLoaded, KeepsMark, KeepsTurn, OutcomeIs, base_of, clause_count_of, held_of, kept_of, learnt_count_of, numbers_of, trail_of};
+    ghost use Rattle.resolvo.specs.ClauseSearches.{IsConsistent, IsJump, IsLoaded, IsRootTurn, IsSameProblem, IsSameSearch, SetsNone, StaysMarked, KeepsLoaded};
+    ghost use Rattle.resolvo.specs.ClauseSearches.{KeepsMark, KeepsTurn, OutcomeIs, base_of, clause_count_of, held_of, kept_of, learnt_count_of, numbers_of};
+    ghost use Rattle.resolvo.specs.ClauseSearches.{trail_of};
 
     /// A search without variables and clauses. Its scores grow and fade as the activity says.
     pub fn new(alloc: Global, activity: Activity) -> Self
@@ -290,7 +296,8 @@ impl ClauseSearch {
         requires consistent { IsConsistent self.old }
         requires below { IsBelow (variable_count (trail_of self.old)) literals.now }
         ensures consistent { OnOk result (IsConsistent self.new) }
-        ensures loaded { OnOk result ((given : List (Vec Literal Global)) (numbers : List ℕ) (copy : Vec Literal Global) → copy.items ≡ literals.now → IsLoaded given numbers self.old → IsLoaded (given ++ copy ∷ []) numbers self.new) }
+        ensures loaded { OnOk result ((given : List (Vec Literal Global)) (numbers : List ℕ) (copy : Vec Literal Global) → copy.items ≡ literals.now →
+            IsLoaded given numbers self.old → IsLoaded (given ++ copy ∷ []) numbers self.new) }
         ensures same { OnOk result (IsSameSearch self.old self.new) }
         ensures count { OnOk result (length self.new.places.items ≡ length self.old.places.items + 1) }
         ensures undone { OnOk result (IsFalsified (trail_of self.old) literals.now → IsUndone (trail_of self.old) (trail_of self.new) (base_of self.old)) }
@@ -316,7 +323,8 @@ impl ClauseSearch {
         requires consistent { IsConsistent self.old }
         requires below { AreBelow (variable_count (trail_of self.old)) clauses.now }
         ensures consistent { OnOk result (IsConsistent self.new) }
-        ensures loaded { OnOk result ((given : List (Vec Literal Global)) (numbers : List ℕ) (more : List (Vec Literal Global)) → IsLoaded given numbers self.old → clauses.now ≡ given ++ more → IsLoaded clauses.now numbers self.new) }
+        ensures loaded { OnOk result ((given : List (Vec Literal Global)) (numbers : List ℕ) (more : List (Vec Literal Global)) →
+            IsLoaded given numbers self.old → clauses.now ≡ given ++ more → IsLoaded clauses.now numbers self.new) }
         ensures same { OnOk result (IsSameSearch self.old self.new) }
         ensures count { OnOk result (length clauses.now ≤ length self.new.places.items) }
     {
@@ -331,7 +339,8 @@ impl ClauseSearch {
         requires consistent { IsConsistent self.old }
         requires inside { requirement.now.number < length self.old.places.items }
         ensures consistent { OnOk result (IsConsistent self.new) }
-        ensures loaded { OnOk result ((given : List (Vec Literal Global)) (numbers : List ℕ) → IsLoaded given numbers self.old → IsLoaded given (numbers ++ requirement.now.number ∷ []) self.new) }
+        ensures loaded { OnOk result ((given : List (Vec Literal Global)) (numbers : List ℕ) → IsLoaded given numbers self.old →
+            IsLoaded given (numbers ++ requirement.now.number ∷ []) self.new) }
         ensures same { OnOk result (IsSameSearch self.old self.new) }
         ensures places { OnOk result (self.new.places.items ≡ self.old.places.items) }
         ensures count { OnOk result (length self.new.requirements.items ≡ length self.old.requirements.items + 1) }
@@ -353,7 +362,8 @@ impl ClauseSearch {
         requires consistent { IsConsistent self.old }
         requires inside { All (λ (requirement : RequirementClause). requirement.number < length self.old.places.items) requirements.now }
         ensures consistent { OnOk result (IsConsistent self.new) }
-        ensures loaded { OnOk result ((given : List (Vec Literal Global)) (numbers more : List ℕ) → IsLoaded given numbers self.old → numbers_of requirements.now ≡ numbers ++ more → IsLoaded given (numbers_of requirements.now) self.new) }
+        ensures loaded { OnOk result ((given : List (Vec Literal Global)) (numbers more : List ℕ) → IsLoaded given numbers self.old →
+            numbers_of requirements.now ≡ numbers ++ more → IsLoaded given (numbers_of requirements.now) self.new) }
         ensures same { OnOk result (IsSameSearch self.old self.new) }
     {
         'requirements: for index in self.requirements.len()..requirements.len() {
@@ -378,7 +388,9 @@ impl ClauseSearch {
         requires inside { All (λ (requirement : RequirementClause). requirement.number < length clauses.now) requirements.now }
         requires room { variable_count (trail_of self.old) ≤ variables }
         ensures consistent { OnOk result (IsConsistent self.new) }
-        ensures loaded { OnOk result ((given : List (Vec Literal Global)) (numbers : List ℕ) → IsLoaded given numbers self.old → (more : List (Vec Literal Global)) → clauses.now ≡ given ++ more → (more_numbers : List ℕ) → numbers_of requirements.now ≡ numbers ++ more_numbers → IsLoaded clauses.now (numbers_of requirements.now) self.new) }
+        ensures loaded { OnOk result ((given : List (Vec Literal Global)) (numbers : List ℕ) → IsLoaded given numbers self.old →
+            (more : List (Vec Literal Global)) → clauses.now ≡ given ++ more → (more_numbers : List ℕ) → numbers_of requirements.now ≡ numbers ++ more_numbers →
+            IsLoaded clauses.now (numbers_of requirements.now) self.new) }
         ensures variables { OnOk result (variable_count (trail_of self.new) ≡ variables) }
         ensures learnt { OnOk result (learnt_count_of self.new ≡ learnt_count_of self.old) }
         ensures kept { OnOk result (KeepsMark self.old self.new) }
@@ -438,7 +450,9 @@ impl ClauseSearch {
     ) -> Result<Option<Outcome>, Exhausted>
         requires consistent { IsConsistent self.old }
         requires learnt { IsLearnt self.old.table.items self.old.trail learnt }
-        ensures outcome { IfOk result (λ answer. IfSome answer (λ outcome. (given : List (Vec Literal Global)) (numbers : List ℕ) → IsLoaded given numbers self.old → OutcomeIs given numbers self.new.trail self.new.base outcome)) }
+        ensures outcome { IfOk result (λ answer.
+            IfSome answer (λ outcome. (given : List (Vec Literal Global)) (numbers : List ℕ) → IsLoaded given numbers self.old →
+            OutcomeIs given numbers self.new.trail self.new.base outcome)) }
         ensures consistent { OnOk result (IsConsistent self.new) }
         ensures same { OnOk result (IsSameProblem self.old self.new) }
         ensures more { IfOk result (λ answer. IfNone answer (learnt_count_of self.new ≡ learnt_count_of self.old + 1)) }
@@ -466,7 +480,9 @@ impl ClauseSearch {
     ) -> Result<Option<Outcome>, Exhausted>
         requires consistent { IsConsistent self.old }
         requires conflict { IsConflict self.old.trail self.old.table.items number }
-        ensures outcome { IfOk result (λ answer. IfSome answer (λ outcome. (given : List (Vec Literal Global)) (numbers : List ℕ) → IsLoaded given numbers self.old → OutcomeIs given numbers self.new.trail self.new.base outcome)) }
+        ensures outcome { IfOk result (λ answer.
+            IfSome answer (λ outcome. (given : List (Vec Literal Global)) (numbers : List ℕ) → IsLoaded given numbers self.old →
+            OutcomeIs given numbers self.new.trail self.new.base outcome)) }
         ensures consistent { OnOk result (IsConsistent self.new) }
         ensures same { OnOk result (IsSameProblem self.old self.new) }
         ensures more { IfOk result (λ answer. IfNone answer (learnt_count_of self.new ≡ learnt_count_of self.old + 1)) }
@@ -508,13 +524,16 @@ impl ClauseSearch {
         clause_limit: usize,
     ) -> Result<Outcome, Interrupted<D::Cancel>>
         requires consistent { IsConsistent self.old }
-        ensures outcome { IfOk result (λ outcome. (given : List (Vec Literal Global)) (numbers : List ℕ) → IsLoaded given numbers self.old → OutcomeIs given numbers (trail_of self.new) (base_of self.new) outcome) }
+        ensures outcome { IfOk result (λ outcome.
+            (given : List (Vec Literal Global)) (numbers : List ℕ) → IsLoaded given numbers self.old →
+            OutcomeIs given numbers (trail_of self.new) (base_of self.new) outcome) }
         ensures consistent { OnOk result (IsConsistent self.new) }
         ensures loaded { OnOk result (KeepsLoaded self.old self.new) }
         ensures variables { OnOk result (variable_count (trail_of self.new) ≡ variable_count (trail_of self.old)) }
         ensures kept { OnOk result (KeepsMark self.old self.new) }
         ensures turn { OnOk result (KeepsTurn self.old self.new) }
-        ensures refusal { IfErr result (IsStop (D.may_cancel provider.now) ((learnt_limit ≤ learnt_count_of self.new) ⊎ (clause_limit ≤ clause_count_of self.new))) }
+        ensures refusal { IfErr result
+            (IsStop (D.may_cancel provider.now) ((learnt_limit ≤ learnt_count_of self.new) ⊎ (clause_limit ≤ clause_count_of self.new))) }
     {
         'conflicts: loop {
             match descend(

@@ -60,7 +60,8 @@ impl<N: Copy + Eq + Ord + Hash + Drop, S: Copy + Eq + Ord + Hash + Drop> Conflic
         ensures part { IfOk result (λ minimal. CopiesPart (rules_in self.now) (rules_in minimal)) }
         ensures in_turn { IfOk result (λ minimal. IsRefuted (rules_in self.now) → CopiesLeft (rules_in self.now) (rules_in minimal)) }
         ensures irreducible { IfOk result (λ minimal. IsRefuted (rules_in self.now) → IsIrreducible (rules_in minimal)) }
-        ensures explains { IfOk result (λ minimal. (u : Universe N S) (root : Demands) → Explains u root (rules_in self.now) → Explains u root (rules_in minimal)) }
+        ensures explains { IfOk result (λ minimal.
+            (u : Universe N S) (root : Demands) → Explains u root (rules_in self.now) → Explains u root (rules_in minimal)) }
         ensures memory { IfErr result (λ e. e ≡ Exhausted.Memory) }
     {
         let alloc = *self.rules.allocator();
@@ -79,7 +80,8 @@ impl<N: Copy + Eq + Ord + Hash + Drop, S: Copy + Eq + Ord + Hash + Drop> Conflic
         _solver: &Solver<D>,
     ) -> Result<ConflictGraph<S>, Exhausted>
         ensures graph { IfOk result (λ graph. shape_of graph ≡ graph_of_rules N.eq S.eq (rules_in self.now)) }
-        ensures true_edges { IfOk result (λ graph. (u : Universe N S) (root : Demands) → All (IsTrueRule u root) (rules_in self.now) → AreEdgesTrue u root (shape_of graph).shape) }
+        ensures true_edges { IfOk result (λ graph.
+            (u : Universe N S) (root : Demands) → All (IsTrueRule u root) (rules_in self.now) → AreEdgesTrue u root (shape_of graph).shape) }
         ensures reached_nodes { IfOk result (λ graph. All (IsKept (rules_in self.now)) (rules_in self.now) → AreNodesReached (shape_of graph)) }
         ensures memory { IfErr result (λ e. e ≡ Exhausted.Memory) }
     {

@@ -48,7 +48,8 @@ fn add_copy<N: Copy + Drop, S: Copy + Drop>(
 ) -> Result<(), Exhausted>
     requires inside { place < length rules.now }
     requires size { length marks.now ≡ length rules.now }
-    ensures same { OnOk result (AllZip StatesTheSame (marked (take place marks.now) rules.now) copies.old.items → AllZip StatesTheSame (marked (take (place + 1) marks.now) rules.now) copies.new.items) }
+    ensures same { OnOk result (AllZip StatesTheSame (marked (take place marks.now) rules.now) copies.old.items →
+        AllZip StatesTheSame (marked (take (place + 1) marks.now) rules.now) copies.new.items) }
     ensures memory { IfErr result (λ e. e ≡ Exhausted.Memory) }
 {
     if !marks[place] {

@@ -3,7 +3,8 @@
 mod soft_turns;
 
 ghost use Rattle.std.specs.Iterator.{Drains, IsFinite};
-ghost use Rattle.std.specs.Prelude.{◌≡◌, ◌+◌, ◌++◌, ◌∷◌, ◌≤◌, ◌<◌, ◌^◌, [], Contains, IfErr, IfNone, IfOk, IfSome, List, None, OnOk, Some, false, length, map, slice_get, true};
+ghost use Rattle.std.specs.Prelude.{◌≡◌, ◌+◌, ◌++◌, ◌∷◌, ◌≤◌, ◌<◌, ◌^◌, [], Contains, IfErr, IfNone, IfOk, IfSome, List, None, OnOk, Some, false, length, map};
+ghost use Rattle.std.specs.Prelude.{slice_get, true};
 ghost use Rattle.resolver_clause_store.specs.TrailView.{slot_of};
 ghost use Rattle.resolver_clause_store.specs.Universe.{Demands};
 ghost use Rattle.resolver_clause_store.specs.declared.SoftRequirement.TheVariants.{Solvable as SoftSolvable};
@@ -63,7 +64,9 @@ pub struct Rounds<N: Copy + Eq + Hash + Drop, S: Copy + Eq + Hash + Drop> {
 }
 
 impl<N: Copy + Eq + Hash + Drop, S: Copy + Eq + Hash + Drop> Rounds<N, S> {
-    ghost use Rattle.resolvo.specs.RoundStates.{AreRounds, GoesOn, HasAllClauses, HasFollowed, HasMark, HasAssumed, HasTurned, IsAnswering, IsDone, IsStanding, IsFollowing, IsRefusing, IsFound, IsFresh, IsStill, IsRound, IsSearchOf, IsStuck, IsUnanswered, IsUpToDate, KeepsRead, KeepsRoom, chosen_of, clause_limit_of, learnt_limit_of, notes_of, search_of};
+    ghost use Rattle.resolvo.specs.RoundStates.{AreRounds, GoesOn, HasAllClauses, HasFollowed, HasMark, HasAssumed, HasTurned, IsAnswering, IsDone, IsStanding};
+    ghost use Rattle.resolvo.specs.RoundStates.{IsFollowing, IsRefusing, IsFound, IsFresh, IsStill, IsRound, IsSearchOf, IsStuck, IsUnanswered, IsUpToDate};
+    ghost use Rattle.resolvo.specs.RoundStates.{KeepsRead, KeepsRoom, chosen_of, clause_limit_of, learnt_limit_of, notes_of, search_of};
 
     /// Nothing read yet. There may be as many variables, clauses and learnt clauses as the limits say, and scores grow and fade
     /// as the activity says.
@@ -122,8 +125,10 @@ impl<N: Copy + Eq + Hash + Drop, S: Copy + Eq + Hash + Drop> Rounds<N, S> {
         requires is_true { IsTrueCache (D.universe provider.now) cache.old }
         ensures is_true { IsTrueCache (D.universe provider.now) cache.new }
         ensures rounds { OnOk result (AreRounds (D.universe provider.now) self.new) }
-        ensures read { OnOk result (IsReadSoFar (D.universe provider.now) (record { requirements = requirements.now; constraints = constraints.now }) (chosen_of self.new) (notes_of self.new)) }
-        ensures near { OnOk result (AreNear (D.universe provider.now) (record { requirements = requirements.now; constraints = constraints.now }) [] [] (notes_of self.new)) }
+        ensures read { OnOk result (IsReadSoFar (D.universe provider.now) (record { requirements = requirements.now; constraints = constraints.now })
+            (chosen_of self.new) (notes_of self.new)) }
+        ensures near { OnOk result (AreNear (D.universe provider.now) (record { requirements = requirements.now; constraints = constraints.now }) [] []
+            (notes_of self.new)) }
         ensures exempt { OnOk result ((notes_of self.new).exempt ≡ []) }
         ensures turn { OnOk result (IsRootTurn (search_of self.new)) }
         ensures limits { KeepsRoom self.old self.new }
@@ -170,7 +175,8 @@ impl<N: Copy + Eq + Hash + Drop, S: Copy + Eq + Hash + Drop> Rounds<N, S> {
         ensures loaded { OnOk result (IsUpToDate self.new) }
         ensures same { IsSearchOf self.old self.new }
         ensures turn { OnOk result (KeepsTurn (search_of self.old) (search_of self.new)) }
-        ensures outcome { IfOk result (OutcomeIs (notes_of self.new).table (notes_of self.new).requirements (trail_of (search_of self.new)) (base_of (search_of self.new))) }
+        ensures outcome { IfOk result (OutcomeIs (notes_of self.new).table (notes_of self.new).requirements (trail_of (search_of self.new))
+            (base_of (search_of self.new))) }
         ensures limits { KeepsRoom self.old self.new }
         ensures refusal { IfErr result (IsStop (D.may_cancel provider.now) (IsStuck self.new)) }
     {
@@ -379,7 +385,10 @@ impl<N: Copy + Eq + Hash + Drop, S: Copy + Eq + Hash + Drop> Rounds<N, S> {
         ensures rounds { OnOk result (AreRounds (D.universe provider.now) self.new) }
         ensures still { OnOk result (IsStill self.new) }
         ensures counted { OnOk result (HasAllClauses self.new) }
-        ensures turned { IfOk result (λ is_chosen. (root : Demands) (taken refused seeds : List S) (packages : List N) → Contains (notes_of self.old).seen solvable → Contains seeds solvable → IsStanding (D.universe provider.now) root taken refused seeds packages self.old → HasTurned (D.universe provider.now) root taken refused seeds packages solvable self.old self.new is_chosen) }
+        ensures turned { IfOk result (λ is_chosen.
+            (root : Demands) (taken refused seeds : List S) (packages : List N) → Contains (notes_of self.old).seen solvable → Contains seeds solvable →
+            IsStanding (D.universe provider.now) root taken refused seeds packages self.old →
+            HasTurned (D.universe provider.now) root taken refused seeds packages solvable self.old self.new is_chosen) }
         ensures limits { KeepsRoom self.old self.new }
         ensures refusal { IfErr result (IsStop (D.may_cancel provider.now) (IsStuck self.new)) }
     {
@@ -412,7 +421,10 @@ impl<N: Copy + Eq + Hash + Drop, S: Copy + Eq + Hash + Drop> Rounds<N, S> {
         ensures rounds { OnOk result (AreRounds (D.universe provider.now) self.new) }
         ensures still { OnOk result (IsStill self.new) }
         ensures counted { OnOk result (HasAllClauses self.new) }
-        ensures turned { IfOk result (λ is_chosen. (root : Demands) (taken refused seeds : List S) (packages : List N) → Contains seeds solvable → IsStanding (D.universe provider.now) root taken refused seeds packages self.old → HasTurned (D.universe provider.now) root taken refused seeds packages solvable self.old self.new is_chosen) }
+        ensures turned { IfOk result (λ is_chosen.
+            (root : Demands) (taken refused seeds : List S) (packages : List N) → Contains seeds solvable →
+            IsStanding (D.universe provider.now) root taken refused seeds packages self.old →
+            HasTurned (D.universe provider.now) root taken refused seeds packages solvable self.old self.new is_chosen) }
         ensures limits { KeepsRoom self.old self.new }
         ensures refusal { IfErr result (IsStop (D.may_cancel provider.now) (IsStuck self.new)) }
     {
@@ -442,7 +454,10 @@ impl<N: Copy + Eq + Hash + Drop, S: Copy + Eq + Hash + Drop> Rounds<N, S> {
         requires fresh { IsFresh self.old }
         requires is_true { IsTrueCache (D.universe provider.now) cache.old }
         ensures is_true { IsTrueCache (D.universe provider.now) cache.new }
-        ensures done { IfOk result (λ found. (items : List S) × (found ≡ FoundAnswer → AreItems I.next_gives soft items) × IsDone (D.universe provider.now) (record { requirements = requirements.now; constraints = constraints.now }) (map SoftSolvable items ++ list.now) self.new found) }
+        ensures done { IfOk result (λ found.
+            (items : List S) × (found ≡ FoundAnswer → AreItems I.next_gives soft items) ×
+            IsDone (D.universe provider.now) (record { requirements = requirements.now; constraints = constraints.now })
+            (map SoftSolvable items ++ list.now) self.new found) }
         ensures counted { OnOk result (HasAllClauses self.new) }
         ensures table { OnOk result (length (notes_of self.new).table ≡ length (notes_of self.new).kinds) }
         ensures limits { KeepsRoom self.old self.new }

@@ -20,7 +20,8 @@ ghost use Rattle.resolvo.specs.declared.solver.UnsolvableOrCancelled.TheVariants
 ghost use Rattle.resolver_clause_store.specs.declared.Exhausted.TheVariants.{Memory};
 ghost use Rattle.resolvo.specs.Refusals.{IsRefusal};
 ghost use Rattle.resolvo.specs.RoundStates.{IsDone, IsSomeDone, chosen_of, notes_of};
-ghost use Rattle.resolvo.specs.Solvers.{HasActivity, HasCounted, HasLimits, IsAtLimit, IsSound, KeepsActivity, KeepsAllButCounts, KeepsCounts, KeepsLimits, clause_count_in, deferred_count_in, exempt_in, provider_in};
+ghost use Rattle.resolvo.specs.Solvers.{HasActivity, HasCounted, HasLimits, IsAtLimit, IsSound, KeepsActivity, KeepsAllButCounts, KeepsCounts, KeepsLimits};
+ghost use Rattle.resolvo.specs.Solvers.{clause_count_in, deferred_count_in, exempt_in, provider_in};
 
 use crate::conflict::Conflict;
 use crate::problem::Problem;
@@ -54,7 +55,9 @@ fn explain<D: DependencyProvider>(
     requires is_true { IsTrueCache (D.universe provider.now) cache.old }
     requires within { All (λ n. n < length kinds.now) core.now }
     ensures is_true { IsTrueCache (D.universe provider.now) cache.new }
-    ensures explained { IfOk result (λ conflict. (root : Demands) (notes : Notes D.NameId D.SolvableId) → notes.kinds ≡ kinds.now → IsEncoding (D.universe provider.now) root notes → IsCore notes.table core.now → Explains (D.universe provider.now) root (rules_in conflict)) }
+    ensures explained { IfOk result (λ conflict.
+        (root : Demands) (notes : Notes D.NameId D.SolvableId) → notes.kinds ≡ kinds.now → IsEncoding (D.universe provider.now) root notes →
+        IsCore notes.table core.now → Explains (D.universe provider.now) root (rules_in conflict)) }
     ensures refusal { IfErr result (IsInterruption (D.may_cancel provider.now)) }
 {
     let stated = rules_of_clauses(alloc, provider, cache, kinds, core)?;
@@ -182,7 +185,9 @@ impl<D: DependencyProvider> Solver<D> {
         ensures activity { KeepsActivity self.old self.new }
         ensures counts { KeepsCounts self.old self.new }
         ensures exempt { exempt_in self.new ≡ exempt_in self.old }
-        ensures refusal { (root : Demands) (notes : Notes D.NameId D.SolvableId) → notes.kinds ≡ kinds.now → IsEncoding (D.universe (provider_in self.old)) root notes → IsCore notes.table core.now → IsRefusal (D.universe (provider_in self.old)) (D.may_cancel (provider_in self.old)) root (IsAtLimit self.new) result }
+        ensures refusal { (root : Demands) (notes : Notes D.NameId D.SolvableId) → notes.kinds ≡ kinds.now →
+            IsEncoding (D.universe (provider_in self.old)) root notes → IsCore notes.table core.now →
+            IsRefusal (D.universe (provider_in self.old)) (D.may_cancel (provider_in self.old)) root (IsAtLimit self.new) result }
     {
         match explain(self.alloc, &self.provider, &mut self.cache, kinds, core) {
             Err(Interrupted::Cancelled(value)) => UnsolvableOrCancelled::Cancelled(value),
@@ -237,8 +242,12 @@ impl<D: DependencyProvider> Solver<D> {
         ensures activity { KeepsActivity self.old self.new }
         ensures none { OnErr result (exempt_in self.new ≡ []) }
         ensures found { OnOk result (found ≡ Ok FoundAnswer) }
-        ensures answer { IfOk result (λ chosen. (root : Demands) (soft : List (SoftRequirementOf D.SolvableId)) → IfOk found (IsDone (D.universe (provider_in self.old)) root soft rounds.now) → IsSoftAnswer (D.universe (provider_in self.old)) root soft chosen.items (exempt_in self.new)) }
-        ensures refusal { IfErr result (λ e. (root : Demands) (soft : List (SoftRequirementOf D.SolvableId)) → IfOk found (IsDone (D.universe (provider_in self.old)) root soft rounds.now) → IsRefusal (D.universe (provider_in self.old)) (D.may_cancel (provider_in self.old)) root (IsAtLimit self.new) e) }
+        ensures answer { IfOk result (λ chosen.
+            (root : Demands) (soft : List (SoftRequirementOf D.SolvableId)) → IfOk found (IsDone (D.universe (provider_in self.old)) root soft rounds.now) →
+            IsSoftAnswer (D.universe (provider_in self.old)) root soft chosen.items (exempt_in self.new)) }
+        ensures refusal { IfErr result (λ e.
+            (root : Demands) (soft : List (SoftRequirementOf D.SolvableId)) → IfOk found (IsDone (D.universe (provider_in self.old)) root soft rounds.now) →
+            IsRefusal (D.universe (provider_in self.old)) (D.may_cancel (provider_in self.old)) root (IsAtLimit self.new) e) }
     {
         match found {
             Err(Interrupted::Cancelled(value)) => Err(UnsolvableOrCancelled::Cancelled(value)),
@@ -267,9 +276,13 @@ impl<D: DependencyProvider> Solver<D> {
         ensures provider { provider_in self.new ≡ provider_in self.old }
         ensures limits { KeepsLimits self.old self.new }
         ensures activity { KeepsActivity self.old self.new }
-        ensures answer { IfOk result (λ chosen. (soft : List D.SolvableId) × AreItems S.next_gives (soft_in problem) soft × IsSoftAnswer (D.universe (provider_in self.old)) (demands_in problem) (map SoftSolvable soft ++ list_in problem) chosen.items (exempt_in self.new)) }
+        ensures answer { IfOk result (λ chosen.
+            (soft : List D.SolvableId) × AreItems S.next_gives (soft_in problem) soft ×
+            IsSoftAnswer (D.universe (provider_in self.old)) (demands_in problem) (map SoftSolvable soft ++ list_in problem) chosen.items
+            (exempt_in self.new)) }
         ensures none { OnErr result (exempt_in self.new ≡ []) }
-        ensures refusal { IfErr result (IsRefusal (D.universe (provider_in self.old)) (D.may_cancel (provider_in self.old)) (demands_in problem) (IsAtLimit self.new)) }
+        ensures refusal { IfErr result
+            (IsRefusal (D.universe (provider_in self.old)) (D.may_cancel (provider_in self.old)) (demands_in problem) (IsAtLimit self.new)) }
     {
         let mut rounds = Rounds::new(
             self.alloc,

@@ -3,7 +3,9 @@
 ghost use Rattle.std.specs.Prelude.{◌≡◌, ◌<◌, ◌≤◌, ◌++◌, ◌∷◌, [], length, IfOk, IfErr, IfNone, IfSome, MatchBool, OnOk};
 ghost use Rattle.std.proofs.Props.{props};
 ghost use Rattle.resolve.specs.Additions.{IsShortage};
-ghost use Rattle.resolve.specs.Packages.{ArePackagesOf, IsConstrained, IsDeclarationRefused, IsDeclared, IsExcluded, IsExclusionRefused, IsFavorRefused, IsFavored, IsLockRefused, IsLocked, IsMadeUnknown, IsPackageAdded, IsReasonRefused, IsRequired, IsVersionOf, IsWithoutPackage, KeepsPackages, name_at, version_at, preference};
+ghost use Rattle.resolve.specs.Packages.{ArePackagesOf, IsConstrained, IsDeclarationRefused, IsDeclared, IsExcluded, IsExclusionRefused, IsFavorRefused};
+ghost use Rattle.resolve.specs.Packages.{IsFavored, IsLockRefused, IsLocked, IsMadeUnknown, IsPackageAdded, IsReasonRefused, IsRequired, IsVersionOf};
+ghost use Rattle.resolve.specs.Packages.{IsWithoutPackage, KeepsPackages, name_at, version_at, preference};
 ghost use Rattle.resolve.specs.Sorting.{sorted_by};
 ghost use Rattle.resolve.specs.Conditions.{ArePartsLower, condition_at};
 
@@ -115,7 +117,11 @@ impl PackageTable {
         name: NameId,
         number: u32,
     ) -> Result<bool, Exhausted>
-        ensures declared { IfOk result (λ is_new. MatchBool is_new (IsDeclared self.old.versions.keys self.new.versions.keys self.old.packages.items self.new.packages.items (record { name = name; number = number })) (IsDeclarationRefused self.old.versions.keys self.new.versions.keys self.old.packages.items self.new.packages.items (record { name = name; number = number }))) }
+        ensures declared { IfOk result (λ is_new.
+            MatchBool is_new (IsDeclared self.old.versions.keys self.new.versions.keys self.old.packages.items self.new.packages.items
+            (record { name = name; number = number }))
+            (IsDeclarationRefused self.old.versions.keys self.new.versions.keys self.old.packages.items self.new.packages.items
+            (record { name = name; number = number }))) }
         ensures refusal { IfErr result (IsShortage (length self.old.versions.keys)) }
     {
         let version = Version { name, number };
@@ -141,7 +147,8 @@ impl PackageTable {
         solvable: SolvableId,
         requirement: ConditionalRequirement,
     ) -> Result<(), Exhausted>
-        ensures added { OnOk result (solvable.0 < length self.old.solvables.items → IsRequired self.old.solvables.items self.new.solvables.items solvable requirement) }
+        ensures added { OnOk result (solvable.0 < length self.old.solvables.items →
+            IsRequired self.old.solvables.items self.new.solvables.items solvable requirement) }
         ensures dropped { OnOk result (length self.old.solvables.items ≤ solvable.0 → self.new.solvables.items ≡ self.old.solvables.items) }
         ensures kept { (self.new.versions.keys ≡ self.old.versions.keys) × (self.new.packages.items ≡ self.old.packages.items) }
         ensures memory { IfErr result (λ e. e ≡ Exhausted.Memory) }
@@ -159,7 +166,8 @@ impl PackageTable {
         solvable: SolvableId,
         constraint: VersionSetId,
     ) -> Result<(), Exhausted>
-        ensures added { OnOk result (solvable.0 < length self.old.solvables.items → IsConstrained self.old.solvables.items self.new.solvables.items solvable constraint) }
+        ensures added { OnOk result (solvable.0 < length self.old.solvables.items →
+            IsConstrained self.old.solvables.items self.new.solvables.items solvable constraint) }
         ensures dropped { OnOk result (length self.old.solvables.items ≤ solvable.0 → self.new.solvables.items ≡ self.old.solvables.items) }
         ensures kept { (self.new.versions.keys ≡ self.old.versions.keys) × (self.new.packages.items ≡ self.old.packages.items) }
         ensures memory { IfErr result (λ e. e ≡ Exhausted.Memory) }
@@ -174,7 +182,8 @@ impl PackageTable {
 
     /// Gives the reason why nobody knows what a solvable needs. False if it has one, or if there is no such solvable.
     pub fn set_unknown(&mut self, solvable: SolvableId, reason: StringId) -> bool
-        ensures unknown { MatchBool result (IsMadeUnknown self.old.solvables.items self.new.solvables.items solvable reason) (IsReasonRefused self.old.solvables.items self.new.solvables.items solvable) }
+        ensures unknown { MatchBool result (IsMadeUnknown self.old.solvables.items self.new.solvables.items solvable reason)
+            (IsReasonRefused self.old.solvables.items self.new.solvables.items solvable) }
         ensures kept { (self.new.versions.keys ≡ self.old.versions.keys) × (self.new.packages.items ≡ self.old.packages.items) }
     {
         let place = solvable.0 as usize;
@@ -201,7 +210,8 @@ impl PackageTable {
 
     /// Favors a solvable. False if its package has a favored one.
     pub fn favor(&mut self, solvable: SolvableId) -> bool
-        ensures favored { MatchBool result (IsFavored self.old.versions.keys self.old.packages.items self.new.packages.items solvable) (IsFavorRefused self.old.versions.keys self.old.packages.items self.new.packages.items solvable) }
+        ensures favored { MatchBool result (IsFavored self.old.versions.keys self.old.packages.items self.new.packages.items solvable)
+            (IsFavorRefused self.old.versions.keys self.old.packages.items self.new.packages.items solvable) }
         ensures kept { (self.new.versions.keys ≡ self.old.versions.keys) × (self.new.solvables.items ≡ self.old.solvables.items) }
     {
         let Some(place) = self.package_place(solvable) else {
@@ -216,7 +226,8 @@ impl PackageTable {
 
     /// Locks a package to a solvable. False if it is locked.
     pub fn lock(&mut self, solvable: SolvableId) -> bool
-        ensures locked { MatchBool result (IsLocked self.old.versions.keys self.old.packages.items self.new.packages.items solvable) (IsLockRefused self.old.versions.keys self.old.packages.items self.new.packages.items solvable) }
+        ensures locked { MatchBool result (IsLocked self.old.versions.keys self.old.packages.items self.new.packages.items solvable)
+            (IsLockRefused self.old.versions.keys self.old.packages.items self.new.packages.items solvable) }
         ensures kept { (self.new.versions.keys ≡ self.old.versions.keys) × (self.new.solvables.items ≡ self.old.solvables.items) }
     {
         let Some(place) = self.package_place(solvable) else {
@@ -231,7 +242,11 @@ impl PackageTable {
 
     /// Excludes a solvable. False if it is excluded.
     pub fn exclude(&mut self, solvable: SolvableId, reason: StringId) -> Result<bool, Exhausted>
-        ensures excluded { IfOk result (λ is_new. MatchBool is_new (IsExcluded self.old.versions.keys self.old.solvables.items self.new.solvables.items self.old.packages.items self.new.packages.items solvable reason) (IsExclusionRefused self.old.versions.keys self.old.solvables.items self.new.solvables.items self.old.packages.items self.new.packages.items solvable)) }
+        ensures excluded { IfOk result (λ is_new.
+            MatchBool is_new (IsExcluded self.old.versions.keys self.old.solvables.items self.new.solvables.items self.old.packages.items
+            self.new.packages.items solvable reason)
+            (IsExclusionRefused self.old.versions.keys self.old.solvables.items self.new.solvables.items self.old.packages.items self.new.packages.items
+            solvable)) }
         ensures kept { self.new.versions.keys ≡ self.old.versions.keys }
         ensures memory { IfErr result (λ e. e ≡ Exhausted.Memory) }
     {
@@ -295,7 +310,8 @@ impl ConditionTable {
     ) -> Result<ConditionId, Exhausted>
         ensures id { IfOk result (λ id. id.0 ≡ length self.old.conditions.items) }
         ensures added { OnOk result (self.new.conditions.items ≡ self.old.conditions.items ++ Condition.Binary operator left right ∷ []) }
-        ensures refusal { left.0 < length self.old.conditions.items → right.0 < length self.old.conditions.items → IfErr result (IsShortage (length self.old.conditions.items)) }
+        ensures refusal { left.0 < length self.old.conditions.items → right.0 < length self.old.conditions.items →
+            IfErr result (IsShortage (length self.old.conditions.items)) }
     {
         let id = ConditionId(id_of(self.conditions.len())?);
         if left.0 >= id.0 || right.0 >= id.0 {

@@ -32,9 +32,11 @@ impl<N: Copy + Eq + Hash + Drop, S: Copy + Eq + Hash + Drop> Encoding<N, S> {
         requires lock { ((D.universe provider.now).package_named name).locked ≡ Some locked }
         requires listed { Contains ((D.universe provider.now).package_named name).listed candidate }
         ensures bounded { IsBounded self.new }
-        ensures step { OnOk result ((doing : Doing N S) → Contains (doing.asking ++ (notes_in self.old).asked) name → IsStepWhile (D.universe provider.now) doing (λ root. ⊤) (notes_in self.old) (notes_in self.new)) }
+        ensures step { OnOk result ((doing : Doing N S) → Contains (doing.asking ++ (notes_in self.old).asked) name →
+            IsStepWhile (D.universe provider.now) doing (λ root. ⊤) (notes_in self.old) (notes_in self.new)) }
         ensures plain { OnOk result (AddsPlainly (notes_in self.old) (notes_in self.new)) }
-        ensures forbidden { OnOk result (candidate ≢ locked → (Contains (notes_in self.old).exempt candidate → ⊥) → Contains (notes_in self.new).kinds (LockKind locked candidate)) }
+        ensures forbidden { OnOk result
+            (candidate ≢ locked → (Contains (notes_in self.old).exempt candidate → ⊥) → Contains (notes_in self.new).kinds (LockKind locked candidate)) }
         ensures asked { OnOk result ((notes_in self.new).asked ≡ (notes_in self.old).asked) }
         ensures limits { KeepsLimits (notes_in self.old) (notes_in self.new) }
         ensures refusal { IfErr result (IsShortage (IsFull (notes_in self.new))) }
@@ -94,9 +96,11 @@ impl<N: Copy + Eq + Hash + Drop, S: Copy + Eq + Hash + Drop> Encoding<N, S> {
         requires named { (D.universe provider.now).name solvable ≡ name }
         requires excluded { Contains ((D.universe provider.now).package_named name).excluded (solvable, reason) }
         ensures bounded { IsBounded self.new }
-        ensures step { OnOk result ((doing : Doing N S) → Contains (doing.asking ++ (notes_in self.old).asked) name → IsStepWhile (D.universe provider.now) doing (λ root. ⊤) (notes_in self.old) (notes_in self.new)) }
+        ensures step { OnOk result ((doing : Doing N S) → Contains (doing.asking ++ (notes_in self.old).asked) name →
+            IsStepWhile (D.universe provider.now) doing (λ root. ⊤) (notes_in self.old) (notes_in self.new)) }
         ensures plain { OnOk result (AddsPlainly (notes_in self.old) (notes_in self.new)) }
-        ensures forbidden { OnOk result ((Contains (notes_in self.old).exempt solvable → ⊥) → Contains (notes_in self.new).kinds (ExcludedKind solvable reason)) }
+        ensures forbidden { OnOk result
+            ((Contains (notes_in self.old).exempt solvable → ⊥) → Contains (notes_in self.new).kinds (ExcludedKind solvable reason)) }
         ensures asked { OnOk result ((notes_in self.new).asked ≡ (notes_in self.old).asked) }
         ensures limits { KeepsLimits (notes_in self.old) (notes_in self.new) }
         ensures refusal { IfErr result (IsShortage (IsFull (notes_in self.new))) }
@@ -121,7 +125,8 @@ impl<N: Copy + Eq + Hash + Drop, S: Copy + Eq + Hash + Drop> Encoding<N, S> {
         ensures bounded { IsBounded self.new }
         ensures step { OnOk result (IsStepWhile (D.universe provider.now) (asking_for name) (λ root. ⊤) (notes_in self.old) (notes_in self.new)) }
         ensures plain { OnOk result (AddsPlainly (notes_in self.old) (notes_in self.new)) }
-        ensures read { OnOk result (All (λ e. (Contains (notes_in self.old).exempt e.0 → ⊥) → Contains (notes_in self.new).kinds (ExcludedKind e.0 e.1)) excluded.now) }
+        ensures read { OnOk result (All (λ e.
+            (Contains (notes_in self.old).exempt e.0 → ⊥) → Contains (notes_in self.new).kinds (ExcludedKind e.0 e.1)) excluded.now) }
         ensures asked { OnOk result ((notes_in self.new).asked ≡ (notes_in self.old).asked) }
         ensures limits { KeepsLimits (notes_in self.old) (notes_in self.new) }
         ensures refusal { IfErr result (IsShortage (IsFull (notes_in self.new))) }
@@ -175,7 +180,8 @@ impl<N: Copy + Eq + Hash + Drop, S: Copy + Eq + Hash + Drop> Encoding<N, S> {
         requires is_true { IsTrueCache (D.universe provider.now) cache.old }
         ensures bounded { IsBounded self.new }
         ensures is_true { IsTrueCache (D.universe provider.now) cache.new }
-        ensures step { OnOk result (IsAskStep (D.universe provider.now) (IsNamedBy (D.universe provider.now) named.now) (λ root. ⊤) (notes_in self.old) (notes_in self.new)) }
+        ensures step { OnOk result (IsAskStep (D.universe provider.now) (IsNamedBy (D.universe provider.now) named.now) (λ root. ⊤) (notes_in self.old)
+            (notes_in self.new)) }
         ensures asked { OnOk result (All (λ v. Contains (notes_in self.new).asked ((D.universe provider.now).version_set_name v)) named.now) }
         ensures limits { KeepsLimits (notes_in self.old) (notes_in self.new) }
         ensures refusal { IfErr result (IsStop (D.may_cancel provider.now) (IsFull (notes_in self.new))) }
@@ -197,8 +203,10 @@ impl<N: Copy + Eq + Hash + Drop, S: Copy + Eq + Hash + Drop> Encoding<N, S> {
         requires is_true { IsTrueCache (D.universe provider.now) cache.old }
         ensures bounded { IsBounded self.new }
         ensures is_true { IsTrueCache (D.universe provider.now) cache.new }
-        ensures step { OnOk result (IsAskStep (D.universe provider.now) (IsNamedBy (D.universe provider.now) (version_sets (D.universe provider.now) requirement)) (λ root. ⊤) (notes_in self.old) (notes_in self.new)) }
-        ensures asked { OnOk result (All (λ v. Contains (notes_in self.new).asked ((D.universe provider.now).version_set_name v)) (version_sets (D.universe provider.now) requirement)) }
+        ensures step { OnOk result (IsAskStep (D.universe provider.now)
+            (IsNamedBy (D.universe provider.now) (version_sets (D.universe provider.now) requirement)) (λ root. ⊤) (notes_in self.old) (notes_in self.new)) }
+        ensures asked { OnOk result (All (λ v. Contains (notes_in self.new).asked ((D.universe provider.now).version_set_name v))
+            (version_sets (D.universe provider.now) requirement)) }
         ensures limits { KeepsLimits (notes_in self.old) (notes_in self.new) }
         ensures refusal { IfErr result (IsStop (D.may_cancel provider.now) (IsFull (notes_in self.new))) }
     {

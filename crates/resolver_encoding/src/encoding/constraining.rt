@@ -5,7 +5,8 @@ ghost use Rattle.resolver_clause_store.specs.Caches.{IsTrueCache};
 ghost use Rattle.resolver_clause_store.specs.Candidates.{others};
 ghost use Rattle.resolver_clause_store.specs.Laws.{IsIdentity};
 ghost use Rattle.resolver_clause_store.specs.declared.By.TheVariants.{Solvable as BySolvable};
-ghost use Rattle.resolver_clause_store.specs.declared.ClauseKind.TheVariants.{Constrains as ConstrainsKind, ConstrainsExcluded as ExcludedKind, ConstrainsParent as ParentKind};
+ghost use Rattle.resolver_clause_store.specs.declared.ClauseKind.TheVariants.{Constrains as ConstrainsKind, ConstrainsExcluded as ExcludedKind};
+ghost use Rattle.resolver_clause_store.specs.declared.ClauseKind.TheVariants.{ConstrainsParent as ParentKind};
 ghost use Rattle.resolver_encoding.specs.Called.{IsAsking};
 ghost use Rattle.resolver_encoding.specs.Encodings.{AsksWithin, IsAskStep, IsConstraintRead, IsEncodingOf, IsFull, IsStep, KeepsLimits};
 ghost use Rattle.resolver_encoding.specs.Refusals.{IsShortage, IsStop};
@@ -36,7 +37,8 @@ fn own_parent<D: DependencyProvider>(
     version_set: VersionSetId,
 ) -> Option<D::SolvableId>
     ensures is { IfSome result (λ s. by ≡ BySolvable s) }
-    ensures none { IfNone result ((s : D.SolvableId) → by ≡ BySolvable s → (D.universe provider.now).name s ≡ (D.universe provider.now).version_set_name version_set → ⊥) }
+    ensures none { IfNone result ((s : D.SolvableId) → by ≡ BySolvable s →
+        (D.universe provider.now).name s ≡ (D.universe provider.now).version_set_name version_set → ⊥) }
 {
     match by {
         By::Root => None,
@@ -63,7 +65,8 @@ impl<N: Copy + Eq + Hash + Drop, S: Copy + Eq + Hash + Drop> Encoding<N, S> {
         requires bounded { IsBounded self.old }
         requires other { Contains (others (D.universe provider.now) version_set) candidate }
         ensures bounded { IsBounded self.new }
-        ensures step { OnOk result (IsStep (D.universe provider.now) (AsksWithin (D.universe provider.now) by version_set) (notes_in self.old) (notes_in self.new)) }
+        ensures step { OnOk result (IsStep (D.universe provider.now) (AsksWithin (D.universe provider.now) by version_set) (notes_in self.old)
+            (notes_in self.new)) }
         ensures forbidden { OnOk result (Contains (notes_in self.new).kinds (ConstrainsKind by version_set candidate)) }
         ensures limits { KeepsLimits (notes_in self.old) (notes_in self.new) }
         ensures refusal { IfErr result (IsShortage (IsFull (notes_in self.new))) }
@@ -93,7 +96,8 @@ impl<N: Copy + Eq + Hash + Drop, S: Copy + Eq + Hash + Drop> Encoding<N, S> {
         requires bounded { IsBounded self.old }
         requires forbidden { forbidden.now ≡ others (D.universe provider.now) version_set }
         ensures bounded { IsBounded self.new }
-        ensures step { OnOk result (IsStep (D.universe provider.now) (AsksWithin (D.universe provider.now) by version_set) (notes_in self.old) (notes_in self.new)) }
+        ensures step { OnOk result (IsStep (D.universe provider.now) (AsksWithin (D.universe provider.now) by version_set) (notes_in self.old)
+            (notes_in self.new)) }
         ensures read { OnOk result (IsConstraintRead (D.universe provider.now) (notes_in self.new).kinds by version_set) }
         ensures limits { KeepsLimits (notes_in self.old) (notes_in self.new) }
         ensures refusal { IfErr result (IsShortage (IsFull (notes_in self.new))) }
@@ -164,7 +168,8 @@ impl<N: Copy + Eq + Hash + Drop, S: Copy + Eq + Hash + Drop> Encoding<N, S> {
     ) -> Result<(), Exhausted>
         requires bounded { IsBounded self.old }
         ensures bounded { IsBounded self.new }
-        ensures step { OnOk result (IsStep (D.universe provider.now) (AsksWithin (D.universe provider.now) by version_set) (notes_in self.old) (notes_in self.new)) }
+        ensures step { OnOk result (IsStep (D.universe provider.now) (AsksWithin (D.universe provider.now) by version_set) (notes_in self.old)
+            (notes_in self.new)) }
         ensures forbidden { OnOk result (Contains (notes_in self.new).kinds (ParentKind by version_set)) }
         ensures limits { KeepsLimits (notes_in self.old) (notes_in self.new) }
         ensures refusal { IfErr result (IsShortage (IsFull (notes_in self.new))) }
@@ -189,8 +194,10 @@ impl<N: Copy + Eq + Hash + Drop, S: Copy + Eq + Hash + Drop> Encoding<N, S> {
         requires bounded { IsBounded self.old }
         requires forbidden { forbidden.now ≡ others (D.universe provider.now) version_set }
         ensures bounded { IsBounded self.new }
-        ensures step { OnOk result (IsStep (D.universe provider.now) (AsksWithin (D.universe provider.now) by version_set) (notes_in self.old) (notes_in self.new)) }
-        ensures itself { OnOk result ((s : S) → by ≡ BySolvable s → Contains forbidden.now s → Contains (notes_in self.new).kinds (ConstrainsKind by version_set s)) }
+        ensures step { OnOk result (IsStep (D.universe provider.now) (AsksWithin (D.universe provider.now) by version_set) (notes_in self.old)
+            (notes_in self.new)) }
+        ensures itself { OnOk result ((s : S) → by ≡ BySolvable s → Contains forbidden.now s →
+            Contains (notes_in self.new).kinds (ConstrainsKind by version_set s)) }
         ensures limits { KeepsLimits (notes_in self.old) (notes_in self.new) }
         ensures refusal { IfErr result (IsShortage (IsFull (notes_in self.new))) }
     {
@@ -218,7 +225,8 @@ impl<N: Copy + Eq + Hash + Drop, S: Copy + Eq + Hash + Drop> Encoding<N, S> {
         requires forbidden { forbidden.now ≡ others (D.universe provider.now) version_set }
         requires encoding { IsEncodingOf (D.universe provider.now) (AsksWithin (D.universe provider.now) by version_set) (notes_in self.old) }
         ensures bounded { IsBounded self.new }
-        ensures step { OnOk result (IsStep (D.universe provider.now) (AsksWithin (D.universe provider.now) by version_set) (notes_in self.old) (notes_in self.new)) }
+        ensures step { OnOk result (IsStep (D.universe provider.now) (AsksWithin (D.universe provider.now) by version_set) (notes_in self.old)
+            (notes_in self.new)) }
         ensures read { OnOk result (IsConstraintRead (D.universe provider.now) (notes_in self.new).kinds by version_set) }
         ensures limits { KeepsLimits (notes_in self.old) (notes_in self.new) }
         ensures refusal { IfErr result (IsShortage (IsFull (notes_in self.new))) }
@@ -242,7 +250,8 @@ impl<N: Copy + Eq + Hash + Drop, S: Copy + Eq + Hash + Drop> Encoding<N, S> {
         requires encoding { IsEncodingOf (D.universe provider.now) (AsksWithin (D.universe provider.now) by version_set) (notes_in self.old) }
         ensures bounded { IsBounded self.new }
         ensures is_true { IsTrueCache (D.universe provider.now) cache.new }
-        ensures step { OnOk result (IsAskStep (D.universe provider.now) (IsAsking ((D.universe provider.now).version_set_name version_set)) (AsksWithin (D.universe provider.now) by version_set) (notes_in self.old) (notes_in self.new)) }
+        ensures step { OnOk result (IsAskStep (D.universe provider.now) (IsAsking ((D.universe provider.now).version_set_name version_set))
+            (AsksWithin (D.universe provider.now) by version_set) (notes_in self.old) (notes_in self.new)) }
         ensures read { OnOk result (IsConstraintRead (D.universe provider.now) (notes_in self.new).kinds by version_set) }
         ensures asked { OnOk result (Contains (notes_in self.new).asked ((D.universe provider.now).version_set_name version_set)) }
         ensures limits { KeepsLimits (notes_in self.old) (notes_in self.new) }

@@ -47,7 +47,9 @@ impl<N: Copy + Eq + Hash + Drop, S: Copy + Eq + Hash + Drop> Encoding<N, S> {
         requires bounded { IsBounded self.old }
         requires once { AreDistinct disjunct.items }
         ensures bounded { IsBounded self.new }
-        ensures deferred { OnOk result (IsDeferral (D.universe provider.now) (record { by = by; disjunct = disjunct.items; requirement = requirement }) (notes_in self.old) (notes_in self.new)) }
+        ensures deferred { OnOk result
+            (IsDeferral (D.universe provider.now) (record { by = by; disjunct = disjunct.items; requirement = requirement }) (notes_in self.old)
+            (notes_in self.new)) }
         ensures limits { KeepsLimits (notes_in self.old) (notes_in self.new) }
         ensures memory { IfErr result (λ e. e ≡ Exhausted.Memory) }
     {

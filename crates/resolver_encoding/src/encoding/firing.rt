@@ -27,7 +27,9 @@ impl<N: Copy + Eq + Hash + Drop, S: Copy + Eq + Hash + Drop> Encoding<N, S> {
     ) -> Result<bool, Interrupted<D::Cancel>>
         requires is_true { IsTrueCache (D.universe provider.now) cache.old }
         ensures is_true { IsTrueCache (D.universe provider.now) cache.new }
-        ensures due { IfOk result (λ due. MatchBool due (HasMet (D.universe provider.now) chosen.now.keys (notes_in self.now) number) (IsQuietAt (D.universe provider.now) chosen.now.keys (notes_in self.now) number)) }
+        ensures due { IfOk result (λ due.
+            MatchBool due (HasMet (D.universe provider.now) chosen.now.keys (notes_in self.now) number)
+            (IsQuietAt (D.universe provider.now) chosen.now.keys (notes_in self.now) number)) }
         ensures refusal { IfErr result (IsStop (D.may_cancel provider.now) (IsFull (notes_in self.now))) }
     {
         match self.deferred.get(number) {
@@ -140,7 +142,8 @@ impl<N: Copy + Eq + Hash + Drop, S: Copy + Eq + Hash + Drop> Encoding<N, S> {
         ensures bounded { IsBounded self.new }
         ensures is_true { IsTrueCache (D.universe provider.now) cache.new }
         ensures firing { OnOk result (IsFiring (D.universe provider.now) chosen.now.keys (notes_in self.old) (notes_in self.new)) }
-        ensures quiet { OnOk result (AreGroups (notes_in self.old).waiting → IsQuietUnder (D.universe provider.now) chosen.now.keys (notes_in self.new) ((D.universe provider.now).name solvable)) }
+        ensures quiet { OnOk result (AreGroups (notes_in self.old).waiting →
+            IsQuietUnder (D.universe provider.now) chosen.now.keys (notes_in self.new) ((D.universe provider.now).name solvable)) }
         ensures fired { IfOk result (HasFired (notes_in self.old) (notes_in self.new)) }
         ensures limits { KeepsLimits (notes_in self.old) (notes_in self.new) }
         ensures refusal { IfErr result (IsStop (D.may_cancel provider.now) (IsFull (notes_in self.new))) }
@@ -166,7 +169,9 @@ impl<N: Copy + Eq + Hash + Drop, S: Copy + Eq + Hash + Drop> Encoding<N, S> {
         ensures bounded { IsBounded self.new }
         ensures is_true { IsTrueCache (D.universe provider.now) cache.new }
         ensures firing { OnOk result (IsFiring (D.universe provider.now) chosen.now.keys (notes_in self.old) (notes_in self.new)) }
-        ensures quiet { OnOk result (AreGroups (notes_in self.old).waiting → All (λ s. IsQuietUnder (D.universe provider.now) chosen.now.keys (notes_in self.new) ((D.universe provider.now).name s)) (drop from chosen.now.keys)) }
+        ensures quiet { OnOk result (AreGroups (notes_in self.old).waiting →
+            All (λ s. IsQuietUnder (D.universe provider.now) chosen.now.keys (notes_in self.new) ((D.universe provider.now).name s))
+            (drop from chosen.now.keys)) }
         ensures fired { IfOk result (HasFired (notes_in self.old) (notes_in self.new)) }
         ensures limits { KeepsLimits (notes_in self.old) (notes_in self.new) }
         ensures refusal { IfErr result (IsStop (D.may_cancel provider.now) (IsFull (notes_in self.new))) }

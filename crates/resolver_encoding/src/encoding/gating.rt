@@ -31,7 +31,8 @@ impl<N: Copy + Eq + Hash + Drop, S: Copy + Eq + Hash + Drop> Encoding<N, S> {
         requires candidates { choices.now.candidates.items ≡ candidates_of (D.universe provider.now) requirement }
         requires small { All (λ n. n < 2 ^ 63) choices.now.counts.items }
         ensures bounded { IsBounded self.new }
-        ensures added { OnOk result (AddsRequirement (notes_in self.old) (notes_in self.new) (GateKind requirement) (atoms_of (D.universe provider.now) (GateKind requirement))) }
+        ensures added { OnOk result (AddsRequirement (notes_in self.old) (notes_in self.new) (GateKind requirement)
+            (atoms_of (D.universe provider.now) (GateKind requirement))) }
         ensures limits { KeepsLimits (notes_in self.old) (notes_in self.new) }
         ensures refusal { IfErr result (IsShortage (IsFull (notes_in self.new))) }
     {
@@ -55,7 +56,8 @@ impl<N: Copy + Eq + Hash + Drop, S: Copy + Eq + Hash + Drop> Encoding<N, S> {
         requires bounded { IsBounded self.old }
         requires candidates { choices.now.candidates.items ≡ candidates_of (D.universe provider.now) requirement }
         requires small { All (λ n. n < 2 ^ 63) choices.now.counts.items }
-        requires asked { All (λ v. Contains (notes_in self.old).asked ((D.universe provider.now).version_set_name v)) (version_sets (D.universe provider.now) requirement) }
+        requires asked { All (λ v. Contains (notes_in self.old).asked ((D.universe provider.now).version_set_name v))
+            (version_sets (D.universe provider.now) requirement) }
         requires seen { All (Contains (notes_in self.old).seen) choices.now.candidates.items }
         ensures bounded { IsBounded self.new }
         ensures step { OnOk result (IsStep (D.universe provider.now) (λ root. ⊤) (notes_in self.old) (notes_in self.new)) }
@@ -80,7 +82,9 @@ impl<N: Copy + Eq + Hash + Drop, S: Copy + Eq + Hash + Drop> Encoding<N, S> {
     ) -> Result<(), Exhausted>
         requires bounded { IsBounded self.old }
         ensures bounded { IsBounded self.new }
-        ensures step { OnOk result (IsStep (D.universe provider.now) (AsksFor (D.universe provider.now) (BySolvable requirer) (record { condition = None; requirement = requirement })) (notes_in self.old) (notes_in self.new)) }
+        ensures step { OnOk result (IsStep (D.universe provider.now)
+            (AsksFor (D.universe provider.now) (BySolvable requirer) (record { condition = None; requirement = requirement })) (notes_in self.old)
+            (notes_in self.new)) }
         ensures implied { OnOk result (Contains (notes_in self.new).kinds (AnyOfKind (GateOrigin requirement) requirer)) }
         ensures limits { KeepsLimits (notes_in self.old) (notes_in self.new) }
         ensures refusal { IfErr result (IsShortage (IsFull (notes_in self.new))) }

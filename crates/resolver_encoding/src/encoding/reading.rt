@@ -11,12 +11,14 @@ ghost use Rattle.resolver_clause_store.specs.declared.ConditionalRequirement.{Co
 ghost use Rattle.resolver_clause_store.specs.declared.Origin.TheVariants.{Solvable as SolvableOrigin};
 ghost use Rattle.resolver_clause_store.specs.TrueRules.{demands_by};
 ghost use Rattle.resolver_encoding.specs.Called.{AreAsked, IsCalledByEach, IsCalledFor, IsDemanded, IsNamedBy, IsPlainlyNamed};
-ghost use Rattle.resolver_encoding.specs.Encodings.{AreDemandsRead, AreNeedsRead, AsksFor, AsksWithin, IsAskStep, IsConstraintRead, IsEncoding, IsEncodingOf, IsFull, IsLeft, IsReadStep, IsStep, IsUnmet, IsUnread, KeepsLimits};
+ghost use Rattle.resolver_encoding.specs.Encodings.{AreDemandsRead, AreNeedsRead, AsksFor, AsksWithin, IsAskStep, IsConstraintRead, IsEncoding, IsEncodingOf};
+ghost use Rattle.resolver_encoding.specs.Encodings.{IsFull, IsLeft, IsReadStep, IsStep, IsUnmet, IsUnread, KeepsLimits};
 ghost use Rattle.resolver_encoding.specs.Hints.{AreHintsRead, IsListedFrom};
 ghost use Rattle.resolver_encoding.specs.Reach.{AreNear};
 ghost use Rattle.resolver_encoding.specs.ReadState.{IsReadRequirement};
 ghost use Rattle.resolver_encoding.specs.Refusals.{IsShortage, IsStop};
-ghost use Rattle.resolver_encoding.specs.SoFar.{HasRead, IsBare, IsHalfReading, IsMoreOrSame, IsProgress, IsReadMore, IsReadSoFar, IsReading, IsReadingOf, progress_by};
+ghost use Rattle.resolver_encoding.specs.SoFar.{HasRead, IsBare, IsHalfReading, IsMoreOrSame, IsProgress, IsReadMore, IsReadSoFar, IsReading, IsReadingOf};
+ghost use Rattle.resolver_encoding.specs.SoFar.{progress_by};
 
 use super::Encoding;
 use crate::progress::Progress;
@@ -74,7 +76,8 @@ impl<N: Copy + Eq + Hash + Drop, S: Copy + Eq + Hash + Drop> Encoding<N, S> {
         requires is_true { IsTrueCache (D.universe provider.now) cache.old }
         ensures bounded { IsBounded self.new }
         ensures is_true { IsTrueCache (D.universe provider.now) cache.new }
-        ensures step { OnOk result (IsAskStep (D.universe provider.now) (IsPlainlyNamed (D.universe provider.now) requirement) (λ root. ⊤) (notes_in self.old) (notes_in self.new)) }
+        ensures step { OnOk result (IsAskStep (D.universe provider.now) (IsPlainlyNamed (D.universe provider.now) requirement) (λ root. ⊤) (notes_in self.old)
+            (notes_in self.new)) }
         ensures limits { KeepsLimits (notes_in self.old) (notes_in self.new) }
         ensures refusal { IfErr result (IsStop (D.may_cancel provider.now) (IsFull (notes_in self.new))) }
     {
@@ -98,7 +101,9 @@ impl<N: Copy + Eq + Hash + Drop, S: Copy + Eq + Hash + Drop> Encoding<N, S> {
         requires is_true { IsTrueCache (D.universe provider.now) cache.old }
         ensures bounded { IsBounded self.new }
         ensures is_true { IsTrueCache (D.universe provider.now) cache.new }
-        ensures step { OnOk result (IsAskStep (D.universe provider.now) (λ n. (r : ConditionalRequirement) × Contains requirements.now r × IsPlainlyNamed (D.universe provider.now) r n) (λ root. ⊤) (notes_in self.old) (notes_in self.new)) }
+        ensures step { OnOk result (IsAskStep (D.universe provider.now) (λ n.
+            (r : ConditionalRequirement) × Contains requirements.now r × IsPlainlyNamed (D.universe provider.now) r n) (λ root. ⊤) (notes_in self.old)
+            (notes_in self.new)) }
         ensures limits { KeepsLimits (notes_in self.old) (notes_in self.new) }
         ensures refusal { IfErr result (IsStop (D.may_cancel provider.now) (IsFull (notes_in self.new))) }
     {
@@ -119,11 +124,15 @@ impl<N: Copy + Eq + Hash + Drop, S: Copy + Eq + Hash + Drop> Encoding<N, S> {
     ) -> Result<(), Interrupted<D::Cancel>>
         requires bounded { IsBounded self.old }
         requires is_true { IsTrueCache (D.universe provider.now) cache.old }
-        requires encoding { IsEncodingOf (D.universe provider.now) (λ root. All (λ r. AsksFor (D.universe provider.now) by r root) requirements.now) (notes_in self.old) }
+        requires encoding { IsEncodingOf (D.universe provider.now) (λ root. All (λ r. AsksFor (D.universe provider.now) by r root) requirements.now)
+            (notes_in self.old) }
         ensures bounded { IsBounded self.new }
         ensures is_true { IsTrueCache (D.universe provider.now) cache.new }
-        ensures step { OnOk result (IsReadStep (D.universe provider.now) (IsUnmet (D.universe provider.now) chosen.now.keys by) (IsCalledByEach (D.universe provider.now) chosen.now.keys requirements.now) (λ root. All (λ r. AsksFor (D.universe provider.now) by r root) requirements.now) (notes_in self.old) (notes_in self.new)) }
-        ensures read { OnOk result (All (IsReadRequirement (D.universe provider.now) (notes_in self.new).kinds (IsLeft (notes_in self.new)) by) requirements.now) }
+        ensures step { OnOk result (IsReadStep (D.universe provider.now) (IsUnmet (D.universe provider.now) chosen.now.keys by)
+            (IsCalledByEach (D.universe provider.now) chosen.now.keys requirements.now) (λ root.
+            All (λ r. AsksFor (D.universe provider.now) by r root) requirements.now) (notes_in self.old) (notes_in self.new)) }
+        ensures read { OnOk result (All
+            (IsReadRequirement (D.universe provider.now) (notes_in self.new).kinds (IsLeft (notes_in self.new)) by) requirements.now) }
         ensures limits { KeepsLimits (notes_in self.old) (notes_in self.new) }
         ensures refusal { IfErr result (IsStop (D.may_cancel provider.now) (IsFull (notes_in self.new))) }
     {
@@ -143,10 +152,12 @@ impl<N: Copy + Eq + Hash + Drop, S: Copy + Eq + Hash + Drop> Encoding<N, S> {
     ) -> Result<(), Interrupted<D::Cancel>>
         requires bounded { IsBounded self.old }
         requires is_true { IsTrueCache (D.universe provider.now) cache.old }
-        requires encoding { IsEncodingOf (D.universe provider.now) (λ root. All (λ v. AsksWithin (D.universe provider.now) by v root) constraints.now) (notes_in self.old) }
+        requires encoding { IsEncodingOf (D.universe provider.now) (λ root. All (λ v. AsksWithin (D.universe provider.now) by v root) constraints.now)
+            (notes_in self.old) }
         ensures bounded { IsBounded self.new }
         ensures is_true { IsTrueCache (D.universe provider.now) cache.new }
-        ensures step { OnOk result (IsAskStep (D.universe provider.now) (IsNamedBy (D.universe provider.now) constraints.now) (λ root. All (λ v. AsksWithin (D.universe provider.now) by v root) constraints.now) (notes_in self.old) (notes_in self.new)) }
+        ensures step { OnOk result (IsAskStep (D.universe provider.now) (IsNamedBy (D.universe provider.now) constraints.now) (λ root.
+            All (λ v. AsksWithin (D.universe provider.now) by v root) constraints.now) (notes_in self.old) (notes_in self.new)) }
         ensures read { OnOk result (All (IsConstraintRead (D.universe provider.now) (notes_in self.new).kinds by) constraints.now) }
         ensures asked { OnOk result (All (λ v. Contains (notes_in self.new).asked ((D.universe provider.now).version_set_name v)) constraints.now) }
         ensures limits { KeepsLimits (notes_in self.old) (notes_in self.new) }
@@ -171,11 +182,16 @@ impl<N: Copy + Eq + Hash + Drop, S: Copy + Eq + Hash + Drop> Encoding<N, S> {
     ) -> Result<(), Interrupted<D::Cancel>>
         requires bounded { IsBounded self.old }
         requires is_true { IsTrueCache (D.universe provider.now) cache.old }
-        requires encoding { IsEncodingOf (D.universe provider.now) (λ root. demands_by (D.universe provider.now) root by ≡ (record { requirements = requirements.now; constraints = constraints.now })) (notes_in self.old) }
+        requires encoding { IsEncodingOf (D.universe provider.now) (λ root.
+            demands_by (D.universe provider.now) root by ≡ (record { requirements = requirements.now; constraints = constraints.now })) (notes_in self.old) }
         ensures bounded { IsBounded self.new }
         ensures is_true { IsTrueCache (D.universe provider.now) cache.new }
-        ensures step { OnOk result (IsReadStep (D.universe provider.now) (IsUnmet (D.universe provider.now) chosen.now.keys by) (IsDemanded (D.universe provider.now) chosen.now.keys (record { requirements = requirements.now; constraints = constraints.now })) (λ root. demands_by (D.universe provider.now) root by ≡ (record { requirements = requirements.now; constraints = constraints.now })) (notes_in self.old) (notes_in self.new)) }
-        ensures read { OnOk result (AreDemandsRead (D.universe provider.now) (notes_in self.new) by (record { requirements = requirements.now; constraints = constraints.now })) }
+        ensures step { OnOk result (IsReadStep (D.universe provider.now) (IsUnmet (D.universe provider.now) chosen.now.keys by)
+            (IsDemanded (D.universe provider.now) chosen.now.keys (record { requirements = requirements.now; constraints = constraints.now })) (λ root.
+            demands_by (D.universe provider.now) root by ≡ (record { requirements = requirements.now; constraints = constraints.now })) (notes_in self.old)
+            (notes_in self.new)) }
+        ensures read { OnOk result (AreDemandsRead (D.universe provider.now) (notes_in self.new) by
+            (record { requirements = requirements.now; constraints = constraints.now })) }
         ensures limits { KeepsLimits (notes_in self.old) (notes_in self.new) }
         ensures refusal { IfErr result (IsStop (D.may_cancel provider.now) (IsFull (notes_in self.new))) }
     {
@@ -199,7 +215,9 @@ impl<N: Copy + Eq + Hash + Drop, S: Copy + Eq + Hash + Drop> Encoding<N, S> {
         requires encoding { IsEncodingOf (D.universe provider.now) (λ root. ⊤) (notes_in self.old) }
         ensures bounded { IsBounded self.new }
         ensures is_true { IsTrueCache (D.universe provider.now) cache.new }
-        ensures step { OnOk result (IsReadStep (D.universe provider.now) (IsUnmet (D.universe provider.now) chosen.now.keys (BySolvable solvable)) (IsDemanded (D.universe provider.now) chosen.now.keys (demands_of ((D.universe provider.now).needs solvable))) (λ root. ⊤) (notes_in self.old) (notes_in self.new)) }
+        ensures step { OnOk result (IsReadStep (D.universe provider.now) (IsUnmet (D.universe provider.now) chosen.now.keys (BySolvable solvable))
+            (IsDemanded (D.universe provider.now) chosen.now.keys (demands_of ((D.universe provider.now).needs solvable))) (λ root. ⊤) (notes_in self.old)
+            (notes_in self.new)) }
         ensures read { OnOk result (AreNeedsRead (D.universe provider.now) (notes_in self.new) solvable ((D.universe provider.now).needs solvable)) }
         ensures limits { KeepsLimits (notes_in self.old) (notes_in self.new) }
         ensures refusal { IfErr result (IsStop (D.may_cancel provider.now) (IsFull (notes_in self.new))) }
@@ -263,10 +281,12 @@ impl<N: Copy + Eq + Hash + Drop, S: Copy + Eq + Hash + Drop> Encoding<N, S> {
         requires within { from ≤ length chosen.now.keys }
         ensures bounded { IsBounded self.new }
         ensures is_true { IsTrueCache (D.universe provider.now) cache.new }
-        ensures reading { OnOk result (IsReadingOf (D.universe provider.now) chosen.now.keys (Contains chosen.now.keys) (notes_in self.old) (notes_in self.new)) }
+        ensures reading { OnOk result (IsReadingOf (D.universe provider.now) chosen.now.keys (Contains chosen.now.keys) (notes_in self.old)
+            (notes_in self.new)) }
         ensures here { OnOk result (All (Contains (notes_in self.new).read) (drop from chosen.now.keys)) }
         ensures any_new { IfOk result (HasRead (notes_in self.old) (notes_in self.new)) }
-        ensures fit { OnOk result (((s : S) → Contains (notes_in self.new).read s → Contains (notes_in self.new).origins (SolvableOrigin s)) → length (notes_in self.new).read ≤ length (notes_in self.new).origins) }
+        ensures fit { OnOk result (((s : S) → Contains (notes_in self.new).read s → Contains (notes_in self.new).origins (SolvableOrigin s)) →
+            length (notes_in self.new).read ≤ length (notes_in self.new).origins) }
         ensures limits { KeepsLimits (notes_in self.old) (notes_in self.new) }
         ensures refusal { IfErr result (IsStop (D.may_cancel provider.now) (IsFull (notes_in self.new))) }
     {
@@ -322,9 +342,13 @@ impl<N: Copy + Eq + Hash + Drop, S: Copy + Eq + Hash + Drop> Encoding<N, S> {
         requires nothing_read { IsUnread (notes_in self.old) }
         ensures bounded { IsBounded self.new }
         ensures is_true { IsTrueCache (D.universe provider.now) cache.new }
-        ensures read { OnOk result (IsReadSoFar (D.universe provider.now) (record { requirements = requirements.now; constraints = constraints.now }) [] (notes_in self.new)) }
-        ensures asked { OnOk result (AreAsked (IsCalledFor (D.universe provider.now) (record { requirements = requirements.now; constraints = constraints.now }) (notes_in self.new).read []) [] (notes_in self.new).asked) }
-        ensures near { OnOk result ((seeds : List S) (packages : List N) → AreNear (D.universe provider.now) (record { requirements = requirements.now; constraints = constraints.now }) seeds packages (notes_in self.new)) }
+        ensures read { OnOk result (IsReadSoFar (D.universe provider.now) (record { requirements = requirements.now; constraints = constraints.now }) []
+            (notes_in self.new)) }
+        ensures asked { OnOk result (AreAsked
+            (IsCalledFor (D.universe provider.now) (record { requirements = requirements.now; constraints = constraints.now }) (notes_in self.new).read []) []
+            (notes_in self.new).asked) }
+        ensures near { OnOk result ((seeds : List S) (packages : List N) →
+            AreNear (D.universe provider.now) (record { requirements = requirements.now; constraints = constraints.now }) seeds packages (notes_in self.new)) }
         ensures reads { OnOk result ((s : S) → Contains (notes_in self.new).read s → IsListedFrom (notes_in self.new) 0 s) }
         ensures hinted { OnOk result (AreHintsRead (D.universe provider.now) 0 (notes_in self.new)) }
         ensures exempt { OnOk result ((notes_in self.new).exempt ≡ (notes_in self.old).exempt) }
@@ -356,9 +380,15 @@ impl<N: Copy + Eq + Hash + Drop, S: Copy + Eq + Hash + Drop> Encoding<N, S> {
         requires within { from ≤ length chosen.now.keys }
         ensures bounded { IsBounded self.new }
         ensures is_true { IsTrueCache (D.universe provider.now) cache.new }
-        ensures read { OnOk result ((root : Demands) → IsReadSoFar (D.universe provider.now) root (take from chosen.now.keys) (notes_in self.old) → IsReadSoFar (D.universe provider.now) root chosen.now.keys (notes_in self.new)) }
-        ensures asked { OnOk result ((root : Demands) → IsReadSoFar (D.universe provider.now) root (take from chosen.now.keys) (notes_in self.old) → AreAsked (IsCalledFor (D.universe provider.now) root (notes_in self.new).read chosen.now.keys) (notes_in self.old).asked (notes_in self.new).asked) }
-        ensures near { OnOk result ((root : Demands) (seeds : List S) (packages : List N) → IsReadSoFar (D.universe provider.now) root (take from chosen.now.keys) (notes_in self.old) → AreNear (D.universe provider.now) root seeds packages (notes_in self.old) → All (IsNear (D.universe provider.now) root seeds) chosen.now.keys → AreNear (D.universe provider.now) root seeds packages (notes_in self.new)) }
+        ensures read { OnOk result ((root : Demands) → IsReadSoFar (D.universe provider.now) root (take from chosen.now.keys) (notes_in self.old) →
+            IsReadSoFar (D.universe provider.now) root chosen.now.keys (notes_in self.new)) }
+        ensures asked { OnOk result ((root : Demands) → IsReadSoFar (D.universe provider.now) root (take from chosen.now.keys) (notes_in self.old) →
+            AreAsked (IsCalledFor (D.universe provider.now) root (notes_in self.new).read chosen.now.keys) (notes_in self.old).asked
+            (notes_in self.new).asked) }
+        ensures near { OnOk result ((root : Demands) (seeds : List S) (packages : List N) →
+            IsReadSoFar (D.universe provider.now) root (take from chosen.now.keys) (notes_in self.old) →
+            AreNear (D.universe provider.now) root seeds packages (notes_in self.old) → All (IsNear (D.universe provider.now) root seeds) chosen.now.keys →
+            AreNear (D.universe provider.now) root seeds packages (notes_in self.new)) }
         ensures hinted { OnOk result (AreHintsRead (D.universe provider.now) (length (notes_in self.old).requirements) (notes_in self.new)) }
         ensures more { OnOk result (IsReadMore (D.universe provider.now) chosen.now.keys (notes_in self.old) (notes_in self.new)) }
         ensures progress { IfOk result (IsProgress (notes_in self.old) (notes_in self.new)) }

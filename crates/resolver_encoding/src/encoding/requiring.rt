@@ -8,7 +8,8 @@ ghost use Rattle.resolver_clause_store.specs.declared.By.TheVariants.{Solvable a
 ghost use Rattle.resolver_clause_store.specs.declared.ClauseKind.TheVariants.{Requires as RequiresKind};
 ghost use Rattle.resolver_encoding.specs.Atoms.{atoms_of};
 ghost use Rattle.resolver_encoding.specs.Called.{IsCalledBy, IsWantedBy};
-ghost use Rattle.resolver_encoding.specs.Encodings.{AddsRequirement, AreDisjuncts, AsksFor, IsAskStep, IsDisjunctOf, IsDisjunctRead, IsEncodingOf, IsFull, IsLeft, IsReadStep, IsStep, IsTrueUnder, IsUnmet, KeepsLimits};
+ghost use Rattle.resolver_encoding.specs.Encodings.{AddsRequirement, AreDisjuncts, AsksFor, IsAskStep, IsDisjunctOf, IsDisjunctRead, IsEncodingOf, IsFull};
+ghost use Rattle.resolver_encoding.specs.Encodings.{IsLeft, IsReadStep, IsStep, IsTrueUnder, IsUnmet, KeepsLimits};
 ghost use Rattle.resolver_encoding.specs.ReadState.{HasClause, IsReadRequirement};
 ghost use Rattle.resolver_encoding.specs.Refusals.{IsShortage, IsStop};
 
@@ -53,7 +54,11 @@ impl<N: Copy + Eq + Hash + Drop, S: Copy + Eq + Hash + Drop> Encoding<N, S> {
     ) -> Result<(), Exhausted>
         requires bounded { IsBounded self.old }
         ensures bounded { IsBounded self.new }
-        ensures added { OnOk result (notes_in self.new ≡ record (notes_in self.old) { table = (notes_in self.old).table ++ literals ∷ []; kinds = (notes_in self.old).kinds ++ kind ∷ []; requirements = (notes_in self.old).requirements ++ length (notes_in self.old).kinds ∷ [] }) }
+        ensures added { OnOk result (notes_in self.new ≡ record (notes_in self.old) {
+          table = (notes_in self.old).table ++ literals ∷ [];
+          kinds = (notes_in self.old).kinds ++ kind ∷ [];
+          requirements = (notes_in self.old).requirements ++ length (notes_in self.old).kinds ∷ [];
+        }) }
         ensures limits { KeepsLimits (notes_in self.old) (notes_in self.new) }
         ensures refusal { IfErr result (IsShortage (IsFull (notes_in self.new))) }
     {
@@ -80,7 +85,8 @@ impl<N: Copy + Eq + Hash + Drop, S: Copy + Eq + Hash + Drop> Encoding<N, S> {
         requires candidates { choices.now.candidates.items ≡ candidates_of (D.universe provider.now) requirement }
         requires small { All (λ n. n < 2 ^ 63) choices.now.counts.items }
         ensures bounded { IsBounded self.new }
-        ensures added { OnOk result (AddsRequirement (notes_in self.old) (notes_in self.new) (RequiresKind by disjunct requirement) (atoms_of (D.universe provider.now) (RequiresKind by disjunct requirement))) }
+        ensures added { OnOk result (AddsRequirement (notes_in self.old) (notes_in self.new) (RequiresKind by disjunct requirement)
+            (atoms_of (D.universe provider.now) (RequiresKind by disjunct requirement))) }
         ensures limits { KeepsLimits (notes_in self.old) (notes_in self.new) }
         ensures refusal { IfErr result (IsShortage (IsFull (notes_in self.new))) }
     {
@@ -113,12 +119,14 @@ impl<N: Copy + Eq + Hash + Drop, S: Copy + Eq + Hash + Drop> Encoding<N, S> {
         requires is_true { IsTrueCache (D.universe provider.now) cache.old }
         requires candidates { choices.now.candidates.items ≡ candidates_of (D.universe provider.now) requirement }
         requires small { All (λ n. n < 2 ^ 63) choices.now.counts.items }
-        requires asked { All (λ v. Contains (notes_in self.old).asked ((D.universe provider.now).version_set_name v)) (version_sets (D.universe provider.now) requirement) }
+        requires asked { All (λ v. Contains (notes_in self.old).asked ((D.universe provider.now).version_set_name v))
+            (version_sets (D.universe provider.now) requirement) }
         requires seen { All (Contains (notes_in self.old).seen) choices.now.candidates.items }
         requires once { AreDistinct disjunct.items }
         ensures bounded { IsBounded self.new }
         ensures is_true { IsTrueCache (D.universe provider.now) cache.new }
-        ensures step { OnOk result (IsStep (D.universe provider.now) (IsTrueUnder (D.universe provider.now) by disjunct.items requirement) (notes_in self.old) (notes_in self.new)) }
+        ensures step { OnOk result (IsStep (D.universe provider.now) (IsTrueUnder (D.universe provider.now) by disjunct.items requirement) (notes_in self.old)
+            (notes_in self.new)) }
         ensures read { OnOk result (Contains (notes_in self.new).kinds (RequiresKind by disjunct requirement)) }
         ensures limits { KeepsLimits (notes_in self.old) (notes_in self.new) }
         ensures refusal { IfErr result (IsStop (D.may_cancel provider.now) (IsFull (notes_in self.new))) }
@@ -141,8 +149,10 @@ impl<N: Copy + Eq + Hash + Drop, S: Copy + Eq + Hash + Drop> Encoding<N, S> {
         ensures is_true { IsTrueCache (D.universe provider.now) cache.new }
         ensures candidates { IfOk result (λ choices. choices.candidates.items ≡ candidates_of (D.universe provider.now) requirement) }
         ensures small { IfOk result (λ choices. All (λ n. n < 2 ^ 63) choices.counts.items) }
-        ensures step { OnOk result (IsAskStep (D.universe provider.now) (IsWantedBy (D.universe provider.now) requirement) (λ root. ⊤) (notes_in self.old) (notes_in self.new)) }
-        ensures asked { OnOk result (All (λ v. Contains (notes_in self.new).asked ((D.universe provider.now).version_set_name v)) (version_sets (D.universe provider.now) requirement)) }
+        ensures step { OnOk result (IsAskStep (D.universe provider.now) (IsWantedBy (D.universe provider.now) requirement) (λ root. ⊤) (notes_in self.old)
+            (notes_in self.new)) }
+        ensures asked { OnOk result (All (λ v. Contains (notes_in self.new).asked ((D.universe provider.now).version_set_name v))
+            (version_sets (D.universe provider.now) requirement)) }
         ensures seen { IfOk result (λ choices. All (Contains (notes_in self.new).seen) choices.candidates.items) }
         ensures limits { KeepsLimits (notes_in self.old) (notes_in self.new) }
         ensures refusal { IfErr result (IsStop (D.may_cancel provider.now) (IsFull (notes_in self.new))) }
@@ -167,7 +177,8 @@ impl<N: Copy + Eq + Hash + Drop, S: Copy + Eq + Hash + Drop> Encoding<N, S> {
         requires once { AreDistinct disjunct.items }
         ensures bounded { IsBounded self.new }
         ensures is_true { IsTrueCache (D.universe provider.now) cache.new }
-        ensures step { OnOk result (IsAskStep (D.universe provider.now) (IsWantedBy (D.universe provider.now) requirement) (IsTrueUnder (D.universe provider.now) by disjunct.items requirement) (notes_in self.old) (notes_in self.new)) }
+        ensures step { OnOk result (IsAskStep (D.universe provider.now) (IsWantedBy (D.universe provider.now) requirement)
+            (IsTrueUnder (D.universe provider.now) by disjunct.items requirement) (notes_in self.old) (notes_in self.new)) }
         ensures read { OnOk result (HasClause (notes_in self.new).kinds by disjunct.items requirement) }
         ensures limits { KeepsLimits (notes_in self.old) (notes_in self.new) }
         ensures refusal { IfErr result (IsStop (D.may_cancel provider.now) (IsFull (notes_in self.new))) }
@@ -192,7 +203,9 @@ impl<N: Copy + Eq + Hash + Drop, S: Copy + Eq + Hash + Drop> Encoding<N, S> {
         requires disjunct { IsDisjunctOf (D.universe provider.now) requirement.condition disjunct.now }
         ensures bounded { IsBounded self.new }
         ensures is_true { IsTrueCache (D.universe provider.now) cache.new }
-        ensures step { OnOk result (IsReadStep (D.universe provider.now) (IsUnmet (D.universe provider.now) chosen.now.keys by) (IsCalledBy (D.universe provider.now) chosen.now.keys requirement) (AsksFor (D.universe provider.now) by requirement) (notes_in self.old) (notes_in self.new)) }
+        ensures step { OnOk result (IsReadStep (D.universe provider.now) (IsUnmet (D.universe provider.now) chosen.now.keys by)
+            (IsCalledBy (D.universe provider.now) chosen.now.keys requirement) (AsksFor (D.universe provider.now) by requirement) (notes_in self.old)
+            (notes_in self.new)) }
         ensures read { OnOk result (IsDisjunctRead (notes_in self.new) by requirement.requirement disjunct.now) }
         ensures limits { KeepsLimits (notes_in self.old) (notes_in self.new) }
         ensures refusal { IfErr result (IsStop (D.may_cancel provider.now) (IsFull (notes_in self.new))) }
@@ -222,7 +235,9 @@ impl<N: Copy + Eq + Hash + Drop, S: Copy + Eq + Hash + Drop> Encoding<N, S> {
         requires disjuncts { AreDisjuncts (D.universe provider.now) requirement.condition (map (λ list. list.items) disjuncts.now) }
         ensures bounded { IsBounded self.new }
         ensures is_true { IsTrueCache (D.universe provider.now) cache.new }
-        ensures step { OnOk result (IsReadStep (D.universe provider.now) (IsUnmet (D.universe provider.now) chosen.now.keys by) (IsCalledBy (D.universe provider.now) chosen.now.keys requirement) (AsksFor (D.universe provider.now) by requirement) (notes_in self.old) (notes_in self.new)) }
+        ensures step { OnOk result (IsReadStep (D.universe provider.now) (IsUnmet (D.universe provider.now) chosen.now.keys by)
+            (IsCalledBy (D.universe provider.now) chosen.now.keys requirement) (AsksFor (D.universe provider.now) by requirement) (notes_in self.old)
+            (notes_in self.new)) }
         ensures read { OnOk result (IsReadRequirement (D.universe provider.now) (notes_in self.new).kinds (IsLeft (notes_in self.new)) by requirement) }
         ensures limits { KeepsLimits (notes_in self.old) (notes_in self.new) }
         ensures refusal { IfErr result (IsStop (D.may_cancel provider.now) (IsFull (notes_in self.new))) }
@@ -246,7 +261,9 @@ impl<N: Copy + Eq + Hash + Drop, S: Copy + Eq + Hash + Drop> Encoding<N, S> {
         requires is_true { IsTrueCache (D.universe provider.now) cache.old }
         ensures bounded { IsBounded self.new }
         ensures is_true { IsTrueCache (D.universe provider.now) cache.new }
-        ensures step { OnOk result (IsReadStep (D.universe provider.now) (IsUnmet (D.universe provider.now) chosen.now.keys by) (IsCalledBy (D.universe provider.now) chosen.now.keys requirement) (AsksFor (D.universe provider.now) by requirement) (notes_in self.old) (notes_in self.new)) }
+        ensures step { OnOk result (IsReadStep (D.universe provider.now) (IsUnmet (D.universe provider.now) chosen.now.keys by)
+            (IsCalledBy (D.universe provider.now) chosen.now.keys requirement) (AsksFor (D.universe provider.now) by requirement) (notes_in self.old)
+            (notes_in self.new)) }
         ensures read { OnOk result (IsReadRequirement (D.universe provider.now) (notes_in self.new).kinds (IsLeft (notes_in self.new)) by requirement) }
         ensures limits { KeepsLimits (notes_in self.old) (notes_in self.new) }
         ensures refusal { IfErr result (IsStop (D.may_cancel provider.now) (IsFull (notes_in self.new))) }
@@ -266,10 +283,13 @@ impl<N: Copy + Eq + Hash + Drop, S: Copy + Eq + Hash + Drop> Encoding<N, S> {
     ) -> Result<(), Interrupted<D::Cancel>>
         requires bounded { IsBounded self.old }
         requires is_true { IsTrueCache (D.universe provider.now) cache.old }
-        requires encoding { IsEncodingOf (D.universe provider.now) (AsksFor (D.universe provider.now) (BySolvable requirer) (record { condition = None; requirement = requirement })) (notes_in self.old) }
+        requires encoding { IsEncodingOf (D.universe provider.now)
+            (AsksFor (D.universe provider.now) (BySolvable requirer) (record { condition = None; requirement = requirement })) (notes_in self.old) }
         ensures bounded { IsBounded self.new }
         ensures is_true { IsTrueCache (D.universe provider.now) cache.new }
-        ensures step { OnOk result (IsAskStep (D.universe provider.now) (IsWantedBy (D.universe provider.now) requirement) (AsksFor (D.universe provider.now) (BySolvable requirer) (record { condition = None; requirement = requirement })) (notes_in self.old) (notes_in self.new)) }
+        ensures step { OnOk result (IsAskStep (D.universe provider.now) (IsWantedBy (D.universe provider.now) requirement)
+            (AsksFor (D.universe provider.now) (BySolvable requirer) (record { condition = None; requirement = requirement })) (notes_in self.old)
+            (notes_in self.new)) }
         ensures read { OnOk result (HasClause (notes_in self.new).kinds (BySolvable requirer) [] requirement) }
         ensures limits { KeepsLimits (notes_in self.old) (notes_in self.new) }
         ensures refusal { IfErr result (IsStop (D.may_cancel provider.now) (IsFull (notes_in self.new))) }
@@ -304,7 +324,9 @@ impl<N: Copy + Eq + Hash + Drop, S: Copy + Eq + Hash + Drop> Encoding<N, S> {
         requires encoding { IsEncodingOf (D.universe provider.now) (AsksFor (D.universe provider.now) by requirement) (notes_in self.old) }
         ensures bounded { IsBounded self.new }
         ensures is_true { IsTrueCache (D.universe provider.now) cache.new }
-        ensures step { OnOk result (IsReadStep (D.universe provider.now) (IsUnmet (D.universe provider.now) chosen.now.keys by) (IsCalledBy (D.universe provider.now) chosen.now.keys requirement) (AsksFor (D.universe provider.now) by requirement) (notes_in self.old) (notes_in self.new)) }
+        ensures step { OnOk result (IsReadStep (D.universe provider.now) (IsUnmet (D.universe provider.now) chosen.now.keys by)
+            (IsCalledBy (D.universe provider.now) chosen.now.keys requirement) (AsksFor (D.universe provider.now) by requirement) (notes_in self.old)
+            (notes_in self.new)) }
         ensures read { OnOk result (IsReadRequirement (D.universe provider.now) (notes_in self.new).kinds (IsLeft (notes_in self.new)) by requirement) }
         ensures limits { KeepsLimits (notes_in self.old) (notes_in self.new) }
         ensures refusal { IfErr result (IsStop (D.may_cancel provider.now) (IsFull (notes_in self.new))) }

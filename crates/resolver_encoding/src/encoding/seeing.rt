@@ -33,7 +33,8 @@ impl<N: Copy + Eq + Hash + Drop, S: Copy + Eq + Hash + Drop> Encoding<N, S> {
         requires below { AreGroups (notes_in self.old).groups → (k : ℕ) (t : S) → IsAt (notes_in self.old).groups name k t → k < number }
         requires earlier { (k : ℕ) (t : S) → slice_get earlier.now k ≡ Some t → IsAt (notes_in self.old).groups name k t }
         ensures bounded { IsBounded self.new }
-        ensures step { OnOk result (IsStepWhile (D.universe provider.now) (coding_for name number solvable) (λ root. ⊤) (notes_in self.old) (notes_in self.new)) }
+        ensures step { OnOk result (IsStepWhile (D.universe provider.now) (coding_for name number solvable) (λ root. ⊤) (notes_in self.old)
+            (notes_in self.new)) }
         ensures begun { OnOk result (All (λ t. Contains (notes_in self.new).kinds (HasBitKind name t index false)) earlier.now) }
         ensures groups { OnOk result ((notes_in self.new).groups ≡ (notes_in self.old).groups) }
         ensures seen { OnOk result ((notes_in self.new).seen ≡ (notes_in self.old).seen) }
@@ -66,8 +67,10 @@ impl<N: Copy + Eq + Hash + Drop, S: Copy + Eq + Hash + Drop> Encoding<N, S> {
         requires bounded { IsBounded self.old }
         requires below { AreGroups (notes_in self.old).groups → (k : ℕ) (t : S) → IsAt (notes_in self.old).groups name k t → k < number }
         ensures bounded { IsBounded self.new }
-        ensures step { OnOk result (IsStepWhile (D.universe provider.now) (coding_for name number solvable) (λ root. ⊤) (notes_in self.old) (notes_in self.new)) }
-        ensures begun { OnOk result ((i : ℕ) → number ≡ 2 ^ i → AreGroups (notes_in self.old).groups → (k : ℕ) (t : S) → IsAt (notes_in self.old).groups name k t → Contains (notes_in self.new).kinds (HasBitKind name t i (bit k i))) }
+        ensures step { OnOk result (IsStepWhile (D.universe provider.now) (coding_for name number solvable) (λ root. ⊤) (notes_in self.old)
+            (notes_in self.new)) }
+        ensures begun { OnOk result ((i : ℕ) → number ≡ 2 ^ i → AreGroups (notes_in self.old).groups → (k : ℕ) (t : S) →
+            IsAt (notes_in self.old).groups name k t → Contains (notes_in self.new).kinds (HasBitKind name t i (bit k i))) }
         ensures groups { OnOk result ((notes_in self.new).groups ≡ (notes_in self.old).groups) }
         ensures seen { OnOk result ((notes_in self.new).seen ≡ (notes_in self.old).seen) }
         ensures requirements { OnOk result ((notes_in self.new).requirements ≡ (notes_in self.old).requirements) }
@@ -95,7 +98,8 @@ impl<N: Copy + Eq + Hash + Drop, S: Copy + Eq + Hash + Drop> Encoding<N, S> {
         requires bounded { IsBounded self.old }
         requires name { name ≡ (D.universe provider.now).name solvable }
         ensures bounded { IsBounded self.new }
-        ensures step { OnOk result (IsStepWhile (D.universe provider.now) (coding_for name number solvable) (λ root. ⊤) (notes_in self.old) (notes_in self.new)) }
+        ensures step { OnOk result (IsStepWhile (D.universe provider.now) (coding_for name number solvable) (λ root. ⊤) (notes_in self.old)
+            (notes_in self.new)) }
         ensures code { OnOk result ((i : ℕ) → 2 ^ i ≤ number → Contains (notes_in self.new).kinds (HasBitKind name solvable i (bit number i))) }
         ensures groups { OnOk result ((notes_in self.new).groups ≡ (notes_in self.old).groups) }
         ensures seen { OnOk result ((notes_in self.new).seen ≡ (notes_in self.old).seen) }

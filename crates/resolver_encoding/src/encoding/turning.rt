@@ -58,7 +58,8 @@ impl<N: Copy + Eq + Hash + Drop, S: Copy + Eq + Hash + Drop> Encoding<N, S> {
         ensures bounded { IsBounded self.new }
         ensures only { notes_in self.new ≡ record (notes_in self.old) { exempt = (notes_in self.new).exempt } }
         ensures few { length (notes_in self.new).exempt ≤ length (notes_in self.old).exempt + 1 }
-        ensures exempts { OnOk result ((Contains (notes_in self.old).exempt solvable → ⊥) → Exempts (D.universe provider.now) (notes_in self.old).asked (notes_in self.old).exempt solvable (notes_in self.new).exempt) }
+        ensures exempts { OnOk result ((Contains (notes_in self.old).exempt solvable → ⊥) →
+            Exempts (D.universe provider.now) (notes_in self.old).asked (notes_in self.old).exempt solvable (notes_in self.new).exempt) }
         ensures stays { OnOk result (StaysRead (D.universe provider.now) (notes_in self.old) (notes_in self.new)) }
         ensures memory { IfErr result (λ e. e ≡ Exhausted.Memory) }
     {
@@ -90,7 +91,8 @@ impl<N: Copy + Eq + Hash + Drop, S: Copy + Eq + Hash + Drop> Encoding<N, S> {
         ensures bounded { IsBounded self.new }
         ensures step { OnOk result (IsStepWhile (D.universe provider.now) (owing_for solvable) (λ root. ⊤) (notes_in self.old) (notes_in self.new)) }
         ensures plain { OnOk result (AddsPlainly (notes_in self.old) (notes_in self.new)) }
-        ensures paid { OnOk result ((t : S) → locked ≡ Some t → Contains listed.now solvable → solvable ≢ t → (Contains (notes_in self.old).exempt solvable → ⊥) → Contains (notes_in self.new).kinds (LockKind t solvable)) }
+        ensures paid { OnOk result ((t : S) → locked ≡ Some t → Contains listed.now solvable → solvable ≢ t →
+            (Contains (notes_in self.old).exempt solvable → ⊥) → Contains (notes_in self.new).kinds (LockKind t solvable)) }
         ensures limits { KeepsLimits (notes_in self.old) (notes_in self.new) }
         ensures refusal { IfErr result (IsShortage (IsFull (notes_in self.new))) }
     {
@@ -120,7 +122,8 @@ impl<N: Copy + Eq + Hash + Drop, S: Copy + Eq + Hash + Drop> Encoding<N, S> {
         ensures bounded { IsBounded self.new }
         ensures step { OnOk result (IsStepWhile (D.universe provider.now) (owing_for solvable) (λ root. ⊤) (notes_in self.old) (notes_in self.new)) }
         ensures plain { OnOk result (AddsPlainly (notes_in self.old) (notes_in self.new)) }
-        ensures paid { OnOk result (excluded ≡ solvable → (Contains (notes_in self.old).exempt solvable → ⊥) → Contains (notes_in self.new).kinds (ExcludedKind excluded reason)) }
+        ensures paid { OnOk result (excluded ≡ solvable → (Contains (notes_in self.old).exempt solvable → ⊥) →
+            Contains (notes_in self.new).kinds (ExcludedKind excluded reason)) }
         ensures limits { KeepsLimits (notes_in self.old) (notes_in self.new) }
         ensures refusal { IfErr result (IsShortage (IsFull (notes_in self.new))) }
     {
@@ -145,7 +148,8 @@ impl<N: Copy + Eq + Hash + Drop, S: Copy + Eq + Hash + Drop> Encoding<N, S> {
         ensures bounded { IsBounded self.new }
         ensures step { OnOk result (IsStepWhile (D.universe provider.now) (owing_for solvable) (λ root. ⊤) (notes_in self.old) (notes_in self.new)) }
         ensures plain { OnOk result (AddsPlainly (notes_in self.old) (notes_in self.new)) }
-        ensures paid { OnOk result (All (λ e. e.0 ≡ solvable → (Contains (notes_in self.old).exempt solvable → ⊥) → Contains (notes_in self.new).kinds (ExcludedKind e.0 e.1)) excluded.now) }
+        ensures paid { OnOk result (All (λ e.
+            e.0 ≡ solvable → (Contains (notes_in self.old).exempt solvable → ⊥) → Contains (notes_in self.new).kinds (ExcludedKind e.0 e.1)) excluded.now) }
         ensures limits { KeepsLimits (notes_in self.old) (notes_in self.new) }
         ensures refusal { IfErr result (IsShortage (IsFull (notes_in self.new))) }
     {

@@ -300,10 +300,12 @@ fn asked_count(
 ) -> Result<usize, Interrupted<u8>>
     requires bounded { IsBounded encoding.old }
     requires is_true { IsTrueCache (test_universe provider.now.endless provider.now.requirements.items provider.now.constraints.items) cache.old }
-    requires reading { IsReading (test_universe provider.now.endless provider.now.requirements.items provider.now.constraints.items) [] (notes_in encoding.old) }
+    requires reading { IsReading (test_universe provider.now.endless provider.now.requirements.items provider.now.constraints.items) []
+        (notes_in encoding.old) }
     ensures bounded { IsBounded encoding.new }
     ensures is_true { IsTrueCache (test_universe provider.now.endless provider.now.requirements.items provider.now.constraints.items) cache.new }
-    ensures reading { OnOk result (IsReading (test_universe provider.now.endless provider.now.requirements.items provider.now.constraints.items) [] (notes_in encoding.new)) }
+    ensures reading { OnOk result (IsReading (test_universe provider.now.endless provider.now.requirements.items provider.now.constraints.items) []
+        (notes_in encoding.new)) }
 {
     let mut count: usize = 0;
     for name in 0..100u32 {

@@ -56,7 +56,9 @@ fn add_requirement(
 
 /// Adds a clause of a marked rule.
 fn add_clause(marked: &mut MarkedClauses, clause: &RuleClause) -> Result<(), AllocError>
-    ensures { OnOk result ((marks : List Bool) (from : List RuleClause) → IsMarked marks clause.now → AreMarkedClauses marks from marked.old.clauses.items marked.old.places.items (numbers_of marked.old.requirements.items) → AreMarkedClauses marks (from ++ clause.now ∷ []) marked.new.clauses.items marked.new.places.items (numbers_of marked.new.requirements.items)) }
+    ensures { OnOk result ((marks : List Bool) (from : List RuleClause) → IsMarked marks clause.now →
+        AreMarkedClauses marks from marked.old.clauses.items marked.old.places.items (numbers_of marked.old.requirements.items) →
+        AreMarkedClauses marks (from ++ clause.now ∷ []) marked.new.clauses.items marked.new.places.items (numbers_of marked.new.requirements.items)) }
 {
     let alloc = *marked.clauses.allocator();
     let number = marked.clauses.len();
@@ -77,7 +79,9 @@ fn add_marked(
     marks: &[bool],
 ) -> Result<(), AllocError>
     requires { clause.now.rule < length marks.now }
-    ensures { OnOk result ((from : List RuleClause) → AreMarkedClauses marks.now from marked.old.clauses.items marked.old.places.items (numbers_of marked.old.requirements.items) → AreMarkedClauses marks.now (from ++ clause.now ∷ []) marked.new.clauses.items marked.new.places.items (numbers_of marked.new.requirements.items)) }
+    ensures { OnOk result ((from : List RuleClause) →
+        AreMarkedClauses marks.now from marked.old.clauses.items marked.old.places.items (numbers_of marked.old.requirements.items) →
+        AreMarkedClauses marks.now (from ++ clause.now ∷ []) marked.new.clauses.items marked.new.places.items (numbers_of marked.new.requirements.items)) }
 {
     if !marks[clause.rule] {
         return Ok(());
@@ -128,7 +132,8 @@ pub fn marks_of(
 fn search_on(alloc: Global, search: &mut ClauseSearch) -> Result<Outcome, Exhausted>
     requires consistent { IsConsistent search.old }
     requires root { IsRootTurn search.old }
-    ensures outcome { IfOk result (λ outcome. (given : List (Vec Literal Global)) (numbers : List ℕ) → IsLoaded given numbers search.old → EndsWith given numbers (trail_of search.new) outcome) }
+    ensures outcome { IfOk result (λ outcome.
+        (given : List (Vec Literal Global)) (numbers : List ℕ) → IsLoaded given numbers search.old → EndsWith given numbers (trail_of search.new) outcome) }
     ensures memory { IfErr result (λ e. e ≡ Exhausted.Memory) }
 {
     match search.run(alloc, &NoPackages { alloc }, usize::MAX, usize::MAX) {
@@ -153,7 +158,8 @@ fn decide_by<N, S>(
     requires root { IsRootTurn search.old }
     requires size { length marks.now ≡ length rules.now }
     requires form { DecideRules rules.now form.now.variables form.now.clauses.items }
-    requires marked { AreMarkedClauses marks.now form.now.clauses.items marked.now.clauses.items marked.now.places.items (numbers_of marked.now.requirements.items) }
+    requires marked { AreMarkedClauses marks.now form.now.clauses.items marked.now.clauses.items marked.now.places.items
+        (numbers_of marked.now.requirements.items) }
     ensures verdict { IfOk result (VerdictIs rules.now marks.now) }
     ensures memory { IfErr result (λ e. e ≡ Exhausted.Memory) }
 {

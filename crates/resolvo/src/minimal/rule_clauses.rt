@@ -6,7 +6,8 @@ ghost use Rattle.resolver_clause_store.specs.Laws.{IsIdentity};
 ghost use Rattle.resolver_clause_store.specs.Variables.{AreDistinct, Keeps};
 ghost use Rattle.resolver_clause_store.specs.declared.Rule.{Rule};
 ghost use Rattle.resolvo.specs.AddedLines.{Adds};
-ghost use Rattle.resolvo.specs.RuleClauses.{AreClausesOf, DecideRules, IsLiteralOf, all_lines, asker_atoms, asking, atom, bit_lines, candidate_atoms, condition_lines, lines_of, list_atoms, member_lines, plain};
+ghost use Rattle.resolvo.specs.RuleClauses.{AreClausesOf, DecideRules, IsLiteralOf, all_lines, asker_atoms, asking, atom, bit_lines, candidate_atoms};
+ghost use Rattle.resolvo.specs.RuleClauses.{condition_lines, lines_of, list_atoms, member_lines, plain};
 ghost use Rattle.resolvo.specs.declared.minimal.rule_clauses.Proposition.{Proposition};
 ghost use Rattle.resolvo.specs.declared.minimal.rule_clauses.Proposition.TheVariants.{Member};
 
@@ -50,7 +51,8 @@ pub struct RuleClause {
 fn clauses_decide_rules<N: Eq, S: Eq>()
     requires names { IsIdentity N.eq }
     requires solvables { IsIdentity S.eq }
-    ensures { (rules : List (Rule N S)) (propositions : List (Proposition N S)) (clauses : List RuleClause) → AreClausesOf rules propositions clauses → DecideRules rules (length propositions) clauses }
+    ensures { (rules : List (Rule N S)) (propositions : List (Proposition N S)) (clauses : List RuleClause) → AreClausesOf rules propositions clauses →
+        DecideRules rules (length propositions) clauses }
 {}
 
 /// The clauses of a list of rules.
@@ -339,7 +341,8 @@ fn add_requirement<N: Copy + Eq + Hash + Drop, S: Copy + Eq + Hash + Drop>(
 ) -> Result<(), Exhausted>
     requires names { IsIdentity N.eq }
     requires solvables { IsIdentity S.eq }
-    ensures { OnOk result (Adds propositions.old.keys propositions.new.keys clauses.old.items clauses.new.items (asking rule (asker_atoms by ++ (list_atoms rule (length when.now) ++ candidate_atoms candidates.now)) ∷ condition_lines rule 0 when.now)) }
+    ensures { OnOk result (Adds propositions.old.keys propositions.new.keys clauses.old.items clauses.new.items
+        (asking rule (asker_atoms by ++ (list_atoms rule (length when.now) ++ candidate_atoms candidates.now)) ∷ condition_lines rule 0 when.now)) }
 {
     let atoms = asking_atoms(*clauses.allocator(), rule, by, when.len(), candidates)?;
     add_asking(propositions, clauses, rule, &atoms)?;
@@ -357,7 +360,8 @@ fn add_constraint<N: Copy + Eq + Hash + Drop, S: Copy + Eq + Hash + Drop>(
 ) -> Result<(), Exhausted>
     requires names { IsIdentity N.eq }
     requires solvables { IsIdentity S.eq }
-    ensures { OnOk result (Adds propositions.old.keys propositions.new.keys clauses.old.items clauses.new.items (plain rule (asker_atoms by ++ atom (Member candidate) false ∷ []) ∷ [])) }
+    ensures { OnOk result (Adds propositions.old.keys propositions.new.keys clauses.old.items clauses.new.items
+        (plain rule (asker_atoms by ++ atom (Member candidate) false ∷ []) ∷ [])) }
 {
     let excluded = Atom {
         proposition: Proposition::Member(candidate),
@@ -388,7 +392,8 @@ fn add_exclusion<N: Copy + Eq + Hash + Drop, S: Copy + Eq + Hash + Drop>(
 ) -> Result<(), Exhausted>
     requires names { IsIdentity N.eq }
     requires solvables { IsIdentity S.eq }
-    ensures { OnOk result (Adds propositions.old.keys propositions.new.keys clauses.old.items clauses.new.items (plain rule (atom (Member solvable) false ∷ []) ∷ [])) }
+    ensures { OnOk result (Adds propositions.old.keys propositions.new.keys clauses.old.items clauses.new.items
+        (plain rule (atom (Member solvable) false ∷ []) ∷ [])) }
 {
     let absent = Atom {
         proposition: Proposition::Member(solvable),

@@ -1,6 +1,7 @@
 //! Which clauses are watched, and which have to be looked at again.
 
-ghost use Rattle.std.specs.Prelude.{◌≡◌, ◌≢◌, ◌⊎◌, ℕ, ◌+◌, ◌*◌, ◌<◌, ◌≤◌, ◌++◌, ◌∷◌, [], All, Contains, IfNone, IfOk, IfSome, List, MatchBool, MatchOption, None, OnOk, Some, Vec, length, slice_index_or, true, get_or};
+ghost use Rattle.std.specs.Prelude.{◌≡◌, ◌≢◌, ◌⊎◌, ℕ, ◌+◌, ◌*◌, ◌<◌, ◌≤◌, ◌++◌, ◌∷◌, [], All, Contains, IfNone, IfOk, IfSome, List, MatchBool, MatchOption};
+ghost use Rattle.std.specs.Prelude.{None, OnOk, Some, Vec, length, slice_index_or, true, get_or};
 ghost use Rattle.std.specs.declared.alloc.Global.{Global};
 ghost use Rattle.resolver_clause_store.specs.Formula.{AreBelow, IsBelow, clause_at};
 ghost use Rattle.resolver_clause_store.specs.Outcomes.{IsSatisfied};
@@ -36,7 +37,9 @@ impl Propagator {
     /// Makes room for the literals of new variables, up to this many variables.
     pub fn grow(&mut self, variables: usize) -> Result<(), AllocError>
         requires { length (lists_of self.old.watches) ≤ 2 * variables }
-        ensures propagator { OnOk result ((table : List (Vec Literal Global)) (old new : Trail) → IsGrown old new variables → IsPropagator table old self.old → IsPropagator table new self.new) }
+        ensures propagator { OnOk result
+            ((table : List (Vec Literal Global)) (old new : Trail) → IsGrown old new variables → IsPropagator table old self.old →
+            IsPropagator table new self.new) }
         ensures pairs { pairs_of self.new.watches ≡ pairs_of self.old.watches }
     {
         self.watches.grow(*self.late.allocator(), variables)?;
@@ -61,7 +64,9 @@ impl Propagator {
 
     /// Follows a trail of which whole levels were taken away.
     pub fn cut(&mut self, trail: &Trail) -> Result<(), AllocError>
-        ensures propagator { OnOk result ((table : List (Vec Literal Global)) (before : Trail) → IsLower before trail.now → IsPropagator table before self.old → IsPropagator table trail.now self.new) }
+        ensures propagator { OnOk result
+            ((table : List (Vec Literal Global)) (before : Trail) → IsLower before trail.now → IsPropagator table before self.old →
+            IsPropagator table trail.now self.new) }
         ensures watches { self.new.watches ≡ self.old.watches }
     {
         self.recall(trail.len())?;
@@ -71,7 +76,9 @@ impl Propagator {
 
     /// Follows a trail of which the first places are left: all of it is to be propagated again.
     pub fn forget(&mut self, trail: &Trail) -> Result<(), AllocError>
-        ensures propagator { OnOk result ((table : List (Vec Literal Global)) (before : Trail) (count : ℕ) → count ≤ length_of before → IsCut before trail.now count → IsPropagator table before self.old → IsPropagator table trail.now self.new) }
+        ensures propagator { OnOk result
+            ((table : List (Vec Literal Global)) (before : Trail) (count : ℕ) → count ≤ length_of before → IsCut before trail.now count →
+            IsPropagator table before self.old → IsPropagator table trail.now self.new) }
         ensures watches { self.new.watches ≡ self.old.watches }
     {
         self.recall(trail.len())?;
@@ -86,7 +93,9 @@ impl Propagator {
         requires last { EndsWith (pending_of self.old) number }
         requires inside { number < attached_of self.old }
         requires below { (literal : Literal) → IsWatching (pairs_of self.old.watches) number literal → literal.variable < variable_count trail.now }
-        ensures propagator { OnOk result ((table : List (Vec Literal Global)) → IsSatisfied trail.now (clause_at table number) → IsPropagator table trail.now self.old → IsPropagator table trail.now self.new) }
+        ensures propagator { OnOk result
+            ((table : List (Vec Literal Global)) → IsSatisfied trail.now (clause_at table number) → IsPropagator table trail.now self.old →
+            IsPropagator table trail.now self.new) }
         ensures watches { self.new.watches ≡ self.old.watches }
         ensures fewer { OnOk result (length (pending_of self.new) + 1 ≡ length (pending_of self.old)) }
     {
@@ -108,7 +117,8 @@ impl Propagator {
         requires last { EndsWith (pending_of self.old) number }
         requires inside { number < attached_of self.old }
         requires below { (literal : Literal) → IsWatching (pairs_of self.old.watches) number literal → literal.variable < variable_count trail.now }
-        ensures propagator { (table : List (Vec Literal Global)) → IsOpen trail.now (clause_at table number) → IsPropagator table trail.now self.old → IsPropagator table trail.now self.new }
+        ensures propagator { (table : List (Vec Literal Global)) → IsOpen trail.now (clause_at table number) → IsPropagator table trail.now self.old →
+            IsPropagator table trail.now self.new }
         ensures watches { self.new.watches ≡ self.old.watches }
         ensures fewer { length (pending_of self.new) + 1 ≡ length (pending_of self.old) }
     {
@@ -123,7 +133,9 @@ impl Propagator {
     pub fn attach(&mut self, trail: &Trail, literals: &[Literal]) -> Result<(), AllocError>
         requires below { IsBelow (variable_count trail.now) literals.now }
         requires lists { length (lists_of self.old.watches) ≡ 2 * variable_count trail.now }
-        ensures propagator { OnOk result ((table : List (Vec Literal Global)) (clause : Vec Literal Global) → clause.items ≡ literals.now → IsPropagator table trail.now self.old → IsPropagator (table ++ clause ∷ []) trail.now self.new) }
+        ensures propagator { OnOk result
+            ((table : List (Vec Literal Global)) (clause : Vec Literal Global) → clause.items ≡ literals.now → IsPropagator table trail.now self.old →
+            IsPropagator (table ++ clause ∷ []) trail.now self.new) }
         ensures kept { (number : ℕ) → number < attached_of self.old → pair_at (pairs_of self.new.watches) number ≡ pair_at (pairs_of self.old.watches) number }
         ensures own { OnOk result (OwnsPair literals.now (pair_at (pairs_of self.new.watches) (attached_of self.old))) }
     {
@@ -257,7 +269,8 @@ fn settle(
     requires justified { IsJustified table.now trail.old }
     requires propagator { IsPropagator table.now trail.old propagator.old }
     requires last { EndsWith (pending_of propagator.old) number }
-    ensures answer { IfOk result (λ holds. MatchBool holds (length (pending_of propagator.new) + 1 ≡ length (pending_of propagator.old)) (IsConflict trail.new table.now number)) }
+    ensures answer { IfOk result (λ holds.
+        MatchBool holds (length (pending_of propagator.new) + 1 ≡ length (pending_of propagator.old)) (IsConflict trail.new table.now number)) }
     ensures propagator { OnOk result (IsPropagator table.now trail.new propagator.new) }
     ensures watches { propagator.new.watches ≡ propagator.old.watches }
     ensures step { OnOk result (Forces table.now trail.old trail.new) }

@@ -31,7 +31,9 @@ impl Propagator {
     /// Follows a trail of which the first places are left. Where a level began behind them, what was propagated of them
     /// stays so.
     pub fn return_to(&mut self, trail: &Trail, began: bool) -> Result<(), AllocError>
-        ensures propagator { OnOk result ((table : List (Vec Literal Global)) (before : Trail) (count : ℕ) → count ≤ length_of before → (began ≡ true → BeginsLevel before count) → IsCut before trail.now count → IsPropagator table before self.old → IsPropagator table trail.now self.new) }
+        ensures propagator { OnOk result
+            ((table : List (Vec Literal Global)) (before : Trail) (count : ℕ) → count ≤ length_of before → (began ≡ true → BeginsLevel before count) →
+            IsCut before trail.now count → IsPropagator table before self.old → IsPropagator table trail.now self.new) }
         ensures watches { self.new.watches ≡ self.old.watches }
     {
         if began {

@@ -120,7 +120,8 @@ fn follow(
 fn set(trail: &mut Trail, literal: Literal) -> Result<(), AllocError>
     ensures size { OnOk result (variable_count trail.new ≡ variable_count trail.old) }
     ensures justified { OnOk result ((table : List (Vec Literal Global)) → IsJustified table trail.old → IsJustified table trail.new) }
-    ensures propagator { OnOk result ((table : List (Vec Literal Global)) (propagator : Propagator) → IsPropagator table trail.old propagator → IsPropagator table trail.new propagator) }
+    ensures propagator { OnOk result
+        ((table : List (Vec Literal Global)) (propagator : Propagator) → IsPropagator table trail.old propagator → IsPropagator table trail.new propagator) }
 {
     if literal.variable.index() >= trail.variable_count() {
         return Ok(());

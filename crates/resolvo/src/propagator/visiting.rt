@@ -115,7 +115,8 @@ impl Propagator {
         ensures watches { self.new.watches ≡ self.old.watches }
         ensures pending { self.new.pending ≡ self.old.pending }
         ensures head { self.new.head ≡ self.old.head }
-        ensures late { OnOk result (late_of self.new ≡ (if falsified.now.is_top then late_of self.old else late_of self.old ++ record { number = number; length = length_of trail.now } ∷ [])) }
+        ensures late { OnOk result (late_of self.new ≡
+            (if falsified.now.is_top then late_of self.old else late_of self.old ++ record { number = number; length = length_of trail.now } ∷ [])) }
     {
         if falsified.is_top {
             return Ok(());

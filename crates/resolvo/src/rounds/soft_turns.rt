@@ -35,7 +35,8 @@ fn has_any<T: Eq + Hash>(set: &IndexSet<T>, list: &[T]) -> bool
 }
 
 impl<N: Copy + Eq + Hash + Drop, S: Copy + Eq + Hash + Drop> Rounds<N, S> {
-    ghost use Rattle.resolvo.specs.RoundStates.{AreRounds, HasAllClauses, HaveTurned, IsBetween, IsStanding, IsStill, IsStuck, IsUpToDate, KeepsRoom, chosen_of, notes_of};
+    ghost use Rattle.resolvo.specs.RoundStates.{AreRounds, HasAllClauses, HaveTurned, IsBetween, IsStanding, IsStill, IsStuck, IsUpToDate, KeepsRoom};
+    ghost use Rattle.resolvo.specs.RoundStates.{chosen_of, notes_of};
 
     /// The turns of candidates, of packages that were asked, until one is accepted. Answers whether one is.
     fn take_first<D: DependencyProvider<NameId = N, SolvableId = S>>(
@@ -54,7 +55,10 @@ impl<N: Copy + Eq + Hash + Drop, S: Copy + Eq + Hash + Drop> Rounds<N, S> {
         ensures rounds { OnOk result (AreRounds (D.universe provider.now) self.new) }
         ensures still { OnOk result (IsStill self.new) }
         ensures counted { OnOk result (HasAllClauses self.new) }
-        ensures turned { IfOk result (λ is_chosen. (root : Demands) (taken refused seeds : List S) (packages : List N) → IsWithin candidates.now seeds → IsStanding (D.universe provider.now) root taken refused seeds packages self.old → HaveTurned (D.universe provider.now) root taken seeds packages candidates.now self.old self.new is_chosen) }
+        ensures turned { IfOk result (λ is_chosen.
+            (root : Demands) (taken refused seeds : List S) (packages : List N) → IsWithin candidates.now seeds →
+            IsStanding (D.universe provider.now) root taken refused seeds packages self.old →
+            HaveTurned (D.universe provider.now) root taken seeds packages candidates.now self.old self.new is_chosen) }
         ensures limits { KeepsRoom self.old self.new }
         ensures refusal { IfErr result (IsStop (D.may_cancel provider.now) (IsStuck self.new)) }
     {
@@ -81,8 +85,12 @@ impl<N: Copy + Eq + Hash + Drop, S: Copy + Eq + Hash + Drop> Rounds<N, S> {
         ensures still { OnOk result (IsStill self.new) }
         ensures counted { OnOk result (HasAllClauses self.new) }
         ensures chosen { OnOk result (chosen_of self.new ≡ chosen_of self.old) }
-        ensures alone { OnOk result (AsksOnly (D.universe provider.now) ((D.universe provider.now).version_set_name version_set) (notes_of self.old) (notes_of self.new)) }
-        ensures standing { OnOk result ((root : Demands) (taken refused seeds : List S) (packages : List N) → Contains packages ((D.universe provider.now).version_set_name version_set) → IsStanding (D.universe provider.now) root taken refused seeds packages self.old → IsStanding (D.universe provider.now) root taken refused seeds packages self.new) }
+        ensures alone { OnOk result (AsksOnly (D.universe provider.now) ((D.universe provider.now).version_set_name version_set) (notes_of self.old)
+            (notes_of self.new)) }
+        ensures standing { OnOk result
+            ((root : Demands) (taken refused seeds : List S) (packages : List N) → Contains packages ((D.universe provider.now).version_set_name version_set) →
+            IsStanding (D.universe provider.now) root taken refused seeds packages self.old →
+            IsStanding (D.universe provider.now) root taken refused seeds packages self.new) }
         ensures limits { KeepsRoom self.old self.new }
         ensures refusal { IfErr result (IsStop (D.may_cancel provider.now) (IsStuck self.new)) }
     {
@@ -107,7 +115,8 @@ impl<N: Copy + Eq + Hash + Drop, S: Copy + Eq + Hash + Drop> Rounds<N, S> {
         ensures rounds { OnOk result (AreRounds (D.universe provider.now) self.new) }
         ensures still { OnOk result (IsStill self.new) }
         ensures counted { OnOk result (HasAllClauses self.new) }
-        ensures between { OnOk result ((root : Demands) (done : List (SoftRequirementOf S)) → IsBetween (D.universe provider.now) root done self.old → IsBetween (D.universe provider.now) root (done ++ Matching version_set ∷ []) self.new) }
+        ensures between { OnOk result ((root : Demands) (done : List (SoftRequirementOf S)) → IsBetween (D.universe provider.now) root done self.old →
+            IsBetween (D.universe provider.now) root (done ++ Matching version_set ∷ []) self.new) }
         ensures limits { KeepsRoom self.old self.new }
         ensures refusal { IfErr result (IsStop (D.may_cancel provider.now) (IsStuck self.new)) }
     {
@@ -135,7 +144,8 @@ impl<N: Copy + Eq + Hash + Drop, S: Copy + Eq + Hash + Drop> Rounds<N, S> {
         ensures rounds { OnOk result (AreRounds (D.universe provider.now) self.new) }
         ensures still { OnOk result (IsStill self.new) }
         ensures counted { OnOk result (HasAllClauses self.new) }
-        ensures between { OnOk result ((root : Demands) (done : List (SoftRequirementOf S)) → IsBetween (D.universe provider.now) root done self.old → IsBetween (D.universe provider.now) root (done ++ requirement ∷ []) self.new) }
+        ensures between { OnOk result ((root : Demands) (done : List (SoftRequirementOf S)) → IsBetween (D.universe provider.now) root done self.old →
+            IsBetween (D.universe provider.now) root (done ++ requirement ∷ []) self.new) }
         ensures limits { KeepsRoom self.old self.new }
         ensures refusal { IfErr result (IsStop (D.may_cancel provider.now) (IsStuck self.new)) }
     {
@@ -171,7 +181,8 @@ impl<N: Copy + Eq + Hash + Drop, S: Copy + Eq + Hash + Drop> Rounds<N, S> {
         ensures rounds { OnOk result (AreRounds (D.universe provider.now) self.new) }
         ensures still { OnOk result (IsStill self.new) }
         ensures counted { OnOk result (HasAllClauses self.new) }
-        ensures between { OnOk result ((root : Demands) → IsBetween (D.universe provider.now) root [] self.old → (items : List S) × Drains I.next_gives soft items × IsBetween (D.universe provider.now) root (map SoftSolvable items) self.new) }
+        ensures between { OnOk result ((root : Demands) → IsBetween (D.universe provider.now) root [] self.old → (items : List S) ×
+            Drains I.next_gives soft items × IsBetween (D.universe provider.now) root (map SoftSolvable items) self.new) }
         ensures limits { KeepsRoom self.old self.new }
         ensures refusal { IfErr result (IsStop (D.may_cancel provider.now) (IsStuck self.new)) }
     {
@@ -195,7 +206,8 @@ impl<N: Copy + Eq + Hash + Drop, S: Copy + Eq + Hash + Drop> Rounds<N, S> {
         ensures is_true { IsTrueCache (D.universe provider.now) cache.new }
         ensures rounds { OnOk result (AreRounds (D.universe provider.now) self.new) }
         ensures counted { OnOk result (HasAllClauses self.new) }
-        ensures between { OnOk result ((root : Demands) (done : List (SoftRequirementOf S)) → IsBetween (D.universe provider.now) root done self.old → IsBetween (D.universe provider.now) root (done ++ list.now) self.new) }
+        ensures between { OnOk result ((root : Demands) (done : List (SoftRequirementOf S)) → IsBetween (D.universe provider.now) root done self.old →
+            IsBetween (D.universe provider.now) root (done ++ list.now) self.new) }
         ensures limits { KeepsRoom self.old self.new }
         ensures refusal { IfErr result (IsStop (D.may_cancel provider.now) (IsStuck self.new)) }
     {
@@ -222,7 +234,8 @@ impl<N: Copy + Eq + Hash + Drop, S: Copy + Eq + Hash + Drop> Rounds<N, S> {
         ensures rounds { OnOk result (AreRounds (D.universe provider.now) self.new) }
         ensures still { OnOk result (IsStill self.new) }
         ensures counted { OnOk result (HasAllClauses self.new) }
-        ensures between { OnOk result ((root : Demands) → IsBetween (D.universe provider.now) root [] self.old → (items : List S) × AreItems I.next_gives soft items × IsBetween (D.universe provider.now) root (map SoftSolvable items) self.new) }
+        ensures between { OnOk result ((root : Demands) → IsBetween (D.universe provider.now) root [] self.old → (items : List S) ×
+            AreItems I.next_gives soft items × IsBetween (D.universe provider.now) root (map SoftSolvable items) self.new) }
         ensures limits { KeepsRoom self.old self.new }
         ensures refusal { IfErr result (IsStop (D.may_cancel provider.now) (IsStuck self.new)) }
     {
@@ -255,7 +268,8 @@ impl<N: Copy + Eq + Hash + Drop, S: Copy + Eq + Hash + Drop> Rounds<N, S> {
         ensures is_true { IsTrueCache (D.universe provider.now) cache.new }
         ensures rounds { OnOk result (AreRounds (D.universe provider.now) self.new) }
         ensures counted { OnOk result (HasAllClauses self.new) }
-        ensures between { OnOk result ((root : Demands) → IsBetween (D.universe provider.now) root [] self.old → (items : List S) × AreItems I.next_gives soft items × IsBetween (D.universe provider.now) root (map SoftSolvable items ++ list.now) self.new) }
+        ensures between { OnOk result ((root : Demands) → IsBetween (D.universe provider.now) root [] self.old → (items : List S) ×
+            AreItems I.next_gives soft items × IsBetween (D.universe provider.now) root (map SoftSolvable items ++ list.now) self.new) }
         ensures limits { KeepsRoom self.old self.new }
         ensures refusal { IfErr result (IsStop (D.may_cancel provider.now) (IsStuck self.new)) }
     {

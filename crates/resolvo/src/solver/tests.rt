@@ -196,8 +196,10 @@ fn is_wanted(solver: &Solver<TestProvider>, outcome: &Outcome, wanted: &Wanted<'
 
 /// Whether a problem ends with this.
 fn ends_with(solver: &mut Solver<TestProvider>, problem: TestProblem, wanted: &Wanted<'_>) -> bool
-    requires { IsSound (test_universe (provider_in solver.old).endless (provider_in solver.old).requirements.items (provider_in solver.old).constraints.items) solver.old }
-    ensures { IsSound (test_universe (provider_in solver.new).endless (provider_in solver.new).requirements.items (provider_in solver.new).constraints.items) solver.new }
+    requires { IsSound (test_universe (provider_in solver.old).endless (provider_in solver.old).requirements.items
+        (provider_in solver.old).constraints.items) solver.old }
+    ensures { IsSound (test_universe (provider_in solver.new).endless (provider_in solver.new).requirements.items
+        (provider_in solver.new).constraints.items) solver.new }
 {
     let outcome = solver.solve(problem);
     is_wanted(solver, &outcome, wanted)
@@ -205,8 +207,10 @@ fn ends_with(solver: &mut Solver<TestProvider>, problem: TestProblem, wanted: &W
 
 /// Whether the problem that asks for this ends with that.
 fn solves(solver: &mut Solver<TestProvider>, asked: &Asked<'_>, wanted: &Wanted<'_>) -> bool
-    requires { IsSound (test_universe (provider_in solver.old).endless (provider_in solver.old).requirements.items (provider_in solver.old).constraints.items) solver.old }
-    ensures { IsSound (test_universe (provider_in solver.new).endless (provider_in solver.new).requirements.items (provider_in solver.new).constraints.items) solver.new }
+    requires { IsSound (test_universe (provider_in solver.old).endless (provider_in solver.old).requirements.items
+        (provider_in solver.old).constraints.items) solver.old }
+    ensures { IsSound (test_universe (provider_in solver.new).endless (provider_in solver.new).requirements.items
+        (provider_in solver.new).constraints.items) solver.new }
 {
     match problem_of(solver.alloc, asked) {
         Ok(problem) => ends_with(solver, problem, wanted),
@@ -216,24 +220,30 @@ fn solves(solver: &mut Solver<TestProvider>, asked: &Asked<'_>, wanted: &Wanted<
 
 /// Sets how many variables there may be.
 fn limit_variables(solver: &mut Solver<TestProvider>, limit: u16)
-    requires { IsSound (test_universe (provider_in solver.old).endless (provider_in solver.old).requirements.items (provider_in solver.old).constraints.items) solver.old }
-    ensures { IsSound (test_universe (provider_in solver.new).endless (provider_in solver.new).requirements.items (provider_in solver.new).constraints.items) solver.new }
+    requires { IsSound (test_universe (provider_in solver.old).endless (provider_in solver.old).requirements.items
+        (provider_in solver.old).constraints.items) solver.old }
+    ensures { IsSound (test_universe (provider_in solver.new).endless (provider_in solver.new).requirements.items
+        (provider_in solver.new).constraints.items) solver.new }
 {
     solver.variable_limit = limit as usize;
 }
 
 /// Sets how many clauses there may be.
 fn limit_clauses(solver: &mut Solver<TestProvider>, limit: u16)
-    requires { IsSound (test_universe (provider_in solver.old).endless (provider_in solver.old).requirements.items (provider_in solver.old).constraints.items) solver.old }
-    ensures { IsSound (test_universe (provider_in solver.new).endless (provider_in solver.new).requirements.items (provider_in solver.new).constraints.items) solver.new }
+    requires { IsSound (test_universe (provider_in solver.old).endless (provider_in solver.old).requirements.items
+        (provider_in solver.old).constraints.items) solver.old }
+    ensures { IsSound (test_universe (provider_in solver.new).endless (provider_in solver.new).requirements.items
+        (provider_in solver.new).constraints.items) solver.new }
 {
     solver.clause_limit = limit as usize;
 }
 
 /// Sets how many learnt clauses there may be.
 fn limit_learning(solver: &mut Solver<TestProvider>, limit: u16)
-    requires { IsSound (test_universe (provider_in solver.old).endless (provider_in solver.old).requirements.items (provider_in solver.old).constraints.items) solver.old }
-    ensures { IsSound (test_universe (provider_in solver.new).endless (provider_in solver.new).requirements.items (provider_in solver.new).constraints.items) solver.new }
+    requires { IsSound (test_universe (provider_in solver.old).endless (provider_in solver.old).requirements.items
+        (provider_in solver.old).constraints.items) solver.old }
+    ensures { IsSound (test_universe (provider_in solver.new).endless (provider_in solver.new).requirements.items
+        (provider_in solver.new).constraints.items) solver.new }
 {
     solver.learnt_limit = limit as usize;
 }
@@ -243,8 +253,10 @@ fn conflict_in(
     solver: &mut Solver<TestProvider>,
     problem: TestProblem,
 ) -> Option<Conflict<u32, u32>>
-    requires { IsSound (test_universe (provider_in solver.old).endless (provider_in solver.old).requirements.items (provider_in solver.old).constraints.items) solver.old }
-    ensures { IsSound (test_universe (provider_in solver.new).endless (provider_in solver.new).requirements.items (provider_in solver.new).constraints.items) solver.new }
+    requires { IsSound (test_universe (provider_in solver.old).endless (provider_in solver.old).requirements.items
+        (provider_in solver.old).constraints.items) solver.old }
+    ensures { IsSound (test_universe (provider_in solver.new).endless (provider_in solver.new).requirements.items
+        (provider_in solver.new).constraints.items) solver.new }
 {
     match solver.solve(problem) {
         Err(UnsolvableOrCancelled::Unsolvable(conflict)) => Some(conflict),
@@ -254,8 +266,10 @@ fn conflict_in(
 
 /// The conflict of the problem that asks for this, where it has one.
 fn conflict_of(solver: &mut Solver<TestProvider>, asked: &Asked<'_>) -> Option<Conflict<u32, u32>>
-    requires { IsSound (test_universe (provider_in solver.old).endless (provider_in solver.old).requirements.items (provider_in solver.old).constraints.items) solver.old }
-    ensures { IsSound (test_universe (provider_in solver.new).endless (provider_in solver.new).requirements.items (provider_in solver.new).constraints.items) solver.new }
+    requires { IsSound (test_universe (provider_in solver.old).endless (provider_in solver.old).requirements.items
+        (provider_in solver.old).constraints.items) solver.old }
+    ensures { IsSound (test_universe (provider_in solver.new).endless (provider_in solver.new).requirements.items
+        (provider_in solver.new).constraints.items) solver.new }
 {
     match problem_of(solver.alloc, asked) {
         Ok(problem) => conflict_in(solver, problem),
@@ -270,8 +284,10 @@ fn has_graph_afterwards(
     second: &Asked<'_>,
     chosen: &[u32],
 ) -> bool
-    requires { IsSound (test_universe (provider_in solver.old).endless (provider_in solver.old).requirements.items (provider_in solver.old).constraints.items) solver.old }
-    ensures { IsSound (test_universe (provider_in solver.new).endless (provider_in solver.new).requirements.items (provider_in solver.new).constraints.items) solver.new }
+    requires { IsSound (test_universe (provider_in solver.old).endless (provider_in solver.old).requirements.items
+        (provider_in solver.old).constraints.items) solver.old }
+    ensures { IsSound (test_universe (provider_in solver.new).endless (provider_in solver.new).requirements.items
+        (provider_in solver.new).constraints.items) solver.new }
 {
     let conflict = conflict_of(solver, first);
     solves(solver, second, &Wanted::Chosen(chosen)) & is_graph_right(solver, &conflict)
@@ -279,8 +295,10 @@ fn has_graph_afterwards(
 
 /// Takes a step, and says whether it comes to what is wanted.
 fn goes(solver: &mut Solver<TestProvider>, step: &Step<'_>) -> bool
-    requires { IsSound (test_universe (provider_in solver.old).endless (provider_in solver.old).requirements.items (provider_in solver.old).constraints.items) solver.old }
-    ensures { IsSound (test_universe (provider_in solver.new).endless (provider_in solver.new).requirements.items (provider_in solver.new).constraints.items) solver.new }
+    requires { IsSound (test_universe (provider_in solver.old).endless (provider_in solver.old).requirements.items
+        (provider_in solver.old).constraints.items) solver.old }
+    ensures { IsSound (test_universe (provider_in solver.new).endless (provider_in solver.new).requirements.items
+        (provider_in solver.new).constraints.items) solver.new }
 {
     match step {
         Step::StopAt(check) => {
@@ -306,8 +324,10 @@ fn goes(solver: &mut Solver<TestProvider>, step: &Step<'_>) -> bool
 
 /// Takes one step after another, and says whether each comes to what is wanted.
 fn all_go(solver: &mut Solver<TestProvider>, steps: &[Step<'_>]) -> bool
-    requires { IsSound (test_universe (provider_in solver.old).endless (provider_in solver.old).requirements.items (provider_in solver.old).constraints.items) solver.old }
-    ensures { IsSound (test_universe (provider_in solver.new).endless (provider_in solver.new).requirements.items (provider_in solver.new).constraints.items) solver.new }
+    requires { IsSound (test_universe (provider_in solver.old).endless (provider_in solver.old).requirements.items
+        (provider_in solver.old).constraints.items) solver.old }
+    ensures { IsSound (test_universe (provider_in solver.new).endless (provider_in solver.new).requirements.items
+        (provider_in solver.new).constraints.items) solver.new }
 {
     for step in steps {
         if !goes(solver, step) {
@@ -319,7 +339,8 @@ fn all_go(solver: &mut Solver<TestProvider>, steps: &[Step<'_>]) -> bool
 
 /// Whether a new solver has no clauses, and after these steps, each of which goes well, still what is stated.
 fn goes_through(solver: &mut Solver<TestProvider>, stated: &Stated<'_>, steps: &[Step<'_>]) -> bool
-    requires { IsSound (test_universe (provider_in solver.old).endless (provider_in solver.old).requirements.items (provider_in solver.old).constraints.items) solver.old }
+    requires { IsSound (test_universe (provider_in solver.old).endless (provider_in solver.old).requirements.items
+        (provider_in solver.old).constraints.items) solver.old }
 {
     let before = solver.clause_count();
     all_go(solver, steps)

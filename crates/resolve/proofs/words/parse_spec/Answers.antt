@@ -18,7 +18,8 @@ pub returns-then-not-is_name : goal.returns-then-not-is_name
 returns-then-not-is_name c =
     let cut : c.args.word.now ≡ c.in-Some-around.name.now ++ 64 ∷ c.in-Some-around.versions.now = search rules in
     let lacks : Lacks 64 c.in-Some-around.name.now = search rules in
-    spec_refused c.args.word.now c.in-Some-around.name.now c.in-Some-around.versions.now cut lacks (inl (λ (n : IsName c.in-Some-around.name.now). let yes = c.is_name.ensures.1 n in cc))
+    spec_refused c.args.word.now c.in-Some-around.name.now c.in-Some-around.versions.now cut lacks
+    (inl (λ (n : IsName c.in-Some-around.name.now). let yes = c.is_name.ensures.1 n in cc))
 
 pub returns-in_default-parse_versions : goal.returns-in_default-parse_versions
 returns-in_default-parse_versions c =

@@ -10,7 +10,8 @@ loop-version_set-preserved g c =
     record {
       is_true = held;
       keeps = KeepsAnswers-trans _ _ _ c.loop-version_set.invariant.keeps c.ask_sorted.ensures.keeps;
-      taken = taken_more u _ _ _ _ _ _ _ c.loop-version_set-test.true c.loop-version_set.invariant.taken (c.sorted.ensures u held) c.in_ok-add_all.ensures.added;
+      taken = taken_more u _ _ _ _ _ _ _ c.loop-version_set-test.true c.loop-version_set.invariant.taken
+          (c.sorted.ensures u held) c.in_ok-add_all.ensures.added;
     }
 
 pub returns : goal.returns
@@ -19,6 +20,8 @@ returns g c =
     record {
       is_true = c.loop-version_set.invariant.is_true;
       keeps = c.loop-version_set.invariant.keeps;
-      value = taken_all u _ g.met.D.Interner.solvables_are_values (g.met.D.Interner.solvables_compare c.args.provider.now) c.args.version_set_union _ _ _ _ c.loop-version_set-test.false c.version_sets_in_union-version_set-items.ensures (c.in_ok-from_slice.ensures.items ∙ c.as_slice.ensures.keys) c.loop-version_set.invariant.taken;
+      value = taken_all u _ g.met.D.Interner.solvables_are_values
+          (g.met.D.Interner.solvables_compare c.args.provider.now) c.args.version_set_union _ _ _ _ c.loop-version_set-test.false
+          c.version_sets_in_union-version_set-items.ensures (c.in_ok-from_slice.ensures.items ∙ c.as_slice.ensures.keys) c.loop-version_set.invariant.taken;
       refusal = tt;
     }

@@ -20,8 +20,12 @@ pub loop-version_set-preserved : goal.loop-version_set-preserved
 loop-version_set-preserved c =
     let before = c.loop-version_set.invariant in
     record {
-      every = All-grown_at (Contains c.loop-version_set.kept.keys) (Contains c.keep.new.kept.keys) c.args.list.now c.loop-version_set.version_set-index _ (λ y h. c.in_ok-keep.ensures.earlier y h) (omega arith) before.every c.in_ok-keep.ensures.here;
-      only = λ v h. ⊎_elim (λ k. before.only v k) (λ e. let Has : VersionSetId → Type 0 = λ w. Contains c.args.list.now w in subst Has e (Contains-get_or c.args.list.now c.loop-version_set.version_set-index _ (omega arith))) (c.in_ok-keep.ensures.only v h);
+      every = All-grown_at (Contains c.loop-version_set.kept.keys)
+          (Contains c.keep.new.kept.keys) c.args.list.now c.loop-version_set.version_set-index _ (λ y h. c.in_ok-keep.ensures.earlier y h)
+          (omega arith) before.every c.in_ok-keep.ensures.here;
+      only = λ v h. ⊎_elim (λ k. before.only v k) (λ e.
+          let Has : VersionSetId → Type 0 = λ w. Contains c.args.list.now w in
+          subst Has e (Contains-get_or c.args.list.now c.loop-version_set.version_set-index _ (omega arith))) (c.in_ok-keep.ensures.only v h);
       once = c.in_ok-keep.ensures.once before.once;
     }
 
@@ -30,7 +34,8 @@ returns-clause-same c =
     let before = c.loop-version_set.invariant in
     let every = All-done (Contains c.loop-version_set.kept.keys) c.args.list.now c.loop-version_set.version_set-index (omega arith) before.every in
     let Same : List VersionSetId → Type 0 = λ list. HaveSameMembers list c.args.list.now in
-    subst Same (sym (c.in_ok-from_slice.ensures.items ∙ c.as_slice.ensures.keys)) (record { left_within = before.only; right_within = λ v h. All-contains (Contains c.loop-version_set.kept.keys) c.args.list.now v every h })
+    subst Same (sym (c.in_ok-from_slice.ensures.items ∙ c.as_slice.ensures.keys))
+    (record { left_within = before.only; right_within = λ v h. All-contains (Contains c.loop-version_set.kept.keys) c.args.list.now v every h })
 
 pub returns-clause-once : goal.returns-clause-once
 returns-clause-once c =

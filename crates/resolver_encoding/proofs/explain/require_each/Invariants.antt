@@ -5,4 +5,5 @@ use Rattle.resolver_clause_store.specs.Statements.{requires}
 use Rattle.resolver_encoding.proofs.explain.require_each.Given as goal
 
 abbrev pub invariant-loop-requirer : goal.invariant-loop-requirer
-invariant-loop-requirer g l = AddsRules (SomeOf (take l.requirer-index l.requirers) (λ s st. st ≡ requires (BySolvable s) l.requirement l.candidates [])) l.fn.listing l.listing
+invariant-loop-requirer g l = AddsRules
+    (SomeOf (take l.requirer-index l.requirers) (λ s st. st ≡ requires (BySolvable s) l.requirement l.candidates [])) l.fn.listing l.listing

@@ -33,34 +33,41 @@ loop-number-preserved g c =
     let k = c.index-kinds-number.result in
     let says = States u c.in_ok-sources.sources in
     let adds = c.in_ok-add_stated.ensures.added in
-    let Are : List (ClauseKind g.row.D-NameId.Denot g.row.D-SolvableId.Denot) → Type 0 = λ ks. AreRulesOf (SomeOf ks says) c.add_stated.new.listing.rules.items in
+    let Are : List (ClauseKind g.row.D-NameId.Denot g.row.D-SolvableId.Denot) → Type 0 =
+    λ ks. AreRulesOf (SomeOf ks says) c.add_stated.new.listing.rules.items in
     record {
       is_true = c.in_ok-add_stated.ensures.is_true;
       marks = adds.marks;
-      rules = subst Are (sym (kinds_next c.args.kinds.now c.args.numbers.now i n k (search rules) (get_or_default c.args.numbers.now i 0 n (search rules)) (c.index-kinds-number.is ∙ get_or_default c.args.kinds.now n k InstallRoot (c.requires.within i 0 (search rules)))))
-          (rules_next c.loop-number.listing c.add_stated.new.listing (kinds_at c.args.kinds.now (take i c.args.numbers.now)) k says c.loop-number.invariant.rules adds);
+      rules = subst Are (sym (kinds_next c.args.kinds.now c.args.numbers.now i n k (search rules) (get_or_default c.args.numbers.now i 0 n (search rules))
+          (c.index-kinds-number.is ∙ get_or_default c.args.kinds.now n k InstallRoot (c.requires.within i 0 (search rules)))))
+          (rules_next c.loop-number.listing c.add_stated.new.listing
+          (kinds_at c.args.kinds.now (take i c.args.numbers.now)) k says c.loop-number.invariant.rules adds);
     }
 
 pub returns-clause-listed : goal.returns-clause-listed
 returns-clause-listed g c =
     let u = g.D.Interner.universe c.args.provider.now in
     let names = g.met.D.Interner.names_are_values in
-    let same : IsIdentity u.same_solvable = let Is : (g.row.D-SolvableId.Denot → g.row.D-SolvableId.Denot → Bool) → Type 0 = λ eq. IsIdentity eq in subst Is (sym (g.met.D.Interner.solvables_compare c.args.provider.now)) g.met.D.Interner.solvables_are_values in
+    let same : IsIdentity u.same_solvable = let Is : (g.row.D-SolvableId.Denot → g.row.D-SolvableId.Denot → Bool) → Type 0 = λ eq. IsIdentity eq in
+    subst Is (sym (g.met.D.Interner.solvables_compare c.args.provider.now)) g.met.D.Interner.solvables_are_values in
     let core = kinds_at c.args.kinds.now c.args.numbers.now in
     let says = States u c.in_ok-sources.sources in
     let Of : List ℕ → Type 0 = λ ns. AreRulesOf (SomeOf (kinds_at c.args.kinds.now ns) says) c.loop-number.listing.rules.items in
     let all = subst Of (take_all c.loop-number.number-index c.args.numbers.now (omega arith)) c.loop-number.invariant.rules in
     let By : List (Rule g.row.D-NameId.Denot g.row.D-SolvableId.Denot) → Type 0 = λ list. AreRulesOf (SomeOf core says) list in
-    all_listed u g.D.NameId.PartialEq.eq names same core c.in_ok-sources.sources c.in_ok-sources.ensures.are c.into_rules.result.items (subst By (ap (λ x. x.items) (sym c.into_rules.ensures)) all)
+    all_listed u g.D.NameId.PartialEq.eq names same core c.in_ok-sources.sources c.in_ok-sources.ensures.are c.into_rules.result.items
+    (subst By (ap (λ x. x.items) (sym c.into_rules.ensures)) all)
 
 pub returns-clause-stated : goal.returns-clause-stated
 returns-clause-stated g c =
     let u = g.D.Interner.universe c.args.provider.now in
     let names = g.met.D.Interner.names_are_values in
-    let same : IsIdentity u.same_solvable = let Is : (g.row.D-SolvableId.Denot → g.row.D-SolvableId.Denot → Bool) → Type 0 = λ eq. IsIdentity eq in subst Is (sym (g.met.D.Interner.solvables_compare c.args.provider.now)) g.met.D.Interner.solvables_are_values in
+    let same : IsIdentity u.same_solvable = let Is : (g.row.D-SolvableId.Denot → g.row.D-SolvableId.Denot → Bool) → Type 0 = λ eq. IsIdentity eq in
+    subst Is (sym (g.met.D.Interner.solvables_compare c.args.provider.now)) g.met.D.Interner.solvables_are_values in
     let core = kinds_at c.args.kinds.now c.args.numbers.now in
     let says = States u c.in_ok-sources.sources in
     let Of : List ℕ → Type 0 = λ ns. AreRulesOf (SomeOf (kinds_at c.args.kinds.now ns) says) c.loop-number.listing.rules.items in
     let all = subst Of (take_all c.loop-number.number-index c.args.numbers.now (omega arith)) c.loop-number.invariant.rules in
     let By : List (Rule g.row.D-NameId.Denot g.row.D-SolvableId.Denot) → Type 0 = λ list. AreRulesOf (SomeOf core says) list in
-    all_stated u g.D.NameId.PartialEq.eq names same core c.in_ok-sources.sources c.in_ok-sources.ensures.are c.into_rules.result.items (subst By (ap (λ x. x.items) (sym c.into_rules.ensures)) all)
+    all_stated u g.D.NameId.PartialEq.eq names same core c.in_ok-sources.sources c.in_ok-sources.ensures.are c.into_rules.result.items
+    (subst By (ap (λ x. x.items) (sym c.into_rules.ensures)) all)

@@ -20,7 +20,9 @@ loop-candidate-preserved g c =
       bounded = c.push_literal.ensures.bounded;
       limit = c.push_literal.ensures.limit ∙ before.limit;
       grows = Grows-trans _ _ _ before.grows c.push_literal.ensures.grows;
-      added = Adds-next (λ s. atom (Solvable s) true) _ _ _ _ _ c.args.candidates.now c.loop-candidate.candidate-index c.candidate-item.result _ c.push_literal.ensures.grows before.added (omega arith) (ap (λ s. atom (Solvable s) true) (sym c.candidate-item.is)) c.in_ok-push_literal.ensures.added;
+      added = Adds-next (λ s. atom (Solvable s) true) _ _ _ _ _ c.args.candidates.now c.loop-candidate.candidate-index c.candidate-item.result _
+          c.push_literal.ensures.grows before.added (omega arith)
+          (ap (λ s. atom (Solvable s) true) (sym c.candidate-item.is)) c.in_ok-push_literal.ensures.added;
     }
 
 pub returns-clause-added : goal.returns-clause-added

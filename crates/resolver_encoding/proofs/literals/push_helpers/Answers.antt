@@ -20,7 +20,8 @@ loop-version_set-preserved g c =
       bounded = c.push_literal.ensures.bounded;
       limit = c.push_literal.ensures.limit ∙ before.limit;
       grows = Grows-trans _ _ _ before.grows c.push_literal.ensures.grows;
-      added = Adds-next (λ v. atom (ConditionHelper v) false) _ _ _ _ _ c.args.disjunct.now c.loop-version_set.version_set-index _ _ c.push_literal.ensures.grows before.added (omega arith) refl c.in_ok-push_literal.ensures.added;
+      added = Adds-next (λ v. atom (ConditionHelper v) false) _ _ _ _ _ c.args.disjunct.now c.loop-version_set.version_set-index _ _
+          c.push_literal.ensures.grows before.added (omega arith) refl c.in_ok-push_literal.ensures.added;
     }
 
 pub returns-clause-added : goal.returns-clause-added

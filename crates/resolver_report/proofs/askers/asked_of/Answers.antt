@@ -7,12 +7,17 @@ use Rattle.resolver_report.proofs.askers.asked_of.Goals as goal
 
 pub loop-rule-preserved : goal.loop-rule-preserved
 loop-rule-preserved g c = record {
-  root = c.in_ok-add_asked.ensures.root ∙ flat_map_next root_asked_in c.args.rules.now c.loop-rule.by_root.items c.loop-rule.rule-index c.rule-item.result (omega arith) c.rule-item.is c.loop-rule.invariant.root;
-  solvables = λ s. c.in_ok-add_asked.ensures.solvables s ∙ flat_map_next (asked_in g.S.PartialEq.eq s) c.args.rules.now _ c.loop-rule.rule-index c.rule-item.result (omega arith) c.rule-item.is (c.loop-rule.invariant.solvables s);
+  root = c.in_ok-add_asked.ensures.root ∙
+      flat_map_next root_asked_in c.args.rules.now c.loop-rule.by_root.items c.loop-rule.rule-index c.rule-item.result
+      (omega arith) c.rule-item.is c.loop-rule.invariant.root;
+  solvables = λ s. c.in_ok-add_asked.ensures.solvables s ∙
+      flat_map_next (asked_in g.S.PartialEq.eq s) c.args.rules.now _ c.loop-rule.rule-index c.rule-item.result (omega arith) c.rule-item.is
+      (c.loop-rule.invariant.solvables s);
 }
 
 pub returns-clause-value : goal.returns-clause-value
 returns-clause-value g c = record {
   root = c.loop-rule.invariant.root ∙ ap (flat_map root_asked_in) (take_all c.loop-rule.rule-index c.args.rules.now (omega arith));
-  solvables = λ s. c.loop-rule.invariant.solvables s ∙ ap (flat_map (asked_in g.S.PartialEq.eq s)) (take_all c.loop-rule.rule-index c.args.rules.now (omega arith));
+  solvables = λ s. c.loop-rule.invariant.solvables s ∙
+      ap (flat_map (asked_in g.S.PartialEq.eq s)) (take_all c.loop-rule.rule-index c.args.rules.now (omega arith));
 }

@@ -14,11 +14,16 @@ sides_match x y = let same : same_side x y ≡ eq-value.it x y = search rules in
 
 pub returns-in-Some-get : goal.returns-in-Some-get
 returns-in-Some-get c = λ ks are.
-    c.deref.ensures.value ∙ ap items_at c.in-Some-get.ensures.value ∙ c.requires.classes c.in-Some.key ∙ class_of_key _ total-law sides_match ks c.args.keys.now are c.args.n c.index-keys-n.result c.in-Some.key c.requires.in_range c.index-keys-n.is c.in-Some.is
+    c.deref.ensures.value ∙ ap items_at c.in-Some-get.ensures.value ∙ c.requires.classes c.in-Some.key ∙
+    class_of_key _ total-law sides_match ks c.args.keys.now are c.args.n c.index-keys-n.result c.in-Some.key c.requires.in_range c.index-keys-n.is
+    c.in-Some.is
 
 pub returns-in-None-get : goal.returns-in-None-get
 returns-in-None-get c = λ ks are.
-    ap items_at c.in-None-get.ensures.value ∙ c.requires.classes c.in-Some.key ∙ class_of_key _ total-law sides_match ks c.args.keys.now are c.args.n c.index-keys-n.result c.in-Some.key c.requires.in_range c.index-keys-n.is c.in-Some.is
+    ap items_at c.in-None-get.ensures.value ∙ c.requires.classes c.in-Some.key ∙
+    class_of_key _ total-law sides_match ks c.args.keys.now are c.args.n c.index-keys-n.result c.in-Some.key c.requires.in_range c.index-keys-n.is
+    c.in-Some.is
 
 pub returns-in-None : goal.returns-in-None
-returns-in-None c = λ ks are. class_of_none _ total-law sides_match ks c.args.keys.now are c.args.n c.index-keys-n.result c.requires.in_range c.index-keys-n.is c.in-None.is
+returns-in-None c = λ ks are. class_of_none _ total-law sides_match ks c.args.keys.now are c.args.n c.index-keys-n.result c.requires.in_range c.index-keys-n.is
+    c.in-None.is

@@ -19,8 +19,10 @@ loop-place-preserved g c =
     let source : e.source.0 < c.args.count = subst HasSource (sym c.index-edges-place.is) (c.requires.sources k e (omega arith)) in
     let target : e.target.0 < c.args.count = subst HasTarget (sym c.index-edges-place.is) (c.requires.targets k e (omega arith)) in
     record {
-      from = places_more c.args.count leaves c.args.edges.now k e e.source.0 (lists_in c.loop-place.from.items) (lists_in c.push_at.new.lists.items) (omega arith) c.index-edges-place.is (λ n. refl) source c.in_ok-push_at.ensures.ok c.loop-place.invariant.from;
-      to = places_more c.args.count enters c.args.edges.now k e e.target.0 (lists_in c.loop-place.to.items) (lists_in c.push_at-in-loop-place.new.lists.items) (omega arith) c.index-edges-place.is (λ n. refl) target c.in_ok-push_at-2.ensures.ok c.loop-place.invariant.to;
+      from = places_more c.args.count leaves c.args.edges.now k e e.source.0 (lists_in c.loop-place.from.items) (lists_in c.push_at.new.lists.items)
+          (omega arith) c.index-edges-place.is (λ n. refl) source c.in_ok-push_at.ensures.ok c.loop-place.invariant.from;
+      to = places_more c.args.count enters c.args.edges.now k e e.target.0 (lists_in c.loop-place.to.items) (lists_in c.push_at-in-loop-place.new.lists.items)
+          (omega arith) c.index-edges-place.is (λ n. refl) target c.in_ok-push_at-2.ensures.ok c.loop-place.invariant.to;
     }
 
 pub returns-clause-value : goal.returns-clause-value

@@ -7,7 +7,8 @@ pub loop-n-init : goal.loop-n-init
 loop-n-init g c = empty_none c.new-lists.result.items c.new-lists.ensures.items
 
 pub loop-n-preserved : goal.loop-n-preserved
-loop-n-preserved g c = empty_next c.loop-n._n c.loop-n.lists.items c.push.new.self.items c.new.result c.in_ok-push.ensures.items c.new.ensures.items c.loop-n.invariant
+loop-n-preserved g c = empty_next c.loop-n._n c.loop-n.lists.items c.push.new.self.items c.new.result c.in_ok-push.ensures.items c.new.ensures.items
+    c.loop-n.invariant
 
 pub returns-clause-value : goal.returns-clause-value
 returns-clause-value g c =

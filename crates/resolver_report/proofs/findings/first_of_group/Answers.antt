@@ -14,11 +14,13 @@ returns-in_default g c =
 pub returns-then-len-eq0 : goal.returns-then-len-eq0
 returns-then-len-eq0 g c =
     let none : length c.in-Some.group.now.value.ids.items ≡ 0 = omega (arith, ap (λ m. length m.ids.items) c.deref.ensures, c.len.ensures, c.if-len-eq0.true) in
-    absurd (some_first (g.I.Interner.universe c.args.interner.now) c.args.graph.now.graph c.args.n c.in-Some.group.now (rw c.in-Some.is at c.group_at_node.ensures) none)
+    absurd (some_first (g.I.Interner.universe c.args.interner.now) c.args.graph.now.graph c.args.n c.in-Some.group.now
+    (rw c.in-Some.is at c.group_at_node.ensures) none)
 
 pub returns : goal.returns
 returns g c =
     let s = c.index-first.result.now in
     ap Some (c.place.ensures ∙ ap (λ ns. place_in g.I.SolvableId.PartialEq.eq ns (Solvable s)) c.nodes-nodes.ensures.value)
-    ∙ found_first (g.I.Interner.universe c.args.interner.now) c.args.graph.now.graph g.I.SolvableId.PartialEq.eq g.met.I.Interner.solvables_are_values c.nodes-nodes.ensures.once c.args.n c.in-Some.group.now s
+    ∙ found_first (g.I.Interner.universe c.args.interner.now) c.args.graph.now.graph g.I.SolvableId.PartialEq.eq g.met.I.Interner.solvables_are_values
+    c.nodes-nodes.ensures.once c.args.n c.in-Some.group.now s
     (rw c.in-Some.is at c.group_at_node.ensures) (c.index-first.ensures ∙ ap (λ m. get_or m.ids.items 0 s) c.deref-2.ensures)

@@ -8,4 +8,5 @@ pub loop-n-preserved : goal.loop-n-preserved
 loop-n-preserved g c = grind (arith, common_steps, map-range-next)
 
 pub returns-clause-value : goal.returns-clause-value
-returns-clause-value g c n = made_groups (g.I.Interner.universe c.args.interner.now) c.args.graph.now.graph c.loop-n.found.items c.loop-n.n c.loop-n.invariant (omega (arith, ap length c.nodes-nodes.ensures.value)) n
+returns-clause-value g c n = made_groups (g.I.Interner.universe c.args.interner.now) c.args.graph.now.graph c.loop-n.found.items c.loop-n.n c.loop-n.invariant
+    (omega (arith, ap length c.nodes-nodes.ensures.value)) n

@@ -13,7 +13,8 @@ index-requires-2 c =
     let i = c.index-implications-place.result in
     let w = work_view c.args.marking.now in
     let left = c.args.marking.now.left.items in
-    let last = c.index.ensures ∙ get_or_default left c.args.place c.index.result.now 0 (omega (arith, c.requires.within, c.requires.right.long, length-map is implied)) in
+    let last = c.index.ensures ∙ get_or_default left c.args.place c.index.result.now 0
+    (omega (arith, c.requires.within, c.requires.right.long, length-map is implied)) in
     let reached = c.up_to_unmarked-left.ensures ∙ (λ j. up_to_unmarked (c.deref.ensures.value j) (lists_in (c.deref-2.ensures.value j)) (last j)) in
     omega (arith, left_below is i w c.args.place c.up_to_unmarked-left.result c.requires.within c.index-implications-place.is reached c.requires.right)
 
@@ -24,8 +25,11 @@ returns-clause-ok c =
     let w = work_view c.args.marking.now in
     let left = c.args.marking.now.left.items in
     let list = c.index-2.result.now in
-    let last = c.index.ensures ∙ get_or_default left c.args.place c.index.result.now 0 (omega (arith, c.requires.within, c.requires.right.long, length-map is implied)) in
+    let last = c.index.ensures ∙ get_or_default left c.args.place c.index.result.now 0
+    (omega (arith, c.requires.within, c.requires.right.long, length-map is implied)) in
     let reached = c.up_to_unmarked-left.ensures ∙ (λ j. up_to_unmarked (c.deref.ensures.value j) (lists_in (c.deref-2.ensures.value j)) (last j)) in
     let below = left_below is i w c.args.place c.up_to_unmarked-left.result c.requires.within c.index-implications-place.is reached c.requires.right in
-    let group = c.deref-3.ensures.value ∙ ap (λ v. v.items) c.index-2.ensures ∙ sym (lists-at i.groups.items (c.up_to_unmarked-left.result - 1) list (omega (arith, below, c.if-left-eq0.false))) in
-    advanced_waits is i w c.args.place c.up_to_unmarked-left.result c.requires.within c.index-implications-place.is reached (lists_in c.wait_at_each.new.table.items) c.deref-3.result.now (omega (arith, c.if-left-eq0.false)) group c.in_ok-wait_at_each.ensures.ok
+    let group = c.deref-3.ensures.value ∙ ap (λ v. v.items) c.index-2.ensures ∙
+    sym (lists-at i.groups.items (c.up_to_unmarked-left.result - 1) list (omega (arith, below, c.if-left-eq0.false))) in
+    advanced_waits is i w c.args.place c.up_to_unmarked-left.result c.requires.within c.index-implications-place.is reached
+    (lists_in c.wait_at_each.new.table.items) c.deref-3.result.now (omega (arith, c.if-left-eq0.false)) group c.in_ok-wait_at_each.ensures.ok

@@ -6,12 +6,16 @@ use Rattle.resolver_report.proofs.implications.follow.Goals as goal
 
 pub loop-place-smaller : goal.loop-place-smaller
 loop-place-smaller c =
-    let next = follow_next (map implied c.args.implications.now) (work_view c.loop-place.marking) (work_view c.next_ready.new.marking) (work_view c.advance.new.marking) c.in-Some.place c.in-Some.ensures.same c.in-Some.ensures.found.0 c.in-Some.ensures.found.1 c.in_ok-advance.ensures.ok c.loop-place.invariant.right c.loop-place.invariant.tended in
+    let next = follow_next (map implied c.args.implications.now) (work_view c.loop-place.marking) (work_view c.next_ready.new.marking)
+    (work_view c.advance.new.marking) c.in-Some.place c.in-Some.ensures.same c.in-Some.ensures.found.0 c.in-Some.ensures.found.1 c.in_ok-advance.ensures.ok
+    c.loop-place.invariant.right c.loop-place.invariant.tended in
     next.smaller
 
 pub loop-place-preserved : goal.loop-place-preserved
 loop-place-preserved c =
-    let next = follow_next (map implied c.args.implications.now) (work_view c.loop-place.marking) (work_view c.next_ready.new.marking) (work_view c.advance.new.marking) c.in-Some.place c.in-Some.ensures.same c.in-Some.ensures.found.0 c.in-Some.ensures.found.1 c.in_ok-advance.ensures.ok c.loop-place.invariant.right c.loop-place.invariant.tended in
+    let next = follow_next (map implied c.args.implications.now) (work_view c.loop-place.marking) (work_view c.next_ready.new.marking)
+    (work_view c.advance.new.marking) c.in-Some.place c.in-Some.ensures.same c.in-Some.ensures.found.0 c.in-Some.ensures.found.1 c.in_ok-advance.ensures.ok
+    c.loop-place.invariant.right c.loop-place.invariant.tended in
     record { right = next.right; tended = next.tended; long = next.long ∙ c.loop-place.invariant.long }
 
 pub returns-clause-least : goal.returns-clause-least

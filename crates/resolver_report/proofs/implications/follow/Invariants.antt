@@ -5,7 +5,8 @@ use Rattle.resolver_report.proofs.WorkLemmas.{AreTendedBelow}
 use Rattle.resolver_report.proofs.implications.follow.Given as goal
 
 abbrev pub invariant-loop-place : goal.invariant-loop-place
-invariant-loop-place l = AreTendedBelow (map implied l.implications) (work_view l.marking) (length (map implied l.implications)) (length l.fn.marking.marks.items)
+invariant-loop-place l = AreTendedBelow (map implied l.implications) (work_view l.marking) (length (map implied l.implications))
+    (length l.fn.marking.marks.items)
 
 abbrev pub decreases-loop-place : goal.decreases-loop-place
 decreases-loop-place l = sum l.marking.left.items

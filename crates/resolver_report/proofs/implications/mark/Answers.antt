@@ -9,5 +9,6 @@ returns-clause-ok c =
     let n = c.args.n.0 in
     let list = c.index_mut-2.result.now in
     let waiting = lists-set table n c.append.new.other ∙ ap (set (lists_in table) n) c.in_ok-append.ensures.other_items in
-    let woken = c.in_ok-append.ensures.items ∙ ap (λ ws. c.args.marking.now.woken.items ++ ws) (ap (λ v. v.items) c.index_mut-2.ensures.value ∙ sym (lists-at table n list c.requires.waiting)) in
+    let woken = c.in_ok-append.ensures.items ∙
+    ap (λ ws. c.args.marking.now.woken.items ++ ws) (ap (λ v. v.items) c.index_mut-2.ensures.value ∙ sym (lists-at table n list c.requires.waiting)) in
     λ i. record { marks = set c.args.marking.now.marks.items n true; left = c.args.marking.now.left.items; waiting = waiting i; woken = woken i }

@@ -6,4 +6,6 @@ use Rattle.resolver_report.proofs.WorkLemmas.{start_next}
 use Rattle.resolver_report.proofs.implications.start.Goals as goal
 
 pub loop-place-preserved : goal.loop-place-preserved
-loop-place-preserved c = start_next (map implied c.args.implications.now) (work_view c.loop-place.marking) (work_view c.advance.new.marking) c.loop-place.place (length c.args.marking.now.marks.items) (omega (arith, c.loop-place-test.true, length-map c.args.implications.now implied)) c.in_ok-advance.ensures.ok c.loop-place.invariant
+loop-place-preserved c = start_next (map implied c.args.implications.now) (work_view c.loop-place.marking) (work_view c.advance.new.marking) c.loop-place.place
+    (length c.args.marking.now.marks.items)
+    (omega (arith, c.loop-place-test.true, length-map c.args.implications.now implied)) c.in_ok-advance.ensures.ok c.loop-place.invariant

@@ -8,7 +8,8 @@ pub returns-clause-value : goal.returns-clause-value
 returns-clause-value g c =
     let size : length c.nodes-n-end.result.now ≡ length c.args.graph.now.nodes = ap length c.nodes-n-end.ensures.value in
     let long : length c.loop-n.found.items ≡ length c.args.graph.now.nodes = omega (arith, c.loop-n.invariant.long, size) in
-    keys_told cmp-value.it (g.I.Interner.universe c.args.interner.now) c.args.graph.now c.loop-n.found.items long (λ n lt. c.loop-n.invariant.each n (omega (arith, c.loop-n.invariant.long, long, lt)))
+    keys_told cmp-value.it (g.I.Interner.universe c.args.interner.now) c.args.graph.now c.loop-n.found.items long (λ n lt.
+    c.loop-n.invariant.each n (omega (arith, c.loop-n.invariant.long, long, lt)))
 
 pub loop-n-preserved : goal.loop-n-preserved
 loop-n-preserved g c = grind (arith, common_steps)

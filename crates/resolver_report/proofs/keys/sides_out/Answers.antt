@@ -12,5 +12,8 @@ returns-clause-value g c =
     let sorted = c.in_ok-sorted.ensures.sorted in
     let collected = c.in_ok-collect_vec.ensures.runs in
     let given : sorted.0.items ≡ sides_out c.args.graph.now c.args.n.0 =
-    items_of_run sorted.0 sorted.1 sorted.2 (YieldsList-from_map _ side_out (YieldsList-at c.map-sides.ensures.source (YieldsList-from_first (λ e. e.now) outgoing_left _ c.outgoing.ensures)) c.map-sides.ensures.closure (λ x r q k. search rules)) in
+    items_of_run sorted.0 sorted.1 sorted.2
+    (YieldsList-from_map _ side_out
+    (YieldsList-at c.map-sides.ensures.source
+    (YieldsList-from_first (λ e. e.now) outgoing_left _ c.outgoing.ensures)) c.map-sides.ensures.closure (λ x r q k. search rules)) in
     sides_in_order cmp-value.it _ _ _ _ given (collected.3 ∙ items_of_vec collected.0 collected.1 collected.2) sorted.3.0 sorted.3.1

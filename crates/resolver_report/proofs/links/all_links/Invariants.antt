@@ -4,4 +4,7 @@ use Rattle.resolver_report.specs.Graphs.{links, marked_last}
 use Rattle.resolver_report.proofs.links.all_links.Given as goal
 
 abbrev pub invariant-loop-rule : goal.invariant-loop-rule
-invariant-loop-rule g l = record { linked : l.found.items ≡ links g.N.PartialEq.eq (take l.rule-index l.rules); marked : ((n : _) → get g.N.PartialEq.eq l.marks n ≡ marked_last g.N.PartialEq.eq n (reverse (take l.rule-index l.rules))) }
+invariant-loop-rule g l = record {
+  linked : l.found.items ≡ links g.N.PartialEq.eq (take l.rule-index l.rules);
+  marked : ((n : _) → get g.N.PartialEq.eq l.marks n ≡ marked_last g.N.PartialEq.eq n (reverse (take l.rule-index l.rules)));
+}

@@ -18,4 +18,5 @@ returns-clause-value g c =
     let copied = items_of_copies collected.0 collected.1 collected.2 in
     let given = items_from_whole_run (YieldsList-from_slice {s = c.iter.result} c.args.nodes.now (search rules)) first.0 first.1 first.2 in
     let once = firsts_without_repeats (same_node g.S.PartialEq.eq) (same_node_is_identity g.S.PartialEq.eq c.requires) (λ a b. search rules) first.0.items in
-    collected.3 ∙ copied ∙ ap (λ it. map (λ r. r.now) (into_iter_items it)) c.copied.ensures.source ∙ ap (map (λ r. r.now)) first.3 ∙ once ∙ ap (without_repeats (same_node g.S.PartialEq.eq)) given
+    collected.3 ∙ copied ∙ ap (λ it. map (λ r. r.now) (into_iter_items it)) c.copied.ensures.source ∙ ap (map (λ r. r.now)) first.3 ∙ once ∙
+    ap (without_repeats (same_node g.S.PartialEq.eq)) given

@@ -15,12 +15,21 @@ returns-clause-value g c =
     let marks : c.in_ok-missing.missing.items ≡ missing shape = c.in_ok-missing.ensures.value in
     let edges : c.in_ok-root_edges.root_edges.items ≡ out = c.in_ok-root_edges.ensures.value in
     let lost : c.deref-5.result.now ≡ filter (has_mark (missing shape) true) out =
-    c.deref-5.ensures.value ∙ c.in_ok-lost.ensures.value ∙ (λ i. filter (has_mark ((c.deref-2.ensures.value ∙ marks) i) true) ((c.deref.ensures.value ∙ edges) i)) in
+    c.deref-5.ensures.value ∙ c.in_ok-lost.ensures.value ∙
+    (λ i. filter (has_mark ((c.deref-2.ensures.value ∙ marks) i) true) ((c.deref.ensures.value ∙ edges) i)) in
     let left : c.deref-7.result.now ≡ filter (has_mark (missing shape) false) out =
-    c.deref-7.ensures.value ∙ c.in_ok-left.ensures.value ∙ (λ i. filter (has_mark ((c.deref-4.ensures.value ∙ marks) i) false) ((c.deref-3.ensures.value ∙ edges) i)) in
+    c.deref-7.ensures.value ∙ c.in_ok-left.ensures.value ∙
+    (λ i. filter (has_mark ((c.deref-4.ensures.value ∙ marks) i) false) ((c.deref-3.ensures.value ∙ edges) i)) in
     let it = c.in_ok-story.ensures.interner in
     let graph = c.in_ok-story.ensures.graph in
     c.in_ok-write_conflict_part.ensures.ok
-    ∙ ap (λ z. z ++ conflict_part (U c.in_ok-story.story.interner.now) (shape_of c.in_ok-story.story.findings.graph.now) (keys (U c.in_ok-story.story.interner.now) c.in_ok-story.story.findings.graph.now.graph) (installable (shape_of c.in_ok-story.story.findings.graph.now)) c.deref-6.result.now c.deref-7.result.now)
-    (c.in_ok-write_missing_part.ensures.ok ∙ ap (λ z. z ++ missing_part (U c.in_ok-story.story.interner.now) (shape_of c.in_ok-story.story.findings.graph.now) (keys (U c.in_ok-story.story.interner.now) c.in_ok-story.story.findings.graph.now.graph) (installable (shape_of c.in_ok-story.story.findings.graph.now)) c.deref-5.result.now) c.new-text.ensures.bytes)
-    ∙ (λ i. missing_part (U (it i)) (shape_of (graph i)) (keys (U (it i)) (graph i).graph) (installable (shape_of (graph i))) (lost i) ++ conflict_part (U (it i)) (shape_of (graph i)) (keys (U (it i)) (graph i).graph) (installable (shape_of (graph i))) ((c.deref-6.ensures.value ∙ edges) i) (left i))
+    ∙ ap (λ z. z ++ conflict_part (U c.in_ok-story.story.interner.now) (shape_of c.in_ok-story.story.findings.graph.now)
+    (keys (U c.in_ok-story.story.interner.now) c.in_ok-story.story.findings.graph.now.graph)
+    (installable (shape_of c.in_ok-story.story.findings.graph.now)) c.deref-6.result.now c.deref-7.result.now)
+    (c.in_ok-write_missing_part.ensures.ok ∙
+    ap (λ z. z ++ missing_part (U c.in_ok-story.story.interner.now) (shape_of c.in_ok-story.story.findings.graph.now)
+    (keys (U c.in_ok-story.story.interner.now) c.in_ok-story.story.findings.graph.now.graph)
+    (installable (shape_of c.in_ok-story.story.findings.graph.now)) c.deref-5.result.now) c.new-text.ensures.bytes)
+    ∙ (λ i. missing_part (U (it i)) (shape_of (graph i)) (keys (U (it i)) (graph i).graph) (installable (shape_of (graph i))) (lost i) ++
+    conflict_part (U (it i)) (shape_of (graph i)) (keys (U (it i)) (graph i).graph) (installable (shape_of (graph i))) ((c.deref-6.ensures.value ∙ edges) i)
+    (left i))

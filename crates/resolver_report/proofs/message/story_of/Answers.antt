@@ -17,5 +17,6 @@ returns-clause-story g c =
       found_groups = c.in_ok-findings.ensures.groups;
       found_marks = c.in_ok-findings.ensures.marks;
       groups = subst P (sym c.in_ok-findings.ensures.graph) c.in_ok-groups.ensures.value;
-      nodes = c.in_ok-nodes.ensures.value ∙ (λ i. map (node_told (shape_of f.graph.now) (same_groups i) (c.in_ok-findings.ensures.marks i)) (places f.graph.now.graph));
+      nodes = c.in_ok-nodes.ensures.value ∙
+          (λ i. map (node_told (shape_of f.graph.now) (same_groups i) (c.in_ok-findings.ensures.marks i)) (places f.graph.now.graph));
     }

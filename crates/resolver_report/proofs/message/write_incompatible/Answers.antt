@@ -11,6 +11,7 @@ returns-clause-ok g c =
     let u = g.I.Interner.universe c.args.story.now.interner.now in
     written_3 (string_bytes c.args.out.now) (string_bytes c.write_end.new.out) (string_bytes c.tell_edges.new.out) (string_bytes c.write_conflicts.new.out)
     (codes "The following packages are incompatible" ++ 10 ∷ [])
-    (text_of true [] (tree u (graph_in g.I.Interner.universe c.args.story.now) (keys_in g.I.Interner.universe c.args.story.now) (marks_in g.I.Interner.universe c.args.story.now) c.args.edges.now))
+    (text_of true [] (tree u (graph_in g.I.Interner.universe c.args.story.now) (keys_in g.I.Interner.universe c.args.story.now)
+    (marks_in g.I.Interner.universe c.args.story.now) c.args.edges.now))
     (conflict_text u c.args.root_edges.now)
     c.in_ok-write_end.ensures.ok c.in_ok-tell_edges.ensures.ok c.in_ok-write_conflicts.ensures.ok

@@ -14,6 +14,8 @@ returns-in_ok-push-in-Open-clause-step g c =
     let set = c.args.set.now in
     let lists = untried_view c.args.untried.now.items in
     let equal = g.S.PartialEq.eq in
-    let pushed : untried_view c.push.new.self.items ≡ c.in-Open.candidates.now ∷ lists = ap untried_view c.in_ok-push-in-Open.ensures.items ∙ untried_pushed c.args.untried.now.items _ in
-    let After : List (List g.row.S.Denot) → Type 0 = λ more. IsSearching c.args.rules.now set.items more × (search_work equal c.args.rules.now set.items more < work_of_choice equal c.args.rules.now set.items lists) in
+    let pushed : untried_view c.push.new.self.items ≡ c.in-Open.candidates.now ∷ lists = ap untried_view c.in_ok-push-in-Open.ensures.items ∙
+    untried_pushed c.args.untried.now.items _ in
+    let After : List (List g.row.S.Denot) → Type 0 = λ more. IsSearching c.args.rules.now set.items more ×
+    (search_work equal c.args.rules.now set.items more < work_of_choice equal c.args.rules.now set.items lists) in
     subst After (sym pushed) (enter_open equal c.args.rules.now set.items _ lists c.requires.chosen (rw c.deref.ensures.value at c.in-Open.ensures))

@@ -11,4 +11,5 @@ returns-then-is_same_requirement-clause-ok c =
 pub returns-clause-ok : goal.returns-clause-ok
 returns-clause-ok c =
     add_other c.args.requirement c.args.target c.args.runs.now.items c.pop.new.self.items c.add_run-2.new.runs.items c.in-Some.run'
-    c.in-Some.ensures.items (sym c.is_same_requirement.ensures ∙ c.if-is_same_requirement.false) (rw c.in_ok-push-3.ensures.items at c.in_ok-add_run-2.ensures.ok)
+    c.in-Some.ensures.items (sym c.is_same_requirement.ensures ∙ c.if-is_same_requirement.false)
+    (rw c.in_ok-push-3.ensures.items at c.in_ok-add_run-2.ensures.ok)

@@ -8,4 +8,6 @@ use Rattle.resolver_report.proofs.runs.outgoing.Goals as goal
 pub returns-clause-value : goal.returns-clause-value
 returns-clause-value g c =
     let run = c.in_ok-collect_vec.ensures.runs in
-    run.3 ∙ items_of_run run.0 run.1 run.2 (YieldsList-from_copied {steps = YieldsFirstRef outgoing_left} (YieldsList-at c.copied.ensures.source (YieldsList-from_first (λ e. e.now) outgoing_left _ c.outgoing.ensures)))
+    run.3 ∙ items_of_run run.0 run.1 run.2
+    (YieldsList-from_copied {steps = YieldsFirstRef outgoing_left}
+    (YieldsList-at c.copied.ensures.source (YieldsList-from_first (λ e. e.now) outgoing_left _ c.outgoing.ensures)))

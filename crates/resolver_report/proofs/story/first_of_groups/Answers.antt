@@ -7,4 +7,9 @@ use Rattle.resolver_report.proofs.story.first_of_groups.Goals as goal
 pub loop-n-preserved : goal.loop-n-preserved
 loop-n-preserved c =
     let n : NodeId = get_or c.args.nodes.now c.loop-n.n-index (record { 0 = 0 }) in
-    record { first = c.in_ok-add_node.ensures.found ∙ first_of_groups_next c.args.groups.now c.args.nodes.now c.loop-n.n-index n c.loop-n.found.items (omega arith) (get_or_default c.args.nodes.now c.loop-n.n-index (record { 0 = 0 }) n (omega arith)) c.loop-n.invariant.first; told = c.in_ok-add_node.ensures.told }
+    record {
+      first = c.in_ok-add_node.ensures.found ∙
+          first_of_groups_next c.args.groups.now c.args.nodes.now c.loop-n.n-index n c.loop-n.found.items (omega arith)
+          (get_or_default c.args.nodes.now c.loop-n.n-index (record { 0 = 0 }) n (omega arith)) c.loop-n.invariant.first;
+      told = c.in_ok-add_node.ensures.told;
+    }

@@ -5,4 +5,5 @@ use Rattle.resolver_report.specs.Stories.{groups_in, node_told, node_view}
 use Rattle.resolver_report.proofs.story.node_stories.Given as goal
 
 abbrev pub invariant-loop-n : goal.invariant-loop-n
-invariant-loop-n g l = map node_view l.stories.items ≡ map (node_told (shape_of l.findings.graph.now) (groups_in l.findings) l.findings.installable.items) (range_with_len 0 l.n)
+invariant-loop-n g l = map node_view l.stories.items ≡ map (node_told (shape_of l.findings.graph.now) (groups_in l.findings) l.findings.installable.items)
+    (range_with_len 0 l.n)

@@ -10,7 +10,8 @@ pub returns-clause-value : goal.returns-clause-value
 returns-clause-value g c =
     stories_both (told_of_run (shape_of c.args.findings.now.graph.now) (groups_in c.args.findings.now) c.args.findings.now.installable.items)
     (has_viability c.args.findings.now true) (has_viability c.args.findings.now false)
-    (map run_told_view c.new-stories.result.items) (map run_told_view c.add_stories.new.stories.items) (map run_told_view c.add_stories-2.new.stories.items) (reverse (runs_of c.args.edges.now))
+    (map run_told_view c.new-stories.result.items) (map run_told_view c.add_stories.new.stories.items) (map run_told_view c.add_stories-2.new.stories.items)
+    (reverse (runs_of c.args.edges.now))
     (ap (map run_told_view) c.new-stories.ensures.items)
     (rw (c.deref.ensures.value, c.in_ok-runs.ensures.value) at c.in_ok-add_stories.ensures.ok)
     (rw (c.deref-2.ensures.value, c.in_ok-runs.ensures.value) at c.in_ok-add_stories-2.ensures.ok)

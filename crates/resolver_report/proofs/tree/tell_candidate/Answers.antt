@@ -20,7 +20,8 @@ returns-in_default-clause-step g c =
     let top = p.indenter.top_level_indent in
     let levels = (levels_of fs ++ (length runs == 0) ∷ []) ++ (length c.args.rest.now == 0) ∷ [] in
     let old = string_bytes c.args.out.now in
-    let quiet = (λ i. is_quiet (U s.interner.now) (graph_in U s) (keys_in U s) (marks_in U s) (sym c.deref-2.ensures.value i) n.0 (sym c.deref.ensures.value i)) ∙ c.in_default.ensures in
+    let quiet = (λ i. is_quiet (U s.interner.now) (graph_in U s) (keys_in U s) (marks_in U s) (sym c.deref-2.ensures.value i) n.0
+    (sym c.deref.ensures.value i)) ∙ c.in_default.ensures in
     let whole = quiet_candidate U s p.branch.items n.0 p.reported.items (p.limit - length fs) quiet in
     candidate_step U s top p.limit fs p.branch.items p.candidates.now n c.args.rest.now runs p.reported.items p.reported.items [] old old c.requires.candidates
     (ap (λ t. text_at top levels t.value) whole) (ap (λ t. t.reported) whole) (sym (append-nil old))

@@ -15,6 +15,9 @@ returns-clause-ok g c =
     let marks = marks_in g.I.Interner.universe s in
     let same_groups : groups_in s.findings ≡ group_in ks = λ i n. c.requires.found_groups n i in
     let runs : map run_told_view c.deref.result.now ≡ told_of shape (group_in ks) marks c.args.edges.now =
-    ap (map run_told_view) c.deref.ensures.value ∙ c.in_ok-runs.ensures.value ∙ (λ i. told_of shape (same_groups i) (c.requires.found_marks i) c.args.edges.now) in
+    ap (map run_told_view) c.deref.ensures.value ∙ c.in_ok-runs.ensures.value ∙
+    (λ i. told_of shape (same_groups i) (c.requires.found_marks i) c.args.edges.now) in
     c.in_ok-tell_tree.ensures.text
-    ∙ (λ i. string_bytes c.args.out.now ++ text_of c.args.top_level_indent [] (tree_in g.I.Interner.universe s (length shape.shape.nodes) (unmarked shape.shape) true (runs i) (unmarked shape.shape)).value)
+    ∙ (λ i. string_bytes c.args.out.now ++
+    text_of c.args.top_level_indent []
+    (tree_in g.I.Interner.universe s (length shape.shape.nodes) (unmarked shape.shape) true (runs i) (unmarked shape.shape)).value)

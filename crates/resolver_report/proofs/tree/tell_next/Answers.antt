@@ -14,4 +14,5 @@ returns-clause-step g c = λ more.
     let Step : PendingTold → Type 0 = λ q. IsTellStep U c.args.story.now (pending_view p) q old old in
     subst Step (sym c.leave-more.ensures.view)
     (left_step U c.args.story.now p.indenter.top_level_indent p.limit fs p.candidates.now (map run_told_view p.runs.now) p.reported.items p.branch.items old
-    (no_item p.candidates.now c.in_default.len_below) (ap (map run_told_view) (no_item p.runs.now c.in_default-runs.len_below)) (some_frame fs c.leave-more.result c.leave-more.ensures.found more))
+    (no_item p.candidates.now c.in_default.len_below) (ap (map run_told_view) (no_item p.runs.now c.in_default-runs.len_below))
+    (some_frame fs c.leave-more.result c.leave-more.ensures.found more))

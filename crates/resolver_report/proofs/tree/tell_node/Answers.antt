@@ -35,7 +35,8 @@ returns-then-not-requires_more-clause-step g c =
     ∙ (λ i. old ++ (indent_from (c.in_ok-deeper.ensures.top i) (same i) ++ version ++ verdict_rest U s (c.in_ok-deeper.ensures.top i) (same i) verdict)) in
     let more = sym c.requires_more.ensures ∙ c.if-not-requires_more.true in
     let told = with_group node.group p.reported.items in
-    candidate_step U s top p.limit fs p.branch.items p.candidates.now n c.args.rest.now runs p.reported.items c.report.new.reported.items (indent_from top levels ++ version ++ verdict_rest U s top levels verdict) old new c.requires.candidates
+    candidate_step U s top p.limit fs p.branch.items p.candidates.now n c.args.rest.now runs p.reported.items c.report.new.reported.items
+    (indent_from top levels ++ version ++ verdict_rest U s top levels verdict) old new c.requires.candidates
     (ap (λ t. text_at top levels t.value) whole ∙ quiet_text U s top levels below version verdict told more)
     (ap (λ t. t.reported) whole ∙ quiet_reported U s top levels below version verdict told more ∙ sym c.report.ensures)
     wrote
@@ -68,9 +69,19 @@ returns-clause-step g c =
     let frame : FrameTold = record { node = n.0; candidates = c.args.rest.now; runs = runs } in
     let Step : PendingTold → Type 0 = λ q. IsTellStep U s (pending_view p) q old new in
     let view = c.in_ok-enter.ensures.view
-    ∙ (λ i. record { top_indent = c.in_ok-deeper.ensures.top i; limit = p.limit; frames = frame ∷ fs; candidates = []; runs = map run_told_view (c.deref.ensures.value i); reported = c.report.new.reported.items; branch = marked }) in
+    ∙ (λ i. record {
+      top_indent = c.in_ok-deeper.ensures.top i;
+      limit = p.limit;
+      frames = frame ∷ fs;
+      candidates = [];
+      runs = map run_told_view (c.deref.ensures.value i);
+      reported = c.report.new.reported.items;
+      branch = marked;
+    }) in
     subst Step (sym view)
-    (enter_step U s top p.limit fs p.branch.items p.candidates.now n c.args.rest.now runs (map run_told_view node.runs.items) p.reported.items c.report.new.reported.items line old new c.requires.candidates
-    (ap (λ t. text_at top levels t.value) whole ∙ more_text U s top levels below version verdict told more ∙ ap (λ r. line ++ text_of top levels (below r).value) (sym c.report.ensures))
+    (enter_step U s top p.limit fs p.branch.items p.candidates.now n c.args.rest.now runs
+    (map run_told_view node.runs.items) p.reported.items c.report.new.reported.items line old new c.requires.candidates
+    (ap (λ t. text_at top levels t.value) whole ∙ more_text U s top levels below version verdict told more ∙
+    ap (λ r. line ++ text_of top levels (below r).value) (sym c.report.ensures))
     (ap (λ t. t.reported) whole ∙ more_reported U s top levels below version verdict told more ∙ ap (λ r. (below r).reported) (sym c.report.ensures))
     wrote (off_branch U s p.branch.items n.0 p.reported.items c.requires.node.loud) (ap (λ t. t.runs) c.requires.node.view) deep)

@@ -18,10 +18,15 @@ returns-clause-step g c =
     let rest = map run_told_view c.args.rest.now in
     let old = string_bytes c.args.out.now in
     let new = string_bytes c.write_run_line.new.out in
-    let levels = c.in_ok-deeper.ensures.levels ∙ run_levels (levels_in p.indenter) (levels_of fs) (is_last_child c.before-order.result) c.args.rest.now c.requires.levels c.before-order.ensures in
+    let levels = c.in_ok-deeper.ensures.levels ∙
+    run_levels (levels_in p.indenter) (levels_of fs) (is_last_child c.before-order.result) c.args.rest.now c.requires.levels c.before-order.ensures in
     let top = no_frames p.frames.items c.is_empty-top.result (c.is_empty-top.ensures ∙ ap (λ n. n == 0) p.frames.ok.0) in
     let wrote = c.in_ok-write_run_line.ensures.ok
-    ∙ (λ i. old ++ (indent_from (c.in_ok-deeper.ensures.top i) (levels i) ++ run_text (top i) run.unresolved run.viable (requirement_text (U c.args.story.now.interner.now) run.requirement) ++ 10 ∷ [])) in
-    let Step : List NodeId → Type 0 = λ below. IsTellStep U c.args.story.now (pending_view p) (at U c.args.story.now p.indenter.top_level_indent p.limit fs p.branch.items below rest p.reported.items) old new in
+    ∙ (λ i. old ++ (indent_from (c.in_ok-deeper.ensures.top i) (levels i) ++
+    run_text (top i) run.unresolved run.viable (requirement_text (U c.args.story.now.interner.now) run.requirement) ++ 10 ∷ [])) in
+    let Step : List NodeId → Type 0 =
+    λ below. IsTellStep U c.args.story.now (pending_view p)
+    (at U c.args.story.now p.indenter.top_level_indent p.limit fs p.branch.items below rest p.reported.items) old new in
     subst Step (sym c.below_run-pending.ensures)
-    (run_step U c.args.story.now p.indenter.top_level_indent p.limit fs p.branch.items p.candidates.now (map run_told_view p.runs.now) run rest p.reported.items old new c.requires.candidates (ap (map run_told_view) c.requires.runs) wrote)
+    (run_step U c.args.story.now p.indenter.top_level_indent p.limit fs p.branch.items p.candidates.now
+    (map run_told_view p.runs.now) run rest p.reported.items old new c.requires.candidates (ap (map run_told_view) c.requires.runs) wrote)

@@ -13,5 +13,9 @@ use Rattle.resolver_report.proofs.verdict.constraints.Goals as goal
 pub returns-clause-value : goal.returns-clause-value
 returns-clause-value g c =
     let collected = c.in_ok-collect_vec.ensures.runs in
-    let given = items_of_run collected.0 collected.1 collected.2 (YieldsList-from_gives (dedup eq-value.it) c.dedup.ensures.runs (YieldsList-from_filter_map _ (λ e. constraint e.weight) (YieldsList-at c.filter_map-named.ensures.source (YieldsList-from_slice c.args.edges.now (search rules))) c.filter_map-named.ensures.closure (λ x r q k. search rules))) in
+    let given = items_of_run collected.0 collected.1 collected.2
+    (YieldsList-from_gives (dedup eq-value.it) c.dedup.ensures.runs
+    (YieldsList-from_filter_map _ (λ e. constraint e.weight)
+    (YieldsList-at c.filter_map-named.ensures.source (YieldsList-from_slice c.args.edges.now (search rules))) c.filter_map-named.ensures.closure (λ x r q k.
+    search rules))) in
     collected.3 ∙ given ∙ dedup_once eq-value.it (λ v w. search rules) (constraints c.args.edges.now)

@@ -9,13 +9,17 @@ use Rattle.resolvo.proofs.analyze.begin.Goals as goal
 pub returns-clause-resolvent : goal.returns-clause-resolvent
 returns-clause-resolvent c = record {
   size = search rules;
-  listed = c.in_ok-mark_all.ensures.listed (record { within = rw c.new-marked.ensures.items (λ k d below. absurd (omega arith)); all = λ v m. absurd (both_ways _ (c.requires.blank v) m) });
+  listed = c.in_ok-mark_all.ensures.listed
+      (record { within = rw c.new-marked.ensures.items (λ k d below. absurd (omega arith)); all = λ v m. absurd (both_ways _ (c.requires.blank v) m) });
   within = rw c.in_ok-causes.ensures.items (λ k d below. grind (arith, elements));
   refutes = rw c.in_ok-causes.ensures.items (refutes-begin _ _ _ _ _ c.requires.conflict.1 (rw c.clause-literals.ensures at c.in_ok-mark_all.ensures.marks));
-  drawn = rw c.in_ok-causes.ensures.items (drawn-begin _ _ _ _ _ c.requires.conflict.1 c.requires.blank (rw c.clause-literals.ensures at c.in_ok-mark_all.ensures.marks));
+  drawn = rw c.in_ok-causes.ensures.items
+      (drawn-begin _ _ _ _ _ c.requires.conflict.1 c.requires.blank (rw c.clause-literals.ensures at c.in_ok-mark_all.ensures.marks));
 }
 
 pub returns-clause-levelled : goal.returns-clause-levelled
 returns-clause-levelled c =
     let literals = c.clause-literals.ensures in
-    levelled-begin _ _ _ _ c.len.result (search rules) c.requires.blank (rw literals at c.in_ok-mark_all.ensures.marks) c.requires.conflict.1 (rw literals at c.highest_level-level.ensures.top) (rw literals at c.highest_level-level.ensures.reached) (rw literals at c.lowest_place-lowest.ensures.least) (rw literals at c.lowest_place-lowest.ensures.reached)
+    levelled-begin _ _ _ _ c.len.result (search rules) c.requires.blank (rw literals at c.in_ok-mark_all.ensures.marks) c.requires.conflict.1
+    (rw literals at c.highest_level-level.ensures.top) (rw literals at c.highest_level-level.ensures.reached)
+    (rw literals at c.lowest_place-lowest.ensures.least) (rw literals at c.lowest_place-lowest.ensures.reached)

@@ -6,7 +6,9 @@ use Rattle.resolvo.proofs.LevelLemmas.{highest-next}
 use Rattle.resolvo.proofs.analyze.highest_level.Goals as goal
 
 pub literals-preserved : goal.literals-preserved
-literals-preserved c = highest-next _ _ _ c.literal-item.result _ c.level_at.result _ c.literals-test.true (search rules) c.literals.invariant (search rules) (search rules) (search rules)
+literals-preserved c = highest-next _ _ _ c.literal-item.result _ c.level_at.result _ c.literals-test.true (search rules) c.literals.invariant (search rules)
+    (search rules) (search rules)
 
 pub returns-clause-top : goal.returns-clause-top
-returns-clause-top c = All-done (λ (literal : Literal). level_in c.args.trail.now literal.variable ≤ c.literals.level) _ c.literals.literal-index (search rules) c.literals.invariant.top
+returns-clause-top c = All-done (λ (literal : Literal). level_in c.args.trail.now literal.variable ≤ c.literals.level) _ c.literals.literal-index
+    (search rules) c.literals.invariant.top

@@ -8,13 +8,17 @@ use Rattle.resolver_clause_store.proofs.SlotLemmas.{placed-slot}
 use Rattle.resolvo.proofs.analyze.resolve_level.Goals as goal
 
 pub returns-then-is_single-clause-single : goal.returns-then-is_single-clause-single
-returns-then-is_single-clause-single c = λ some. single-found _ _ c.places.place (c.places.place - 1) c.places.invariant.2 (omega arith) c.if-is_single.ensures.1 some
+returns-then-is_single-clause-single c =
+    λ some. single-found _ _ c.places.place (c.places.place - 1) c.places.invariant.2 (omega arith) c.if-is_single.ensures.1 some
 
 decided : (c : goal.In-Decided) → ⊥
 decided c =
     let at = sym c.slot.ensures ∙ c.in-Some.is in
-    let marked : is_marked c.places.resolvent.marks.items c.variable_at-variable.result ≡ true = marked-read c.places.resolvent.marks.items c.variable_at-variable.result _ _ (omega (arith, c.variable_at-variable.ensures.inside, c.places.invariant.1.size)) (rw c.index.ensures at c.index-in-places.ensures) c.if-index.true in
-    never-decided _ c.places.resolvent c.places.place (c.places.place - 1) c.variable_at-variable.result c.in-Some.slot c.places.invariant.2 (omega arith) marked at (placed-slot _ _ _ c.variable_at-variable.ensures.placed at) c.if-is_single.ensures (ap is_decided c.in-Decided.is)
+    let marked : is_marked c.places.resolvent.marks.items c.variable_at-variable.result ≡ true =
+    marked-read c.places.resolvent.marks.items c.variable_at-variable.result _ _
+    (omega (arith, c.variable_at-variable.ensures.inside, c.places.invariant.1.size)) (rw c.index.ensures at c.index-in-places.ensures) c.if-index.true in
+    never-decided _ c.places.resolvent c.places.place (c.places.place - 1) c.variable_at-variable.result c.in-Some.slot c.places.invariant.2
+    (omega arith) marked at (placed-slot _ _ _ c.variable_at-variable.ensures.placed at) c.if-is_single.ensures (ap is_decided c.in-Decided.is)
 
 pub returns-in-Decided-clause-single : goal.returns-in-Decided-clause-single
 returns-in-Decided-clause-single c = λ some. absurd (decided c)
@@ -25,8 +29,11 @@ returns-in-Decided-clause-none c = λ none. absurd (decided c)
 assumed : (c : goal.In-Assumed) → ⊥
 assumed c =
     let at = sym c.slot.ensures ∙ c.in-Some.is in
-    let marked : is_marked c.places.resolvent.marks.items c.variable_at-variable.result ≡ true = marked-read c.places.resolvent.marks.items c.variable_at-variable.result _ _ (omega (arith, c.variable_at-variable.ensures.inside, c.places.invariant.1.size)) (rw c.index.ensures at c.index-in-places.ensures) c.if-index.true in
-    never-decided _ c.places.resolvent c.places.place (c.places.place - 1) c.variable_at-variable.result c.in-Some.slot c.places.invariant.2 (omega arith) marked at (placed-slot _ _ _ c.variable_at-variable.ensures.placed at) c.if-is_single.ensures (ap is_decided c.in-Assumed.is)
+    let marked : is_marked c.places.resolvent.marks.items c.variable_at-variable.result ≡ true =
+    marked-read c.places.resolvent.marks.items c.variable_at-variable.result _ _
+    (omega (arith, c.variable_at-variable.ensures.inside, c.places.invariant.1.size)) (rw c.index.ensures at c.index-in-places.ensures) c.if-index.true in
+    never-decided _ c.places.resolvent c.places.place (c.places.place - 1) c.variable_at-variable.result c.in-Some.slot c.places.invariant.2
+    (omega arith) marked at (placed-slot _ _ _ c.variable_at-variable.ensures.placed at) c.if-is_single.ensures (ap is_decided c.in-Assumed.is)
 
 pub returns-in-Assumed-clause-single : goal.returns-in-Assumed-clause-single
 returns-in-Assumed-clause-single c = λ some. absurd (assumed c)
@@ -35,7 +42,11 @@ pub returns-in-Assumed-clause-none : goal.returns-in-Assumed-clause-none
 returns-in-Assumed-clause-none c = λ none. absurd (assumed c)
 
 pub places-preserved : goal.places-preserved
-places-preserved c = (omega arith, c.places.invariant.1, levelled-skip _ _ c.places.place _ c.variable_at-variable.result c.places.invariant.2 (omega arith) c.variable_at-variable.ensures.value (search rules))
+places-preserved c = (
+  omega arith,
+  c.places.invariant.1,
+  levelled-skip _ _ c.places.place _ c.variable_at-variable.result c.places.invariant.2 (omega arith) c.variable_at-variable.ensures.value (search rules),
+)
 
 pub places-preserved-in-Continue-1 : goal.places-preserved-in-Continue-1
 places-preserved-in-Continue-1 c = grind (arith, common_steps)

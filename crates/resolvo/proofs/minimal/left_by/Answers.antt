@@ -8,7 +8,8 @@ use Rattle.resolvo.proofs.minimal.left_by.Goals as goal
 pub returns-in-None-clause-left : goal.returns-in-None-clause-left
 returns-in-None-clause-left g c =
     let rules = c.args.rules.now in
-    let whole : marked c.in_ok-all.all.items rules ≡ rules = ap (λ q. marked q rules) (c.in_ok-all.ensures.items_if_clones_equal (λ y is. is)) ∙ all_marked rules in
+    let whole : marked c.in_ok-all.all.items rules ≡ rules = ap (λ q. marked q rules) (c.in_ok-all.ensures.items_if_clones_equal (λ y is. is)) ∙
+    all_marked rules in
     let marks : marked c.deref.result.now rules ≡ rules = ap (λ q. marked q rules) c.deref.ensures.value ∙ whole in
     let Left : List (Rule g.row.N.Denot g.row.S.Denot) → Type 0 = λ q. LeavesInTurn [] rules q in
     let Obeyed : List (Rule g.row.N.Denot g.row.S.Denot) → Type 0 = λ q. IsRefuted q → ⊥ in

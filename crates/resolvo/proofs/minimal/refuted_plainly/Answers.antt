@@ -9,10 +9,14 @@ use Rattle.resolvo.proofs.minimal.refuted_plainly.Goals as goal
 pub returns-in-Some-clause-obeyed : goal.returns-in-Some-clause-obeyed
 returns-in-Some-clause-obeyed g c = λ refuted.
     let set = c.in-Some.field-0.items in
-    refuted set (Obeys-same (marked c.args.marks.now c.args.rules.now) c.in_ok-copies.copies.items c.in_ok-copies.ensures.same set (rw c.deref.ensures.value at (rw c.in-Some.is at c.in_ok-find.ensures.found)))
+    refuted set (Obeys-same (marked c.args.marks.now c.args.rules.now) c.in_ok-copies.copies.items c.in_ok-copies.ensures.same set
+    (rw c.deref.ensures.value at (rw c.in-Some.is at c.in_ok-find.ensures.found)))
 
 pub returns-clause-part : goal.returns-clause-part
 returns-clause-part g c =
     let part = marked c.args.marks.now c.args.rules.now in
     let copies = c.in_ok-copies.copies.items in
-    rw c.in_ok-part-in-None.ensures.items (whole_part c.args.rules.now c.args.marks.now c.requires.size (IsRefuted-same copies part (same_flipped part copies c.in_ok-copies.ensures.same) (rw c.deref.ensures.value at (rw c.in-None.is at c.in_ok-find.ensures.refuted))))
+    rw c.in_ok-part-in-None.ensures.items
+    (whole_part c.args.rules.now c.args.marks.now c.requires.size
+    (IsRefuted-same copies part (same_flipped part copies c.in_ok-copies.ensures.same)
+    (rw c.deref.ensures.value at (rw c.in-None.is at c.in_ok-find.ensures.refuted))))

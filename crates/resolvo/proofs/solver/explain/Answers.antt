@@ -12,11 +12,15 @@ use Rattle.resolvo.proofs.solver.explain.Goals as goal
 pub returns-clause-explained : goal.returns-clause-explained
 returns-clause-explained g c = λ root notes kinds encoding core.
     let u = g.D.Interner.universe c.args.provider.now in
-    let Implied : List (ClauseKind g.row.D-NameId.Denot g.row.D-SolvableId.Denot) → Origin g.row.D-NameId.Denot g.row.D-SolvableId.Denot → g.row.D-SolvableId.Denot → Bool = λ ks o s. implied_in u g.D.NameId.PartialEq.eq (kinds_at ks c.args.core.now) o s in
-    let Listed : List (ClauseKind g.row.D-NameId.Denot g.row.D-SolvableId.Denot) → Type 0 = λ ks. AreListed u (Implied ks) (kinds_at ks c.args.core.now) c.in_ok-stated.stated.items in
-    let Stated : List (ClauseKind g.row.D-NameId.Denot g.row.D-SolvableId.Denot) → Type 0 = λ ks. AreStated u (Implied ks) (kinds_at ks c.args.core.now) c.in_ok-stated.stated.items in
+    let Implied : List (ClauseKind g.row.D-NameId.Denot g.row.D-SolvableId.Denot) → Origin g.row.D-NameId.Denot g.row.D-SolvableId.Denot →
+    g.row.D-SolvableId.Denot → Bool = λ ks o s. implied_in u g.D.NameId.PartialEq.eq (kinds_at ks c.args.core.now) o s in
+    let Listed : List (ClauseKind g.row.D-NameId.Denot g.row.D-SolvableId.Denot) → Type 0 =
+    λ ks. AreListed u (Implied ks) (kinds_at ks c.args.core.now) c.in_ok-stated.stated.items in
+    let Stated : List (ClauseKind g.row.D-NameId.Denot g.row.D-SolvableId.Denot) → Type 0 =
+    λ ks. AreStated u (Implied ks) (kinds_at ks c.args.core.now) c.in_ok-stated.stated.items in
     explained u g.D.NameId.PartialEq.eq root notes c.args.core.now c.in_ok-stated.stated.items c.in_ok-rules.rules.items
-    (lawful_solvables u g.D.SolvableId.PartialEq.eq (g.met.D.Interner.lawful_ids c.args.provider.now) (g.met.D.Interner.solvables_compare c.args.provider.now) g.met.D.Interner.solvables_are_values) g.met.D.Interner.names_are_values encoding core
+    (lawful_solvables u g.D.SolvableId.PartialEq.eq (g.met.D.Interner.lawful_ids c.args.provider.now)
+    (g.met.D.Interner.solvables_compare c.args.provider.now) g.met.D.Interner.solvables_are_values) g.met.D.Interner.names_are_values encoding core
     (subst Listed (sym kinds) c.in_ok-stated.ensures.listed) (subst Stated (sym kinds) c.in_ok-stated.ensures.stated)
     c.in_ok-rules.ensures.left c.in_ok-rules.ensures.refuted c.in_ok-rules.ensures.again
 

@@ -7,4 +7,10 @@ use Rattle.resolve.proofs.condition.Reading.join_all.Goals as goal
 pub invariant_of-self-then-self : goal.invariant_of-self-then-self
 invariant_of-self-then-self c =
     let before = c.join_and.new.self in
-    record { balanced = ap depth_of c.in_ok-push.ensures.items ∙ or_written before.steps.items (cond before.waiting.and 1 0) (sum_by waiting_count before.outside.items) before.waiting.or before.wants_part c.if-self.true c.in_ok-join_and.ensures.part before.balanced; sound = subst (All IsStep) (sym c.in_ok-push.ensures.items) (steps_or before.steps.items before.sound) }
+    record {
+      balanced = ap depth_of c.in_ok-push.ensures.items ∙
+          or_written before.steps.items (cond before.waiting.and 1 0)
+          (sum_by waiting_count before.outside.items) before.waiting.or before.wants_part c.if-self.true c.in_ok-join_and.ensures.part before.balanced;
+      sound =
+          subst (All IsStep) (sym c.in_ok-push.ensures.items) (steps_or before.steps.items before.sound);
+    }

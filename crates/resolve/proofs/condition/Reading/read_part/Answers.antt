@@ -11,6 +11,9 @@ invariant_of-self-in_default c =
     let before = c.args.self.now in
     let bounded : IsBounded c.in_ok-spec-in_default.spec.versions = search (rules, stated_bounded) in
     record {
-      balanced = ap depth_of c.in_ok-push-in_default.ensures.items ∙ version_written before.steps.items c.in_ok-spec-in_default.spec (waiting_count before.waiting + sum_by waiting_count before.outside.items) before.wants_part c.requires before.balanced;
-      sound = subst (All IsStep) (sym c.in_ok-push-in_default.ensures.items) (steps_version before.steps.items c.in_ok-spec-in_default.spec before.sound bounded);
+      balanced = ap depth_of c.in_ok-push-in_default.ensures.items ∙
+          version_written before.steps.items c.in_ok-spec-in_default.spec
+          (waiting_count before.waiting + sum_by waiting_count before.outside.items) before.wants_part c.requires before.balanced;
+      sound = subst (All IsStep) (sym c.in_ok-push-in_default.ensures.items)
+          (steps_version before.steps.items c.in_ok-spec-in_default.spec before.sound bounded);
     }

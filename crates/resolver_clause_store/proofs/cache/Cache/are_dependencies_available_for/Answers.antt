@@ -7,7 +7,8 @@ use Rattle.resolver_clause_store.proofs.CacheLemmas.{found}
 use Rattle.resolver_clause_store.proofs.cache.Cache.are_dependencies_available_for.Goals as goal
 
 pub returns-then-contains_key : goal.returns-then-contains_key
-returns-then-contains_key g c = available_cached _ _ _ (Contains-keys_from_lookup g.met.D.Interner.solvables_are_values.alone _ _ (sym c.if-contains_key.ensures))
+returns-then-contains_key g c =
+    available_cached _ _ _ (Contains-keys_from_lookup g.met.D.Interner.solvables_are_values.alone _ _ (sym c.if-contains_key.ensures))
 
 pub returns-in-None : goal.returns-in-None
 returns-in-None g c =

@@ -13,7 +13,8 @@ returns g c =
     let u = g.D.Interner.universe c.args.provider.now in
     record {
       is_true = record {
-        packages = put_all g.N.PartialEq.eq g.met.D.Interner.names_are_values (λ e. package_of (Some e.1) ≡ u.package_named e.0) _ _ _ _ _ c.in_ok-insert.ensures.entries c.in_ok-package.ensures.value c.requires.packages;
+        packages = put_all g.N.PartialEq.eq g.met.D.Interner.names_are_values (λ e.
+            package_of (Some e.1) ≡ u.package_named e.0) _ _ _ _ _ c.in_ok-insert.ensures.entries c.in_ok-package.ensures.value c.requires.packages;
         matching = c.requires.matching;
         non_matching = c.requires.non_matching;
         sorted = c.requires.sorted;

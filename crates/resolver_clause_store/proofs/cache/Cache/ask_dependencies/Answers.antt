@@ -16,7 +16,8 @@ returns g c =
         matching = c.requires.matching;
         non_matching = c.requires.non_matching;
         sorted = c.requires.sorted;
-        dependencies = put_all g.S.PartialEq.eq g.met.D.Interner.solvables_are_values (λ e. needs_of e.1 ≡ u.needs e.0) _ _ _ _ _ c.in_ok-insert.ensures.entries c.in_ok-answer.ensures.value c.requires.dependencies;
+        dependencies = put_all g.S.PartialEq.eq g.met.D.Interner.solvables_are_values (λ e.
+            needs_of e.1 ≡ u.needs e.0) _ _ _ _ _ c.in_ok-insert.ensures.entries c.in_ok-answer.ensures.value c.requires.dependencies;
       };
       keeps = record {
         packages = λ q h. h;

@@ -27,11 +27,13 @@ returns g c =
     let held = c.ask_candidates.ensures.is_true in
     let kept = c.ask_candidates.ensures.keeps in
     let listed = listed_at u c.candidates.result.now _ _ (c.candidates.ensures u held) c.version_set_name-name.ensures _ c.deref.ensures.value in
-    let filtered : c.in_ok-taken.taken.items ≡ matching u c.args.version_set = c.in_ok-taken.ensures.answer ∙ ap (λ xs. u.matching_of xs c.args.version_set) listed in
+    let filtered : c.in_ok-taken.taken.items ≡ matching u c.args.version_set = c.in_ok-taken.ensures.answer ∙
+    ap (λ xs. u.matching_of xs c.args.version_set) listed in
     record {
       is_true = record {
         packages = held.packages;
-        matching = put_all same_version_set version_sets_are_values (λ e. e.1.items ≡ matching u e.0) _ _ _ _ _ c.in_ok-insert.ensures.entries filtered held.matching;
+        matching = put_all same_version_set version_sets_are_values (λ e.
+            e.1.items ≡ matching u e.0) _ _ _ _ _ c.in_ok-insert.ensures.entries filtered held.matching;
         non_matching = held.non_matching;
         sorted = held.sorted;
         dependencies = held.dependencies;

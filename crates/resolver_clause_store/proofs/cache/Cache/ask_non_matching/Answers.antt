@@ -27,12 +27,14 @@ returns g c =
     let held = c.ask_candidates.ensures.is_true in
     let kept = c.ask_candidates.ensures.keeps in
     let listed = listed_at u c.candidates.result.now _ _ (c.candidates.ensures u held) c.version_set_name-name.ensures _ c.deref.ensures.value in
-    let filtered : c.in_ok-left_out.left_out.items ≡ others u c.args.version_set = c.in_ok-left_out.ensures.answer ∙ ap (λ xs. u.others_of xs c.args.version_set) listed in
+    let filtered : c.in_ok-left_out.left_out.items ≡ others u c.args.version_set = c.in_ok-left_out.ensures.answer ∙
+    ap (λ xs. u.others_of xs c.args.version_set) listed in
     record {
       is_true = record {
         packages = held.packages;
         matching = held.matching;
-        non_matching = put_all same_version_set version_sets_are_values (λ e. e.1.items ≡ others u e.0) _ _ _ _ _ c.in_ok-insert.ensures.entries filtered held.non_matching;
+        non_matching = put_all same_version_set version_sets_are_values (λ e.
+            e.1.items ≡ others u e.0) _ _ _ _ _ c.in_ok-insert.ensures.entries filtered held.non_matching;
         sorted = held.sorted;
         dependencies = held.dependencies;
       };

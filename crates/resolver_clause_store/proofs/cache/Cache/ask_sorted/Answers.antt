@@ -33,7 +33,8 @@ returns g c =
         packages = held.packages;
         matching = held.matching;
         non_matching = held.non_matching;
-        sorted = put_all same_version_set version_sets_are_values (λ e. e.1.items ≡ sorted_candidates u e.0) _ _ _ _ _ c.in_ok-insert.ensures.entries first held.sorted;
+        sorted = put_all same_version_set version_sets_are_values (λ e.
+            e.1.items ≡ sorted_candidates u e.0) _ _ _ _ _ c.in_ok-insert.ensures.entries first held.sorted;
         dependencies = held.dependencies;
       };
       keeps = record {

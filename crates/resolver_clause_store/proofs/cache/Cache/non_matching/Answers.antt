@@ -9,4 +9,5 @@ pub index-requires : goal.index-requires
 index-requires g c = IsSome-lookup_from_Contains version_sets_compare _ _ c.requires
 
 pub returns : goal.returns
-returns g c = λ u true_cache. rw c.deref.ensures.value (found version_sets_are_values (λ e. e.1.items ≡ others u e.0) _ _ _ true_cache.non_matching c.index.ensures)
+returns g c = λ u true_cache. rw c.deref.ensures.value
+    (found version_sets_are_values (λ e. e.1.items ≡ others u e.0) _ _ _ true_cache.non_matching c.index.ensures)

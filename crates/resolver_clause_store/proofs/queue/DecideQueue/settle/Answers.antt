@@ -14,7 +14,9 @@ returns-in_ok-add-in-Waiting-clause-queued c =
     (left-read it.active.items _ c.args.place index left.result c.requires.listed c.index-index.ensures left.ensures.value left.ensures.items)
     (parked-more it.waiting c.add.new.self c.in-Waiting.variable index here others)
     (λ v i there. there)
-    (held-waiting _ it.waiting c.add.new.self it.met it.followed.items it.kept c.args.trail.now c.args.table.now c.args.requirements.now c.index-requirements-index.result c.clause-literals.result.now index c.in-Waiting.variable here c.index-requirements-index.is c.clause-literals.ensures c.in-Waiting.ensures)
+    (held-waiting _ it.waiting c.add.new.self it.met it.followed.items it.kept c.args.trail.now c.args.table.now c.args.requirements.now
+    c.index-requirements-index.result c.clause-literals.result.now index c.in-Waiting.variable here c.index-requirements-index.is c.clause-literals.ensures
+    c.in-Waiting.ensures)
     c.requires.queued
 
 pub returns-in_ok-add-in-Met-clause-queued : goal.returns-in_ok-add-in-Met-clause-queued
@@ -28,7 +30,9 @@ returns-in_ok-add-in-Met-clause-queued c =
     (left-read it.active.items _ c.args.place index left.result c.requires.listed c.index-index.ensures left.ensures.value left.ensures.items)
     (λ v i there. there)
     (parked-more it.met c.add-in-Met.new.self c.in-Met.variable index here others)
-    (held-by_candidate _ it.waiting it.met c.add-in-Met.new.self it.followed.items it.kept c.args.trail.now c.args.table.now c.args.requirements.now c.index-requirements-index.result c.clause-literals.result.now index c.in-Met.variable c.requires.queued.following.same c.requires.followed.all c.requires.followed.none_else here c.index-requirements-index.is c.clause-literals.ensures c.in-Met.ensures)
+    (held-by_candidate _ it.waiting it.met c.add-in-Met.new.self it.followed.items it.kept c.args.trail.now c.args.table.now c.args.requirements.now
+    c.index-requirements-index.result c.clause-literals.result.now index c.in-Met.variable c.requires.queued.following.same c.requires.followed.all
+    c.requires.followed.none_else here c.index-requirements-index.is c.clause-literals.ensures c.in-Met.ensures)
     c.requires.queued
 
 pub returns-in-Open-clause-some : goal.returns-in-Open-clause-some

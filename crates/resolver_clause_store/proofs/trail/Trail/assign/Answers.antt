@@ -12,13 +12,18 @@ invariant_of-self c = record {
 }
 
 pub invariant_of-self-2-clause-placed : goal.invariant_of-self-2-clause-placed
-invariant_of-self-2-clause-placed c = rw (c.index.ensures, c.in_ok-push.ensures.items) (placed-push _ _ _ _ c.args.self.now.placed c.requires.free c.requires.inside (search rules))
+invariant_of-self-2-clause-placed c =
+    rw (c.index.ensures, c.in_ok-push.ensures.items) (placed-push _ _ _ _ c.args.self.now.placed c.requires.free c.requires.inside (search rules))
 
 pub invariant_of-self-2-clause-listed : goal.invariant_of-self-2-clause-listed
-invariant_of-self-2-clause-listed c = rw (c.index.ensures, c.in_ok-push.ensures.items) (listed-push _ _ _ _ c.args.self.now.listed c.requires.free c.requires.inside (search rules))
+invariant_of-self-2-clause-listed c =
+    rw (c.index.ensures, c.in_ok-push.ensures.items) (listed-push _ _ _ _ c.args.self.now.listed c.requires.free c.requires.inside (search rules))
 
 pub invariant_of-self-2-clause-rising : goal.invariant_of-self-2-clause-rising
-invariant_of-self-2-clause-rising c = rw c.index.ensures (rising-push _ _ _ _ c.args.self.now.rising c.args.self.now.listed c.requires.inside (search rules) c.requires.top (λ d. (c.requires.begins d).0))
+invariant_of-self-2-clause-rising c =
+    rw c.index.ensures (rising-push _ _ _ _ c.args.self.now.rising c.args.self.now.listed c.requires.inside (search rules) c.requires.top (λ d.
+    (c.requires.begins d).0))
 
 pub invariant_of-self-2-clause-counted : goal.invariant_of-self-2-clause-counted
-invariant_of-self-2-clause-counted c = rw c.index.ensures (counted-push _ _ _ _ c.args.self.now.counted c.requires.inside (search rules) c.requires.bound (λ d. (c.requires.begins d).1))
+invariant_of-self-2-clause-counted c =
+    rw c.index.ensures (counted-push _ _ _ _ c.args.self.now.counted c.requires.inside (search rules) c.requires.bound (λ d. (c.requires.begins d).1))

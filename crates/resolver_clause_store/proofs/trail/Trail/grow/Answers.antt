@@ -1,6 +1,7 @@
 use Rattle.std.proofs.Common.{arith, length, rules, ◌≡◌}
 use Rattle.resolver_clause_store.specs.Slots.{AreValues}
-use Rattle.resolver_clause_store.proofs.GrowLemmas.{AreSame, counted-same, listed-same, placed-same, rising-same, slots-fit, slots-resized, values-resized, values-same}
+use Rattle.resolver_clause_store.proofs.GrowLemmas.{AreSame, counted-same, listed-same, placed-same, rising-same, slots-fit, slots-resized, values-resized}
+use Rattle.resolver_clause_store.proofs.GrowLemmas.{values-same}
 use Rattle.resolver_clause_store.proofs.trail.Trail.grow.Goals as goal
 
 valued : (c : goal.After-resize-2) → (length c.resize.new.self.items ≡ c.args.variables) × AreValues c.resize.new.self.items c.args.self.now.slots.items

@@ -3,7 +3,8 @@ use Rattle.resolver_clause_store.proofs.PlaceLemmas.{AreDistinct-from, AreDistin
 use Rattle.resolver_clause_store.proofs.variables.Variables.allocate.Goals as goal
 
 pub returns-then-index-self-clause-ids : goal.returns-then-index-self-clause-ids
-returns-then-index-self-clause-ids g c = λ _. record { count = sym c.len-index.ensures.len ∙ c.if-index-self.true; distinct = AreDistinct-from _ (search rules) _ c.len-index.ensures.unique }
+returns-then-index-self-clause-ids g c =
+    λ _. record { count = sym c.len-index.ensures.len ∙ c.if-index-self.true; distinct = AreDistinct-from _ (search rules) _ c.len-index.ensures.unique }
 
 pub returns-clause-kept : goal.returns-clause-kept
 returns-clause-kept g c = rw c.in_ok-append.ensures.keys (Keeps-push _ _)

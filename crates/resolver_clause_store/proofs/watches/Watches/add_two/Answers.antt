@@ -15,17 +15,20 @@ attach-requires-clause-gains c =
 pub attach-requires-2-clause-gains : goal.attach-requires-2-clause-gains
 attach-requires-2-clause-gains c =
     let last : c.len-number.result ≡ length (pairs_of c.args.self.now) = search rules in
-    gains-second _ _ _ _ _ _ _ _ (added-inside _ _ _ _ c.in_ok-add_none.ensures.pairs last) c.in_ok-attach.ensures.pairs c.copied.ensures c.copied-4.ensures c.copied-5.ensures
+    gains-second _ _ _ _ _ _ _ _ (added-inside _ _ _ _ c.in_ok-add_none.ensures.pairs last) c.in_ok-attach.ensures.pairs c.copied.ensures c.copied-4.ensures
+    c.copied-5.ensures
 
 pub returns-clause-pairs : goal.returns-clause-pairs
 returns-clause-pairs c =
     let last : c.len-number.result ≡ length (pairs_of c.args.self.now) = search rules in
-    pairs-two _ _ _ _ _ _ _ _ last c.in_ok-add_none.ensures.pairs c.in_ok-attach.ensures.pairs c.in_ok-attach-2.ensures.pairs (λ i. watched_pair (c.copied-4.ensures i) (c.copied-5.ensures i))
+    pairs-two _ _ _ _ _ _ _ _ last c.in_ok-add_none.ensures.pairs c.in_ok-attach.ensures.pairs c.in_ok-attach-2.ensures.pairs (λ i.
+    watched_pair (c.copied-4.ensures i) (c.copied-5.ensures i))
 
 pub returns-clause-blockers : goal.returns-clause-blockers
 returns-clause-blockers c = λ table has-first has-second has.
     let last : c.len-number.result ≡ length (pairs_of c.args.self.now) = search rules in
-    let start : HasBlockers table c.add_none.new.self.lists.items = subst (λ (ls : List (Vec Watch Global)). HasBlockers table ls) (sym c.add_none.ensures.lists) has in
+    let start : HasBlockers table c.add_none.new.self.lists.items =
+    subst (λ (ls : List (Vec Watch Global)). HasBlockers table ls) (sym c.add_none.ensures.lists) has in
     blockers-push table _ _ _ _ c.in_ok-attach-2.ensures.lists (contains-same table _ _ _ _ last refl has-first)
     (blockers-push table _ _ _ _ c.in_ok-attach.ensures.lists (contains-same table _ _ _ _ last c.copied-3.ensures has-second) start)
 

@@ -10,7 +10,9 @@ pub invariant_of-self : goal.invariant_of-self
 invariant_of-self c = record { watched = watched-lists _ _ _ (puts-same _ _ _ c.in_err-push_at.ensures.err) c.args.self.now.watched }
 
 -- what was done
-moves : (c : goal.After-self-2-1) → IsMove c.args.self.now.lists.items c.push_at.new.lists.items c.take_at.new.lists.items c.args.self.now.pairs.items c.args.from c.args.to c.args.place c.args.blocker c.watch_at-number.result c.replaced.result
+moves : (c : goal.After-self-2-1) →
+    IsMove c.args.self.now.lists.items c.push_at.new.lists.items c.take_at.new.lists.items c.args.self.now.pairs.items c.args.from c.args.to c.args.place
+    c.args.blocker c.watch_at-number.result c.replaced.result
 moves c =
     let from_list = c.list_number-2.ensures ∙ ap (λ (l : Literal). list_number l) c.copied-3.ensures in
     let to_list = c.list_number.ensures ∙ ap (λ (l : Literal). list_number l) c.copied-2.ensures in
@@ -21,7 +23,10 @@ moves c =
       watching = rw c.copied.ensures at c.watch_at-number.ensures.watching;
       pushed = rw to_list at c.in_ok-push_at.ensures.ok;
       taken = rw from_list at c.take_at.ensures c.watch_at-number.result;
-      pair_is = c.replaced.ensures ∙ ap (λ (p : WatchedPair). replaced p c.args.from c.args.to) (c.index.ensures ∙ get_or_default c.args.self.now.pairs.items c.watch_at-number.result.number c.index.result.now unwatched c.watch_at-number.ensures.inside);
+      pair_is = c.replaced.ensures ∙
+          ap (λ (p : WatchedPair). replaced p c.args.from c.args.to)
+          (c.index.ensures ∙ get_or_default c.args.self.now.pairs.items c.watch_at-number.result.number c.index.result.now unwatched
+          c.watch_at-number.ensures.inside);
     }
 
 pub invariant_of-self-2 : goal.invariant_of-self-2

@@ -13,4 +13,6 @@ returns-clause-same c = same-clauses _ _ _ _ c.args.blocker c.requires.place (rw
 
 pub returns-clause-blockers : goal.returns-clause-blockers
 returns-clause-blockers c = λ table watch is contains has.
-    blockers-set table _ _ _ _ _ (rw c.list_number.ensures at c.set_at.ensures) (subst (λ n. Contains (clause_at table n) c.args.blocker) (sym (number_at-watch (list_at c.args.self.now.lists.items (list_number c.args.literal)) c.args.place watch is)) contains) has
+    blockers-set table _ _ _ _ _ (rw c.list_number.ensures at c.set_at.ensures)
+    (subst (λ n. Contains (clause_at table n) c.args.blocker)
+    (sym (number_at-watch (list_at c.args.self.now.lists.items (list_number c.args.literal)) c.args.place watch is)) contains) has

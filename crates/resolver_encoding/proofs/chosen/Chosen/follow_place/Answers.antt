@@ -13,5 +13,6 @@ returns-clause-follows g c = λ follows.
     followed_next origins trail old _ c.args.place c.requires.inside follows counts
     (c.in_ok-put_found.ensures.last (λ s here inside.
     let Among : List g.row.S.Denot → Type 0 = λ list. Contains list s in
-    absent_before origins trail c.requires.distinct c.requires.size old c.args.place c.requires.inside follows s (subst Among c.solvable_at.ensures here) inside)
+    absent_before origins trail c.requires.distinct c.requires.size old c.args.place c.requires.inside follows s
+    (subst Among c.solvable_at.ensures here) inside)
     ∙ ap (λ list. chosen_in old ++ list) c.solvable_at.ensures)

@@ -27,12 +27,14 @@ loop-index-preserved g c =
     let old = notes_in c.loop-index.self in
     let new = notes_in c.add_pair.new.self in
     let adds = c.in_ok-add_pair.ensures.added in
-    let step = IsStep-own u g.N.PartialEq.eq g.S.PartialEq.eq g.met.D.Interner.names_are_values g.met.D.Interner.solvables_are_values n k s old new c.loop-index.index c.has_digit-value.result adds (sym c.requires.name) c.has_digit-value.ensures in
+    let step = IsStep-own u g.N.PartialEq.eq g.S.PartialEq.eq g.met.D.Interner.names_are_values g.met.D.Interner.solvables_are_values n k s old new
+    c.loop-index.index c.has_digit-value.result adds (sym c.requires.name) c.has_digit-value.ensures in
     record {
       bounded = c.add_pair.ensures.bounded;
       limits = KeepsLimits-trans _ _ _ before.limits c.add_pair.ensures.limits;
       step = IsStep-trans u (coding_for n k s) (λ root. ⊤) _ _ _ before.step step;
-      code = more_digits old.kinds new.kinds n k s c.loop-index.index c.has_digit-value.result step.kinds before.code c.has_digit-value.ensures (clause_listed u old new _ _ adds);
+      code = more_digits old.kinds new.kinds n k s c.loop-index.index c.has_digit-value.result step.kinds before.code c.has_digit-value.ensures
+          (clause_listed u old new _ _ adds);
       groups = ap (λ x. x.groups) adds.is ∙ before.groups;
       seen = ap (λ x. x.seen) adds.is ∙ before.seen;
       requirements = ap (λ x. x.requirements) adds.is ∙ before.requirements;

@@ -14,8 +14,13 @@ returns-clause-added g c =
     let old = notes_in c.args.self.now in
     let gate = c.push_literal.ensures.grows in
     let candidates = c.push_candidates.ensures.grows in
-    let Candidates : List g.row.S.Denot → Type 0 = λ list. Adds (origins_in c.push_candidates.new.variables) c.push_literal.new.literals.items c.push_candidates.new.literals.items (map (λ s. atom (Solvable s) true) list) in
-    requirement_added old (origins_in c.push_candidates.new.variables) (limit_in c.push_candidates.new.variables) _ (GateRequires c.args.requirement) c.push_candidates.new.literals _
+    let Candidates : List g.row.S.Denot → Type 0 =
+    λ list. Adds (origins_in c.push_candidates.new.variables) c.push_literal.new.literals.items c.push_candidates.new.literals.items
+    (map (λ s. atom (Solvable s) true) list) in
+    requirement_added old (origins_in c.push_candidates.new.variables) (limit_in c.push_candidates.new.variables) _
+    (GateRequires c.args.requirement) c.push_candidates.new.literals _
     (Grows-trans _ _ _ gate candidates) (c.push_candidates.ensures.limit ∙ c.push_literal.ensures.limit)
-    (Adds-zip _ _ _ _ c.new-literals.ensures.items (Adds-trans _ _ _ _ _ _ _ candidates c.in_ok-push_literal.ensures.added (subst Candidates (c.deref-2.ensures.value ∙ c.requires.candidates) c.in_ok-push_candidates.ensures.added)))
+    (Adds-zip _ _ _ _ c.new-literals.ensures.items
+    (Adds-trans _ _ _ _ _ _ _ candidates c.in_ok-push_literal.ensures.added
+    (subst Candidates (c.deref-2.ensures.value ∙ c.requires.candidates) c.in_ok-push_candidates.ensures.added)))
     c.in_ok-add_asking.ensures.added

@@ -17,11 +17,20 @@ returns-clause-added g c =
     let parent = c.push_literal.ensures.grows in
     let helpers = c.push_helpers.ensures.grows in
     let candidates = c.push_candidates.ensures.grows in
-    let Parent : Origin g.row.N.Denot g.row.S.Denot → Type 0 = λ o. Adds (origins_in c.push_literal.new.variables) c.new-literals.result.items c.push_literal.new.literals.items (atom o false ∷ []) in
-    let Helpers : List VersionSetId → Type 0 = λ list. Adds (origins_in c.push_helpers.new.variables) c.push_literal.new.literals.items c.push_helpers.new.literals.items (map (λ v. atom (ConditionHelper v) false) list) in
-    let Candidates : List g.row.S.Denot → Type 0 = λ list. Adds (origins_in c.push_candidates.new.variables) c.push_helpers.new.literals.items c.push_candidates.new.literals.items (map (λ s. atom (Solvable s) true) list) in
-    requirement_added old (origins_in c.push_candidates.new.variables) (limit_in c.push_candidates.new.variables) _ (Requires c.args.by c.args.disjunct c.args.requirement) c.push_candidates.new.literals _
-    (Grows-trans _ _ _ parent (Grows-trans _ _ _ helpers candidates)) (c.push_candidates.ensures.limit ∙ c.push_helpers.ensures.limit ∙ c.push_literal.ensures.limit)
-    (Adds-zip _ _ _ _ c.new-literals.ensures.items (Adds-trans _ _ _ _ _ _ _ (Grows-trans _ _ _ helpers candidates) (subst Parent c.origin_of.ensures c.in_ok-push_literal.ensures.added)
-    (Adds-trans _ _ _ _ _ _ _ candidates (subst Helpers c.deref.ensures.value c.in_ok-push_helpers.ensures.added) (subst Candidates (c.deref-3.ensures.value ∙ c.requires.candidates) c.in_ok-push_candidates.ensures.added))))
+    let Parent : Origin g.row.N.Denot g.row.S.Denot → Type 0 =
+    λ o. Adds (origins_in c.push_literal.new.variables) c.new-literals.result.items c.push_literal.new.literals.items (atom o false ∷ []) in
+    let Helpers : List VersionSetId → Type 0 =
+    λ list. Adds (origins_in c.push_helpers.new.variables) c.push_literal.new.literals.items c.push_helpers.new.literals.items
+    (map (λ v. atom (ConditionHelper v) false) list) in
+    let Candidates : List g.row.S.Denot → Type 0 =
+    λ list. Adds (origins_in c.push_candidates.new.variables) c.push_helpers.new.literals.items c.push_candidates.new.literals.items
+    (map (λ s. atom (Solvable s) true) list) in
+    requirement_added old (origins_in c.push_candidates.new.variables) (limit_in c.push_candidates.new.variables) _
+    (Requires c.args.by c.args.disjunct c.args.requirement) c.push_candidates.new.literals _
+    (Grows-trans _ _ _ parent (Grows-trans _ _ _ helpers candidates))
+    (c.push_candidates.ensures.limit ∙ c.push_helpers.ensures.limit ∙ c.push_literal.ensures.limit)
+    (Adds-zip _ _ _ _ c.new-literals.ensures.items
+    (Adds-trans _ _ _ _ _ _ _ (Grows-trans _ _ _ helpers candidates) (subst Parent c.origin_of.ensures c.in_ok-push_literal.ensures.added)
+    (Adds-trans _ _ _ _ _ _ _ candidates (subst Helpers c.deref.ensures.value c.in_ok-push_helpers.ensures.added)
+    (subst Candidates (c.deref-3.ensures.value ∙ c.requires.candidates) c.in_ok-push_candidates.ensures.added))))
     c.in_ok-add_asking.ensures.added

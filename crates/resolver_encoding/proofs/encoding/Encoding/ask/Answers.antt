@@ -22,10 +22,13 @@ returns-clause-step g c =
     let mid = notes_in c.exclude_each.new.self in
     let answer = c.candidates-package.ensures u c.ask_candidates.ensures.is_true in
     let AllFree : List g.row.S.Denot → Type 0 = λ xs. All (λ e. (Contains xs e.0 → ⊥) → Contains mid.kinds (Excluded e.0 e.1)) c.deref-2.result.now in
-    IsStep-asked u (notes_in c.args.self.now) mid _ n (IsStep-trans u (asking_for n) (λ root. ⊤) _ _ _ c.in_ok-lock_out_others.ensures.step c.in_ok-exclude_each.ensures.step)
+    IsStep-asked u (notes_in c.args.self.now) mid _ n
+    (IsStep-trans u (asking_for n) (λ root. ⊤) _ _ _ c.in_ok-lock_out_others.ensures.step c.in_ok-exclude_each.ensures.step)
     (c.in_ok-exclude_each.ensures.asked ∙ c.in_ok-lock_out_others.ensures.asked)
     (λ i. record mid { asked = c.in_ok-append.ensures.keys i })
-    (IsPackageRead-found u (notes_in c.lock_out_others.new.self).kinds mid.kinds (notes_in c.args.self.now).exempt mid.exempt c.in_ok-exclude_each.ensures.step.kinds (c.in_ok-exclude_each.ensures.step.exempt ∙ c.in_ok-lock_out_others.ensures.step.exempt) (u.package_named n) _ _ _
+    (IsPackageRead-found u (notes_in c.lock_out_others.new.self).kinds mid.kinds
+    (notes_in c.args.self.now).exempt mid.exempt c.in_ok-exclude_each.ensures.step.kinds
+    (c.in_ok-exclude_each.ensures.step.exempt ∙ c.in_ok-lock_out_others.ensures.step.exempt) (u.package_named n) _ _ _
     (c.deref.ensures.value ∙ ap (λ p. p.listed) answer) (ap (λ p. p.locked) answer) (c.deref-2.ensures.value ∙ ap (λ p. p.excluded) answer)
     c.in_ok-lock_out_others.ensures.read (subst AllFree (sym c.in_ok-exclude_each.ensures.step.exempt) c.in_ok-exclude_each.ensures.read))
 
@@ -41,7 +44,8 @@ returns-clause-alone g c =
     let new = record mid { asked = mid.asked ++ c.args.name ∷ [] } in
     let Plain : List g.row.N.Denot → Type 0 = λ list. AddsPlainly (notes_in c.args.self.now) (record mid { asked = list }) in
     let plain = AddsPlainly-trans u _ _ _ c.in_ok-lock_out_others.ensures.plain c.in_ok-exclude_each.ensures.plain in
-    AsksOnly-of u c.args.name (notes_in c.args.self.now) _ (returns-clause-step g c) (returns-clause-asked g c) (subst Plain (sym c.in_ok-append.ensures.keys) (record { requirements = plain.requirements; seen = plain.seen }))
+    AsksOnly-of u c.args.name (notes_in c.args.self.now) _ (returns-clause-step g c) (returns-clause-asked g c)
+    (subst Plain (sym c.in_ok-append.ensures.keys) (record { requirements = plain.requirements; seen = plain.seen }))
 
 pub returns-then-is_among-clause-alone : goal.returns-then-is_among-clause-alone
 returns-then-is_among-clause-alone g c = AsksOnly-same (g.D.Interner.universe c.args.provider.now) c.args.name (notes_in c.args.self.now) c.if-is_among.ensures

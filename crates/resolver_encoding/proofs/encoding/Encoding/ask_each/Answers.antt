@@ -27,12 +27,17 @@ loop-version_set-preserved g c =
       bounded = c.ask.ensures.bounded;
       limits = KeepsLimits-trans _ _ _ before.limits c.ask.ensures.limits;
       step = IsAskStep-trans u (IsNamedBy u c.args.named.now) (λ root. ⊤) _ _ _ before.step
-          (IsAskStep-weaker u (IsAsking c.version_set_name.result) (IsNamedBy u c.args.named.now) (λ call is. named_here u c.args.named.now c.loop-version_set.version_set-index _ _ call (omega arith) c.version_set_name.ensures is) (λ root. ⊤) (λ root. ⊤) (λ root _. tt) _ _ c.in_ok-ask.ensures.step);
-      asked = All-grown_at (λ v. Contains c.loop-version_set.self.asked.keys (u.version_set_name v)) (λ v. Contains c.ask.new.self.asked.keys (u.version_set_name v)) c.args.named.now c.loop-version_set.version_set-index _ (λ y h. c.in_ok-ask.ensures.step.asked _ h) (omega arith) before.asked (rw c.version_set_name.ensures at c.in_ok-ask.ensures.asked);
+          (IsAskStep-weaker u (IsAsking c.version_set_name.result) (IsNamedBy u c.args.named.now) (λ call is.
+          named_here u c.args.named.now c.loop-version_set.version_set-index _ _ call (omega arith) c.version_set_name.ensures is) (λ root. ⊤) (λ root.
+          ⊤) (λ root _. tt) _ _ c.in_ok-ask.ensures.step);
+      asked = All-grown_at (λ v. Contains c.loop-version_set.self.asked.keys (u.version_set_name v)) (λ v.
+          Contains c.ask.new.self.asked.keys (u.version_set_name v)) c.args.named.now c.loop-version_set.version_set-index _ (λ y h.
+          c.in_ok-ask.ensures.step.asked _ h) (omega arith) before.asked (rw c.version_set_name.ensures at c.in_ok-ask.ensures.asked);
       is_true = c.ask.ensures.is_true;
     }
 
 pub returns-clause-asked : goal.returns-clause-asked
 returns-clause-asked g c =
     let u = g.D.Interner.universe c.args.provider.now in
-    All-done (λ v. Contains c.loop-version_set.self.asked.keys (u.version_set_name v)) c.args.named.now c.loop-version_set.version_set-index (omega arith) c.loop-version_set.invariant.asked
+    All-done (λ v. Contains c.loop-version_set.self.asked.keys (u.version_set_name v)) c.args.named.now c.loop-version_set.version_set-index
+    (omega arith) c.loop-version_set.invariant.asked

@@ -13,7 +13,8 @@ loop-requirement-init g c =
     record {
       bounded = c.requires.bounded;
       limits = KeepsLimits-same _;
-      step = IsAskStep-same u (λ n. (r : ConditionalRequirement) × Contains c.args.requirements.now r × IsPlainlyNamed u r n) (λ root. ⊤) (notes_in c.args.self.now);
+      step = IsAskStep-same u (λ n. (r : ConditionalRequirement) × Contains c.args.requirements.now r × IsPlainlyNamed u r n) (λ root. ⊤)
+          (notes_in c.args.self.now);
       is_true = c.requires.is_true;
     }
 
@@ -28,6 +29,7 @@ loop-requirement-preserved g c =
       bounded = c.ask_plain.ensures.bounded;
       limits = KeepsLimits-trans _ _ _ before.limits c.ask_plain.ensures.limits;
       step = IsAskStep-trans u Called (λ root. ⊤) _ _ _ before.step
-          (IsAskStep-weaker u (IsPlainlyNamed u _) Called (λ n named. plainly_here u xs i _ n (omega arith) named) (λ root. ⊤) (λ root. ⊤) (λ root _. tt) _ _ c.in_ok-ask_plain.ensures.step);
+          (IsAskStep-weaker u (IsPlainlyNamed u _) Called (λ n named. plainly_here u xs i _ n (omega arith) named) (λ root. ⊤) (λ root. ⊤) (λ root _.
+          tt) _ _ c.in_ok-ask_plain.ensures.step);
       is_true = c.ask_plain.ensures.is_true;
     }

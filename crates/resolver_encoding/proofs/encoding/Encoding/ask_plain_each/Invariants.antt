@@ -11,6 +11,8 @@ abbrev pub invariant-loop-requirement : goal.invariant-loop-requirement
 invariant-loop-requirement g l = record {
   bounded : IsBounded l.self;
   limits : KeepsLimits (notes_in l.fn.self) (notes_in l.self);
-  step : IsAskStep (g.D.Interner.universe l.provider) (λ n. (r : ConditionalRequirement) × Contains l.requirements r × IsPlainlyNamed (g.D.Interner.universe l.provider) r n) (λ root. ⊤) (notes_in l.fn.self) (notes_in l.self);
+  step : IsAskStep (g.D.Interner.universe l.provider) (λ n.
+      (r : ConditionalRequirement) × Contains l.requirements r × IsPlainlyNamed (g.D.Interner.universe l.provider) r n) (λ root. ⊤) (notes_in l.fn.self)
+      (notes_in l.self);
   is_true : IsTrueCache (g.D.Interner.universe l.provider) l.cache;
 }

@@ -9,5 +9,6 @@ use Rattle.resolver_encoding.proofs.encoding.Encoding.asking_literals.Goals as g
 pub returns-in-Some : goal.returns-in-Some
 returns-in-Some g c =
     let found = c.in-Some.ensures.lookup in
-    let at = ap (λ (xs : List RequirementClause). slice_get xs c.args.place) (sym c.deref.ensures.value) ∙ slice_get_read c.deref.result.now _ c.args.place c.in-Some.asking.now refl found.3.0 found.1 in
+    let at = ap (λ (xs : List RequirementClause). slice_get xs c.args.place) (sym c.deref.ensures.value) ∙
+    slice_get_read c.deref.result.now _ c.args.place c.in-Some.asking.now refl found.3.0 found.1 in
     c.clause.ensures ∙ literals_by (notes_in c.args.self.now).table c.args.self.now.requirements.items c.args.place c.in-Some.asking.now at

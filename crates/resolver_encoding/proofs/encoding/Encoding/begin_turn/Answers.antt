@@ -21,4 +21,5 @@ returns-clause-stays g c =
     let u = g.D.Interner.universe c.args.provider.now in
     let old = notes_in c.args.self.now in
     let Asked : g.row.N.Denot → Type 0 = λ n. Contains old.asked n → ⊥ in
-    StaysRead-exempting u c.args.solvable old _ (subst Asked c.solvable_name-name.ensures c.if-is_among.ensures) (λ i. record old { exempt = c.in_ok-append.ensures.keys i })
+    StaysRead-exempting u c.args.solvable old _ (subst Asked c.solvable_name-name.ensures c.if-is_among.ensures) (λ i.
+    record old { exempt = c.in_ok-append.ensures.keys i })

@@ -14,13 +14,17 @@ returns-clause-step g c =
     let r = c.args.requirement in
     let list = c.deref.result.now in
     IsAskStep-trans u (IsWantedBy u r) (λ root. ⊤) _ _ _
-    (IsAskStep-weaker u (IsNamedBy u (version_sets u r)) (IsWantedBy u r) (named_wanted u r) (λ root. ⊤) (λ root. ⊤) (λ root _. tt) _ _ c.in_ok-ask_named.ensures.step)
-    (IsAskStep-weaker u (IsSeeingEach list) (IsWantedBy u r) (listed_wanted u r list (c.deref.ensures.value ∙ c.in_ok-choices.ensures.candidates)) (λ root. ⊤) (λ root. ⊤) (λ root _. tt) _ _ c.in_ok-see_all.ensures.step)
+    (IsAskStep-weaker u (IsNamedBy u (version_sets u r)) (IsWantedBy u r) (named_wanted u r) (λ root. ⊤) (λ root. ⊤) (λ root _.
+    tt) _ _ c.in_ok-ask_named.ensures.step)
+    (IsAskStep-weaker u (IsSeeingEach list) (IsWantedBy u r) (listed_wanted u r list (c.deref.ensures.value ∙ c.in_ok-choices.ensures.candidates)) (λ root.
+    ⊤) (λ root. ⊤) (λ root _. tt) _ _ c.in_ok-see_all.ensures.step)
 
 pub returns-clause-asked : goal.returns-clause-asked
 returns-clause-asked g c =
     let u = g.D.Interner.universe c.args.provider.now in
-    All-weaker (λ v. Contains (notes_in c.ask_named.new.self).asked (u.version_set_name v)) (λ v. Contains (notes_in c.see_all.new.self).asked (u.version_set_name v)) (λ v h. c.in_ok-see_all.ensures.step.asked (u.version_set_name v) h) (version_sets u c.args.requirement) c.in_ok-ask_named.ensures.asked
+    All-weaker (λ v. Contains (notes_in c.ask_named.new.self).asked (u.version_set_name v)) (λ v.
+    Contains (notes_in c.see_all.new.self).asked (u.version_set_name v)) (λ v h. c.in_ok-see_all.ensures.step.asked (u.version_set_name v) h)
+    (version_sets u c.args.requirement) c.in_ok-ask_named.ensures.asked
 
 pub returns-clause-seen : goal.returns-clause-seen
 returns-clause-seen g c =

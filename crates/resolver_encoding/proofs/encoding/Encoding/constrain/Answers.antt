@@ -26,10 +26,21 @@ returns-then-is_by-clause-step g c =
     let same : atom (origin_by by) false ≡ second = ap (λ b. atom (origin_by b) false) c.if-is_by.ensures in
     let Twice : Atom g.row.N.Denot g.row.S.Denot → Type 0 = λ a. AllZip (IsAtom (notes_in c.add_unit.new.self).origins) adds.literals.items (a ∷ []) in
     IsStep-clause u idle (AsksWithin u by v) (notes_in c.args.self.now) (notes_in c.add_unit.new.self) kind _ adds (asks_not kind tt)
-    (λ root asks before. record { clause = record { atoms = AreAtoms-twice (notes_in c.add_unit.new.self).origins adds.literals.items (atom (origin_by by) false) second same (subst Twice (sym same) adds.are); in_order = tt }; is_true = λ codes _. (asks, c.requires.other); usual = tt; due = tt; prepared = tt })
+    (λ root asks before. record {
+      clause = record {
+        atoms = AreAtoms-twice (notes_in c.add_unit.new.self).origins adds.literals.items
+            (atom (origin_by by) false) second same (subst Twice (sym same) adds.are);
+        in_order = tt;
+      };
+      is_true = λ codes _. (asks, c.requires.other);
+      usual = tt;
+      due = tt;
+      prepared = tt;
+    })
 
 pub returns-then-is_by-clause-forbidden : goal.returns-then-is_by-clause-forbidden
-returns-then-is_by-clause-forbidden g c = clause_listed (g.D.Interner.universe c.args.provider.now) (notes_in c.args.self.now) _ _ _ c.in_ok-add_unit.ensures.added
+returns-then-is_by-clause-forbidden g c =
+    clause_listed (g.D.Interner.universe c.args.provider.now) (notes_in c.args.self.now) _ _ _ c.in_ok-add_unit.ensures.added
 
 pub returns-clause-step : goal.returns-clause-step
 returns-clause-step g c =
@@ -38,8 +49,10 @@ returns-clause-step g c =
     let s = c.args.candidate in
     let by = c.args.by in
     let kind : ClauseKind g.row.N.Denot g.row.S.Denot = Constrains by v s in
-    let Adds_of : Origin g.row.N.Denot g.row.S.Denot → Type 0 = λ o. AddsClause (notes_in c.args.self.now) (notes_in c.add_pair.new.self) kind (atom o false ∷ atom (Solvable s) false ∷ []) in
-    IsStep-plain u idle (AsksWithin u by v) (notes_in c.args.self.now) (notes_in c.add_pair.new.self) kind (subst Adds_of c.origin_of.ensures c.in_ok-add_pair.ensures.added) tt
+    let Adds_of : Origin g.row.N.Denot g.row.S.Denot → Type 0 =
+    λ o. AddsClause (notes_in c.args.self.now) (notes_in c.add_pair.new.self) kind (atom o false ∷ atom (Solvable s) false ∷ []) in
+    IsStep-plain u idle (AsksWithin u by v) (notes_in c.args.self.now) (notes_in c.add_pair.new.self) kind
+    (subst Adds_of c.origin_of.ensures c.in_ok-add_pair.ensures.added) tt
     (λ root asks _ codes _. (asks, c.requires.other)) tt tt tt
 
 pub returns-clause-forbidden : goal.returns-clause-forbidden

@@ -21,7 +21,8 @@ loop-candidate-init g c =
 pub constrain-requires-clause-other : goal.constrain-requires-clause-other
 constrain-requires-clause-other g c =
     let Has : List g.row.S.Denot → Type 0 = λ list. Contains list c.candidate-item.result in
-    subst Has c.requires.forbidden (Contains-item c.args.forbidden.now c.loop-candidate.candidate-index c.candidate-item.result (omega arith) c.candidate-item.is)
+    subst Has c.requires.forbidden
+    (Contains-item c.args.forbidden.now c.loop-candidate.candidate-index c.candidate-item.result (omega arith) c.candidate-item.is)
 
 pub loop-candidate-preserved : goal.loop-candidate-preserved
 loop-candidate-preserved g c =
@@ -32,11 +33,15 @@ loop-candidate-preserved g c =
       bounded = c.constrain.ensures.bounded;
       limits = KeepsLimits-trans _ _ _ before.limits c.constrain.ensures.limits;
       step = IsStep-trans u idle (AsksWithin u c.args.by c.args.version_set) _ _ _ before.step step;
-      read = All-grown (IsForbidden (notes_in c.loop-candidate.self).kinds c.args.by c.args.version_set) (IsForbidden (notes_in c.constrain.new.self).kinds c.args.by c.args.version_set) c.args.forbidden.now c.loop-candidate.candidate-index c.candidate-item.result
-          (λ y h. IsForbidden-within _ _ step.kinds c.args.by c.args.version_set y h) (omega arith) c.candidate-item.is before.read (forbidden_direct c.in_ok-constrain.ensures.forbidden);
+      read = All-grown (IsForbidden (notes_in c.loop-candidate.self).kinds c.args.by c.args.version_set)
+          (IsForbidden (notes_in c.constrain.new.self).kinds c.args.by c.args.version_set) c.args.forbidden.now c.loop-candidate.candidate-index
+          c.candidate-item.result
+          (λ y h. IsForbidden-within _ _ step.kinds c.args.by c.args.version_set y h) (omega arith) c.candidate-item.is before.read
+          (forbidden_direct c.in_ok-constrain.ensures.forbidden);
     }
 
 pub returns-clause-read : goal.returns-clause-read
 returns-clause-read g c =
     let Forbidden : g.row.S.Denot → Type 0 = IsForbidden (notes_in c.loop-candidate.self).kinds c.args.by c.args.version_set in
-    All-same Forbidden _ c.args.forbidden.now (sym c.requires.forbidden) (All-done Forbidden c.args.forbidden.now c.loop-candidate.candidate-index (omega arith) c.loop-candidate.invariant.read)
+    All-same Forbidden _ c.args.forbidden.now (sym c.requires.forbidden)
+    (All-done Forbidden c.args.forbidden.now c.loop-candidate.candidate-index (omega arith) c.loop-candidate.invariant.read)

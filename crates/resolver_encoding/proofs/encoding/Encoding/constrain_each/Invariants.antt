@@ -8,6 +8,7 @@ abbrev pub invariant-loop-candidate : goal.invariant-loop-candidate
 invariant-loop-candidate g l = record {
   bounded : IsBounded l.self;
   limits : KeepsLimits (notes_in l.fn.self) (notes_in l.self);
-  step : IsStepWhile (g.D.Interner.universe l.provider) idle (AsksWithin (g.D.Interner.universe l.provider) l.by l.version_set) (notes_in l.fn.self) (notes_in l.self);
+  step : IsStepWhile (g.D.Interner.universe l.provider) idle (AsksWithin (g.D.Interner.universe l.provider) l.by l.version_set) (notes_in l.fn.self)
+      (notes_in l.self);
   read : All (IsForbidden (notes_in l.self).kinds l.by l.version_set) (take l.candidate-index l.forbidden);
 }

@@ -32,8 +32,12 @@ returns-clause-step g c =
       due = tt;
       prepared = record {
         helpers = λ v h. All-contains (Contains mid.helped) list.items v helped h;
-        packages = λ v h. let Has : List g.row.N.Denot → Type 0 = λ names. Contains names (u.version_set_name v) in subst Has (sym grown.asked) (All-contains (λ w. Contains (notes_in c.args.self.now).asked (u.version_set_name w)) (version_sets u r) v c.requires.asked h);
-        candidates = λ s h. let Has : List g.row.S.Denot → Type 0 = λ list. Contains list s in subst Has (sym grown.seen) (All-contains (Contains (notes_in c.args.self.now).seen) c.args.choices.now.candidates.items s c.requires.seen (subst Has (sym c.requires.candidates) h));
+        packages = λ v h. let Has : List g.row.N.Denot → Type 0 = λ names. Contains names (u.version_set_name v) in
+            subst Has (sym grown.asked) (All-contains (λ w. Contains (notes_in c.args.self.now).asked (u.version_set_name w))
+            (version_sets u r) v c.requires.asked h);
+        candidates = λ s h. let Has : List g.row.S.Denot → Type 0 = λ list. Contains list s in
+            subst Has (sym grown.seen) (All-contains (Contains (notes_in c.args.self.now).seen) c.args.choices.now.candidates.items s c.requires.seen
+            (subst Has (sym c.requires.candidates) h));
         once = c.requires.once;
       };
     }))

@@ -8,5 +8,6 @@ pub returns-in_ok-pay-in-Some-clause-ended : goal.returns-in_ok-pay-in-Some-clau
 returns-in_ok-pay-in-Some-clause-ended g c =
     let u = g.D.Interner.universe c.args.provider.now in
     let shorter = c.pop.new.self.keys in
-    IsTurnEnd-paid u c.in-Some.solvable (notes_in c.args.self.now) shorter (c.pop.ensures.keys ∙ ap (λ o. shorter ++ option_to_list o) c.in-Some.is) g.S.PartialEq.eq g.met.D.Interner.solvables_are_values
+    IsTurnEnd-paid u c.in-Some.solvable (notes_in c.args.self.now) shorter
+    (c.pop.ensures.keys ∙ ap (λ o. shorter ++ option_to_list o) c.in-Some.is) g.S.PartialEq.eq g.met.D.Interner.solvables_are_values
     (notes_in c.pay.new.self) c.in_ok-pay-in-Some.ensures.paid c.in_ok-pay-in-Some.ensures.step c.in_ok-pay-in-Some.ensures.plain

@@ -13,7 +13,8 @@ returns-clause-step g c =
     let Names : g.row.N.Denot → Type 0 = λ n. Contains (u.package_named n).excluded (c.args.solvable, c.args.reason) in
     λ doing inside. let Asks : g.row.N.Denot → Type 0 = λ n. Contains (doing.asking ++ (notes_in c.args.self.now).asked) n in
     IsStep-plain u doing (λ root. ⊤) (notes_in c.args.self.now) _ (Excluded c.args.solvable c.args.reason) c.in_ok-add_unit.ensures.added tt
-    (λ root _ _ codes _. inl (subst Names (sym c.requires.named) c.requires.excluded)) tt (inl (subst Asks (sym c.requires.named) inside, c.if-is_among.ensures)) tt
+    (λ root _ _ codes _. inl (subst Names (sym c.requires.named) c.requires.excluded)) tt
+    (inl (subst Asks (sym c.requires.named) inside, c.if-is_among.ensures)) tt
 
 pub returns-clause-forbidden : goal.returns-clause-forbidden
 returns-clause-forbidden g c = λ free. clause_listed (g.D.Interner.universe c.args.provider.now) (notes_in c.args.self.now) _ _ _ c.in_ok-add_unit.ensures.added

@@ -15,14 +15,17 @@ returns-in_ok-encode_disjunct-in-Some-clause-firing g c =
     let e = entry_of c.in-Some.entry in
     let old = notes_in c.args.self.now in
     let mid = notes_in c.take_out.new.self in
-    IsFiring-taken u set c.args.number e old mid (notes_in c.encode_disjunct.new.self) c.in-Some.ensures.some c.in_ok-encode_disjunct-in-Some.ensures.step (met_entry u set c.args.number e old mid c.requires.met c.in-Some.ensures.some) c.in_ok-encode_disjunct-in-Some.ensures.read
+    IsFiring-taken u set c.args.number e old mid (notes_in c.encode_disjunct.new.self) c.in-Some.ensures.some c.in_ok-encode_disjunct-in-Some.ensures.step
+    (met_entry u set c.args.number e old mid c.requires.met c.in-Some.ensures.some) c.in_ok-encode_disjunct-in-Some.ensures.read
 
 pub returns-in_ok-encode_disjunct-in-Some-clause-quiet : goal.returns-in_ok-encode_disjunct-in-Some-clause-quiet
 returns-in_ok-encode_disjunct-in-Some-clause-quiet g c =
     let u = g.D.Interner.universe c.args.provider.now in
-    fired_quiet u c.args.chosen.now.keys c.args.number (entry_of c.in-Some.entry) (notes_in c.args.self.now) (notes_in c.take_out.new.self) (notes_in c.encode_disjunct.new.self) c.in-Some.ensures.some c.in_ok-encode_disjunct-in-Some.ensures.step
+    fired_quiet u c.args.chosen.now.keys c.args.number (entry_of c.in-Some.entry) (notes_in c.args.self.now) (notes_in c.take_out.new.self)
+    (notes_in c.encode_disjunct.new.self) c.in-Some.ensures.some c.in_ok-encode_disjunct-in-Some.ensures.step
 
 pub returns-in_ok-encode_disjunct-in-Some-clause-fired : goal.returns-in_ok-encode_disjunct-in-Some-clause-fired
 returns-in_ok-encode_disjunct-in-Some-clause-fired g c =
     let u = g.D.Interner.universe c.args.provider.now in
-    fired_fewer u c.args.chosen.now.keys c.args.number (entry_of c.in-Some.entry) (notes_in c.args.self.now) (notes_in c.take_out.new.self) (notes_in c.encode_disjunct.new.self) c.in-Some.ensures.some c.in_ok-encode_disjunct-in-Some.ensures.step
+    fired_fewer u c.args.chosen.now.keys c.args.number (entry_of c.in-Some.entry) (notes_in c.args.self.now) (notes_in c.take_out.new.self)
+    (notes_in c.encode_disjunct.new.self) c.in-Some.ensures.some c.in_ok-encode_disjunct-in-Some.ensures.step

@@ -18,11 +18,15 @@ loop-place-preserved g c =
       limits = KeepsLimits-trans one two three before.limits c.fire_waiting.ensures.limits;
       is_true = c.fire_waiting.ensures.is_true;
       firing = IsFiring-trans u set one two three before.firing c.in_ok-any.ensures.firing;
-      quiet = λ sound. AreQuiet-more u set two three c.args.from c.loop-place.place _ c.in_ok-any.ensures.firing (slice_get_read set _ c.loop-place.place c.index-as_slice-place.result refl (omega (arith, c.len-place-end.ensures.len)) (rw c.as_slice.ensures.keys at c.index-as_slice-place.is)) (before.quiet sound) (c.in_ok-any.ensures.quiet (groups_kept u set one two before.firing sound));
+      quiet = λ sound. AreQuiet-more u set two three c.args.from c.loop-place.place _ c.in_ok-any.ensures.firing
+          (slice_get_read set _ c.loop-place.place c.index-as_slice-place.result refl (omega (arith, c.len-place-end.ensures.len))
+          (rw c.as_slice.ensures.keys at c.index-as_slice-place.is)) (before.quiet sound)
+          (c.in_ok-any.ensures.quiet (groups_kept u set one two before.firing sound));
       fired = HasFired-trans one two three c.loop-place.any c.in_ok-any.field-0 before.fired c.in_ok-any.ensures.fired;
     }
 
 pub returns-clause-quiet : goal.returns-clause-quiet
 returns-clause-quiet g c sound =
     let u = g.D.Interner.universe c.args.provider.now in
-    AreQuiet-done u c.args.chosen.now.keys (notes_in c.loop-place.self) c.args.from c.loop-place.place (omega (arith, c.len-place-end.ensures.len)) (c.loop-place.invariant.quiet sound)
+    AreQuiet-done u c.args.chosen.now.keys (notes_in c.loop-place.self) c.args.from c.loop-place.place (omega (arith, c.len-place-end.ensures.len))
+    (c.loop-place.invariant.quiet sound)

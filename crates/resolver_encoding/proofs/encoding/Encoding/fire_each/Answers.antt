@@ -20,11 +20,13 @@ loop-number-preserved g c =
       limits = KeepsLimits-trans one two three before.limits c.fire_if_due.ensures.limits;
       is_true = c.fire_if_due.ensures.is_true;
       firing = IsFiring-trans u set one two three before.firing c.in_ok-any.ensures.firing;
-      quiet = All-grown_at (IsQuietAt u set two) (IsQuietAt u set three) c.args.numbers.now c.loop-number.number-index _ (λ k h. IsQuietAt-kept u set two three c.in_ok-any.ensures.firing k h) (omega arith) before.quiet c.in_ok-any.ensures.quiet;
+      quiet = All-grown_at (IsQuietAt u set two) (IsQuietAt u set three) c.args.numbers.now c.loop-number.number-index _ (λ k h.
+          IsQuietAt-kept u set two three c.in_ok-any.ensures.firing k h) (omega arith) before.quiet c.in_ok-any.ensures.quiet;
       fired = HasFired-trans one two three c.loop-number.any c.in_ok-any.field-0 before.fired c.in_ok-any.ensures.fired;
     }
 
 pub returns-clause-quiet : goal.returns-clause-quiet
 returns-clause-quiet g c =
     let u = g.D.Interner.universe c.args.provider.now in
-    All-done (IsQuietAt u c.args.chosen.now.keys (notes_in c.loop-number.self)) c.args.numbers.now c.loop-number.number-index (omega arith) c.loop-number.invariant.quiet
+    All-done (IsQuietAt u c.args.chosen.now.keys (notes_in c.loop-number.self)) c.args.numbers.now c.loop-number.number-index
+    (omega arith) c.loop-number.invariant.quiet

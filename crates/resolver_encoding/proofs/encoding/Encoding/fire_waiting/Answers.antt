@@ -9,6 +9,8 @@ returns-clause-quiet g c sound =
     let u = g.D.Interner.universe c.args.provider.now in
     let Named : g.row.N.Denot → ℕ → Type 0 = λ n i. IsNamed c.args.self.now.waiting n i in
     let Has : List ℕ → ℕ → Type 0 = λ xs i. Contains xs i in
-    IsQuietUnder-all u c.args.chosen.now.keys (notes_in c.args.self.now) (notes_in c.fire_each.new.self) c.in_ok-any.ensures.firing (u.name c.args.solvable) c.in_ok-numbers.numbers.items
-    (λ i named. subst (λ xs. Has xs i) (sym c.in_ok-numbers.ensures.items) (c.named.ensures.every sound i (subst (λ n. Named n i) (sym c.solvable_name-name.ensures) named)))
+    IsQuietUnder-all u c.args.chosen.now.keys (notes_in c.args.self.now) (notes_in c.fire_each.new.self) c.in_ok-any.ensures.firing
+    (u.name c.args.solvable) c.in_ok-numbers.numbers.items
+    (λ i named. subst (λ xs. Has xs i) (sym c.in_ok-numbers.ensures.items)
+    (c.named.ensures.every sound i (subst (λ n. Named n i) (sym c.solvable_name-name.ensures) named)))
     (rw c.deref.ensures.value at c.in_ok-any.ensures.quiet)

@@ -16,8 +16,10 @@ returns-clause-step g c =
     let u = g.D.Interner.universe c.args.provider.now in
     let v = c.args.version_set in
     let kind : ClauseKind g.row.N.Denot g.row.S.Denot = ConstrainsParent c.args.by v in
-    let Adds_of : Origin g.row.N.Denot g.row.S.Denot → Type 0 = λ o. AddsClause (notes_in c.args.self.now) (notes_in c.add_pair.new.self) kind (atom o false ∷ atom (ConstraintHelper v) false ∷ []) in
-    IsStep-plain u idle (AsksWithin u c.args.by v) (notes_in c.args.self.now) (notes_in c.add_pair.new.self) kind (subst Adds_of c.origin_of.ensures c.in_ok-add_pair.ensures.added) tt
+    let Adds_of : Origin g.row.N.Denot g.row.S.Denot → Type 0 =
+    λ o. AddsClause (notes_in c.args.self.now) (notes_in c.add_pair.new.self) kind (atom o false ∷ atom (ConstraintHelper v) false ∷ []) in
+    IsStep-plain u idle (AsksWithin u c.args.by v) (notes_in c.args.self.now) (notes_in c.add_pair.new.self) kind
+    (subst Adds_of c.origin_of.ensures c.in_ok-add_pair.ensures.added) tt
     (λ root asks _ codes _. asks) tt tt tt
 
 pub returns-clause-forbidden : goal.returns-clause-forbidden

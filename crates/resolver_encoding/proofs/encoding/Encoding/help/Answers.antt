@@ -24,7 +24,8 @@ returns-clause-step g c =
     let answer = c.matching.ensures u c.ask_matching.ensures.is_true in
     let AllFollow : List g.row.S.Denot → Type 0 = λ list. All (λ s. Contains mid.kinds (AnyOf (ConditionHelper v) s)) list in
     IsStep-trans u idle (λ root. ⊤) _ _ _ c.in_ok-imply_each.ensures.step
-    (IsStep-helped u mid _ v (λ i. record mid { helped = c.in_ok-append.ensures.keys i }) (λ s h. All-contains (λ t. Contains mid.kinds (AnyOf (ConditionHelper v) t)) (matching u v) s (subst AllFollow answer c.in_ok-imply_each.ensures.follow) h))
+    (IsStep-helped u mid _ v (λ i. record mid { helped = c.in_ok-append.ensures.keys i }) (λ s h.
+    All-contains (λ t. Contains mid.kinds (AnyOf (ConditionHelper v) t)) (matching u v) s (subst AllFollow answer c.in_ok-imply_each.ensures.follow) h))
 
 pub returns-clause-helped : goal.returns-clause-helped
 returns-clause-helped g c =

@@ -27,9 +27,12 @@ loop-version_set-preserved g c =
       bounded = c.help.ensures.bounded;
       limits = KeepsLimits-trans _ _ _ before.limits c.help.ensures.limits;
       step = IsStep-trans u idle (λ root. ⊤) _ _ _ before.step c.in_ok-help.ensures.step;
-      helped = All-grown_at (Contains c.loop-version_set.self.helped.keys) (Contains c.help.new.self.helped.keys) c.args.disjunct.now c.loop-version_set.version_set-index _ (λ y h. c.in_ok-help.ensures.step.helped _ h) (omega arith) before.helped c.in_ok-help.ensures.helped;
+      helped = All-grown_at (Contains c.loop-version_set.self.helped.keys)
+          (Contains c.help.new.self.helped.keys) c.args.disjunct.now c.loop-version_set.version_set-index _ (λ y h. c.in_ok-help.ensures.step.helped _ h)
+          (omega arith) before.helped c.in_ok-help.ensures.helped;
       is_true = c.help.ensures.is_true;
     }
 
 pub returns-clause-helped : goal.returns-clause-helped
-returns-clause-helped g c = All-done (Contains c.loop-version_set.self.helped.keys) c.args.disjunct.now c.loop-version_set.version_set-index (omega arith) c.loop-version_set.invariant.helped
+returns-clause-helped g c = All-done (Contains c.loop-version_set.self.helped.keys) c.args.disjunct.now c.loop-version_set.version_set-index
+    (omega arith) c.loop-version_set.invariant.helped

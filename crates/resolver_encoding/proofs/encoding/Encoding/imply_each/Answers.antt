@@ -30,18 +30,26 @@ loop-candidate-preserved g c =
     let s = c.candidate-item.result in
     let before = c.loop-candidate.invariant in
     let Has : List g.row.S.Denot → Type 0 = λ list. Contains list s in
-    let matches : Contains (matching u v) s = subst Has c.requires.candidates (Contains-item c.args.candidates.now c.loop-candidate.candidate-index s (omega arith) c.candidate-item.is) in
+    let matches : Contains (matching u v) s =
+    subst Has c.requires.candidates (Contains-item c.args.candidates.now c.loop-candidate.candidate-index s (omega arith) c.candidate-item.is) in
     let Identity : (g.row.S.Denot → g.row.S.Denot → Bool) → Type 0 = λ same. IsIdentity same in
     let identity = subst Identity (sym (g.met.D.Interner.solvables_compare c.args.provider.now)) g.met.D.Interner.solvables_are_values in
     let adds = c.in_ok-add_pair.ensures.added in
-    let step = IsStep-plain u idle (λ root. ⊤) (notes_in c.loop-candidate.self) (notes_in c.add_pair.new.self) (AnyOf (ConditionHelper v) s) adds tt (λ root _ _ codes _. (tt, list_any-contains (u.same_solvable s) (matching u v) s matches (identity.itself s))) tt tt tt in
+    let step = IsStep-plain u idle (λ root. ⊤) (notes_in c.loop-candidate.self) (notes_in c.add_pair.new.self)
+    (AnyOf (ConditionHelper v) s) adds tt (λ root _ _ codes _.
+    (tt, list_any-contains (u.same_solvable s) (matching u v) s matches (identity.itself s))) tt tt tt in
     record {
       bounded = c.add_pair.ensures.bounded;
       limits = KeepsLimits-trans _ _ _ before.limits c.add_pair.ensures.limits;
       step = IsStep-trans u idle (λ root. ⊤) _ _ _ before.step step;
-      follow = All-grown (λ t. Contains (notes_in c.loop-candidate.self).kinds (AnyOf (ConditionHelper v) t)) (λ t. Contains (notes_in c.add_pair.new.self).kinds (AnyOf (ConditionHelper v) t)) c.args.candidates.now c.loop-candidate.candidate-index s (λ y h. step.kinds _ h) (omega arith) c.candidate-item.is before.follow (clause_listed u (notes_in c.loop-candidate.self) (notes_in c.add_pair.new.self) _ _ adds);
+      follow = All-grown (λ t. Contains (notes_in c.loop-candidate.self).kinds (AnyOf (ConditionHelper v) t)) (λ t.
+          Contains (notes_in c.add_pair.new.self).kinds (AnyOf (ConditionHelper v) t)) c.args.candidates.now c.loop-candidate.candidate-index s (λ y h.
+          step.kinds _ h) (omega arith) c.candidate-item.is before.follow
+          (clause_listed u (notes_in c.loop-candidate.self) (notes_in c.add_pair.new.self) _ _ adds);
       helped = ap (λ n. n.helped) adds.is ∙ before.helped;
     }
 
 pub returns-clause-follow : goal.returns-clause-follow
-returns-clause-follow g c = All-done (λ t. Contains (notes_in c.loop-candidate.self).kinds (AnyOf (ConditionHelper c.args.version_set) t)) c.args.candidates.now c.loop-candidate.candidate-index (omega arith) c.loop-candidate.invariant.follow
+returns-clause-follow g c = All-done (λ t.
+    Contains (notes_in c.loop-candidate.self).kinds (AnyOf (ConditionHelper c.args.version_set) t)) c.args.candidates.now c.loop-candidate.candidate-index
+    (omega arith) c.loop-candidate.invariant.follow

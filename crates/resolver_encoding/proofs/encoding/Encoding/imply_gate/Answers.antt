@@ -14,7 +14,8 @@ returns-clause-step g c =
     let u = g.D.Interner.universe c.args.provider.now in
     let s = c.args.requirer in
     let r = c.args.requirement in
-    IsStep-plain u idle (AsksFor u (BySolvable s) (record { condition = None; requirement = r })) (notes_in c.args.self.now) (notes_in c.add_pair.new.self) (AnyOf (Gate r) s) c.in_ok-add_pair.ensures.added tt
+    IsStep-plain u idle (AsksFor u (BySolvable s) (record { condition = None; requirement = r })) (notes_in c.args.self.now) (notes_in c.add_pair.new.self)
+    (AnyOf (Gate r) s) c.in_ok-add_pair.ensures.added tt
     (λ root asks _ codes _. (tt, gate_follows u codes s r asks)) tt tt tt
 
 pub returns-clause-implied : goal.returns-clause-implied

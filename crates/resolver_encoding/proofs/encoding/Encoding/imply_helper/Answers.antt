@@ -26,16 +26,23 @@ loop-candidate-preserved g c =
     let s = c.candidate-item.result in
     let before = c.loop-candidate.invariant in
     let Has : List g.row.S.Denot → Type 0 = λ list. Contains list s in
-    let other : Contains (others u v) s = subst Has c.requires.forbidden (Contains-item c.args.forbidden.now c.loop-candidate.candidate-index s (omega arith) c.candidate-item.is) in
+    let other : Contains (others u v) s =
+    subst Has c.requires.forbidden (Contains-item c.args.forbidden.now c.loop-candidate.candidate-index s (omega arith) c.candidate-item.is) in
     let adds = c.in_ok-add_pair.ensures.added in
-    let step = IsStep-plain u idle (λ root. ⊤) (notes_in c.loop-candidate.self) (notes_in c.add_pair.new.self) (ConstrainsExcluded s v) adds tt (λ root _ _ codes _. other) tt tt tt in
+    let step = IsStep-plain u idle (λ root. ⊤) (notes_in c.loop-candidate.self) (notes_in c.add_pair.new.self)
+    (ConstrainsExcluded s v) adds tt (λ root _ _ codes _. other) tt tt tt in
     record {
       bounded = c.add_pair.ensures.bounded;
       limits = KeepsLimits-trans _ _ _ before.limits c.add_pair.ensures.limits;
       step = IsStep-trans u idle (λ root. ⊤) _ _ _ before.step step;
-      excluded = All-grown (λ t. Contains (notes_in c.loop-candidate.self).kinds (ConstrainsExcluded t v)) (λ t. Contains (notes_in c.add_pair.new.self).kinds (ConstrainsExcluded t v)) c.args.forbidden.now c.loop-candidate.candidate-index s (λ y h. step.kinds _ h) (omega arith) c.candidate-item.is before.excluded (clause_listed u (notes_in c.loop-candidate.self) (notes_in c.add_pair.new.self) _ _ adds);
+      excluded = All-grown (λ t. Contains (notes_in c.loop-candidate.self).kinds (ConstrainsExcluded t v)) (λ t.
+          Contains (notes_in c.add_pair.new.self).kinds (ConstrainsExcluded t v)) c.args.forbidden.now c.loop-candidate.candidate-index s (λ y h.
+          step.kinds _ h) (omega arith) c.candidate-item.is before.excluded
+          (clause_listed u (notes_in c.loop-candidate.self) (notes_in c.add_pair.new.self) _ _ adds);
       constrained = ap (λ n. n.constrained) adds.is ∙ before.constrained;
     }
 
 pub returns-clause-excluded : goal.returns-clause-excluded
-returns-clause-excluded g c = All-done (λ t. Contains (notes_in c.loop-candidate.self).kinds (ConstrainsExcluded t c.args.version_set)) c.args.forbidden.now c.loop-candidate.candidate-index (omega arith) c.loop-candidate.invariant.excluded
+returns-clause-excluded g c = All-done (λ t.
+    Contains (notes_in c.loop-candidate.self).kinds (ConstrainsExcluded t c.args.version_set)) c.args.forbidden.now c.loop-candidate.candidate-index
+    (omega arith) c.loop-candidate.invariant.excluded

@@ -23,7 +23,8 @@ loop-version_set-preserved g c =
     record {
       bounded = before.bounded;
       limits = record { variables = before.limits.variables; clauses = before.limits.clauses };
-      indexed = IsIndexing-more u c.args.number c.args.disjunct.now c.loop-version_set.version_set-index _ (notes_in c.args.self.now) (notes_in c.loop-version_set.self) _ _ c.version_set_name-name.ensures (omega arith) before.indexed c.in_ok-add.ensures.added refl;
+      indexed = IsIndexing-more u c.args.number c.args.disjunct.now c.loop-version_set.version_set-index _ (notes_in c.args.self.now)
+          (notes_in c.loop-version_set.self) _ _ c.version_set_name-name.ensures (omega arith) before.indexed c.in_ok-add.ensures.added refl;
     }
 
 pub returns-clause-indexed : goal.returns-clause-indexed

@@ -15,11 +15,19 @@ returns-clause-installed g c =
     let u = g.D.Interner.universe c.args.provider.now in
     let old = notes_in c.args.self.now in
     let l : Literal = record { variable = c.in_ok-variable.variable; positive = true } in
-    let only = alone old.origins (origins_in c.intern.new.self) c.in_ok-variable.variable c.requires.nothing_read.no_origins c.intern.ensures.added c.in_ok-variable.ensures.here in
+    let only = alone old.origins (origins_in c.intern.new.self) c.in_ok-variable.variable c.requires.nothing_read.no_origins c.intern.ensures.added
+    c.in_ok-variable.ensures.here in
     let At : List (Origin g.row.N.Denot g.row.S.Denot) → Type 0 = λ list. slice_get list c.in_ok-variable.variable ≡ Some Root in
-    installed u old (notes_in c.add_clause.new.self) (limit_in c.intern.new.self) c.push.new.self l c.requires.nothing_read (record { origin = subst At only c.in_ok-variable.ensures.here; positive = refl })
+    installed u old (notes_in c.add_clause.new.self) (limit_in c.intern.new.self) c.push.new.self l c.requires.nothing_read
+    (record { origin = subst At only c.in_ok-variable.ensures.here; positive = refl })
     (c.in_ok-push.ensures.items ∙ ap (λ list. list ++ l ∷ []) c.new-literals.ensures.items)
-    (c.in_ok-add_clause.ensures.added ∙ (λ i. record old { origins = only i; variable_limit = limit_in c.intern.new.self; table = c.requires.nothing_read.no_table i ++ c.push.new.self ∷ []; kinds = c.requires.nothing_read.no_kinds i ++ InstallRoot ∷ [] }))
+    (c.in_ok-add_clause.ensures.added ∙
+    (λ i. record old {
+      origins = only i;
+      variable_limit = limit_in c.intern.new.self;
+      table = c.requires.nothing_read.no_table i ++ c.push.new.self ∷ [];
+      kinds = c.requires.nothing_read.no_kinds i ++ InstallRoot ∷ [];
+    }))
 
 pub returns-clause-nothing : goal.returns-clause-nothing
 returns-clause-nothing g c =

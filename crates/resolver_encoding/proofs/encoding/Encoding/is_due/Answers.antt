@@ -10,8 +10,10 @@ pub returns-in_ok-met-in-Some-Some-clause-due : goal.returns-in_ok-met-in-Some-S
 returns-in_ok-met-in-Some-Some-clause-due g c =
     let u = g.D.Interner.universe c.args.provider.now in
     let found = c.in-Some-Some.ensures.lookup in
-    due_of u c.args.chosen.now.keys (notes_in c.args.self.now) c.args.self.now.deferred.items refl c.args.number c.in-Some-Some.entry c.in_ok-met-in-Some-Some.met
-    (ap (λ (xs : List (Option (Entry g.row.S.Denot))). slice_get xs c.args.number) (sym c.deref.ensures.value) ∙ slice_get_read c.deref.result.now _ c.args.number c.in-Some-Some.field-0.now refl found.3.0 found.1 ∙ ap Some c.in-Some-Some.field-0-is)
+    due_of u c.args.chosen.now.keys
+    (notes_in c.args.self.now) c.args.self.now.deferred.items refl c.args.number c.in-Some-Some.entry c.in_ok-met-in-Some-Some.met
+    (ap (λ (xs : List (Option (Entry g.row.S.Denot))). slice_get xs c.args.number) (sym c.deref.ensures.value) ∙
+    slice_get_read c.deref.result.now _ c.args.number c.in-Some-Some.field-0.now refl found.3.0 found.1 ∙ ap Some c.in-Some-Some.field-0-is)
     (rw c.deref-in-Some-Some.ensures.value at c.in_ok-met-in-Some-Some.ensures.met)
 
 pub returns-in-Some-None-clause-due : goal.returns-in-Some-None-clause-due
@@ -19,10 +21,13 @@ returns-in-Some-None-clause-due g c =
     let u = g.D.Interner.universe c.args.provider.now in
     let found = c.in-Some-None.ensures.lookup in
     quiet_taken u c.args.chosen.now.keys (notes_in c.args.self.now) c.args.self.now.deferred.items refl c.args.number
-    (ap (λ (xs : List (Option (Entry g.row.S.Denot))). slice_get xs c.args.number) (sym c.deref.ensures.value) ∙ slice_get_read c.deref.result.now _ c.args.number c.in-Some-None.field-0.now refl found.3.0 found.1 ∙ ap Some c.in-Some-None.field-0-is)
+    (ap (λ (xs : List (Option (Entry g.row.S.Denot))). slice_get xs c.args.number) (sym c.deref.ensures.value) ∙
+    slice_get_read c.deref.result.now _ c.args.number c.in-Some-None.field-0.now refl found.3.0 found.1 ∙ ap Some c.in-Some-None.field-0-is)
 
 pub returns-in-None-clause-due : goal.returns-in-None-clause-due
 returns-in-None-clause-due g c =
     let u = g.D.Interner.universe c.args.provider.now in
     let found = c.in-None.ensures.lookup in
-    quiet_past u c.args.chosen.now.keys (notes_in c.args.self.now) c.args.self.now.deferred.items refl c.args.number (ap (λ (xs : List (Option (Entry g.row.S.Denot))). slice_get xs c.args.number) (sym c.deref.ensures.value) ∙ slice_get_past c.deref.result.now c.args.number found.3)
+    quiet_past u c.args.chosen.now.keys (notes_in c.args.self.now) c.args.self.now.deferred.items refl c.args.number
+    (ap (λ (xs : List (Option (Entry g.row.S.Denot))). slice_get xs c.args.number) (sym c.deref.ensures.value) ∙
+    slice_get_past c.deref.result.now c.args.number found.3)

@@ -15,10 +15,12 @@ returns-clause-step g c =
     let apart = not_same g.S.PartialEq.eq g.met.D.Interner.solvables_are_values c.args.candidate c.args.locked c.eq.result c.eq.ensures c.if-eq.false in
     λ doing inside. let Asks : g.row.N.Denot → Type 0 = λ n. Contains (doing.asking ++ (notes_in c.args.self.now).asked) n in
     IsStep-plain u doing (λ root. ⊤) (notes_in c.args.self.now) _ (Lock c.args.locked c.args.candidate) c.in_ok-add_pair.ensures.added tt
-    (λ root _ _ codes _. (subst Locked (sym c.requires.named) c.requires.lock, subst Listed (sym c.requires.named) c.requires.listed, apart)) tt (subst Asks (sym c.requires.named) inside, c.if-is_among.ensures) tt
+    (λ root _ _ codes _. (subst Locked (sym c.requires.named) c.requires.lock, subst Listed (sym c.requires.named) c.requires.listed, apart)) tt
+    (subst Asks (sym c.requires.named) inside, c.if-is_among.ensures) tt
 
 pub returns-clause-forbidden : goal.returns-clause-forbidden
-returns-clause-forbidden g c = λ differ free. clause_listed (g.D.Interner.universe c.args.provider.now) (notes_in c.args.self.now) _ _ _ c.in_ok-add_pair.ensures.added
+returns-clause-forbidden g c =
+    λ differ free. clause_listed (g.D.Interner.universe c.args.provider.now) (notes_in c.args.self.now) _ _ _ c.in_ok-add_pair.ensures.added
 
 pub returns-clause-plain : goal.returns-clause-plain
 returns-clause-plain g c = AddsPlainly-clause (g.D.Interner.universe c.args.provider.now) (notes_in c.args.self.now) _ _ _ c.in_ok-add_pair.ensures.added

@@ -16,7 +16,8 @@ loop-candidate-init g c = record {
   bounded = c.requires.bounded;
   limits = KeepsLimits-same _;
   step = IsStep-same (g.D.Interner.universe c.args.provider.now) (asking_for c.args.name) (λ root. ⊤) (notes_in c.args.self.now);
-  forbidden = All-nil (λ s. (s ≡ c.in-Some.locked → ⊥) → (Contains (notes_in c.args.self.now).exempt s → ⊥) → Contains (notes_in c.args.self.now).kinds (Lock c.in-Some.locked s));
+  forbidden = All-nil (λ s. (s ≡ c.in-Some.locked → ⊥) → (Contains (notes_in c.args.self.now).exempt s → ⊥) →
+      Contains (notes_in c.args.self.now).kinds (Lock c.in-Some.locked s));
   plain = AddsPlainly-same (g.D.Interner.universe c.args.provider.now) (notes_in c.args.self.now);
   asked = refl;
 }
@@ -41,12 +42,18 @@ loop-candidate-preserved g c =
     let t = c.in-Some.locked in
     let before = c.loop-candidate.invariant in
     let step = c.in_ok-lock_out.ensures.step (asking_for c.args.name) (here c.args.name _) in
-    let Free : List g.row.S.Denot → Type 0 = λ list. (c.candidate-item.result ≡ t → ⊥) → (Contains list c.candidate-item.result → ⊥) → Contains (notes_in c.lock_out.new.self).kinds (Lock t c.candidate-item.result) in
+    let Free : List g.row.S.Denot → Type 0 = λ list. (c.candidate-item.result ≡ t → ⊥) → (Contains list c.candidate-item.result → ⊥) →
+    Contains (notes_in c.lock_out.new.self).kinds (Lock t c.candidate-item.result) in
     record {
       bounded = c.lock_out.ensures.bounded;
       limits = KeepsLimits-trans _ _ _ before.limits c.lock_out.ensures.limits;
       step = IsStep-trans u (asking_for c.args.name) (λ root. ⊤) _ _ _ before.step step;
-      forbidden = All-grown (λ s. (s ≡ t → ⊥) → (Contains (notes_in c.args.self.now).exempt s → ⊥) → Contains (notes_in c.loop-candidate.self).kinds (Lock t s)) (λ s. (s ≡ t → ⊥) → (Contains (notes_in c.args.self.now).exempt s → ⊥) → Contains (notes_in c.lock_out.new.self).kinds (Lock t s)) c.args.listed.now c.loop-candidate.candidate-index c.candidate-item.result (λ y h apart free. step.kinds _ (h apart free)) (omega arith) c.candidate-item.is before.forbidden (subst Free before.step.exempt c.in_ok-lock_out.ensures.forbidden);
+      forbidden = All-grown (λ s. (s ≡ t → ⊥) → (Contains (notes_in c.args.self.now).exempt s → ⊥) →
+          Contains (notes_in c.loop-candidate.self).kinds (Lock t s)) (λ s.
+          (s ≡ t → ⊥) → (Contains (notes_in c.args.self.now).exempt s → ⊥) →
+          Contains (notes_in c.lock_out.new.self).kinds
+          (Lock t s)) c.args.listed.now c.loop-candidate.candidate-index c.candidate-item.result (λ y h apart free. step.kinds _ (h apart free))
+          (omega arith) c.candidate-item.is before.forbidden (subst Free before.step.exempt c.in_ok-lock_out.ensures.forbidden);
       plain = AddsPlainly-trans u _ _ _ before.plain c.in_ok-lock_out.ensures.plain;
       asked = c.in_ok-lock_out.ensures.asked ∙ before.asked;
     }
@@ -54,4 +61,7 @@ loop-candidate-preserved g c =
 pub returns-clause-read : goal.returns-clause-read
 returns-clause-read g c =
     let t = c.in-Some.locked in
-    rw c.in-Some.is (All-done (λ s. (s ≡ t → ⊥) → (Contains (notes_in c.args.self.now).exempt s → ⊥) → Contains (notes_in c.loop-candidate.self).kinds (Lock t s)) c.args.listed.now c.loop-candidate.candidate-index (omega arith) c.loop-candidate.invariant.forbidden)
+    rw c.in-Some.is (All-done (λ s.
+    (s ≡ t → ⊥) → (Contains (notes_in c.args.self.now).exempt s → ⊥) →
+    Contains (notes_in c.loop-candidate.self).kinds (Lock t s)) c.args.listed.now c.loop-candidate.candidate-index
+    (omega arith) c.loop-candidate.invariant.forbidden)

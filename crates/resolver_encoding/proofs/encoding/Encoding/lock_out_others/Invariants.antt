@@ -11,7 +11,8 @@ invariant-loop-candidate g l = record {
   bounded : IsBounded l.self;
   limits : KeepsLimits (notes_in l.fn.self) (notes_in l.self);
   step : IsStepWhile (g.D.Interner.universe l.provider) (asking_for l.name) (λ root. ⊤) (notes_in l.fn.self) (notes_in l.self);
-  forbidden : All (λ s. (s ≡ l.locked → ⊥) → (Contains (notes_in l.fn.self).exempt s → ⊥) → Contains (notes_in l.self).kinds (Lock l.locked s)) (take l.candidate-index l.listed);
+  forbidden : All (λ s. (s ≡ l.locked → ⊥) → (Contains (notes_in l.fn.self).exempt s → ⊥) → Contains (notes_in l.self).kinds (Lock l.locked s))
+      (take l.candidate-index l.listed);
   plain : AddsPlainly (notes_in l.fn.self) (notes_in l.self);
   asked : (notes_in l.self).asked ≡ (notes_in l.fn.self).asked;
 }

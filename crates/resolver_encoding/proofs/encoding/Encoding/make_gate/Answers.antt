@@ -28,7 +28,8 @@ returns-clause-step g c =
       due = tt;
       prepared = record {
         packages = λ v h. All-contains (λ w. Contains old.asked (u.version_set_name w)) (version_sets u r) v c.requires.asked h;
-        candidates = λ s h. let Has : List g.row.S.Denot → Type 0 = λ list. Contains list s in All-contains (Contains old.seen) c.args.choices.now.candidates.items s c.requires.seen (subst Has (sym c.requires.candidates) h);
+        candidates = λ s h. let Has : List g.row.S.Denot → Type 0 = λ list. Contains list s in
+            All-contains (Contains old.seen) c.args.choices.now.candidates.items s c.requires.seen (subst Has (sym c.requires.candidates) h);
       };
     }))
     (IsStep-gated u mid _ r (λ i. record mid { gates = c.in_ok-append.ensures.keys i }) (requirement_listed u old mid kind _ adds))

@@ -23,7 +23,8 @@ returns-clause-step g c =
     let AllFollow : List g.row.S.Denot → Type 0 = λ list. All (λ s. Contains mid.kinds (ConstrainsExcluded s v)) list in
     IsStep-trans u idle (λ root. ⊤) _ _ _ c.in_ok-imply_helper.ensures.step
     (IsStep-constrained u mid _ v (λ i. record mid { constrained = c.in_ok-append.ensures.keys i })
-    (λ s h. All-contains (λ t. Contains mid.kinds (ConstrainsExcluded t v)) (others u v) s (subst AllFollow c.requires.forbidden c.in_ok-imply_helper.ensures.excluded) h))
+    (λ s h. All-contains (λ t. Contains mid.kinds (ConstrainsExcluded t v)) (others u v) s
+    (subst AllFollow c.requires.forbidden c.in_ok-imply_helper.ensures.excluded) h))
 
 pub returns-clause-constrained : goal.returns-clause-constrained
 returns-clause-constrained g c =

@@ -39,17 +39,21 @@ loop-other-preserved g c =
     let At : Groups g.row.N.Denot g.row.S.Denot → Type 0 = λ gs. IsAt gs n j t in
     let at = c.requires.earlier j t (place_of_item c.args.earlier.now j t (omega arith) c.other-item.is) in
     let adds = c.in_ok-add_pair.ensures.added in
-    let step = IsStep-begun u g.N.PartialEq.eq g.S.PartialEq.eq g.met.D.Interner.names_are_values g.met.D.Interner.solvables_are_values n k s old new i j t adds c.requires.number
+    let step = IsStep-begun u g.N.PartialEq.eq g.S.PartialEq.eq g.met.D.Interner.names_are_values g.met.D.Interner.solvables_are_values n k s old new i j t adds
+    c.requires.number
     (λ sound. c.requires.below (subst Sound before.groups sound) j t at) (subst At (sym before.groups) at) in
     record {
       bounded = c.add_pair.ensures.bounded;
       limits = KeepsLimits-trans _ _ _ before.limits c.add_pair.ensures.limits;
       step = IsStep-trans u (coding_for n k s) (λ root. ⊤) _ _ _ before.step step;
-      begun = All-grown (λ x. Contains old.kinds (HasBit n x i false)) (λ x. Contains new.kinds (HasBit n x i false)) c.args.earlier.now j t (λ y h. step.kinds _ h) (omega arith) c.other-item.is before.begun (clause_listed u old new _ _ adds);
+      begun = All-grown (λ x. Contains old.kinds (HasBit n x i false)) (λ x. Contains new.kinds (HasBit n x i false)) c.args.earlier.now j t (λ y h.
+          step.kinds _ h) (omega arith) c.other-item.is before.begun (clause_listed u old new _ _ adds);
       groups = ap (λ x. x.groups) adds.is ∙ before.groups;
       seen = ap (λ x. x.seen) adds.is ∙ before.seen;
       requirements = ap (λ x. x.requirements) adds.is ∙ before.requirements;
     }
 
 pub returns-clause-begun : goal.returns-clause-begun
-returns-clause-begun g c = All-done (λ x. Contains (notes_in c.loop-other.self).kinds (HasBit c.args.name x c.args.index false)) c.args.earlier.now c.loop-other.other-index (omega arith) c.loop-other.invariant.begun
+returns-clause-begun g c = All-done (λ x.
+    Contains (notes_in c.loop-other.self).kinds (HasBit c.args.name x c.args.index false)) c.args.earlier.now c.loop-other.other-index
+    (omega arith) c.loop-other.invariant.begun

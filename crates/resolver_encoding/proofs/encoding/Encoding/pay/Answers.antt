@@ -18,16 +18,19 @@ returns-then-not-is_among-clause-paid g c =
     IsPaid-unasked u c.args.solvable (notes_in c.args.self.now) (subst Asked c.solvable_name-name.ensures c.if-not-is_among.ensures)
 
 pub returns-clause-step : goal.returns-clause-step
-returns-clause-step g c = IsStep-trans (g.D.Interner.universe c.args.provider.now) (owing_for c.args.solvable) (λ root. ⊤) _ _ _ c.in_ok-pay_lock.ensures.step c.in_ok-pay_exclusions.ensures.step
+returns-clause-step g c = IsStep-trans (g.D.Interner.universe c.args.provider.now) (owing_for c.args.solvable) (λ root.
+    ⊤) _ _ _ c.in_ok-pay_lock.ensures.step c.in_ok-pay_exclusions.ensures.step
 
 pub returns-clause-plain : goal.returns-clause-plain
-returns-clause-plain g c = AddsPlainly-trans (g.D.Interner.universe c.args.provider.now) _ _ _ c.in_ok-pay_lock.ensures.plain c.in_ok-pay_exclusions.ensures.plain
+returns-clause-plain g c = AddsPlainly-trans
+    (g.D.Interner.universe c.args.provider.now) _ _ _ c.in_ok-pay_lock.ensures.plain c.in_ok-pay_exclusions.ensures.plain
 
 pub returns-clause-paid : goal.returns-clause-paid
 returns-clause-paid g c =
     let u = g.D.Interner.universe c.args.provider.now in
     let answer = c.candidates-package.ensures u c.ask_candidates.ensures.is_true in
-    IsPaid-found u c.args.solvable (notes_in c.args.self.now) (notes_in c.pay_lock.new.self) (notes_in c.pay_exclusions.new.self) c.solvable_name-name.result c.solvable_name-name.ensures
+    IsPaid-found u c.args.solvable (notes_in c.args.self.now) (notes_in c.pay_lock.new.self)
+    (notes_in c.pay_exclusions.new.self) c.solvable_name-name.result c.solvable_name-name.ensures
     c.in_ok-pay_exclusions.ensures.step.kinds c.in_ok-pay_lock.ensures.step.exempt c.in_ok-pay_exclusions.ensures.step.exempt _ _ _
     (c.deref.ensures.value ∙ ap (λ p. p.listed) answer) (ap (λ p. p.locked) answer) (c.deref-2.ensures.value ∙ ap (λ p. p.excluded) answer)
     c.in_ok-pay_lock.ensures.paid c.in_ok-pay_exclusions.ensures.paid

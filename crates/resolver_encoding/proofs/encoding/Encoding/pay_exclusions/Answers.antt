@@ -16,7 +16,8 @@ loop-other-init g c = record {
   limits = KeepsLimits-same _;
   step = IsStep-same (g.D.Interner.universe c.args.provider.now) (owing_for c.args.solvable) (λ root. ⊤) (notes_in c.args.self.now);
   plain = AddsPlainly-same (g.D.Interner.universe c.args.provider.now) (notes_in c.args.self.now);
-  paid = All-nil (λ e. e.0 ≡ c.args.solvable → (Contains (notes_in c.args.self.now).exempt c.args.solvable → ⊥) → Contains (notes_in c.args.self.now).kinds (Excluded e.0 e.1));
+  paid = All-nil (λ e. e.0 ≡ c.args.solvable → (Contains (notes_in c.args.self.now).exempt c.args.solvable → ⊥) →
+      Contains (notes_in c.args.self.now).kinds (Excluded e.0 e.1));
 }
 
 pub pay_exclusion-requires-clause-named : goal.pay_exclusion-requires-clause-named
@@ -25,7 +26,8 @@ pay_exclusion-requires-clause-named g c =
     let inside = Contains-item c.args.excluded.now c.loop-other.other-index c.loop-other-item.result (omega arith) c.loop-other-item.is in
     let law = (g.met.D.DependencyProvider.lawful_packages c.args.provider.now).packages c.args.name in
     let Has : List _ → Type 0 = λ list. Contains list c.loop-other-item.result in
-    All-contains (λ e. u.name e.0 ≡ c.args.name) (u.package_named c.args.name).excluded c.loop-other-item.result law.excluded (subst Has c.requires.excluded inside)
+    All-contains (λ e. u.name e.0 ≡ c.args.name) (u.package_named c.args.name).excluded c.loop-other-item.result law.excluded
+    (subst Has c.requires.excluded inside)
 
 pub pay_exclusion-requires-clause-asked : goal.pay_exclusion-requires-clause-asked
 pay_exclusion-requires-clause-asked g c =
@@ -43,17 +45,25 @@ loop-other-preserved g c =
     let before = c.loop-other.invariant in
     let step = c.in_ok-pay_exclusion.ensures.step in
     let s = c.args.solvable in
-    let Free : List _ → Type 0 = λ list. c.loop-other-item.result.0 ≡ s → (Contains list s → ⊥) → Contains (notes_in c.pay_exclusion.new.self).kinds (Excluded c.loop-other-item.result.0 c.loop-other-item.result.1) in
+    let Free : List _ → Type 0 = λ list. c.loop-other-item.result.0 ≡ s → (Contains list s → ⊥) →
+    Contains (notes_in c.pay_exclusion.new.self).kinds (Excluded c.loop-other-item.result.0 c.loop-other-item.result.1) in
     record {
       bounded = c.pay_exclusion.ensures.bounded;
       limits = KeepsLimits-trans _ _ _ before.limits c.pay_exclusion.ensures.limits;
       step = IsStep-trans u (owing_for s) (λ root. ⊤) _ _ _ before.step step;
       plain = AddsPlainly-trans u _ _ _ before.plain c.in_ok-pay_exclusion.ensures.plain;
-      paid = All-grown (λ e. e.0 ≡ s → (Contains (notes_in c.args.self.now).exempt s → ⊥) → Contains (notes_in c.loop-other.self).kinds (Excluded e.0 e.1)) (λ e. e.0 ≡ s → (Contains (notes_in c.args.self.now).exempt s → ⊥) → Contains (notes_in c.pay_exclusion.new.self).kinds (Excluded e.0 e.1)) c.args.excluded.now c.loop-other.other-index c.loop-other-item.result (λ y h is free. step.kinds _ (h is free)) (omega arith) c.loop-other-item.is before.paid (subst Free before.step.exempt c.in_ok-pay_exclusion.ensures.paid);
+      paid = All-grown (λ e. e.0 ≡ s → (Contains (notes_in c.args.self.now).exempt s → ⊥) →
+          Contains (notes_in c.loop-other.self).kinds (Excluded e.0 e.1)) (λ e.
+          e.0 ≡ s → (Contains (notes_in c.args.self.now).exempt s → ⊥) →
+          Contains (notes_in c.pay_exclusion.new.self).kinds
+          (Excluded e.0 e.1)) c.args.excluded.now c.loop-other.other-index c.loop-other-item.result (λ y h is free. step.kinds _ (h is free))
+          (omega arith) c.loop-other-item.is before.paid (subst Free before.step.exempt c.in_ok-pay_exclusion.ensures.paid);
     }
 
 pub returns-clause-paid : goal.returns-clause-paid
-returns-clause-paid g c = All-done (λ e. e.0 ≡ c.args.solvable → (Contains (notes_in c.args.self.now).exempt c.args.solvable → ⊥) → Contains (notes_in c.loop-other.self).kinds (Excluded e.0 e.1)) c.args.excluded.now c.loop-other.other-index (omega arith) c.loop-other.invariant.paid
+returns-clause-paid g c = All-done (λ e.
+    e.0 ≡ c.args.solvable → (Contains (notes_in c.args.self.now).exempt c.args.solvable → ⊥) →
+    Contains (notes_in c.loop-other.self).kinds (Excluded e.0 e.1)) c.args.excluded.now c.loop-other.other-index (omega arith) c.loop-other.invariant.paid
 
 pub pay_exclusion-requires-clause-bounded : goal.pay_exclusion-requires-clause-bounded
 pay_exclusion-requires-clause-bounded g c = c.loop-other.invariant.bounded

@@ -12,5 +12,6 @@ invariant-loop-other g l = record {
   limits : KeepsLimits (notes_in l.fn.self) (notes_in l.self);
   step : IsStepWhile (g.D.Interner.universe l.provider) (owing_for l.solvable) (λ root. ⊤) (notes_in l.fn.self) (notes_in l.self);
   plain : AddsPlainly (notes_in l.fn.self) (notes_in l.self);
-  paid : All (λ e. e.0 ≡ l.solvable → (Contains (notes_in l.fn.self).exempt l.solvable → ⊥) → Contains (notes_in l.self).kinds (Excluded e.0 e.1)) (take l.other-index l.excluded);
+  paid : All (λ e. e.0 ≡ l.solvable → (Contains (notes_in l.fn.self).exempt l.solvable → ⊥) → Contains (notes_in l.self).kinds (Excluded e.0 e.1))
+      (take l.other-index l.excluded);
 }

@@ -59,7 +59,9 @@ loop-candidate-preserved g c =
       limits = KeepsLimits-trans _ _ _ before.limits c.read_candidate.ensures.limits;
       half = record { root = before.half.root; half = reading.keeps before.half.root before.half.half };
       reading = hinted_trans u set half.root c.args.place one two three half.half before.reading now;
-      read = All-grown (λ t. IsHinted u t → Contains two.read t) (λ t. IsHinted u t → Contains three.read t) c.args.candidates.now c.loop-candidate.candidate-index s (λ t h hinted. Extends-within two.read three.read reading.read t (h hinted)) (omega arith) c.candidate-item.is before.read c.in_ok-read_candidate.ensures.here;
+      read = All-grown (λ t. IsHinted u t → Contains two.read t) (λ t.
+          IsHinted u t → Contains three.read t) c.args.candidates.now c.loop-candidate.candidate-index s (λ t h hinted.
+          Extends-within two.read three.read reading.read t (h hinted)) (omega arith) c.candidate-item.is before.read c.in_ok-read_candidate.ensures.here;
       more = IsMoreOrSame-trans _ _ _ before.more c.in_ok-read_candidate.ensures.more;
       is_true = c.read_candidate.ensures.is_true;
     }
@@ -73,4 +75,6 @@ returns-clause-here g c =
     let reading = c.loop-candidate.invariant.reading.reading in
     let same = candidates_same u half.root one new half.half.encoding reading.origins reading.table reading.requirements c.args.place c.requires.within in
     let Done : List g.row.S.Denot → Type 0 = λ list. AreReadIfHinted u new list in
-    subst Done (c.requires.listed ∙ sym same) (All-done (λ t. IsHinted u t → Contains new.read t) c.args.candidates.now c.loop-candidate.candidate-index (omega arith) c.loop-candidate.invariant.read)
+    subst Done (c.requires.listed ∙ sym same)
+    (All-done (λ t. IsHinted u t → Contains new.read t) c.args.candidates.now c.loop-candidate.candidate-index
+    (omega arith) c.loop-candidate.invariant.read)

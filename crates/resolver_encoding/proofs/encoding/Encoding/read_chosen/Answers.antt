@@ -53,7 +53,9 @@ returns-clause-read g c = λ root so.
     let half = reading.keeps root so.half in
     so_far_on u set root (IsListedFrom new (length old.requirements)) fired new
     (so_far u set old mid fired reading firing root c.args.from so c.in_ok-read.ensures.here (c.in_ok-fired.ensures.quiet half.encoding.sound_waiting)
-    (lawful_solvables u g.S.PartialEq.eq (g.met.D.Interner.lawful_ids c.args.provider.now) (g.met.D.Interner.solvables_compare c.args.provider.now) g.met.D.Interner.solvables_are_values) (g.met.D.DependencyProvider.lawful_packages c.args.provider.now))
+    (lawful_solvables u g.S.PartialEq.eq (g.met.D.Interner.lawful_ids c.args.provider.now)
+    (g.met.D.Interner.solvables_compare c.args.provider.now) g.met.D.Interner.solvables_are_values)
+    (g.met.D.DependencyProvider.lawful_packages c.args.provider.now))
     hinted.reading
 
 pub returns-clause-asked : goal.returns-clause-asked
@@ -70,7 +72,8 @@ returns-clause-asked g c = λ root so.
     let hinted = subst From c.asking_count-clauses.ensures c.in_ok-hinted.ensures.reading in
     let half = reading.keeps root so.half in
     let quiet = c.in_ok-fired.ensures.quiet half.encoding.sound_waiting in
-    let lawful = lawful_solvables u g.S.PartialEq.eq (g.met.D.Interner.lawful_ids c.args.provider.now) (g.met.D.Interner.solvables_compare c.args.provider.now) g.met.D.Interner.solvables_are_values in
+    let lawful = lawful_solvables u g.S.PartialEq.eq (g.met.D.Interner.lawful_ids c.args.provider.now)
+    (g.met.D.Interner.solvables_compare c.args.provider.now) g.met.D.Interner.solvables_are_values in
     let packages = g.met.D.DependencyProvider.lawful_packages c.args.provider.now in
     let here = c.in_ok-read.ensures.here in
     asked_on u set root (IsListedFrom new (length old.requirements)) old.asked fired new
@@ -81,7 +84,8 @@ returns-clause-asked g c = λ root so.
 pub returns-clause-near : goal.returns-clause-near
 returns-clause-near g c = λ root seeds packages so near all.
     c.in_ok-hinted.ensures.reading.near root seeds packages
-    (near_after (g.D.Interner.universe c.args.provider.now) root seeds packages c.args.chosen.now.keys (notes_in c.args.self.now) (notes_in c.read_each.new.self) (notes_in c.fire_deferred.new.self) c.in_ok-read.ensures.reading c.in_ok-fired.ensures.firing so.half near all)
+    (near_after (g.D.Interner.universe c.args.provider.now) root seeds packages c.args.chosen.now.keys (notes_in c.args.self.now)
+    (notes_in c.read_each.new.self) (notes_in c.fire_deferred.new.self) c.in_ok-read.ensures.reading c.in_ok-fired.ensures.firing so.half near all)
     all
 
 pub returns-clause-hinted : goal.returns-clause-hinted

@@ -12,7 +12,8 @@ constrain_by_helper-requires-clause-encoding g c =
     let u = g.D.Interner.universe c.args.provider.now in
     let Premise = AsksWithin u c.args.by c.args.version_set in
     let Called = IsAsking c.version_set_name.result in
-    IsEncodingOf-asked u Called Premise (notes_in c.args.self.now) _ c.requires.encoding (IsAskStep-weaker u Called Called (λ n h. h) (λ root. ⊤) Premise (λ root asks. tt) _ _ c.in_ok-ask.ensures.step)
+    IsEncodingOf-asked u Called Premise (notes_in c.args.self.now) _ c.requires.encoding
+    (IsAskStep-weaker u Called Called (λ n h. h) (λ root. ⊤) Premise (λ root asks. tt) _ _ c.in_ok-ask.ensures.step)
 
 pub returns-then-forbidden-lt-CONSTRAINT_HELPER_THRESHOLD-clause-step : goal.returns-then-forbidden-lt-CONSTRAINT_HELPER_THRESHOLD-clause-step
 returns-then-forbidden-lt-CONSTRAINT_HELPER_THRESHOLD-clause-step g c =
@@ -20,7 +21,9 @@ returns-then-forbidden-lt-CONSTRAINT_HELPER_THRESHOLD-clause-step g c =
     let Premise = AsksWithin u c.args.by c.args.version_set in
     let Named = IsAsking c.version_set_name.result in
     let Called = IsAsking (u.version_set_name c.args.version_set) in
-    IsAskStep-trans u Called Premise _ _ _ (IsAskStep-weaker u Named Called (asking_same _ _ c.version_set_name.ensures) (λ root. ⊤) Premise (λ root asks. tt) _ _ c.in_ok-ask.ensures.step) (IsAskStep-of u Called Premise _ _ c.in_ok-constrain_each.ensures.step)
+    IsAskStep-trans u Called Premise _ _ _
+    (IsAskStep-weaker u Named Called (asking_same _ _ c.version_set_name.ensures) (λ root. ⊤) Premise (λ root asks. tt) _ _ c.in_ok-ask.ensures.step)
+    (IsAskStep-of u Called Premise _ _ c.in_ok-constrain_each.ensures.step)
 
 pub returns-clause-step : goal.returns-clause-step
 returns-clause-step g c =
@@ -28,7 +31,9 @@ returns-clause-step g c =
     let Premise = AsksWithin u c.args.by c.args.version_set in
     let Named = IsAsking c.version_set_name.result in
     let Called = IsAsking (u.version_set_name c.args.version_set) in
-    IsAskStep-trans u Called Premise _ _ _ (IsAskStep-weaker u Named Called (asking_same _ _ c.version_set_name.ensures) (λ root. ⊤) Premise (λ root asks. tt) _ _ c.in_ok-ask.ensures.step) (IsAskStep-of u Called Premise _ _ c.in_ok-constrain_by_helper.ensures.step)
+    IsAskStep-trans u Called Premise _ _ _
+    (IsAskStep-weaker u Named Called (asking_same _ _ c.version_set_name.ensures) (λ root. ⊤) Premise (λ root asks. tt) _ _ c.in_ok-ask.ensures.step)
+    (IsAskStep-of u Called Premise _ _ c.in_ok-constrain_by_helper.ensures.step)
 
 pub returns-then-forbidden-lt-CONSTRAINT_HELPER_THRESHOLD-clause-asked : goal.returns-then-forbidden-lt-CONSTRAINT_HELPER_THRESHOLD-clause-asked
 returns-then-forbidden-lt-CONSTRAINT_HELPER_THRESHOLD-clause-asked g c =

@@ -9,7 +9,8 @@ abbrev pub invariant-loop-version_set : goal.invariant-loop-version_set
 invariant-loop-version_set g l = record {
   bounded : IsBounded l.self;
   limits : KeepsLimits (notes_in l.fn.self) (notes_in l.self);
-  step : IsAskStep (g.D.Interner.universe l.provider) (IsNamedBy (g.D.Interner.universe l.provider) l.constraints) (λ root. All (λ v. AsksWithin (g.D.Interner.universe l.provider) l.by v root) l.constraints) (notes_in l.fn.self) (notes_in l.self);
+  step : IsAskStep (g.D.Interner.universe l.provider) (IsNamedBy (g.D.Interner.universe l.provider) l.constraints) (λ root.
+      All (λ v. AsksWithin (g.D.Interner.universe l.provider) l.by v root) l.constraints) (notes_in l.fn.self) (notes_in l.self);
   read : All (IsConstraintRead (g.D.Interner.universe l.provider) (notes_in l.self).kinds l.by) (take l.version_set-index l.constraints);
   asked : All (λ v. Contains (notes_in l.self).asked ((g.D.Interner.universe l.provider).version_set_name v)) (take l.version_set-index l.constraints);
   is_true : IsTrueCache (g.D.Interner.universe l.provider) l.cache;

@@ -8,7 +8,8 @@ use Rattle.resolver_encoding.specs.Called.{Call, IsCalledByEach, IsDemanded, IsN
 use Rattle.resolver_encoding.specs.Encodings.{AsksFor, AsksWithin, IsLeft, IsUnmet}
 use Rattle.resolver_encoding.specs.Notes.{notes_in}
 use Rattle.resolver_encoding.specs.ReadState.{Deferred, IsReadRequirement}
-use Rattle.resolver_encoding.proofs.EncodingLemmas.{IsAskStep-trans, IsAskStep-weaker, IsEncodingOf-asked, IsEncodingOf-read, IsEncodingOf-weaker, IsReadStep-of, IsReadStep-trans, IsReadStep-weaker}
+use Rattle.resolver_encoding.proofs.EncodingLemmas.{IsAskStep-trans, IsAskStep-weaker, IsEncodingOf-asked, IsEncodingOf-read, IsEncodingOf-weaker}
+use Rattle.resolver_encoding.proofs.EncodingLemmas.{IsReadStep-of, IsReadStep-trans, IsReadStep-weaker}
 use Rattle.resolver_encoding.proofs.ReadLemmas.{IsReadRequirement-within}
 use Rattle.resolver_encoding.proofs.RequirementLemmas.{plainly_called}
 use Rattle.resolver_encoding.proofs.encoding.Encoding.read_demands.Goals as goal
@@ -22,9 +23,12 @@ read_requirements-requires-clause-encoding g c =
     let Premise : Demands → Type 0 = λ root. demands_by u root by ≡ record { requirements = rs; constraints = vs } in
     let AllAsk : Demands → Type 0 = λ d. All (λ r. Contains d.requirements r) rs in
     let Plainly : Call g.row.N.Denot g.row.S.Denot → Type 0 = λ n. (r : ConditionalRequirement) × Contains rs r × IsPlainlyNamed u r n in
-    let first = IsEncodingOf-asked u Plainly Premise _ _ c.requires.encoding (IsAskStep-weaker u Plainly Plainly (λ n h. h) (λ root. ⊤) Premise (λ root _. tt) _ _ c.in_ok-ask_plain_each.ensures.step) in
-    let second = IsEncodingOf-asked u (IsNamedBy u vs) Premise _ _ first (IsAskStep-weaker u (IsNamedBy u vs) (IsNamedBy u vs) (λ n h. h) (λ root. ⊤) Premise (λ root _. tt) _ _ c.in_ok-ask_each.ensures.step) in
-    IsEncodingOf-weaker u Premise (λ root. All (λ r. AsksFor u by r root) rs) (λ root same. subst AllAsk (sym same) (All-contains_itself rs)) (notes_in c.ask_each.new.self) second
+    let first = IsEncodingOf-asked u Plainly Premise _ _ c.requires.encoding
+    (IsAskStep-weaker u Plainly Plainly (λ n h. h) (λ root. ⊤) Premise (λ root _. tt) _ _ c.in_ok-ask_plain_each.ensures.step) in
+    let second = IsEncodingOf-asked u (IsNamedBy u vs) Premise _ _ first
+    (IsAskStep-weaker u (IsNamedBy u vs) (IsNamedBy u vs) (λ n h. h) (λ root. ⊤) Premise (λ root _. tt) _ _ c.in_ok-ask_each.ensures.step) in
+    IsEncodingOf-weaker u Premise (λ root. All (λ r. AsksFor u by r root) rs) (λ root same. subst AllAsk (sym same) (All-contains_itself rs))
+    (notes_in c.ask_each.new.self) second
 
 pub read_constraints-requires-clause-encoding : goal.read_constraints-requires-clause-encoding
 read_constraints-requires-clause-encoding g c =
@@ -37,10 +41,16 @@ read_constraints-requires-clause-encoding g c =
     let AllAsk : Demands → Type 0 = λ d. All (λ r. Contains d.requirements r) rs in
     let AllWithin : Demands → Type 0 = λ d. All (λ v. Contains d.constraints v) vs in
     let Plainly : Call g.row.N.Denot g.row.S.Denot → Type 0 = λ n. (r : ConditionalRequirement) × Contains rs r × IsPlainlyNamed u r n in
-    let first = IsEncodingOf-asked u Plainly Premise _ _ c.requires.encoding (IsAskStep-weaker u Plainly Plainly (λ n h. h) (λ root. ⊤) Premise (λ root _. tt) _ _ c.in_ok-ask_plain_each.ensures.step) in
-    let second = IsEncodingOf-asked u (IsNamedBy u vs) Premise _ _ first (IsAskStep-weaker u (IsNamedBy u vs) (IsNamedBy u vs) (λ n h. h) (λ root. ⊤) Premise (λ root _. tt) _ _ c.in_ok-ask_each.ensures.step) in
-    let third = IsEncodingOf-read u (IsUnmet u set by) (IsCalledByEach u set rs) Premise _ _ second (IsReadStep-weaker u (IsUnmet u set by) (IsCalledByEach u set rs) (IsCalledByEach u set rs) (λ n h. h) (λ root. All (λ r. AsksFor u by r root) rs) Premise (λ root same. subst AllAsk (sym same) (All-contains_itself rs)) _ _ c.in_ok-read_requirements.ensures.step) in
-    IsEncodingOf-weaker u Premise (λ root. All (λ v. AsksWithin u by v root) vs) (λ root same. subst AllWithin (sym same) (All-contains_itself vs)) (notes_in c.read_requirements.new.self) third
+    let first = IsEncodingOf-asked u Plainly Premise _ _ c.requires.encoding
+    (IsAskStep-weaker u Plainly Plainly (λ n h. h) (λ root. ⊤) Premise (λ root _. tt) _ _ c.in_ok-ask_plain_each.ensures.step) in
+    let second = IsEncodingOf-asked u (IsNamedBy u vs) Premise _ _ first
+    (IsAskStep-weaker u (IsNamedBy u vs) (IsNamedBy u vs) (λ n h. h) (λ root. ⊤) Premise (λ root _. tt) _ _ c.in_ok-ask_each.ensures.step) in
+    let third = IsEncodingOf-read u (IsUnmet u set by) (IsCalledByEach u set rs) Premise _ _ second
+    (IsReadStep-weaker u (IsUnmet u set by) (IsCalledByEach u set rs) (IsCalledByEach u set rs) (λ n h. h) (λ root.
+    All (λ r. AsksFor u by r root) rs) Premise (λ root same.
+    subst AllAsk (sym same) (All-contains_itself rs)) _ _ c.in_ok-read_requirements.ensures.step) in
+    IsEncodingOf-weaker u Premise (λ root. All (λ v. AsksWithin u by v root) vs) (λ root same. subst AllWithin (sym same) (All-contains_itself vs))
+    (notes_in c.read_requirements.new.self) third
 
 pub returns-clause-step : goal.returns-clause-step
 returns-clause-step g c =
@@ -60,9 +70,12 @@ returns-clause-step g c =
     (IsAskStep-weaker u Plainly Demanded (λ n h. inl (plainly_called u set rs n h)) (λ root. ⊤) Premise (λ root _. tt) _ _ c.in_ok-ask_plain_each.ensures.step)
     (IsAskStep-weaker u (IsNamedBy u vs) Demanded (λ n h. inr h) (λ root. ⊤) Premise (λ root _. tt) _ _ c.in_ok-ask_each.ensures.step) in
     let required = IsReadStep-trans u Defers Demanded Premise _ _ _ (IsReadStep-of u Defers Demanded Premise _ _ asked)
-    (IsReadStep-weaker u Defers (IsCalledByEach u set rs) Demanded (λ n h. inl h) (λ root. All (λ r. AsksFor u by r root) rs) Premise (λ root same. subst AllAsk (sym same) (All-contains_itself rs)) _ _ c.in_ok-read_requirements.ensures.step) in
+    (IsReadStep-weaker u Defers (IsCalledByEach u set rs) Demanded (λ n h. inl h) (λ root. All (λ r. AsksFor u by r root) rs) Premise (λ root same.
+    subst AllAsk (sym same) (All-contains_itself rs)) _ _ c.in_ok-read_requirements.ensures.step) in
     IsReadStep-trans u Defers Demanded Premise _ _ _ required
-    (IsReadStep-of u Defers Demanded Premise _ _ (IsAskStep-weaker u (IsNamedBy u vs) Demanded (λ n h. inr h) (λ root. All (λ v. AsksWithin u by v root) vs) Premise (λ root same. subst AllWithin (sym same) (All-contains_itself vs)) _ _ c.in_ok-read_constraints.ensures.step))
+    (IsReadStep-of u Defers Demanded Premise _ _
+    (IsAskStep-weaker u (IsNamedBy u vs) Demanded (λ n h. inr h) (λ root. All (λ v. AsksWithin u by v root) vs) Premise (λ root same.
+    subst AllWithin (sym same) (All-contains_itself vs)) _ _ c.in_ok-read_constraints.ensures.step))
 
 pub returns-clause-read : goal.returns-clause-read
 returns-clause-read g c =
@@ -71,9 +84,11 @@ returns-clause-read g c =
     let mid = notes_in c.read_requirements.new.self in
     let new = notes_in c.read_constraints.new.self in
     let step = c.in_ok-read_constraints.ensures.step in
-    let left : (e : Deferred g.row.S.Denot) → IsLeft mid e → IsLeft new e = λ e h. let Has : List (Option (Deferred g.row.S.Denot)) → Type 0 = λ list. Contains list (Some e) in subst Has (sym step.deferred) h in
+    let left : (e : Deferred g.row.S.Denot) → IsLeft mid e → IsLeft new e = λ e h. let Has : List (Option (Deferred g.row.S.Denot)) → Type 0 =
+    λ list. Contains list (Some e) in subst Has (sym step.deferred) h in
     record {
-      requirements = All-weaker (IsReadRequirement u mid.kinds (IsLeft mid) by) (IsReadRequirement u new.kinds (IsLeft new) by) (λ r h. IsReadRequirement-within u _ _ step.kinds (IsLeft mid) (IsLeft new) left by r h) c.args.requirements.now c.in_ok-read_requirements.ensures.read;
+      requirements = All-weaker (IsReadRequirement u mid.kinds (IsLeft mid) by) (IsReadRequirement u new.kinds (IsLeft new) by) (λ r h.
+          IsReadRequirement-within u _ _ step.kinds (IsLeft mid) (IsLeft new) left by r h) c.args.requirements.now c.in_ok-read_requirements.ensures.read;
       constraints = c.in_ok-read_constraints.ensures.read;
       packages = c.in_ok-read_constraints.ensures.asked;
     }

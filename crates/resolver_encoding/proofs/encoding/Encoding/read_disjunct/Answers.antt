@@ -16,14 +16,18 @@ returns-then-met-clause-step g c =
     let by = c.args.by in
     let set = c.args.chosen.now.keys in
     let list = c.in_ok-each_once.each_once.items in
-    let implies : Implies u (map (matching u) list) r.condition = disjunct_implies u r.condition c.requires.disjunct.lists c.args.disjunct.now list c.requires.disjunct.are c.requires.disjunct.listed c.in_ok-each_once.ensures.same in
+    let implies : Implies u (map (matching u) list) r.condition =
+    disjunct_implies u r.condition c.requires.disjunct.lists c.args.disjunct.now list c.requires.disjunct.are c.requires.disjunct.listed
+    c.in_ok-each_once.ensures.same in
     let met = holds_if c.in_ok-met.met _ _ c.if-met.true (rw c.deref.ensures.value at c.in_ok-met.ensures.met) in
     IsReadStep-of u (IsUnmet u set by) (IsCalledBy u set r) (AsksFor u by r) _ _
-    (IsAskStep-weaker u (IsWantedBy u r.requirement) (IsCalledBy u set r) (λ n named. (active_where u set (map (matching u) list) r.condition implies met, named))
+    (IsAskStep-weaker u (IsWantedBy u r.requirement) (IsCalledBy u set r) (λ n named.
+    (active_where u set (map (matching u) list) r.condition implies met, named))
     (IsTrueUnder u by list r.requirement) (AsksFor u by r) (λ root asks. (r, asks, refl, implies)) _ _ c.in_ok-encode_disjunct.ensures.step)
 
 pub returns-then-met-clause-read : goal.returns-then-met-clause-read
-returns-then-met-clause-read g c = record { kept = c.in_ok-each_once.each_once.items; same = c.in_ok-each_once.ensures.same; either = inl c.in_ok-encode_disjunct.ensures.read }
+returns-then-met-clause-read g c =
+    record { kept = c.in_ok-each_once.each_once.items; same = c.in_ok-each_once.ensures.same; either = inl c.in_ok-encode_disjunct.ensures.read }
 
 pub returns-clause-step : goal.returns-clause-step
 returns-clause-step g c =
@@ -32,9 +36,16 @@ returns-clause-step g c =
     let by = c.args.by in
     let set = c.args.chosen.now.keys in
     let list = c.in_ok-each_once.each_once.items in
-    let implies : Implies u (map (matching u) list) r.condition = disjunct_implies u r.condition c.requires.disjunct.lists c.args.disjunct.now list c.requires.disjunct.are c.requires.disjunct.listed c.in_ok-each_once.ensures.same in
+    let implies : Implies u (map (matching u) list) r.condition =
+    disjunct_implies u r.condition c.requires.disjunct.lists c.args.disjunct.now list c.requires.disjunct.are c.requires.disjunct.listed
+    c.in_ok-each_once.ensures.same in
     let unmet = fails_if c.in_ok-met.met _ _ c.if-met.false (rw c.deref.ensures.value at c.in_ok-met.ensures.met) in
-    IsReadStep-deferral u (IsUnmet u set by) (IsCalledBy u set r) (AsksFor u by r) _ _ _ c.in_ok-defer.ensures.deferred (record { of = refl; never = unmet }) (λ root asks. record { is_true = (r, asks, refl, implies); once = c.in_ok-each_once.ensures.once })
+    IsReadStep-deferral u (IsUnmet u set by) (IsCalledBy u set r) (AsksFor u by r) _ _ _ c.in_ok-defer.ensures.deferred
+    (record { of = refl; never = unmet }) (λ root asks. record { is_true = (r, asks, refl, implies); once = c.in_ok-each_once.ensures.once })
 
 pub returns-clause-read : goal.returns-clause-read
-returns-clause-read g c = record { kept = c.in_ok-each_once.each_once.items; same = c.in_ok-each_once.ensures.same; either = inr (deferral_left (g.D.Interner.universe c.args.provider.now) _ _ _ c.in_ok-defer.ensures.deferred) }
+returns-clause-read g c = record {
+  kept = c.in_ok-each_once.each_once.items;
+  same = c.in_ok-each_once.ensures.same;
+  either = inr (deferral_left (g.D.Interner.universe c.args.provider.now) _ _ _ c.in_ok-defer.ensures.deferred);
+}

@@ -18,7 +18,8 @@ loop-disjunct-init g c =
     record {
       bounded = c.requires.bounded;
       limits = KeepsLimits-same _;
-      step = IsReadStep-same u (IsUnmet u set c.args.by) (IsCalledBy u set c.args.requirement) (AsksFor u c.args.by c.args.requirement) (notes_in c.args.self.now);
+      step = IsReadStep-same u (IsUnmet u set c.args.by) (IsCalledBy u set c.args.requirement) (AsksFor u c.args.by c.args.requirement)
+          (notes_in c.args.self.now);
       read = All-nil (λ list. IsDisjunctRead (notes_in c.args.self.now) c.args.by c.args.requirement.requirement list.items);
       is_true = c.requires.is_true;
     }
@@ -27,7 +28,13 @@ pub read_disjunct-requires-clause-disjunct : goal.read_disjunct-requires-clause-
 read_disjunct-requires-clause-disjunct g c =
     let list = c.disjunct-item.result in
     let Has : List VersionSetId → Type 0 = λ l. Contains (map items_of c.args.disjuncts.now) l in
-    record { lists = map items_of c.args.disjuncts.now; are = c.requires.disjuncts; listed = subst Has (sym c.deref.ensures.value) (Contains-map items_of c.args.disjuncts.now list (Contains-item c.args.disjuncts.now c.loop-disjunct.disjunct-index list (omega arith) c.disjunct-item.is)) }
+    record {
+      lists = map items_of c.args.disjuncts.now;
+      are = c.requires.disjuncts;
+      listed = subst Has (sym c.deref.ensures.value)
+          (Contains-map items_of c.args.disjuncts.now list
+          (Contains-item c.args.disjuncts.now c.loop-disjunct.disjunct-index list (omega arith) c.disjunct-item.is));
+    }
 
 pub loop-disjunct-preserved : goal.loop-disjunct-preserved
 loop-disjunct-preserved g c =
@@ -40,8 +47,11 @@ loop-disjunct-preserved g c =
       bounded = c.read_disjunct.ensures.bounded;
       limits = KeepsLimits-trans _ _ _ before.limits c.read_disjunct.ensures.limits;
       step = IsReadStep-trans u (IsUnmet u set c.args.by) (IsCalledBy u set r) (AsksFor u c.args.by r) _ _ _ before.step step;
-      read = All-grown (λ list. IsDisjunctRead (notes_in c.loop-disjunct.self) c.args.by r.requirement list.items) (λ list. IsDisjunctRead (notes_in c.read_disjunct.new.self) c.args.by r.requirement list.items) c.args.disjuncts.now c.loop-disjunct.disjunct-index c.disjunct-item.result
-          (λ list h. IsDisjunctRead-grown u _ _ step.kinds (λ e k. Extends-within _ _ step.deferred _ k) c.args.by r.requirement list.items h) (omega arith) c.disjunct-item.is before.read (rw c.deref.ensures.value at c.in_ok-read_disjunct.ensures.read);
+      read = All-grown (λ list. IsDisjunctRead (notes_in c.loop-disjunct.self) c.args.by r.requirement list.items) (λ list.
+          IsDisjunctRead (notes_in c.read_disjunct.new.self) c.args.by r.requirement list.items) c.args.disjuncts.now c.loop-disjunct.disjunct-index
+          c.disjunct-item.result
+          (λ list h. IsDisjunctRead-grown u _ _ step.kinds (λ e k. Extends-within _ _ step.deferred _ k) c.args.by r.requirement list.items h)
+          (omega arith) c.disjunct-item.is before.read (rw c.deref.ensures.value at c.in_ok-read_disjunct.ensures.read);
       is_true = c.read_disjunct.ensures.is_true;
     }
 
@@ -51,4 +61,6 @@ returns-clause-read g c =
     let r = c.args.requirement in
     let notes = notes_in c.loop-disjunct.self in
     requirement_read u notes c.args.by r (map items_of c.args.disjuncts.now) c.requires.disjuncts
-    (All-map (IsDisjunctRead notes c.args.by r.requirement) items_of c.args.disjuncts.now (All-done (λ list. IsDisjunctRead notes c.args.by r.requirement list.items) c.args.disjuncts.now c.loop-disjunct.disjunct-index (omega arith) c.loop-disjunct.invariant.read))
+    (All-map (IsDisjunctRead notes c.args.by r.requirement) items_of c.args.disjuncts.now
+    (All-done (λ list. IsDisjunctRead notes c.args.by r.requirement list.items) c.args.disjuncts.now c.loop-disjunct.disjunct-index
+    (omega arith) c.loop-disjunct.invariant.read))

@@ -9,7 +9,9 @@ abbrev pub invariant-loop-disjunct : goal.invariant-loop-disjunct
 invariant-loop-disjunct g l = record {
   bounded : IsBounded l.self;
   limits : KeepsLimits (notes_in l.fn.self) (notes_in l.self);
-  step : IsReadStep (g.D.Interner.universe l.provider) (IsUnmet (g.D.Interner.universe l.provider) l.chosen.keys l.by) (IsCalledBy (g.D.Interner.universe l.provider) l.chosen.keys l.requirement) (AsksFor (g.D.Interner.universe l.provider) l.by l.requirement) (notes_in l.fn.self) (notes_in l.self);
+  step : IsReadStep (g.D.Interner.universe l.provider) (IsUnmet (g.D.Interner.universe l.provider) l.chosen.keys l.by)
+      (IsCalledBy (g.D.Interner.universe l.provider) l.chosen.keys l.requirement) (AsksFor (g.D.Interner.universe l.provider) l.by l.requirement)
+      (notes_in l.fn.self) (notes_in l.self);
   read : All (λ list. IsDisjunctRead (notes_in l.self) l.by l.requirement.requirement list.items) (take l.disjunct-index l.disjuncts);
   is_true : IsTrueCache (g.D.Interner.universe l.provider) l.cache;
 }

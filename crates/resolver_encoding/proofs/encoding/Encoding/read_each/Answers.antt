@@ -4,7 +4,8 @@ use Rattle.std.proofs.lemmas.List.Elements.{All-contains}
 use Rattle.resolver_clause_store.specs.declared.Origin.TheVariants.{Solvable}
 use Rattle.resolver_encoding.specs.Notes.{notes_in}
 use Rattle.resolver_encoding.proofs.EncodingLemmas.{Extends-within, KeepsLimits-same, KeepsLimits-trans}
-use Rattle.resolver_encoding.proofs.SoFarLemmas.{AreEach-done, AreEach-more, AreEach-none, Contains-kept, IsMoreOrSame-trans, IsReadingOf-same, IsReadingOf-trans, IsReadingOf-weaker, no_more_read}
+use Rattle.resolver_encoding.proofs.SoFarLemmas.{AreEach-done, AreEach-more, AreEach-none, Contains-kept, IsMoreOrSame-trans, IsReadingOf-same}
+use Rattle.resolver_encoding.proofs.SoFarLemmas.{IsReadingOf-trans, IsReadingOf-weaker, no_more_read}
 use Rattle.resolver_encoding.proofs.ReadLemmas.{seen_fit}
 use Rattle.resolver_encoding.proofs.encoding.Encoding.read_each.Goals as goal
 
@@ -32,7 +33,8 @@ read_new-requires-clause-known g c =
     let s = c.index-as_slice-place.result in
     let At : List g.row.S.Denot → Type 0 = λ list. s ≡ get_or list c.loop-place.place s in
     let inside : Contains set s = (c.loop-place.place, omega arith, sym (subst At c.as_slice.ensures.keys c.index-as_slice-place.is)) in
-    Contains-kept old.origins (notes_in c.loop-place.self).origins c.loop-place.invariant.reading.origins (Solvable s) (All-contains (λ t. Contains old.origins (Solvable t)) set s c.requires.known inside)
+    Contains-kept old.origins (notes_in c.loop-place.self).origins c.loop-place.invariant.reading.origins (Solvable s)
+    (All-contains (λ t. Contains old.origins (Solvable t)) set s c.requires.known inside)
 
 pub loop-place-preserved : goal.loop-place-preserved
 loop-place-preserved g c =
@@ -48,23 +50,31 @@ loop-place-preserved g c =
       bounded = c.read_new.ensures.bounded;
       limits = KeepsLimits-trans _ _ _ before.limits c.read_new.ensures.limits;
       half = record { root = before.half.root; half = reading.keeps before.half.root before.half.half };
-      reading = IsReadingOf-trans u set (Contains set) _ _ _ before.reading (IsReadingOf-weaker u set (λ t. s ≡ t) (Contains set) (λ t same. subst Among same inside) _ _ reading);
-      read = AreEach-more (Contains (notes_in c.loop-place.self).read) (Contains (notes_in c.read_new.new.self).read) set c.args.from c.loop-place.place s (λ t h. Extends-within _ _ reading.read t h) (omega arith) (subst At c.as_slice.ensures.keys c.index-as_slice-place.is) before.read c.in_ok-read_new.ensures.here;
+      reading = IsReadingOf-trans u set (Contains set) _ _ _ before.reading
+          (IsReadingOf-weaker u set (λ t. s ≡ t) (Contains set) (λ t same. subst Among same inside) _ _ reading);
+      read = AreEach-more (Contains (notes_in c.loop-place.self).read)
+          (Contains (notes_in c.read_new.new.self).read) set c.args.from c.loop-place.place s (λ t h. Extends-within _ _ reading.read t h) (omega arith)
+          (subst At c.as_slice.ensures.keys c.index-as_slice-place.is) before.read c.in_ok-read_new.ensures.here;
       more = IsMoreOrSame-trans _ _ _ before.more c.in_ok-read_new.ensures.more;
       is_true = c.read_new.ensures.is_true;
     }
 
 pub returns-then-before-len-clause-here : goal.returns-then-before-len-clause-here
-returns-then-before-len-clause-here g c = AreEach-done (Contains (notes_in c.loop-place.self).read) c.args.chosen.now.keys c.args.from c.loop-place.place (omega arith) c.loop-place.invariant.read
+returns-then-before-len-clause-here g c =
+    AreEach-done (Contains (notes_in c.loop-place.self).read) c.args.chosen.now.keys c.args.from c.loop-place.place (omega arith) c.loop-place.invariant.read
 
 pub returns-then-before-len-clause-fit : goal.returns-then-before-len-clause-fit
-returns-then-before-len-clause-fit g c = λ known. seen_fit g.S.PartialEq.eq g.met.D.Interner.solvables_are_values g.met.S.Eq.laws c.loop-place.self.read.keys (notes_in c.loop-place.self).origins c.len.ensures.unique known
+returns-then-before-len-clause-fit g c =
+    λ known. seen_fit g.S.PartialEq.eq g.met.D.Interner.solvables_are_values g.met.S.Eq.laws c.loop-place.self.read.keys
+    (notes_in c.loop-place.self).origins c.len.ensures.unique known
 
 pub returns-clause-here : goal.returns-clause-here
-returns-clause-here g c = AreEach-done (Contains (notes_in c.loop-place.self).read) c.args.chosen.now.keys c.args.from c.loop-place.place (omega arith) c.loop-place.invariant.read
+returns-clause-here g c = AreEach-done (Contains (notes_in c.loop-place.self).read) c.args.chosen.now.keys c.args.from c.loop-place.place
+    (omega arith) c.loop-place.invariant.read
 
 pub returns-clause-fit : goal.returns-clause-fit
-returns-clause-fit g c = λ known. seen_fit g.S.PartialEq.eq g.met.D.Interner.solvables_are_values g.met.S.Eq.laws c.loop-place.self.read.keys (notes_in c.loop-place.self).origins c.len.ensures.unique known
+returns-clause-fit g c = λ known. seen_fit g.S.PartialEq.eq g.met.D.Interner.solvables_are_values g.met.S.Eq.laws c.loop-place.self.read.keys
+    (notes_in c.loop-place.self).origins c.len.ensures.unique known
 
 pub returns-clause-any_new : goal.returns-clause-any_new
 returns-clause-any_new g c = no_more_read _ _ c.loop-place.invariant.more (omega (arith, c.len.ensures.len, c.len-before.ensures.len))

@@ -41,11 +41,13 @@ waves-preserved g c =
       bounded = found.bounded;
       limits = KeepsLimits-trans _ _ _ before.limits c.read_hinted_each.ensures.limits;
       half = record { root = before.half.root; half = reading.keeps before.half.root before.half.half };
-      reading = hinted_trans u set c.requires.half.root c.args.from one two three c.requires.half.half before.reading (hinted_later u set c.args.from c.waves.place before.forward two three found.reading);
+      reading = hinted_trans u set c.requires.half.root c.args.from one two three c.requires.half.half before.reading
+          (hinted_later u set c.args.from c.waves.place before.forward two three found.reading);
       forward = omega (arith, before.forward, before.within, size);
       within = omega (arith, size, more);
       read = hints_joined u c.args.from c.waves.place c.asking_count-until.result three
-          (hints_grown u before.half.root two three before.half.half.encoding reading.origins reading.table reading.requirements reading.read c.args.from c.waves.place before.within before.read)
+          (hints_grown u before.half.root two three before.half.half.encoding reading.origins reading.table reading.requirements reading.read c.args.from
+          c.waves.place before.within before.read)
           found.here;
       any_new = HasRead-then one two three c.waves.any before.any_new now;
       is_true = found.is_true;
@@ -73,10 +75,12 @@ returns-then-not-branch-clause-here g c =
     let Was : Bool → Type 0 = λ b. HasRead two three b in
     let size : c.asking_count-until.result ≡ length two.requirements = c.asking_count-until.ensures in
     let same : three ≡ two = subst Was c.if-not-branch.true found.any_new in
-    let end : c.asking_count-until.result ≡ length three.requirements = size ∙ ap (λ (n : Notes g.row.N.Denot g.row.S.Denot). length n.requirements) (sym same) in
+    let end : c.asking_count-until.result ≡ length three.requirements = size ∙
+    ap (λ (n : Notes g.row.N.Denot g.row.S.Denot). length n.requirements) (sym same) in
     let To : ℕ → Type 0 = λ n. AreHintsReadTo u c.args.from n three in
     subst To end (hints_joined u c.args.from c.waves.place c.asking_count-until.result three
-    (hints_grown u before.half.root two three before.half.half.encoding reading.origins reading.table reading.requirements reading.read c.args.from c.waves.place before.within before.read)
+    (hints_grown u before.half.root two three before.half.half.encoding reading.origins reading.table reading.requirements reading.read c.args.from
+    c.waves.place before.within before.read)
     found.here)
 
 pub returns-then-not-branch-clause-reading : goal.returns-then-not-branch-clause-reading
@@ -88,7 +92,8 @@ returns-then-not-branch-clause-reading g c =
     let three = notes_in c.read_hinted_each.new.self in
     let before = c.waves.invariant in
     let found = c.in_ok-read_hinted_each.ensures in
-    hinted_trans u set c.requires.half.root c.args.from one two three c.requires.half.half before.reading (hinted_later u set c.args.from c.waves.place before.forward two three found.reading)
+    hinted_trans u set c.requires.half.root c.args.from one two three c.requires.half.half before.reading
+    (hinted_later u set c.args.from c.waves.place before.forward two three found.reading)
 
 pub returns-then-not-branch-clause-any_new : goal.returns-then-not-branch-clause-any_new
 returns-then-not-branch-clause-any_new g c =

@@ -22,7 +22,8 @@ loop-place-init g c =
 pub read_hinted_at-requires-clause-within : goal.read_hinted_at-requires-clause-within
 read_hinted_at-requires-clause-within g c =
     let old = notes_in c.args.self.now in
-    let more : length old.requirements ≤ length (notes_in c.loop-place.self).requirements = longer old.requirements (notes_in c.loop-place.self).requirements c.loop-place.invariant.reading.reading.requirements in
+    let more : length old.requirements ≤ length (notes_in c.loop-place.self).requirements =
+    longer old.requirements (notes_in c.loop-place.self).requirements c.loop-place.invariant.reading.reading.requirements in
     omega (arith, more, c.requires.within)
 
 pub loop-place-preserved : goal.loop-place-preserved
@@ -41,30 +42,39 @@ loop-place-preserved g c =
       bounded = c.read_hinted_at.ensures.bounded;
       limits = KeepsLimits-trans _ _ _ before.limits c.read_hinted_at.ensures.limits;
       half = record { root = half.root; half = reading.keeps half.root half.half };
-      reading = hinted_trans u set c.requires.half.root c.args.from one two three c.requires.half.half before.reading (hinted_later u set c.args.from c.loop-place.place (omega arith) two three here);
+      reading = hinted_trans u set c.requires.half.root c.args.from one two three c.requires.half.half before.reading
+          (hinted_later u set c.args.from c.loop-place.place (omega arith) two three here);
       read = hints_joined u c.args.from c.loop-place.place (c.loop-place.place + 1) three
-          (hints_grown u half.root two three half.half.encoding reading.origins reading.table reading.requirements reading.read c.args.from c.loop-place.place (omega (arith, more, c.requires.within)) before.read)
+          (hints_grown u half.root two three half.half.encoding reading.origins reading.table reading.requirements reading.read c.args.from c.loop-place.place
+          (omega (arith, more, c.requires.within)) before.read)
           (hints_at u c.loop-place.place three c.in_ok-read_hinted_at.ensures.here);
       more = IsMoreOrSame-trans _ _ _ before.more c.in_ok-read_hinted_at.ensures.more;
       is_true = c.read_hinted_at.ensures.is_true;
     }
 
 pub returns-then-before-len-clause-here : goal.returns-then-before-len-clause-here
-returns-then-before-len-clause-here g c = hints_until (g.D.Interner.universe c.args.provider.now) c.args.from c.args.until c.loop-place.place (notes_in c.loop-place.self) (omega arith) c.loop-place.invariant.read
+returns-then-before-len-clause-here g c =
+    hints_until (g.D.Interner.universe c.args.provider.now) c.args.from c.args.until c.loop-place.place (notes_in c.loop-place.self)
+    (omega arith) c.loop-place.invariant.read
 
 pub returns-then-before-len-clause-fit : goal.returns-then-before-len-clause-fit
 returns-then-before-len-clause-fit g c =
     let notes = notes_in c.loop-place.self in
-    let fit : length notes.read ≤ length notes.origins = seen_fit g.S.PartialEq.eq g.met.D.Interner.solvables_are_values g.met.S.Eq.laws c.loop-place.self.read.keys notes.origins c.len.ensures.unique c.loop-place.invariant.half.half.read_known in
+    let fit : length notes.read ≤ length notes.origins =
+    seen_fit g.S.PartialEq.eq g.met.D.Interner.solvables_are_values g.met.S.Eq.laws c.loop-place.self.read.keys notes.origins c.len.ensures.unique
+    c.loop-place.invariant.half.half.read_known in
     omega (arith, fit, c.loop-place.invariant.bounded.bounded)
 
 pub returns-clause-here : goal.returns-clause-here
-returns-clause-here g c = hints_until (g.D.Interner.universe c.args.provider.now) c.args.from c.args.until c.loop-place.place (notes_in c.loop-place.self) (omega arith) c.loop-place.invariant.read
+returns-clause-here g c = hints_until (g.D.Interner.universe c.args.provider.now) c.args.from c.args.until c.loop-place.place (notes_in c.loop-place.self)
+    (omega arith) c.loop-place.invariant.read
 
 pub returns-clause-fit : goal.returns-clause-fit
 returns-clause-fit g c =
     let notes = notes_in c.loop-place.self in
-    let fit : length notes.read ≤ length notes.origins = seen_fit g.S.PartialEq.eq g.met.D.Interner.solvables_are_values g.met.S.Eq.laws c.loop-place.self.read.keys notes.origins c.len.ensures.unique c.loop-place.invariant.half.half.read_known in
+    let fit : length notes.read ≤ length notes.origins =
+    seen_fit g.S.PartialEq.eq g.met.D.Interner.solvables_are_values g.met.S.Eq.laws c.loop-place.self.read.keys notes.origins c.len.ensures.unique
+    c.loop-place.invariant.half.half.read_known in
     omega (arith, fit, c.loop-place.invariant.bounded.bounded)
 
 pub returns-clause-any_new : goal.returns-clause-any_new

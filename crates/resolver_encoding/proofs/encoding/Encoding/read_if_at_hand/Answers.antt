@@ -4,7 +4,8 @@ use Rattle.resolver_encoding.proofs.SoFarLemmas.{IsReadingOf-same}
 use Rattle.resolver_encoding.proofs.encoding.Encoding.read_if_at_hand.Goals as goal
 
 pub returns-then-not-are_dependencies_available_for-clause-reading : goal.returns-then-not-are_dependencies_available_for-clause-reading
-returns-then-not-are_dependencies_available_for-clause-reading g c = IsReadingOf-same (g.D.Interner.universe c.args.provider.now) c.args.chosen.now.keys (λ s. c.args.candidate ≡ s) (notes_in c.args.self.now)
+returns-then-not-are_dependencies_available_for-clause-reading g c =
+    IsReadingOf-same (g.D.Interner.universe c.args.provider.now) c.args.chosen.now.keys (λ s. c.args.candidate ≡ s) (notes_in c.args.self.now)
 
 pub returns-then-not-are_dependencies_available_for-clause-more : goal.returns-then-not-are_dependencies_available_for-clause-more
 returns-then-not-are_dependencies_available_for-clause-more g c = inl refl

@@ -5,9 +5,12 @@ use Rattle.resolver_encoding.proofs.encoding.Encoding.read_requirement.Goals as 
 
 pub returns-in_ok-read_plain-in-Some-clause-step : goal.returns-in_ok-read_plain-in-Some-clause-step
 returns-in_ok-read_plain-in-Some-clause-step g c =
-    plain_step (g.D.Interner.universe c.args.provider.now) (IsUnmet (g.D.Interner.universe c.args.provider.now) c.args.chosen.now.keys c.args.by) c.args.chosen.now.keys c.args.by c.in-Some.requirer c.args.requirement _ _ c.in-Some.ensures.0 c.in-Some.ensures.1 c.in_ok-read_plain-in-Some.ensures.step
+    plain_step (g.D.Interner.universe c.args.provider.now)
+    (IsUnmet (g.D.Interner.universe c.args.provider.now) c.args.chosen.now.keys c.args.by) c.args.chosen.now.keys c.args.by c.in-Some.requirer
+    c.args.requirement _ _ c.in-Some.ensures.0 c.in-Some.ensures.1 c.in_ok-read_plain-in-Some.ensures.step
 
 pub returns-in_ok-read_plain-in-Some-clause-read : goal.returns-in_ok-read_plain-in-Some-clause-read
 returns-in_ok-read_plain-in-Some-clause-read g c =
     let notes = notes_in c.read_plain.new.self in
-    plain_has (g.D.Interner.universe c.args.provider.now) notes.kinds (IsLeft notes) c.args.by c.in-Some.requirer c.args.requirement c.in-Some.ensures.0 c.in_ok-read_plain-in-Some.ensures.read
+    plain_has (g.D.Interner.universe c.args.provider.now) notes.kinds
+    (IsLeft notes) c.args.by c.in-Some.requirer c.args.requirement c.in-Some.ensures.0 c.in_ok-read_plain-in-Some.ensures.read

@@ -6,7 +6,8 @@ use Rattle.resolver_encoding.specs.Encodings.{AsksFor, IsLeft, IsUnmet}
 use Rattle.resolver_encoding.specs.Notes.{notes_in}
 use Rattle.resolver_encoding.specs.ReadState.{IsReadRequirement}
 use Rattle.resolver_clause_store.proofs.SetLemmas.{All-done}
-use Rattle.resolver_encoding.proofs.EncodingLemmas.{Extends-within, IsEncodingOf-read, IsEncodingOf-weaker, IsReadStep-same, IsReadStep-trans, IsReadStep-weaker, KeepsLimits-same, KeepsLimits-trans}
+use Rattle.resolver_encoding.proofs.EncodingLemmas.{Extends-within, IsEncodingOf-read, IsEncodingOf-weaker, IsReadStep-same, IsReadStep-trans}
+use Rattle.resolver_encoding.proofs.EncodingLemmas.{IsReadStep-weaker, KeepsLimits-same, KeepsLimits-trans}
 use Rattle.resolver_encoding.proofs.NoteLemmas.{All-grown_at}
 use Rattle.resolver_encoding.proofs.ReadLemmas.{IsReadRequirement-within}
 use Rattle.resolver_encoding.proofs.RequirementLemmas.{called_here}
@@ -20,7 +21,8 @@ loop-requirement-init g c =
     record {
       bounded = c.requires.bounded;
       limits = KeepsLimits-same _;
-      step = IsReadStep-same u (IsUnmet u set c.args.by) (IsCalledByEach u set c.args.requirements.now) (λ root. All (λ r. AsksFor u c.args.by r root) c.args.requirements.now) old;
+      step = IsReadStep-same u (IsUnmet u set c.args.by) (IsCalledByEach u set c.args.requirements.now) (λ root.
+          All (λ r. AsksFor u c.args.by r root) c.args.requirements.now) old;
       read = All-nil (IsReadRequirement u old.kinds (IsLeft old) c.args.by);
       is_true = c.requires.is_true;
     }
@@ -33,7 +35,9 @@ read_requirement-requires-clause-encoding g c =
     let i = c.loop-requirement.requirement-index in
     let below : i < length xs = omega arith in
     let AllAsk : Demands → Type 0 = λ root. All (λ r. AsksFor u c.args.by r root) xs in
-    IsEncodingOf-weaker u AllAsk (AsksFor u c.args.by _) (λ root all. All-get_or (λ r. AsksFor u c.args.by r root) xs i _ below all) (notes_in c.loop-requirement.self) (IsEncodingOf-read u (IsUnmet u set c.args.by) (IsCalledByEach u set xs) AllAsk _ _ c.requires.encoding c.loop-requirement.invariant.step)
+    IsEncodingOf-weaker u AllAsk (AsksFor u c.args.by _) (λ root all. All-get_or (λ r. AsksFor u c.args.by r root) xs i _ below all)
+    (notes_in c.loop-requirement.self)
+    (IsEncodingOf-read u (IsUnmet u set c.args.by) (IsCalledByEach u set xs) AllAsk _ _ c.requires.encoding c.loop-requirement.invariant.step)
 
 pub loop-requirement-preserved : goal.loop-requirement-preserved
 loop-requirement-preserved g c =
@@ -52,8 +56,11 @@ loop-requirement-preserved g c =
       bounded = c.read_requirement.ensures.bounded;
       limits = KeepsLimits-trans _ _ _ before.limits c.read_requirement.ensures.limits;
       step = IsReadStep-trans u (IsUnmet u set by) (IsCalledByEach u set xs) Premise _ _ _ before.step
-          (IsReadStep-weaker u (IsUnmet u set by) (IsCalledBy u set _) (IsCalledByEach u set xs) (λ n called. called_here u set xs i _ n below called) (AsksFor u by _) Premise (λ root all. All-get_or (λ v. AsksFor u by v root) xs i _ below all) _ _ step);
-      read = All-grown_at (IsReadRequirement u mid.kinds (IsLeft mid) by) (IsReadRequirement u new.kinds (IsLeft new) by) xs i _ (λ v h. IsReadRequirement-within u _ _ step.kinds (IsLeft mid) (IsLeft new) (λ e k. Extends-within _ _ step.deferred _ k) by v h) below before.read c.in_ok-read_requirement.ensures.read;
+          (IsReadStep-weaker u (IsUnmet u set by) (IsCalledBy u set _) (IsCalledByEach u set xs) (λ n called. called_here u set xs i _ n below called)
+          (AsksFor u by _) Premise (λ root all. All-get_or (λ v. AsksFor u by v root) xs i _ below all) _ _ step);
+      read = All-grown_at (IsReadRequirement u mid.kinds (IsLeft mid) by) (IsReadRequirement u new.kinds (IsLeft new) by) xs i _ (λ v h.
+          IsReadRequirement-within u _ _ step.kinds (IsLeft mid) (IsLeft new) (λ e k.
+          Extends-within _ _ step.deferred _ k) by v h) below before.read c.in_ok-read_requirement.ensures.read;
       is_true = c.read_requirement.ensures.is_true;
     }
 
@@ -61,4 +68,5 @@ pub returns-clause-read : goal.returns-clause-read
 returns-clause-read g c =
     let u = g.D.Interner.universe c.args.provider.now in
     let notes = notes_in c.loop-requirement.self in
-    All-done (IsReadRequirement u notes.kinds (IsLeft notes) c.args.by) c.args.requirements.now c.loop-requirement.requirement-index (omega arith) c.loop-requirement.invariant.read
+    All-done (IsReadRequirement u notes.kinds (IsLeft notes) c.args.by) c.args.requirements.now c.loop-requirement.requirement-index
+    (omega arith) c.loop-requirement.invariant.read

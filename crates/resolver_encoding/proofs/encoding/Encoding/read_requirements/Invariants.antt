@@ -10,7 +10,10 @@ abbrev pub invariant-loop-requirement : goal.invariant-loop-requirement
 invariant-loop-requirement g l = record {
   bounded : IsBounded l.self;
   limits : KeepsLimits (notes_in l.fn.self) (notes_in l.self);
-  step : IsReadStep (g.D.Interner.universe l.provider) (IsUnmet (g.D.Interner.universe l.provider) l.chosen.keys l.by) (IsCalledByEach (g.D.Interner.universe l.provider) l.chosen.keys l.requirements) (λ root. All (λ r. AsksFor (g.D.Interner.universe l.provider) l.by r root) l.requirements) (notes_in l.fn.self) (notes_in l.self);
-  read : All (IsReadRequirement (g.D.Interner.universe l.provider) (notes_in l.self).kinds (IsLeft (notes_in l.self)) l.by) (take l.requirement-index l.requirements);
+  step : IsReadStep (g.D.Interner.universe l.provider) (IsUnmet (g.D.Interner.universe l.provider) l.chosen.keys l.by)
+      (IsCalledByEach (g.D.Interner.universe l.provider) l.chosen.keys l.requirements) (λ root.
+      All (λ r. AsksFor (g.D.Interner.universe l.provider) l.by r root) l.requirements) (notes_in l.fn.self) (notes_in l.self);
+  read : All (IsReadRequirement (g.D.Interner.universe l.provider) (notes_in l.self).kinds (IsLeft (notes_in l.self)) l.by)
+      (take l.requirement-index l.requirements);
   is_true : IsTrueCache (g.D.Interner.universe l.provider) l.cache;
 }

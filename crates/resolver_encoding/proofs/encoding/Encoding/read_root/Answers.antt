@@ -28,7 +28,8 @@ read_hinted-requires-clause-half g c =
     let mid = notes_in c.read_demands.new.self in
     let Step : List g.row.S.Denot → Type 0 = λ set. IsReadStep u (IsUnmet u set Root) (IsDemanded u set root) (λ r. demands_by u r Root ≡ root) bare mid in
     let step = subst Step c.new-none.ensures.empty c.in_ok-read_demands.ensures.step in
-    let so = root_so_far u root bare mid step c.in_ok-install_root.ensures.nothing (c.in_ok-install_root.ensures.installed root) c.in_ok-read_demands.ensures.read in
+    let so = root_so_far u root bare mid step c.in_ok-install_root.ensures.nothing
+    (c.in_ok-install_root.ensures.installed root) c.in_ok-read_demands.ensures.read in
     record { root = root; half = so.half }
 
 pub returns-clause-read : goal.returns-clause-read
@@ -42,7 +43,8 @@ returns-clause-read g c =
     let step = subst Step c.new-none.ensures.empty c.in_ok-read_demands.ensures.step in
     let Reading : List g.row.S.Denot → Type 0 = λ set. IsReadingOf u set (IsListedFrom new 0) mid new in
     let reading = subst Reading c.new-none.ensures.empty c.in_ok-read_hinted.ensures.reading.reading in
-    let so = root_so_far u root bare mid step c.in_ok-install_root.ensures.nothing (c.in_ok-install_root.ensures.installed root) c.in_ok-read_demands.ensures.read in
+    let so = root_so_far u root bare mid step c.in_ok-install_root.ensures.nothing
+    (c.in_ok-install_root.ensures.installed root) c.in_ok-read_demands.ensures.read in
     so_far_on u [] root (IsListedFrom new 0) mid new so reading
 
 pub returns-clause-asked : goal.returns-clause-asked
@@ -56,9 +58,11 @@ returns-clause-asked g c =
     let step = subst Step c.new-none.ensures.empty c.in_ok-read_demands.ensures.step in
     let Reading : List g.row.S.Denot → Type 0 = λ set. IsReadingOf u set (IsListedFrom new 0) mid new in
     let reading = subst Reading c.new-none.ensures.empty c.in_ok-read_hinted.ensures.reading.reading in
-    let so = root_so_far u root bare mid step c.in_ok-install_root.ensures.nothing (c.in_ok-install_root.ensures.installed root) c.in_ok-read_demands.ensures.read in
+    let so = root_so_far u root bare mid step c.in_ok-install_root.ensures.nothing
+    (c.in_ok-install_root.ensures.installed root) c.in_ok-read_demands.ensures.read in
     let Asked : List g.row.S.Denot → Type 0 = λ read. AreAsked (IsCalledFor u root read []) [] mid.asked in
-    let asked = root_asked u root bare mid step c.in_ok-install_root.ensures.nothing (c.in_ok-install_root.ensures.installed root) c.in_ok-read_demands.ensures.read in
+    let asked = root_asked u root bare mid step c.in_ok-install_root.ensures.nothing
+    (c.in_ok-install_root.ensures.installed root) c.in_ok-read_demands.ensures.read in
     let none : mid.read ≡ [] = step.read ∙ c.in_ok-install_root.ensures.nothing.none_read in
     asked_on u [] root (IsListedFrom new 0) [] mid new so reading (subst Asked (sym none) asked)
 
@@ -78,7 +82,8 @@ pub returns-clause-reads : goal.returns-clause-reads
 returns-clause-reads g c = λ s h.
     let Has : List g.row.S.Denot → Type 0 = λ list. Contains list s in
     let none = c.in_ok-read_demands.ensures.step.read ∙ c.in_ok-install_root.ensures.nothing.none_read in
-    ⊎_elim (λ (was : Contains (notes_in c.read_demands.new.self).read s). absurd (none_in s (subst Has none was))) (λ listed. listed) (c.in_ok-read_hinted.ensures.reading.reading.reads s h)
+    ⊎_elim (λ (was : Contains (notes_in c.read_demands.new.self).read s). absurd (none_in s (subst Has none was))) (λ listed. listed)
+    (c.in_ok-read_hinted.ensures.reading.reading.reads s h)
 
 pub returns-clause-exempt : goal.returns-clause-exempt
 returns-clause-exempt g c = c.in_ok-read_hinted.ensures.reading.reading.exempt ∙ c.in_ok-read_demands.ensures.step.exempt ∙ c.in_ok-install_root.ensures.exempt

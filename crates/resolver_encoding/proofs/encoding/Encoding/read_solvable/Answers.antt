@@ -21,8 +21,16 @@ read_demands-requires-clause-encoding g c =
     let answer = rw c.in-Known.is at (c.dependencies.ensures u c.ask_dependencies.ensures.is_true) in
     let copied_requirements = c.deref-in-Known-2.ensures.value ∙ c.in_ok-requirements-in-Known.ensures.items ∙ c.deref.ensures.value in
     let copied_constraints = c.deref-in-Known-3.ensures.value ∙ c.in_ok-constraints-in-Known.ensures.items ∙ c.deref-in-Known.ensures.value in
-    let copied : record { requirements = c.deref-in-Known-2.result.now; constraints = c.deref-in-Known-3.result.now } ≡ record { requirements = c.in-Known.known.requirements.items; constraints = c.in-Known.known.constrains.items } = λ i. record { requirements = copied_requirements i; constraints = copied_constraints i } in
-    IsEncodingOf-weaker u (λ root. ⊤) (λ root. demands_by u root (Solvable c.args.solvable) ≡ record { requirements = c.deref-in-Known-2.result.now; constraints = c.deref-in-Known-3.result.now })
+    let copied : record {
+      requirements = c.deref-in-Known-2.result.now;
+      constraints = c.deref-in-Known-3.result.now;
+    } ≡ record {
+      requirements = c.in-Known.known.requirements.items;
+      constraints =
+          c.in-Known.known.constrains.items;
+    } = λ i. record { requirements = copied_requirements i; constraints = copied_constraints i } in
+    IsEncodingOf-weaker u (λ root. ⊤) (λ root.
+    demands_by u root (Solvable c.args.solvable) ≡ record { requirements = c.deref-in-Known-2.result.now; constraints = c.deref-in-Known-3.result.now })
     (λ root _. demands_known _ _ answer ∙ sym copied) (notes_in c.args.self.now) c.requires.encoding
 
 pub returns-in_ok-forbid_unknown-in-Unknown-clause-step : goal.returns-in_ok-forbid_unknown-in-Unknown-clause-step
@@ -30,7 +38,8 @@ returns-in_ok-forbid_unknown-in-Unknown-clause-step g c =
     let u = g.D.Interner.universe c.args.provider.now in
     let set = c.args.chosen.now.keys in
     let Demanded = IsDemanded u set (demands_of (u.needs c.args.solvable)) in
-    IsReadStep-of u (IsUnmet u set (Solvable c.args.solvable)) Demanded (λ root. ⊤) _ _ (IsAskStep-of u Demanded (λ root. ⊤) _ _ c.in_ok-forbid_unknown-in-Unknown.ensures.step)
+    IsReadStep-of u (IsUnmet u set (Solvable c.args.solvable)) Demanded (λ root. ⊤) _ _
+    (IsAskStep-of u Demanded (λ root. ⊤) _ _ c.in_ok-forbid_unknown-in-Unknown.ensures.step)
 
 pub returns-in_ok-read_demands-in-Known-clause-step : goal.returns-in_ok-read_demands-in-Known-clause-step
 returns-in_ok-read_demands-in-Known-clause-step g c =
@@ -40,8 +49,10 @@ returns-in_ok-read_demands-in-Known-clause-step g c =
     let copied_requirements = c.deref-in-Known-2.ensures.value ∙ c.in_ok-requirements-in-Known.ensures.items ∙ c.deref.ensures.value in
     let copied_constraints = c.deref-in-Known-3.ensures.value ∙ c.in_ok-constraints-in-Known.ensures.items ∙ c.deref-in-Known.ensures.value in
     let demands : Demands = record { requirements = c.deref-in-Known-2.result.now; constraints = c.deref-in-Known-3.result.now } in
-    let copied : demands ≡ record { requirements = c.in-Known.known.requirements.items; constraints = c.in-Known.known.constrains.items } = λ i. record { requirements = copied_requirements i; constraints = copied_constraints i } in
+    let copied : demands ≡ record { requirements = c.in-Known.known.requirements.items; constraints = c.in-Known.known.constrains.items } =
+    λ i. record { requirements = copied_requirements i; constraints = copied_constraints i } in
     let same : demands_of (u.needs c.args.solvable) ≡ demands = demands_known _ _ answer ∙ sym copied in
     let Demanded : Call g.row.N.Denot g.row.S.Denot → Demands → Type 0 = λ n d. IsDemanded u set d n in
-    IsReadStep-weaker u (IsUnmet u set (Solvable c.args.solvable)) (IsDemanded u set demands) (IsDemanded u set (demands_of (u.needs c.args.solvable))) (λ n h. subst (Demanded n) (sym same) h)
+    IsReadStep-weaker u (IsUnmet u set (Solvable c.args.solvable)) (IsDemanded u set demands) (IsDemanded u set (demands_of (u.needs c.args.solvable))) (λ n h.
+    subst (Demanded n) (sym same) h)
     (λ root. demands_by u root (Solvable c.args.solvable) ≡ demands) (λ root. ⊤) (λ root _. same) _ _ c.in_ok-read_demands-in-Known.ensures.step

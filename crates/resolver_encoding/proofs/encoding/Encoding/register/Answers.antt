@@ -15,5 +15,8 @@ returns-clause-registered g c =
     let old = notes_in c.args.self.now in
     let grows : Grows old.origins (origins_in c.intern.new.self) = record { keeps = c.intern.ensures.kept; distinct = c.intern.ensures.distinct } in
     IsRegistered-of u c.args.solvable old (notes_in c.see.new.self)
-    (IsAskStep-trans u (IsSeeing c.args.solvable) (λ root. ⊤) _ _ _ (IsAskStep-of u (IsSeeing c.args.solvable) (λ root. ⊤) _ _ (IsStep-origins u idle (λ root. ⊤) old _ (origins_in c.intern.new.self) (limit_in c.intern.new.self) grows c.intern.ensures.limit refl)) c.in_ok-see.ensures.step)
+    (IsAskStep-trans u (IsSeeing c.args.solvable) (λ root. ⊤) _ _ _
+    (IsAskStep-of u (IsSeeing c.args.solvable) (λ root. ⊤) _ _
+    (IsStep-origins u idle (λ root. ⊤) old _ (origins_in c.intern.new.self) (limit_in c.intern.new.self) grows c.intern.ensures.limit refl))
+    c.in_ok-see.ensures.step)
     c.in_ok-see.ensures.seen c.in_ok-see.ensures.only c.in_ok-see.ensures.requirements c.in_ok-see.ensures.asked

@@ -17,7 +17,8 @@ use Rattle.resolver_encoding.proofs.SoFarLemmas.{IsWithin-equal}
 use Rattle.resolver_encoding.proofs.encoding.Encoding.see.Goals as goal
 
 pub returns-then-is_among-clause-step : goal.returns-then-is_among-clause-step
-returns-then-is_among-clause-step g c = IsAskStep-same (g.D.Interner.universe c.args.provider.now) (IsSeeing c.args.solvable) (λ root. ⊤) (notes_in c.args.self.now)
+returns-then-is_among-clause-step g c =
+    IsAskStep-same (g.D.Interner.universe c.args.provider.now) (IsSeeing c.args.solvable) (λ root. ⊤) (notes_in c.args.self.now)
 
 pub returns-clause-step : goal.returns-clause-step
 returns-clause-step g c =
@@ -34,8 +35,11 @@ returns-clause-step g c =
     let Sound : Groups g.row.N.Denot g.row.S.Denot → Type 0 = λ gs. AreGroups gs in
     let same_groups = code.groups ∙ begun.groups in
     let step = IsStep-trans u (coding_for n k s) (λ root. ⊤) _ _ _ begun.step code.step in
-    IsAskStep-trans u (IsSeeing s) (λ root. ⊤) _ _ _ (IsAskStep-of u (IsSeeing s) (λ root. ⊤) _ _ (IsStep-origins u idle (λ root. ⊤) old _ (origins_in c.intern.new.self) (limit_in c.intern.new.self) grows c.intern.ensures.limit refl))
-    (IsStep-seen u g.N.PartialEq.eq g.S.PartialEq.eq g.met.D.Interner.names_are_values g.met.D.Interner.solvables_are_values n k s _ mid _ c.add.new.self list (sym c.solvable_name-name.ensures) c.if-is_among.ensures
+    IsAskStep-trans u (IsSeeing s) (λ root. ⊤) _ _ _
+    (IsAskStep-of u (IsSeeing s) (λ root. ⊤) _ _
+    (IsStep-origins u idle (λ root. ⊤) old _ (origins_in c.intern.new.self) (limit_in c.intern.new.self) grows c.intern.ensures.limit refl))
+    (IsStep-seen u g.N.PartialEq.eq g.S.PartialEq.eq g.met.D.Interner.names_are_values g.met.D.Interner.solvables_are_values n k s _ mid _ c.add.new.self list
+    (sym c.solvable_name-name.ensures) c.if-is_among.ensures
     step same_groups (code.seen ∙ begun.seen) (λ i. record mid { seen = c.in_ok-append.ensures.keys i; groups = c.add.new.self }) c.in_ok-add.ensures.added
     (place_in mid.origins _ (Solvable s) (step.origins.kept _ (Solvable s) c.in_ok-intern.ensures.here))
     c.named-number.ensures.each_at c.named-number.ensures.every_at refl code.code
@@ -56,6 +60,8 @@ pub returns-clause-only : goal.returns-clause-only
 returns-clause-only g c = λ t h.
     let mid = notes_in c.add_code.new.self in
     ⊎_elim
-    (λ (before : Contains mid.seen t). inl (IsWithin-equal mid.seen (notes_in c.args.self.now).seen (sym (c.in_ok-add_code.ensures.seen ∙ c.in_ok-begin_digit.ensures.seen)) t before))
+    (λ (before : Contains mid.seen t). inl
+    (IsWithin-equal mid.seen (notes_in c.args.self.now).seen (sym (c.in_ok-add_code.ensures.seen ∙ c.in_ok-begin_digit.ensures.seen)) t before))
     (λ (last : c.args.solvable ≡ t). inr (sym last))
-    (Contains-push_cases mid.seen c.args.solvable t (IsWithin-equal c.append.new.set.keys (mid.seen ++ c.args.solvable ∷ []) (sym c.in_ok-append.ensures.keys) t h))
+    (Contains-push_cases mid.seen c.args.solvable t
+    (IsWithin-equal c.append.new.set.keys (mid.seen ++ c.args.solvable ∷ []) (sym c.in_ok-append.ensures.keys) t h))

@@ -24,9 +24,14 @@ loop-candidate-preserved g c =
       bounded = c.see.ensures.bounded;
       limits = KeepsLimits-trans _ _ _ before.limits c.see.ensures.limits;
       step = IsAskStep-trans u (IsSeeingEach c.args.candidates.now) (λ root. ⊤) _ _ _ before.step
-          (IsAskStep-weaker u (IsSeeing c.candidate-item.result) (IsSeeingEach c.args.candidates.now) (seen_here c.args.candidates.now c.loop-candidate.candidate-index c.candidate-item.result (omega arith) c.candidate-item.is) (λ root. ⊤) (λ root. ⊤) (λ root _. tt) _ _ c.in_ok-see.ensures.step);
-      seen = All-grown (Contains c.loop-candidate.self.seen.keys) (Contains c.see.new.self.seen.keys) c.args.candidates.now c.loop-candidate.candidate-index c.candidate-item.result (λ y h. Extends-within _ _ c.in_ok-see.ensures.step.seen y h) (omega arith) c.candidate-item.is before.seen c.in_ok-see.ensures.seen;
+          (IsAskStep-weaker u (IsSeeing c.candidate-item.result) (IsSeeingEach c.args.candidates.now)
+          (seen_here c.args.candidates.now c.loop-candidate.candidate-index c.candidate-item.result (omega arith) c.candidate-item.is) (λ root. ⊤) (λ root.
+          ⊤) (λ root _. tt) _ _ c.in_ok-see.ensures.step);
+      seen = All-grown (Contains c.loop-candidate.self.seen.keys)
+          (Contains c.see.new.self.seen.keys) c.args.candidates.now c.loop-candidate.candidate-index c.candidate-item.result (λ y h.
+          Extends-within _ _ c.in_ok-see.ensures.step.seen y h) (omega arith) c.candidate-item.is before.seen c.in_ok-see.ensures.seen;
     }
 
 pub returns-clause-seen : goal.returns-clause-seen
-returns-clause-seen g c = All-done (Contains c.loop-candidate.self.seen.keys) c.args.candidates.now c.loop-candidate.candidate-index (omega arith) c.loop-candidate.invariant.seen
+returns-clause-seen g c = All-done (Contains c.loop-candidate.self.seen.keys) c.args.candidates.now c.loop-candidate.candidate-index
+    (omega arith) c.loop-candidate.invariant.seen

@@ -12,10 +12,12 @@ returns-in_ok-note_helper-in-AnyOf-clause-noted g c = λ kinds are.
 
 pub returns-in_ok-add-in-ConstrainsExcluded-clause-noted : goal.returns-in_ok-add-in-ConstrainsExcluded-clause-noted
 returns-in_ok-add-in-ConstrainsExcluded-clause-noted g c = λ kinds are.
-    excluded_noted kinds c.args.kind.now c.args.self.now _ c.in-ConstrainsExcluded.version_set c.in-ConstrainsExcluded.candidate (inl c.in-ConstrainsExcluded.is) (c.in_ok-add-in-ConstrainsExcluded.ensures.added are.groups.helpers) refl are
+    excluded_noted kinds c.args.kind.now c.args.self.now _ c.in-ConstrainsExcluded.version_set c.in-ConstrainsExcluded.candidate
+    (inl c.in-ConstrainsExcluded.is) (c.in_ok-add-in-ConstrainsExcluded.ensures.added are.groups.helpers) refl are
 
 pub returns-in_default : goal.returns-in_default
 returns-in_default g c = record {
-  noted = λ kinds are. sources_same kinds c.args.kind.now c.args.self.now (λ r s. c.in_default.not-AnyOf (Gate r) s) c.in_default.not-ConstrainsExcluded (λ v s. c.in_default.not-AnyOf (ConstraintHelper v) s) are;
+  noted = λ kinds are. sources_same kinds c.args.kind.now c.args.self.now (λ r s. c.in_default.not-AnyOf (Gate r) s) c.in_default.not-ConstrainsExcluded (λ v s.
+      c.in_default.not-AnyOf (ConstraintHelper v) s) are;
   memory = tt;
 }

@@ -9,12 +9,14 @@ use Rattle.resolver_encoding.proofs.sources.Sources.note_helper.Goals as goal
 pub returns-in_ok-add-in-Gate-clause-noted : goal.returns-in_ok-add-in-Gate-clause-noted
 returns-in_ok-add-in-Gate-clause-noted g c = λ kinds are.
     let Of : Origin g.row.N.Denot g.row.S.Denot → ClauseKind g.row.N.Denot g.row.S.Denot = λ o. AnyOf o c.args.candidate in
-    requirer_noted kinds (AnyOf c.args.helper.now c.args.candidate) c.args.self.now _ c.in-Gate.requirement c.args.candidate (ap Of c.in-Gate.is) (c.in_ok-add-in-Gate.ensures.added are.groups.gates) refl are
+    requirer_noted kinds (AnyOf c.args.helper.now c.args.candidate) c.args.self.now _ c.in-Gate.requirement c.args.candidate (ap Of c.in-Gate.is)
+    (c.in_ok-add-in-Gate.ensures.added are.groups.gates) refl are
 
 pub returns-in_ok-add-in-ConstraintHelper-clause-noted : goal.returns-in_ok-add-in-ConstraintHelper-clause-noted
 returns-in_ok-add-in-ConstraintHelper-clause-noted g c = λ kinds are.
     let Of : Origin g.row.N.Denot g.row.S.Denot → ClauseKind g.row.N.Denot g.row.S.Denot = λ o. AnyOf o c.args.candidate in
-    excluded_noted kinds (AnyOf c.args.helper.now c.args.candidate) c.args.self.now _ c.in-ConstraintHelper.version_set c.args.candidate (inr (ap Of c.in-ConstraintHelper.is)) (c.in_ok-add-in-ConstraintHelper.ensures.added are.groups.helpers) refl are
+    excluded_noted kinds (AnyOf c.args.helper.now c.args.candidate) c.args.self.now _ c.in-ConstraintHelper.version_set c.args.candidate
+    (inr (ap Of c.in-ConstraintHelper.is)) (c.in_ok-add-in-ConstraintHelper.ensures.added are.groups.helpers) refl are
 
 pub returns-in_default : goal.returns-in_default
 returns-in_default g c = record {

@@ -14,5 +14,6 @@ returns-clause-levels c =
     let run = length (map run_told_view frame.runs.now) == 0 in
     let candidate = length frame.candidates.now == 0 in
     let shape : levels_in c.args.self.now.indenter ≡ (levels ++ run ∷ []) ++ candidate ∷ [] =
-    c.requires ∙ ap (λ fs. levels_of (frames_view fs)) c.in-Some.ensures.items ∙ ap levels_of (frames_pushed rest frame) ∙ sym (append_assoc levels (run ∷ []) (candidate ∷ [])) in
+    c.requires ∙ ap (λ fs. levels_of (frames_view fs)) c.in-Some.ensures.items ∙ ap levels_of (frames_pushed rest frame) ∙
+    sym (append_assoc levels (run ∷ []) (candidate ∷ [])) in
     c.rise-2.ensures.levels levels run (c.rise.ensures.levels (levels ++ run ∷ []) candidate shape)

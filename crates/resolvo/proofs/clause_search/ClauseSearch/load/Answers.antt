@@ -5,7 +5,9 @@ use Rattle.resolvo.proofs.WatchedLemmas.{in_lists-same}
 use Rattle.resolvo.proofs.clause_search.ClauseSearch.load.Goals as goal
 
 pub load_clauses-requires-clause-consistent : goal.load_clauses-requires-clause-consistent
-load_clauses-requires-clause-consistent c = consistent-grown c.args.self.now _ _ _ _ _ c.requires.consistent c.requires.room c.in_ok-grow.ensures.ok (c.in_ok-grow-2.ensures.propagator _ _ _ c.in_ok-grow.ensures.ok c.requires.consistent.propagator) c.in_ok-learn_owners.ensures
+load_clauses-requires-clause-consistent c =
+    consistent-grown c.args.self.now _ _ _ _ _ c.requires.consistent c.requires.room c.in_ok-grow.ensures.ok
+    (c.in_ok-grow-2.ensures.propagator _ _ _ c.in_ok-grow.ensures.ok c.requires.consistent.propagator) c.in_ok-learn_owners.ensures
 
 pub load_clauses-requires-clause-below : goal.load_clauses-requires-clause-below
 load_clauses-requires-clause-below c = rw c.in_ok-grow.ensures.ok.size c.requires.below
@@ -15,24 +17,32 @@ load_requirements-requires-clause-inside c = λ k d below. omega (arith, c.requi
 
 pub returns-clause-loaded : goal.returns-clause-loaded
 returns-clause-loaded c = λ given numbers loaded more is more_numbers are.
-    c.in_ok-load_requirements.ensures.loaded c.args.clauses.now numbers more_numbers (c.in_ok-load_clauses.ensures.loaded given numbers more (loaded-trail c.args.self.now _ _ _ _ given numbers loaded) is) are
+    c.in_ok-load_requirements.ensures.loaded c.args.clauses.now numbers more_numbers
+    (c.in_ok-load_clauses.ensures.loaded given numbers more (loaded-trail c.args.self.now _ _ _ _ given numbers loaded) is) are
 
 pub returns-clause-variables : goal.returns-clause-variables
 returns-clause-variables c = c.in_ok-load_requirements.ensures.same.variables ∙ c.in_ok-load_clauses.ensures.same.variables ∙ c.in_ok-grow.ensures.ok.size
 
 pub returns-clause-kept : goal.returns-clause-kept
 returns-clause-kept c = λ base keeps.
-    c.in_ok-load_requirements.ensures.same.kept base (c.in_ok-load_clauses.ensures.same.kept base (first-grown c.args.self.now.trail _ _ _ c.in_ok-grow.ensures.ok base keeps))
+    c.in_ok-load_requirements.ensures.same.kept base
+    (c.in_ok-load_clauses.ensures.same.kept base (first-grown c.args.self.now.trail _ _ _ c.in_ok-grow.ensures.ok base keeps))
 
 pub returns-clause-turn : goal.returns-clause-turn
 returns-clause-turn c =
-    turn-trans _ _ _ (turn-trans _ _ _ (turn-grown c.args.self.now _ _ _ _ _ c.requires.consistent c.in_ok-grow.ensures.ok) c.in_ok-load_clauses.ensures.same.turn) c.in_ok-load_requirements.ensures.same.turn
+    turn-trans _ _ _ (turn-trans _ _ _
+    (turn-grown c.args.self.now _ _ _ _ _ c.requires.consistent c.in_ok-grow.ensures.ok) c.in_ok-load_clauses.ensures.same.turn)
+    c.in_ok-load_requirements.ensures.same.turn
 
 pub returns-clause-set : goal.returns-clause-set
-returns-clause-set c = record { was = λ v slot at. sym (c.in_ok-grow.ensures.ok.slots v) ∙ c.in_ok-load_clauses.ensures.same.set.was v slot (c.in_ok-load_requirements.ensures.same.set.was v slot at) }
+returns-clause-set c = record {
+  was = λ v slot at. sym (c.in_ok-grow.ensures.ok.slots v) ∙
+      c.in_ok-load_clauses.ensures.same.set.was v slot (c.in_ok-load_requirements.ensures.same.set.was v slot at);
+}
 
 pub returns-clause-marked : goal.returns-clause-marked
-returns-clause-marked c = λ all. c.in_ok-load_requirements.ensures.same.marked (c.in_ok-load_clauses.ensures.same.marked (all ∙ sym (ap length c.in_ok-grow.ensures.ok.order)))
+returns-clause-marked c = λ all. c.in_ok-load_requirements.ensures.same.marked
+    (c.in_ok-load_clauses.ensures.same.marked (all ∙ sym (ap length c.in_ok-grow.ensures.ok.order)))
 
 pub invariant_of-self-in-Break-branch-2 : goal.invariant_of-self-in-Break-branch-2
 invariant_of-self-in-Break-branch-2 c = record { in_lists = in_lists-same _ _ _ _ c.requires.consistent.propagator c.grow-2.ensures.pairs }

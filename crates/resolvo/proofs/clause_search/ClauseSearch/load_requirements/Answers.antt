@@ -31,8 +31,10 @@ requirements-preserved c =
       same = same-trans _ _ _ before.same step.same;
       places = step.places ∙ before.places;
       count = omega (arith, step.count, before.count);
-      loaded = λ given numbers more loaded is. requirements-next _ _ given _ _ _ c.requirements-test.true c.index-requirements-index.is step.loaded (before.loaded given numbers more loaded is);
+      loaded = λ given numbers more loaded is. requirements-next _ _ given _ _ _ c.requirements-test.true c.index-requirements-index.is step.loaded
+          (before.loaded given numbers more loaded is);
     }
 
 pub returns-clause-loaded : goal.returns-clause-loaded
-returns-clause-loaded c = λ given numbers more loaded is. requirements-end _ given _ _ c.requirements-test.false (c.requirements.invariant.loaded given numbers more loaded is)
+returns-clause-loaded c = λ given numbers more loaded is. requirements-end _ given _ _ c.requirements-test.false
+    (c.requirements.invariant.loaded given numbers more loaded is)

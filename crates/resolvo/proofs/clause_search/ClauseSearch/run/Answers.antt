@@ -14,31 +14,39 @@ returns-in-None-clause-outcome g c = λ given numbers before requirements are.
     let met = rw (c.in-None.is, table, wanted) at c.in_ok-descend.ensures.met in
     let justified = rw table at c.in_ok-descend.ensures.justified in
     let chosen = rw (table, wanted) at c.in_ok-descend.ensures.chosen in
-    finished_for given found.table.items found.sources.items found.places.items found.requirements.items requirements numbers c.descend.new.trail are it.derived justified chosen loaded.clauses loaded.requirements loaded.inside settled met
+    finished_for given found.table.items found.sources.items found.places.items found.requirements.items requirements numbers c.descend.new.trail are it.derived
+    justified chosen loaded.clauses loaded.requirements loaded.inside settled met
 
 pub returns-in-None-clause-consistent : goal.returns-in-None-clause-consistent
 returns-in-None-clause-consistent g c =
     let table = c.as_slice.ensures.value in
     let wanted = c.as_slice-in-conflicts.ensures.value in
-    consistent-descended c.conflicts.self _ _ _ _ c.conflicts.invariant.0 c.in_ok-descend.ensures.size (rw table at c.in_ok-descend.ensures.justified) (rw (table, wanted) at c.in_ok-descend.ensures.chosen) c.in_ok-descend.ensures.kept (rw table at c.in_ok-descend.ensures.propagator) (rw (table, wanted) at c.in_ok-descend.ensures.queued)
+    consistent-descended c.conflicts.self _ _ _ _ c.conflicts.invariant.0 c.in_ok-descend.ensures.size (rw table at c.in_ok-descend.ensures.justified)
+    (rw (table, wanted) at c.in_ok-descend.ensures.chosen) c.in_ok-descend.ensures.kept (rw table at c.in_ok-descend.ensures.propagator)
+    (rw (table, wanted) at c.in_ok-descend.ensures.queued)
 
 pub learn-requires-clause-consistent : goal.learn-requires-clause-consistent
 learn-requires-clause-consistent g c =
     let table = c.as_slice.ensures.value in
     let wanted = c.as_slice-in-conflicts.ensures.value in
-    consistent-descended c.conflicts.self _ _ _ _ c.conflicts.invariant.0 c.in_ok-descend.ensures.size (rw table at c.in_ok-descend.ensures.justified) (rw (table, wanted) at c.in_ok-descend.ensures.chosen) c.in_ok-descend.ensures.kept (rw table at c.in_ok-descend.ensures.propagator) (rw (table, wanted) at c.in_ok-descend.ensures.queued)
+    consistent-descended c.conflicts.self _ _ _ _ c.conflicts.invariant.0 c.in_ok-descend.ensures.size (rw table at c.in_ok-descend.ensures.justified)
+    (rw (table, wanted) at c.in_ok-descend.ensures.chosen) c.in_ok-descend.ensures.kept (rw table at c.in_ok-descend.ensures.propagator)
+    (rw (table, wanted) at c.in_ok-descend.ensures.queued)
 
 pub returns-in-None-clause-turn : goal.returns-in-None-clause-turn
 returns-in-None-clause-turn g c =
-    (problem-descended _ c.conflicts.self c.descend.new.trail c.descend.new.propagator c.descend.new.queue _ c.conflicts.invariant.0 c.conflicts.invariant.1 c.in_ok-descend.ensures.size c.in_ok-descend.ensures.kept c.in_ok-descend.ensures.assumed).turn
+    (problem-descended _ c.conflicts.self c.descend.new.trail c.descend.new.propagator c.descend.new.queue _ c.conflicts.invariant.0 c.conflicts.invariant.1
+    c.in_ok-descend.ensures.size c.in_ok-descend.ensures.kept c.in_ok-descend.ensures.assumed).turn
 
 pub returns-in-Some-2-clause-turn : goal.returns-in-Some-2-clause-turn
 returns-in-Some-2-clause-turn g c =
-    let step = problem-descended _ c.conflicts.self c.descend.new.trail c.descend.new.propagator c.descend.new.queue _ c.conflicts.invariant.0 c.conflicts.invariant.1 c.in_ok-descend.ensures.size c.in_ok-descend.ensures.kept c.in_ok-descend.ensures.assumed in
+    let step = problem-descended _ c.conflicts.self c.descend.new.trail c.descend.new.propagator c.descend.new.queue _ c.conflicts.invariant.0
+    c.conflicts.invariant.1 c.in_ok-descend.ensures.size c.in_ok-descend.ensures.kept c.in_ok-descend.ensures.assumed in
     turn-trans _ _ _ step.turn c.in_ok-outcome-in-Some.ensures.same.turn
 
 pub returns-in-None-clause-loaded : goal.returns-in-None-clause-loaded
-returns-in-None-clause-loaded g c = λ given numbers before. loaded-trail c.conflicts.self _ _ _ _ given numbers (c.conflicts.invariant.1.loaded given numbers before)
+returns-in-None-clause-loaded g c =
+    λ given numbers before. loaded-trail c.conflicts.self _ _ _ _ given numbers (c.conflicts.invariant.1.loaded given numbers before)
 
 pub returns-in-Some-2-clause-outcome : goal.returns-in-Some-2-clause-outcome
 returns-in-Some-2-clause-outcome g c = λ given numbers before.
@@ -47,18 +55,29 @@ returns-in-Some-2-clause-outcome g c = λ given numbers before.
 
 pub returns-in-Some-2-clause-loaded : goal.returns-in-Some-2-clause-loaded
 returns-in-Some-2-clause-loaded g c = λ given numbers before.
-    c.in_ok-outcome-in-Some.ensures.same.loaded given numbers (loaded-trail c.conflicts.self _ _ _ _ given numbers (c.conflicts.invariant.1.loaded given numbers before))
+    c.in_ok-outcome-in-Some.ensures.same.loaded given numbers
+    (loaded-trail c.conflicts.self _ _ _ _ given numbers (c.conflicts.invariant.1.loaded given numbers before))
 
 pub returns-in-Some-2-clause-kept : goal.returns-in-Some-2-clause-kept
 returns-in-Some-2-clause-kept g c = λ base keeps.
-    c.in_ok-outcome-in-Some.ensures.same.kept base (first-after c.conflicts.self.trail c.descend.new.trail c.conflicts.self.kept c.in_ok-descend.ensures.kept base (c.conflicts.invariant.1.kept base keeps))
+    c.in_ok-outcome-in-Some.ensures.same.kept base
+    (first-after c.conflicts.self.trail c.descend.new.trail c.conflicts.self.kept c.in_ok-descend.ensures.kept base
+    (c.conflicts.invariant.1.kept base keeps))
 
 pub conflicts-preserved : goal.conflicts-preserved
 conflicts-preserved g c =
-    let step = c.in_ok-outcome-in-Some.ensures in
-    (step.consistent, problem-trans _ _ _ (problem-descended _ c.conflicts.self c.descend.new.trail c.descend.new.propagator c.descend.new.queue _ c.conflicts.invariant.0 c.conflicts.invariant.1 c.in_ok-descend.ensures.size c.in_ok-descend.ensures.kept c.in_ok-descend.ensures.assumed) step.same)
+    let step = c.in_ok-outcome-in-Some.ensures in (
+      step.consistent,
+      problem-trans _ _ _
+          (problem-descended _ c.conflicts.self c.descend.new.trail c.descend.new.propagator c.descend.new.queue _ c.conflicts.invariant.0
+          c.conflicts.invariant.1
+          c.in_ok-descend.ensures.size c.in_ok-descend.ensures.kept c.in_ok-descend.ensures.assumed) step.same,
+    )
 
 pub invariant_of-self : goal.invariant_of-self
 invariant_of-self g c =
     let table = c.as_slice.ensures.value in
-    record { in_lists = ∣ in_lists _ _ (owned-either c.descend.result _ _ _ (rw table at c.descend.ensures.propagator) (rw table at c.descend.ensures.refused)) ∣₁ }
+    record {
+      in_lists = ∣ in_lists _ _
+          (owned-either c.descend.result _ _ _ (rw table at c.descend.ensures.propagator) (rw table at c.descend.ensures.refused)) ∣₁;
+    }

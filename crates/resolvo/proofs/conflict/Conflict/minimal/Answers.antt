@@ -11,14 +11,20 @@ returns-clause-part g c =
 pub returns-clause-in_turn : goal.returns-clause-in_turn
 returns-clause-in_turn g c = λ refuted.
     minimal_left (rules_in c.args.self.now) (marked c.in_ok-marks.marks.items (rules_in c.args.self.now)) c.in_ok-copies.copies.items c.in_ok-rules.rules.items
-    (rw c.rules.ensures at c.in_ok-marks.ensures.left) (rw (c.deref.ensures.value, c.rules-2.ensures) at c.in_ok-copies.ensures.same) c.in_ok-rules.ensures.left refuted c.in_ok-rules.ensures.refuted
+    (rw c.rules.ensures at c.in_ok-marks.ensures.left)
+    (rw (c.deref.ensures.value, c.rules-2.ensures) at c.in_ok-copies.ensures.same) c.in_ok-rules.ensures.left refuted c.in_ok-rules.ensures.refuted
 
 pub returns-clause-irreducible : goal.returns-clause-irreducible
 returns-clause-irreducible g c = λ refuted.
-    minimal_irreducible (rules_in c.args.self.now) (marked c.in_ok-marks.marks.items (rules_in c.args.self.now)) c.in_ok-copies.copies.items c.in_ok-rules.rules.items
-    (rw c.rules.ensures at c.in_ok-marks.ensures.left) (rw (c.deref.ensures.value, c.rules-2.ensures) at c.in_ok-copies.ensures.same) c.in_ok-rules.ensures.left refuted c.in_ok-rules.ensures.refuted
+    minimal_irreducible (rules_in c.args.self.now)
+    (marked c.in_ok-marks.marks.items (rules_in c.args.self.now)) c.in_ok-copies.copies.items c.in_ok-rules.rules.items
+    (rw c.rules.ensures at c.in_ok-marks.ensures.left)
+    (rw (c.deref.ensures.value, c.rules-2.ensures) at c.in_ok-copies.ensures.same) c.in_ok-rules.ensures.left refuted c.in_ok-rules.ensures.refuted
 
 pub returns-clause-explains : goal.returns-clause-explains
 returns-clause-explains g c =
-    minimal_explains (rules_in c.args.self.now) (marked c.in_ok-marks.marks.items (rules_in c.args.self.now)) c.in_ok-copies.copies.items c.in_ok-rules.rules.items
-    (rw c.rules.ensures at c.in_ok-marks.ensures.left) (rw (c.deref.ensures.value, c.rules-2.ensures) at c.in_ok-copies.ensures.same) c.in_ok-rules.ensures.left c.in_ok-rules.ensures.refuted c.in_ok-rules.ensures.again
+    minimal_explains (rules_in c.args.self.now)
+    (marked c.in_ok-marks.marks.items (rules_in c.args.self.now)) c.in_ok-copies.copies.items c.in_ok-rules.rules.items
+    (rw c.rules.ensures at c.in_ok-marks.ensures.left)
+    (rw (c.deref.ensures.value, c.rules-2.ensures) at c.in_ok-copies.ensures.same) c.in_ok-rules.ensures.left c.in_ok-rules.ensures.refuted
+    c.in_ok-rules.ensures.again

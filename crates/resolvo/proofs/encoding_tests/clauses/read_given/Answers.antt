@@ -14,4 +14,5 @@ read_chosen-requires-clause-known g c =
     subst Known c.variables.ensures c.in_ok-chosen.ensures.known
 
 pub returns-clause-reading : goal.returns-clause-reading
-returns-clause-reading g c = reading_again (g.D.Interner.universe c.args.provider.now) _ (notes_in c.args.encoding.now) (notes_in c.read_chosen.new.self) c.requires.reading c.in_ok-progress.ensures.read
+returns-clause-reading g c = reading_again (g.D.Interner.universe c.args.provider.now) _ (notes_in c.args.encoding.now)
+    (notes_in c.read_chosen.new.self) c.requires.reading c.in_ok-progress.ensures.read

@@ -1,4 +1,5 @@
-use Rattle.std.proofs.Common.{rules, ◌∙◌, [], ◌++◌, ◌<◌, ◌≡◌, ◌∷◌, All, Bool, IfOk, List, OnOk, length, ℕ, ◌+◌, ◌-◌, ◌*◌, ◌≤◌, ◌/◌, ◌%◌, true, false, nat_eq, nat_lt, slice_index_or, slice_set, bit_and, bit_or, Fits, w8, w32, w64, Bor, MutBor}
+use Rattle.std.proofs.Common.{rules, ◌∙◌, [], ◌++◌, ◌<◌, ◌≡◌, ◌∷◌, All, Bool, IfOk, List, OnOk, length, ℕ, ◌+◌, ◌-◌, ◌*◌, ◌≤◌, ◌/◌, ◌%◌, true, false, nat_eq}
+use Rattle.std.proofs.Common.{nat_lt, slice_index_or, slice_set, bit_and, bit_or, Fits, w8, w32, w64, Bor, MutBor}
 use Rattle.resolvo.specs.MarkedClauses.{AreMarkedClauses, AreMarksOf, IsMarked}
 use Rattle.resolvo.specs.ClauseSearches.{numbers_of}
 use Rattle.resolvo.specs.declared.minimal.rule_clauses.RuleClause.{RuleClause}
@@ -8,8 +9,14 @@ use Rattle.resolvo.proofs.minimal.decision.add_clause.Goals as goal
 
 -- src/minimal/decision.rt:48:9
 pub returns-then-not-clause : goal.returns-then-not-clause
-returns-then-not-clause c = λ marks from marked so. rw (c.in_ok-push.ensures.items, c.in_ok-push-2.ensures.items) (added_plain marks from c.args.marked.now.clauses.items c.args.marked.now.places.items (numbers_of c.args.marked.now.requirements.items) c.args.clause.now c.in_ok-copy.copy (c.in_ok-copy.ensures.items ∙ c.deref.ensures.value) c.if-not-clause.true marked so)
+returns-then-not-clause c = λ marks from marked so. rw (c.in_ok-push.ensures.items, c.in_ok-push-2.ensures.items)
+    (added_plain marks from c.args.marked.now.clauses.items c.args.marked.now.places.items
+    (numbers_of c.args.marked.now.requirements.items) c.args.clause.now c.in_ok-copy.copy
+    (c.in_ok-copy.ensures.items ∙ c.deref.ensures.value) c.if-not-clause.true marked so)
 
 -- src/minimal/decision.rt:39:1
 pub returns : goal.returns
-returns c = λ marks from marked so. rw (c.in_ok-push.ensures.items, c.in_ok-push-2.ensures.items, c.in_ok-add_requirement.ensures) (added_asking marks from c.args.marked.now.clauses.items c.args.marked.now.places.items (numbers_of c.args.marked.now.requirements.items) c.args.clause.now c.in_ok-copy.copy c.len-number.result (c.in_ok-copy.ensures.items ∙ c.deref.ensures.value) (search (rules, c.len-number.ensures)) marked so)
+returns c = λ marks from marked so. rw (c.in_ok-push.ensures.items, c.in_ok-push-2.ensures.items, c.in_ok-add_requirement.ensures)
+    (added_asking marks from c.args.marked.now.clauses.items c.args.marked.now.places.items
+    (numbers_of c.args.marked.now.requirements.items) c.args.clause.now c.in_ok-copy.copy c.len-number.result
+    (c.in_ok-copy.ensures.items ∙ c.deref.ensures.value) (search (rules, c.len-number.ensures)) marked so)

@@ -1,4 +1,5 @@
-use Rattle.std.proofs.Common.{rules, subst, take, arith, [], ◌++◌, ◌<◌, ◌≡◌, ◌∷◌, All, Bool, IfOk, List, OnOk, length, ℕ, ◌+◌, ◌-◌, ◌*◌, ◌≤◌, ◌/◌, ◌%◌, true, false, nat_eq, nat_lt, slice_index_or, slice_set, bit_and, bit_or, Fits, w8, w32, w64, Bor, MutBor}
+use Rattle.std.proofs.Common.{rules, subst, take, arith, [], ◌++◌, ◌<◌, ◌≡◌, ◌∷◌, All, Bool, IfOk, List, OnOk, length, ℕ, ◌+◌, ◌-◌, ◌*◌, ◌≤◌, ◌/◌, ◌%◌, true}
+use Rattle.std.proofs.Common.{false, nat_eq, nat_lt, slice_index_or, slice_set, bit_and, bit_or, Fits, w8, w32, w64, Bor, MutBor}
 use Rattle.resolvo.specs.MarkedClauses.{AreMarkedClauses, AreMarksOf, IsMarked}
 use Rattle.resolvo.specs.ClauseSearches.{numbers_of}
 use Rattle.resolvo.specs.declared.minimal.rule_clauses.RuleClause.{RuleClause}
@@ -13,12 +14,16 @@ numbers-init c = no_numbers c.args.places.now c.args.count c.in_ok-marks.marks.i
 
 -- src/minimal/decision.rt:103:9
 pub index_mut-requires : goal.index_mut-requires
-index_mut-requires c = let so = c.numbers.invariant in let inside : slice_index_or c.args.numbers.now c.numbers.index 0 < length c.args.places.now = c.requires.inside c.numbers.index 0 c.numbers-test.true in omega (arith, so.size, c.requires.below (slice_index_or c.args.numbers.now c.numbers.index 0) 0 inside)
+index_mut-requires c = let so = c.numbers.invariant in
+    let inside : slice_index_or c.args.numbers.now c.numbers.index 0 < length c.args.places.now = c.requires.inside c.numbers.index 0 c.numbers-test.true in
+    omega (arith, so.size, c.requires.below (slice_index_or c.args.numbers.now c.numbers.index 0) 0 inside)
 
 -- src/minimal/decision.rt:102:5
 pub numbers-preserved : goal.numbers-preserved
-numbers-preserved c = next_number c.args.places.now c.args.numbers.now c.args.count c.numbers.index c.numbers.marks.items c.numbers-test.true c.requires.inside c.requires.below c.numbers.invariant
+numbers-preserved c = next_number c.args.places.now c.args.numbers.now c.args.count c.numbers.index c.numbers.marks.items c.numbers-test.true c.requires.inside
+    c.requires.below c.numbers.invariant
 
 -- src/minimal/decision.rt:91:1
 pub returns : goal.returns
-returns c = let P : List ℕ → Type 0 = λ xs. AreMarksOf c.args.places.now xs c.args.count c.numbers.marks.items in subst P (take_all c.numbers.index c.args.numbers.now c.numbers-test.false) c.numbers.invariant
+returns c = let P : List ℕ → Type 0 = λ xs. AreMarksOf c.args.places.now xs c.args.count c.numbers.marks.items in
+    subst P (take_all c.numbers.index c.args.numbers.now c.numbers-test.false) c.numbers.invariant

@@ -5,4 +5,5 @@ pub loop-member-init : goal.loop-member-init
 loop-member-init g c = Adds-none _ _
 
 pub loop-member-preserved : goal.loop-member-preserved
-loop-member-preserved g c = members_next _ _ _ _ _ _ c.args.rule c.args.list c.args.members.now c.loop-member.member-index c.member-item.result c.loop-member.invariant c.loop-member-test.true c.member-item.is c.in_ok-add_pair.ensures
+loop-member-preserved g c = members_next _ _ _ _ _ _ c.args.rule c.args.list c.args.members.now c.loop-member.member-index c.member-item.result
+    c.loop-member.invariant c.loop-member-test.true c.member-item.is c.in_ok-add_pair.ensures

@@ -4,4 +4,5 @@ use Rattle.resolvo.specs.RuleClauses.{member_lines}
 use Rattle.resolvo.proofs.minimal.rule_clauses.add_members.Given as goal
 
 abbrev pub invariant-loop-member : goal.invariant-loop-member
-invariant-loop-member g l = Adds l.fn.propositions.keys l.propositions.keys l.fn.clauses.items l.clauses.items (member_lines l.rule l.list (take l.member-index l.members))
+invariant-loop-member g l = Adds l.fn.propositions.keys l.propositions.keys l.fn.clauses.items l.clauses.items
+    (member_lines l.rule l.list (take l.member-index l.members))

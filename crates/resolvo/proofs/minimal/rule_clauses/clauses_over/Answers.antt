@@ -17,6 +17,7 @@ returns g c =
       coded = are.coded;
       short = are.short;
       apart = are.apart;
-      lines = Adds-zip _ _ _ _ (all_lines c.in_ok-codes.codes.width 0 c.args.rules.now c.in_ok-codes.codes.codes.items) c.new-clauses.ensures.items (rw c.deref.ensures.value at c.in_ok-add_rules.ensures);
+      lines = Adds-zip _ _ _ _ (all_lines c.in_ok-codes.codes.width 0 c.args.rules.now c.in_ok-codes.codes.codes.items) c.new-clauses.ensures.items
+          (rw c.deref.ensures.value at c.in_ok-add_rules.ensures);
       distinct = c.variable_count-variables.ensures.distinct;
     }))

@@ -10,7 +10,9 @@ loop-atom-preserved g c =
     let made = c.in_ok-literal_of.ensures in
     record {
       keeps = Keeps-trans _ _ _ before.keeps made.keeps;
-      literals = rw c.in_ok-push.ensures.items (literals_next _ _ c.args.atoms.now _ c.loop-atom.atom-index c.atom-item.result _ before.literals made.keeps c.loop-atom-test.true c.atom-item.is made.literal);
+      literals = rw c.in_ok-push.ensures.items
+          (literals_next _ _ c.args.atoms.now _ c.loop-atom.atom-index c.atom-item.result _ before.literals made.keeps c.loop-atom-test.true c.atom-item.is
+          made.literal);
     }
 
 pub returns-clause-literals : goal.returns-clause-literals

@@ -23,12 +23,14 @@ pub returns-in_err-look-in-None-clause-justified :
     goal.returns-in_err-look-in-None-clause-justified
 returns-in_err-look-in-None-clause-justified c =
     let was = c.requires.visiting.propagator in
-    justified-gains _ _ _ _ _ _ c.requires.justified c.in_ok-force-in-None.ensures.ok (value-none _ _ (sym c.in-None.ensures)) (omega (arith, c.requires.inside, was.watched.attached)) (own-other _ _ _ _ _ _ was c.requires.pair) c.requires.unit
+    justified-gains _ _ _ _ _ _ c.requires.justified c.in_ok-force-in-None.ensures.ok (value-none _ _ (sym c.in-None.ensures))
+    (omega (arith, c.requires.inside, was.watched.attached)) (own-other _ _ _ _ _ _ was c.requires.pair) c.requires.unit
 
 pub returns-in_ok-look-in-None-clause-justified : goal.returns-in_ok-look-in-None-clause-justified
 returns-in_ok-look-in-None-clause-justified c =
     let was = c.requires.visiting.propagator in
-    justified-gains _ _ _ _ _ _ c.requires.justified c.in_ok-force-in-None.ensures.ok (value-none _ _ (sym c.in-None.ensures)) (omega (arith, c.requires.inside, was.watched.attached)) (own-other _ _ _ _ _ _ was c.requires.pair) c.requires.unit
+    justified-gains _ _ _ _ _ _ c.requires.justified c.in_ok-force-in-None.ensures.ok (value-none _ _ (sym c.in-None.ensures))
+    (omega (arith, c.requires.inside, was.watched.attached)) (own-other _ _ _ _ _ _ was c.requires.pair) c.requires.unit
 
 pub returns-in_ok-look-in-None-clause-extends : goal.returns-in_ok-look-in-None-clause-extends
 returns-in_ok-look-in-None-clause-extends c = grind (arith, common_steps)

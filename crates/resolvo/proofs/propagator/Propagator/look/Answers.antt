@@ -11,19 +11,25 @@ value-requires c =
 pub pass_by-requires-clause-satisfied : goal.pass_by-requires-clause-satisfied
 pass_by-requires-clause-satisfied c =
     let v = c.requires.visiting in
-    makes-true c.args.table.now c.args.trail.now c.watch_at-watch.result.number c.watch_at-watch.result.blocker (blocker-own _ _ _ _ _ v.propagator.watched.blockers c.watch_at-watch.ensures.value) (tested-true _ _ c.if-eq.ensures c.value.ensures)
+    makes-true c.args.table.now c.args.trail.now c.watch_at-watch.result.number c.watch_at-watch.result.blocker
+    (blocker-own _ _ _ _ _ v.propagator.watched.blockers c.watch_at-watch.ensures.value) (tested-true _ _ c.if-eq.ensures c.value.ensures)
 
 pub value-requires-2 : goal.value-requires-2
 value-requires-2 c =
     let v = c.requires.visiting in
-    let pair = paired _ _ _ _ _ _ v.propagator.watched c.watch_at-watch.ensures.inside c.watch_at-watch.ensures.watching (rw c.pair-pair.ensures at c.other_watched.ensures) in
+    let pair = paired _ _ _ _ _ _ v.propagator.watched c.watch_at-watch.ensures.inside c.watch_at-watch.ensures.watching
+    (rw c.pair-pair.ensures at c.other_watched.ensures) in
     below-contains _ _ _ _ v.below (own-other _ _ _ _ _ _ v.propagator pair)
 
 pub pass_by_other-requires-clause-pair : goal.pass_by_other-requires-clause-pair
-pass_by_other-requires-clause-pair c = paired _ _ _ _ _ _ c.requires.visiting.propagator.watched c.watch_at-watch.ensures.inside c.watch_at-watch.ensures.watching (rw c.pair-pair.ensures at c.other_watched.ensures)
+pass_by_other-requires-clause-pair c =
+    paired _ _ _ _ _ _ c.requires.visiting.propagator.watched c.watch_at-watch.ensures.inside c.watch_at-watch.ensures.watching
+    (rw c.pair-pair.ensures at c.other_watched.ensures)
 
 pub look_for_another-requires-clause-pair : goal.look_for_another-requires-clause-pair
-look_for_another-requires-clause-pair c = paired _ _ _ _ _ _ c.requires.visiting.propagator.watched c.watch_at-watch.ensures.inside c.watch_at-watch.ensures.watching (rw c.pair-pair.ensures at c.other_watched.ensures)
+look_for_another-requires-clause-pair c =
+    paired _ _ _ _ _ _ c.requires.visiting.propagator.watched c.watch_at-watch.ensures.inside c.watch_at-watch.ensures.watching
+    (rw c.pair-pair.ensures at c.other_watched.ensures)
 
 pub returns-clause-extends : goal.returns-clause-extends
 returns-clause-extends c = grind (arith, common_steps)

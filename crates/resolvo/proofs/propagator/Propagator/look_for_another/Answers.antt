@@ -11,7 +11,8 @@ returns-in_ok-move_watch-in-Some-clause-look c =
     let stands = c.requires.stands in
     let moved = c.in_ok-move_watch-in-Some.ensures in
     let own = stands-own _ _ _ _ _ stands (own-other _ _ _ _ _ _ was c.requires.pair) in
-    moves-stands _ _ _ _ _ _ _ _ _ c.requires.visiting stands (moved.moved stands.watch stands.is) (moved.blockers _ stands.watch stands.is own was.watched.blockers) c.requires.pair (rw c.clause.ensures at c.in-Some.ensures)
+    moves-stands _ _ _ _ _ _ _ _ _ c.requires.visiting stands (moved.moved stands.watch stands.is)
+    (moved.blockers _ stands.watch stands.is own was.watched.blockers) c.requires.pair (rw c.clause.ensures at c.in-Some.ensures)
 
 pub returns-in_ok-look-in-None-clause-extends : goal.returns-in_ok-look-in-None-clause-extends
 returns-in_ok-look-in-None-clause-extends c = grind (arith, common_steps)
@@ -35,4 +36,5 @@ pub returns-in_ok-move_watch-in-Some-clause-open : goal.returns-in_ok-move_watch
 returns-in_ok-move_watch-in-Some-clause-open c = grind (arith, common_steps)
 
 pub returns-in_err-move_watch-in-Some-clause-refused : goal.returns-in_err-move_watch-in-Some-clause-refused
-returns-in_err-move_watch-in-Some-clause-refused c = refused-any _ _ (owned-same _ _ _ c.in_err-move_watch-in-Some.ensures.kept (owned-of _ _ _ c.requires.visiting.propagator))
+returns-in_err-move_watch-in-Some-clause-refused c =
+    refused-any _ _ (owned-same _ _ _ c.in_err-move_watch-in-Some.ensures.kept (owned-of _ _ _ c.requires.visiting.propagator))

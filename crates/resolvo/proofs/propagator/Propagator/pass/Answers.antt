@@ -7,14 +7,16 @@ use Rattle.resolvo.proofs.AttachingLemmas.{ends-with, passed-high, passed-late}
 use Rattle.resolvo.proofs.propagator.Propagator.pass.Goals as goal
 
 pub are_high-requires : goal.are_high-requires
-are_high-requires c = λ literal watching. c.requires.below literal (subst (λ (p : WatchedPair). (p.first ≡ Some literal) ⊎ (p.second ≡ Some literal)) c.pair-pair.ensures watching)
+are_high-requires c = λ literal watching. c.requires.below literal
+    (subst (λ (p : WatchedPair). (p.first ≡ Some literal) ⊎ (p.second ≡ Some literal)) c.pair-pair.ensures watching)
 
 pub returns-then-are_high-clause-propagator : goal.returns-then-are_high-clause-propagator
 returns-then-are_high-clause-propagator c = λ table satisfied it.
     let ends : pending_of c.args.self.now ≡ c.truncate.new.self.items ++ c.args.number ∷ [] =
     let size : c.len.result ≡ length (pending_of c.args.self.now) = search rules in
     rw c.truncate.ensures.items (ends-with (pending_of c.args.self.now) c.args.number c.len.result c.requires.last size) in
-    passed-high table c.args.trail.now c.args.self.now _ c.args.number ends (subst (λ (p : WatchedPair). IsHighPair c.args.trail.now p) c.pair-pair.ensures (c.are_high.ensures c.if-are_high.true)) satisfied it
+    passed-high table c.args.trail.now c.args.self.now _ c.args.number ends
+    (subst (λ (p : WatchedPair). IsHighPair c.args.trail.now p) c.pair-pair.ensures (c.are_high.ensures c.if-are_high.true)) satisfied it
 
 pub returns-clause-propagator : goal.returns-clause-propagator
 returns-clause-propagator c = λ table satisfied it.

@@ -5,10 +5,13 @@ pub pass_by-requires-clause-visiting : goal.pass_by-requires-clause-visiting
 pass_by-requires-clause-visiting c =
     let was = c.requires.visiting.propagator in
     let own = stands-own _ _ _ _ _ c.requires.stands (own-other _ _ _ _ _ _ was c.requires.pair) in
-    sets _ _ _ _ _ _ c.requires.visiting c.set_blocker.ensures.same c.set_blocker.ensures.pairs (c.set_blocker.ensures.blockers _ c.requires.stands.watch c.requires.stands.is own was.watched.blockers)
+    sets _ _ _ _ _ _ c.requires.visiting c.set_blocker.ensures.same c.set_blocker.ensures.pairs
+    (c.set_blocker.ensures.blockers _ c.requires.stands.watch c.requires.stands.is own was.watched.blockers)
 
 pub pass_by-requires-clause-stands : goal.pass_by-requires-clause-stands
 pass_by-requires-clause-stands c = stands-same _ _ _ _ _ c.set_blocker.ensures.same c.requires.stands
 
 pub pass_by-requires-clause-satisfied : goal.pass_by-requires-clause-satisfied
-pass_by-requires-clause-satisfied c = makes-true c.args.table.now c.args.trail.now c.args.watcher.now.number c.args.watcher.now.other (own-other _ _ _ _ _ _ c.requires.visiting.propagator c.requires.pair) c.requires.satisfied
+pass_by-requires-clause-satisfied c =
+    makes-true c.args.table.now c.args.trail.now c.args.watcher.now.number c.args.watcher.now.other
+    (own-other _ _ _ _ _ _ c.requires.visiting.propagator c.requires.pair) c.requires.satisfied

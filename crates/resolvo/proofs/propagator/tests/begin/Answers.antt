@@ -10,7 +10,11 @@ pub clauses-init : goal.clauses-init
 clauses-init c =
     let grown = c.in_ok-grow.ensures.ok in
     let empty : (v : ℕ) (s : Slot) → slot_of c.grow.new.self v ≡ Some s → ⊥ = λ v s at.
-    omega (arith, c.requires.empty, slot-within c.args.trail.now.slots.items v s.place (ap (λ (o : Option Slot). option_map (λ (slot : Slot). slot.place) o) (sym (grown.slots v) ∙ at)))
+    omega (
+      arith,
+      c.requires.empty,
+      slot-within c.args.trail.now.slots.items v s.place (ap (λ (o : Option Slot). option_map (λ (slot : Slot). slot.place) o) (sym (grown.slots v) ∙ at)),
+    )
     in
     record {
       size = grown.size;

@@ -3,12 +3,15 @@ use Rattle.resolvo.proofs.GoingLemmas.{goes_trans}
 use Rattle.resolvo.proofs.rounds.Rounds.all_rounds.Goals as goal
 
 pub returns-in-Some-clause-keeps : goal.returns-in-Some-clause-keeps
-returns-in-Some-clause-keeps g c = goes_trans (g.D.Interner.universe c.args.provider.now) c.args.self.now c.rounds.self c.rounds_until_read.new.self c.requires.rounds.variables c.rounds.invariant.keeps c.in_ok-found.ensures.keeps
+returns-in-Some-clause-keeps g c =
+    goes_trans (g.D.Interner.universe c.args.provider.now) c.args.self.now c.rounds.self c.rounds_until_read.new.self c.requires.rounds.variables
+    c.rounds.invariant.keeps c.in_ok-found.ensures.keeps
 
 pub rounds-preserved : goal.rounds-preserved
 rounds-preserved g c = record {
   is_true = c.in_ok-found.ensures.is_true;
   rounds = c.in_ok-found.ensures.rounds;
-  keeps = goes_trans (g.D.Interner.universe c.args.provider.now) c.args.self.now c.rounds.self c.rounds_until_read.new.self c.requires.rounds.variables c.rounds.invariant.keeps c.in_ok-found.ensures.keeps;
+  keeps = goes_trans (g.D.Interner.universe c.args.provider.now) c.args.self.now c.rounds.self c.rounds_until_read.new.self c.requires.rounds.variables
+      c.rounds.invariant.keeps c.in_ok-found.ensures.keeps;
   room = room_trans c.args.self.now c.rounds.self c.rounds_until_read.new.self c.rounds.invariant.room c.in_ok-found.ensures.limits;
 }

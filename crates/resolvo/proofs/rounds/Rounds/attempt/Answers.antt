@@ -11,20 +11,24 @@ use Rattle.resolvo.proofs.rounds.Rounds.attempt.Goals as goal
 
 pub is_answered-requires-clause-rounds : goal.is_answered-requires-clause-rounds
 is_answered-requires-clause-rounds g c =
-    rounds_assumed (g.D.Interner.universe c.args.provider.now) c.args.self.now c.begin_turn.new.self c.assume.new.self c.args.variable c.requires.rounds c.begin_turn.ensures.bounded c.begin_turn.ensures.only c.in_ok-begin_turn.ensures.stays.so_far
+    rounds_assumed (g.D.Interner.universe c.args.provider.now) c.args.self.now c.begin_turn.new.self c.assume.new.self c.args.variable c.requires.rounds
+    c.begin_turn.ensures.bounded c.begin_turn.ensures.only c.in_ok-begin_turn.ensures.stays.so_far
     c.in_ok-assume.ensures.consistent c.in_ok-assume.ensures.loaded c.in_ok-assume.ensures.gains.size c.in_ok-assume.ensures.kept
 
 pub returns-then-answered-clause-rounds : goal.returns-then-answered-clause-rounds
 returns-then-answered-clause-rounds g c =
-    rounds_held (g.D.Interner.universe c.args.provider.now) c.is_answered.new.self c.hold.new.self c.hold.ensures.trail c.hold.ensures.count c.in_ok-answered.ensures.rounds c.hold.ensures.consistent c.hold.ensures.loaded
+    rounds_held (g.D.Interner.universe c.args.provider.now) c.is_answered.new.self c.hold.new.self c.hold.ensures.trail c.hold.ensures.count
+    c.in_ok-answered.ensures.rounds c.hold.ensures.consistent c.hold.ensures.loaded
 
 pub returns-then-answered-clause-turned : goal.returns-then-answered-clause-turned
 returns-then-answered-clause-turned g c = λ root taken refused seeds packages seen seed b.
     let u = g.D.Interner.universe c.args.provider.now in
     let old = c.args.self.now in
     turned_held u c.is_answered.new.self c.hold.new.self c.hold.ensures.trail c.hold.ensures.count root taken refused seeds packages c.args.solvable old true
-    (accepted u root taken refused seeds packages c.args.solvable c.args.variable old c.begin_turn.new.self c.assume.new.self c.requires.loaded.variables c.requires.rounds.reading.so_far.half.encoding.distinct c.requires.still
-    c.requires.stands c.requires.free seen seed c.begin_turn.ensures.only c.in_ok-begin_turn.ensures.exempts c.in_ok-begin_turn.ensures.stays.so_far c.in_ok-assume.ensures.gains c.in_ok-assume.ensures.held b
+    (accepted u root taken refused seeds packages c.args.solvable c.args.variable old c.begin_turn.new.self c.assume.new.self c.requires.loaded.variables
+    c.requires.rounds.reading.so_far.half.encoding.distinct c.requires.still
+    c.requires.stands c.requires.free seen seed c.begin_turn.ensures.only c.in_ok-begin_turn.ensures.exempts c.in_ok-begin_turn.ensures.stays.so_far
+    c.in_ok-assume.ensures.gains c.in_ok-assume.ensures.held b
     c.is_answered.new.self c.in_ok-answered.ensures.keeps (c.in_ok-answered.ensures.answer c.if-answered.true))
 
 pub refuse-requires-clause-assumed : goal.refuse-requires-clause-assumed
@@ -37,14 +41,21 @@ pub returns-clause-turned : goal.returns-clause-turned
 returns-clause-turned g c = λ root taken refused seeds packages seen seed b.
     let u = g.D.Interner.universe c.args.provider.now in
     let old = c.args.self.now in
-    not_accepted u root taken refused seeds packages c.args.solvable c.args.variable old c.begin_turn.new.self c.assume.new.self c.requires.loaded.variables c.requires.rounds.reading.so_far.half.encoding.distinct c.requires.still
-    c.requires.stands c.requires.free seen seed c.begin_turn.ensures.only c.in_ok-begin_turn.ensures.exempts c.in_ok-begin_turn.ensures.stays.so_far c.in_ok-assume.ensures.gains c.in_ok-assume.ensures.held b
+    not_accepted u root taken refused seeds packages c.args.solvable c.args.variable old c.begin_turn.new.self c.assume.new.self c.requires.loaded.variables
+    c.requires.rounds.reading.so_far.half.encoding.distinct c.requires.still
+    c.requires.stands c.requires.free seen seed c.begin_turn.ensures.only c.in_ok-begin_turn.ensures.exempts c.in_ok-begin_turn.ensures.stays.so_far
+    c.in_ok-assume.ensures.gains c.in_ok-assume.ensures.held b
     c.is_answered.new.self c.in_ok-answered.ensures.keeps
-    (lawful_solvables u g.S.PartialEq.eq (g.met.D.Interner.lawful_ids c.args.provider.now) (g.met.D.Interner.solvables_compare c.args.provider.now) g.met.D.Interner.solvables_are_values) c.in_ok-assume.ensures.base (c.in_ok-answered.ensures.unanswered c.if-answered.false)
-    (length c.exempt-exempt.result.now) (ap length c.exempt-exempt.ensures) c.in_ok-answered.ensures.rounds c.refuse.new.self c.in_ok-refuse.ensures.refused c.in_ok-refuse.ensures.still
+    (lawful_solvables u g.S.PartialEq.eq (g.met.D.Interner.lawful_ids c.args.provider.now)
+    (g.met.D.Interner.solvables_compare c.args.provider.now) g.met.D.Interner.solvables_are_values) c.in_ok-assume.ensures.base
+    (c.in_ok-answered.ensures.unanswered c.if-answered.false)
+    (length c.exempt-exempt.result.now)
+    (ap length c.exempt-exempt.ensures) c.in_ok-answered.ensures.rounds c.refuse.new.self c.in_ok-refuse.ensures.refused c.in_ok-refuse.ensures.still
 
 pub returns-then-answered-clause-counted : goal.returns-then-answered-clause-counted
-returns-then-answered-clause-counted g c = still_all c.is_answered.new.self (record c.is_answered.new.self { search = c.hold.new.self }) refl c.hold.ensures.clauses c.hold.ensures.learnt c.in_ok-answered.ensures.counted
+returns-then-answered-clause-counted g c =
+    still_all c.is_answered.new.self
+    (record c.is_answered.new.self { search = c.hold.new.self }) refl c.hold.ensures.clauses c.hold.ensures.learnt c.in_ok-answered.ensures.counted
 
 pub returns-clause-counted : goal.returns-clause-counted
 returns-clause-counted g c = grind (arith, common_steps)

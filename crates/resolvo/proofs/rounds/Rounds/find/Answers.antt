@@ -12,7 +12,8 @@ use Rattle.resolvo.proofs.rounds.Rounds.find.Goals as goal
 
 pub soft_turns-requires-clause-rounds : goal.soft_turns-requires-clause-rounds
 soft_turns-requires-clause-rounds g c =
-    rounds_held (g.D.Interner.universe c.args.provider.now) c.all_rounds.new.self c.hold.new.self c.hold.ensures.trail c.hold.ensures.count c.in_ok-all_rounds.ensures.rounds c.hold.ensures.consistent c.hold.ensures.loaded
+    rounds_held (g.D.Interner.universe c.args.provider.now) c.all_rounds.new.self c.hold.new.self c.hold.ensures.trail c.hold.ensures.count
+    c.in_ok-all_rounds.ensures.rounds c.hold.ensures.consistent c.hold.ensures.loaded
 
 pub returns-in_ok-soft_turns-in-Answer-clause-done : goal.returns-in_ok-soft_turns-in-Answer-clause-done
 returns-in_ok-soft_turns-in-Answer-clause-done g c =
@@ -44,7 +45,9 @@ returns-in-Refused-clause-done g c =
     absurd (omega (arith, refused.turn, c.in_ok-all_rounds.ensures.keeps.turn.base, c.in_ok-begin.ensures.turn.base))
 
 pub soft_turns-requires-clause-counted : goal.soft_turns-requires-clause-counted
-soft_turns-requires-clause-counted g c = still_all c.all_rounds.new.self (record c.all_rounds.new.self { search = c.hold.new.self }) refl c.hold.ensures.clauses c.hold.ensures.learnt c.in_ok-all_rounds.ensures.counted
+soft_turns-requires-clause-counted g c =
+    still_all c.all_rounds.new.self
+    (record c.all_rounds.new.self { search = c.hold.new.self }) refl c.hold.ensures.clauses c.hold.ensures.learnt c.in_ok-all_rounds.ensures.counted
 
 pub returns-in_ok-soft_turns-in-Answer-clause-counted : goal.returns-in_ok-soft_turns-in-Answer-clause-counted
 returns-in_ok-soft_turns-in-Answer-clause-counted g c = grind (arith, common_steps)

@@ -30,7 +30,8 @@ loop-requirement-preserved g c =
       counted = c.in_ok-soft_turn.ensures.counted;
       room = room_trans c.args.self.now c.loop-requirement.self c.soft_turn.new.self before.room c.soft_turn.ensures.limits;
       between = λ root done b.
-          let Between : List (SoftRequirement g.row.S.Denot) → Type 0 = λ list. IsBetween (g.D.Interner.universe c.args.provider.now) root list c.soft_turn.new.self in
+          let Between : List (SoftRequirement g.row.S.Denot) → Type 0 =
+          λ list. IsBetween (g.D.Interner.universe c.args.provider.now) root list c.soft_turn.new.self in
           let more : take (i + 1) all ≡ take i all ++ r ∷ [] = take_more all i r (omega arith) ∙ ap (λ x. take i all ++ x ∷ []) (sym c.requirement-item.is) in
           let is : (done ++ take i all) ++ r ∷ [] ≡ done ++ take (i + 1) all = append_assoc done (take i all) (r ∷ []) ∙ ap (λ x. done ++ x) (sym more) in
           subst Between is (c.in_ok-soft_turn.ensures.between root (done ++ take i all) (before.between root done b));
@@ -39,5 +40,6 @@ loop-requirement-preserved g c =
 pub returns-clause-between : goal.returns-clause-between
 returns-clause-between g c = λ root done b.
     let all = c.args.list.now in
-    let Between : List (SoftRequirement g.row.S.Denot) → Type 0 = λ list. IsBetween (g.D.Interner.universe c.args.provider.now) root (done ++ list) c.loop-requirement.self in
+    let Between : List (SoftRequirement g.row.S.Denot) → Type 0 =
+    λ list. IsBetween (g.D.Interner.universe c.args.provider.now) root (done ++ list) c.loop-requirement.self in
     subst Between (take_all c.loop-requirement.requirement-index all (omega arith)) (c.loop-requirement.invariant.between root done b)

@@ -12,5 +12,6 @@ invariant-loop-requirement g l = record {
   still : IsStill l.self;
   counted : HasAllClauses l.self;
   room : KeepsRoom l.fn.self l.self;
-  between : (root : Demands) (done : List (SoftRequirement g.row.S.Denot)) → IsBetween (g.D.Interner.universe l.provider) root done l.fn.self → IsBetween (g.D.Interner.universe l.provider) root (done ++ take l.requirement-index l.list) l.self;
+  between : (root : Demands) (done : List (SoftRequirement g.row.S.Denot)) → IsBetween (g.D.Interner.universe l.provider) root done l.fn.self →
+      IsBetween (g.D.Interner.universe l.provider) root (done ++ take l.requirement-index l.list) l.self;
 }

@@ -7,38 +7,56 @@ use Rattle.resolvo.proofs.GoingLemmas.{all_clauses, still_loaded}
 use Rattle.resolvo.proofs.rounds.Rounds.load.Goals as goal
 
 pub load-requires-clause-below : goal.load-requires-clause-below
-load-requires-clause-below g c = given_below (g.D.Interner.universe c.args.provider.now) (chosen_of c.args.self.now) (notes_of c.args.self.now) c.len.result c.literals.result.now c.requires.rounds.reading (c.len.ensures ∙ ap length c.variables-known.ensures) c.literals.ensures
+load-requires-clause-below g c =
+    given_below (g.D.Interner.universe c.args.provider.now) (chosen_of c.args.self.now)
+    (notes_of c.args.self.now) c.len.result c.literals.result.now c.requires.rounds.reading
+    (c.len.ensures ∙ ap length c.variables-known.ensures) c.literals.ensures
 
 pub load-requires-clause-inside : goal.load-requires-clause-inside
-load-requires-clause-inside g c = given_inside (g.D.Interner.universe c.args.provider.now) (chosen_of c.args.self.now) (notes_of c.args.self.now) c.literals.result.now c.requirements.result.now c.requires.rounds.reading c.literals.ensures c.requirements.ensures
+load-requires-clause-inside g c =
+    given_inside (g.D.Interner.universe c.args.provider.now) (chosen_of c.args.self.now)
+    (notes_of c.args.self.now) c.literals.result.now c.requirements.result.now c.requires.rounds.reading c.literals.ensures c.requirements.ensures
 
 pub returns-clause-rounds : goal.returns-clause-rounds
 returns-clause-rounds g c =
     let notes = notes_of c.args.self.now in
-    let loaded : IsLoaded notes.table notes.requirements c.load.new.self = loaded_all notes.table c.literals.result.now notes.requirements c.requirements.result.now c.args.self.now.search c.load.new.self c.requires.rounds.loaded c.literals.ensures c.requirements.ensures c.in_ok-load.ensures.loaded in
-    let size : variable_count (trail_of c.load.new.self) ≡ length notes.origins = c.in_ok-load.ensures.variables ∙ c.len.ensures ∙ ap length c.variables-known.ensures in
+    let loaded : IsLoaded notes.table notes.requirements c.load.new.self =
+    loaded_all notes.table c.literals.result.now notes.requirements c.requirements.result.now c.args.self.now.search c.load.new.self
+    c.requires.rounds.loaded c.literals.ensures c.requirements.ensures c.in_ok-load.ensures.loaded in
+    let size : variable_count (trail_of c.load.new.self) ≡ length notes.origins = c.in_ok-load.ensures.variables ∙ c.len.ensures ∙
+    ap length c.variables-known.ensures in
     let it = record c.args.self.now { owners = c.follow.new.self } in
-    searched (g.D.Interner.universe c.args.provider.now) it c.load.new.self (rounds_owned (g.D.Interner.universe c.args.provider.now) c.args.self.now c.follow.new.self c.requires.rounds) c.in_ok-load.ensures.consistent loaded size c.in_ok-load.ensures.kept
+    searched (g.D.Interner.universe c.args.provider.now) it c.load.new.self
+    (rounds_owned (g.D.Interner.universe c.args.provider.now) c.args.self.now c.follow.new.self c.requires.rounds) c.in_ok-load.ensures.consistent loaded
+    size c.in_ok-load.ensures.kept
 
 pub returns-clause-loaded : goal.returns-clause-loaded
 returns-clause-loaded g c =
     let notes = notes_of c.args.self.now in
     record {
-      loaded = loaded_all notes.table c.literals.result.now notes.requirements c.requirements.result.now c.args.self.now.search c.load.new.self c.requires.rounds.loaded c.literals.ensures c.requirements.ensures c.in_ok-load.ensures.loaded;
+      loaded = loaded_all notes.table c.literals.result.now notes.requirements c.requirements.result.now c.args.self.now.search c.load.new.self
+          c.requires.rounds.loaded c.literals.ensures c.requirements.ensures c.in_ok-load.ensures.loaded;
       variables = c.in_ok-load.ensures.variables ∙ c.len.ensures ∙ ap length c.variables-known.ensures;
     }
 
 pub returns-clause-still : goal.returns-clause-still
 returns-clause-still g c = λ still.
     let it = record c.args.self.now { owners = c.follow.new.self } in
-    still_loaded (g.D.Interner.universe c.args.provider.now) it c.load.new.self (rounds_owned (g.D.Interner.universe c.args.provider.now) c.args.self.now c.follow.new.self c.requires.rounds) c.in_ok-load.ensures.consistent c.in_ok-load.ensures.set c.in_ok-load.ensures.marked c.in_ok-load.ensures.turn (still_owned c.args.self.now c.follow.new.self still)
+    still_loaded (g.D.Interner.universe c.args.provider.now) it c.load.new.self
+    (rounds_owned (g.D.Interner.universe c.args.provider.now) c.args.self.now c.follow.new.self c.requires.rounds) c.in_ok-load.ensures.consistent
+    c.in_ok-load.ensures.set c.in_ok-load.ensures.marked c.in_ok-load.ensures.turn (still_owned c.args.self.now c.follow.new.self still)
 
 pub returns-clause-counted : goal.returns-clause-counted
 returns-clause-counted g c =
     let notes = notes_of c.args.self.now in
-    let loaded : IsLoaded notes.table notes.requirements c.load.new.self = loaded_all notes.table c.literals.result.now notes.requirements c.requirements.result.now c.args.self.now.search c.load.new.self c.requires.rounds.loaded c.literals.ensures c.requirements.ensures c.in_ok-load.ensures.loaded in
-    let size : variable_count (trail_of c.load.new.self) ≡ length notes.origins = c.in_ok-load.ensures.variables ∙ c.len.ensures ∙ ap length c.variables-known.ensures in
+    let loaded : IsLoaded notes.table notes.requirements c.load.new.self =
+    loaded_all notes.table c.literals.result.now notes.requirements c.requirements.result.now c.args.self.now.search c.load.new.self
+    c.requires.rounds.loaded c.literals.ensures c.requirements.ensures c.in_ok-load.ensures.loaded in
+    let size : variable_count (trail_of c.load.new.self) ≡ length notes.origins = c.in_ok-load.ensures.variables ∙ c.len.ensures ∙
+    ap length c.variables-known.ensures in
     let it = record c.args.self.now { owners = c.follow.new.self } in
     all_clauses (g.D.Interner.universe c.args.provider.now) (record it { search = c.load.new.self })
-    (searched (g.D.Interner.universe c.args.provider.now) it c.load.new.self (rounds_owned (g.D.Interner.universe c.args.provider.now) c.args.self.now c.follow.new.self c.requires.rounds) c.in_ok-load.ensures.consistent loaded size c.in_ok-load.ensures.kept)
+    (searched (g.D.Interner.universe c.args.provider.now) it c.load.new.self
+    (rounds_owned (g.D.Interner.universe c.args.provider.now) c.args.self.now c.follow.new.self c.requires.rounds) c.in_ok-load.ensures.consistent loaded
+    size c.in_ok-load.ensures.kept)
     (record { loaded = loaded; variables = size })

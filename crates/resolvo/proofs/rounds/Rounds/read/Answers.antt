@@ -10,22 +10,31 @@ use Rattle.resolver_encoding.proofs.ReachLemmas.{positives_seen}
 use Rattle.resolvo.proofs.rounds.Rounds.read.Goals as goal
 
 pub read_chosen-requires-clause-reading : goal.read_chosen-requires-clause-reading
-read_chosen-requires-clause-reading g c = reading_first (g.D.Interner.universe c.args.provider.now) c.args.self.now c.follow.new.self c.in_ok-from.from c.solvables.result.now.keys c.in_ok-from.ensures.following c.solvables.ensures c.requires.rounds.reading
+read_chosen-requires-clause-reading g c =
+    reading_first (g.D.Interner.universe c.args.provider.now) c.args.self.now c.follow.new.self c.in_ok-from.from c.solvables.result.now.keys
+    c.in_ok-from.ensures.following c.solvables.ensures c.requires.rounds.reading
 
 pub read_chosen-requires-clause-known : goal.read_chosen-requires-clause-known
 read_chosen-requires-clause-known g c =
     let it = c.in_ok-from.ensures.following in
     let Known : Encoding g.row.N.Denot g.row.S.Denot → Type 0 = λ e. All (λ s. Contains (notes_in e).origins (Solvable s)) c.solvables.result.now.keys in
-    subst Known (sym it.encoding) (chosen_known (notes_of c.args.self.now).origins (trail_of c.args.self.now.search) c.requires.loaded.variables c.solvables.result.now.keys (c.solvables.ensures ∙ c.in_ok-from.ensures.followed.chosen))
+    subst Known (sym it.encoding) (chosen_known (notes_of c.args.self.now).origins
+    (trail_of c.args.self.now.search) c.requires.loaded.variables c.solvables.result.now.keys (c.solvables.ensures ∙ c.in_ok-from.ensures.followed.chosen))
 
 pub returns-clause-rounds : goal.returns-clause-rounds
-returns-clause-rounds g c = read_more (g.D.Interner.universe c.args.provider.now) c.args.self.now c.follow.new.self c.in_ok-from.from c.solvables.result.now.keys c.read_chosen.new.self c.requires.rounds c.in_ok-from.ensures.following c.solvables.ensures c.in_ok-progress.ensures.bounded c.in_ok-progress.ensures.more c.in_ok-progress.ensures.read
+returns-clause-rounds g c = read_more
+    (g.D.Interner.universe c.args.provider.now) c.args.self.now c.follow.new.self c.in_ok-from.from c.solvables.result.now.keys c.read_chosen.new.self
+    c.requires.rounds c.in_ok-from.ensures.following c.solvables.ensures c.in_ok-progress.ensures.bounded c.in_ok-progress.ensures.more
+    c.in_ok-progress.ensures.read
 
 pub returns-clause-keeps : goal.returns-clause-keeps
 returns-clause-keeps g c =
     let old = c.args.self.now in
-    goes_read (g.D.Interner.universe c.args.provider.now) old c.follow.new.self c.in_ok-from.from c.solvables.result.now.keys c.read_chosen.new.self c.requires.loaded c.in_ok-from.ensures.following c.in_ok-from.ensures.followed c.solvables.ensures
+    goes_read (g.D.Interner.universe c.args.provider.now) old c.follow.new.self c.in_ok-from.from c.solvables.result.now.keys c.read_chosen.new.self
+    c.requires.loaded c.in_ok-from.ensures.following c.in_ok-from.ensures.followed c.solvables.ensures
     c.in_ok-progress.ensures.more c.in_ok-progress.ensures.read c.in_ok-progress.ensures.near
-    (c.in_ok-progress.ensures.asked c.requires.rounds.reading.root (read_first (g.D.Interner.universe c.args.provider.now) c.requires.rounds.reading.root old c.follow.new.self c.in_ok-from.from c.solvables.result.now.keys c.in_ok-from.ensures.following c.solvables.ensures c.requires.rounds.reading.so_far)).stays
+    (c.in_ok-progress.ensures.asked c.requires.rounds.reading.root
+    (read_first (g.D.Interner.universe c.args.provider.now) c.requires.rounds.reading.root old c.follow.new.self c.in_ok-from.from
+    c.solvables.result.now.keys c.in_ok-from.ensures.following c.solvables.ensures c.requires.rounds.reading.so_far)).stays
     (drawn_or_assumed old.search (notes_of old).table (notes_of old).requirements c.requires.rounds.consistent c.requires.loaded.loaded)
     (λ root encoding. positives_seen (g.D.Interner.universe c.args.provider.now) root (notes_of old) encoding)

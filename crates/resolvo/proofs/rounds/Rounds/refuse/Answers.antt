@@ -17,20 +17,25 @@ pub load-requires : goal.load-requires
 load-requires g c =
     let u = g.D.Interner.universe c.args.provider.now in
     let old = c.args.self.now in
-    record { rounds = rounds_added u old c.end_turn.new.self c.requires.rounds c.end_turn.ensures.bounded (ended_adds u (notes_of old) (notes_in c.end_turn.new.self) c.in_ok-end_turn.ensures.ended) }
+    record {
+      rounds = rounds_added u old c.end_turn.new.self c.requires.rounds c.end_turn.ensures.bounded
+          (ended_adds u (notes_of old) (notes_in c.end_turn.new.self) c.in_ok-end_turn.ensures.ended);
+    }
 
 pub assume-requires-clause-inside : goal.assume-requires-clause-inside
 assume-requires-clause-inside g c =
     let old = c.args.self.now.search in
     let mid = c.load.new.self.search in
-    let assumed : HasAssumed mid c.args.variable = still_assumed old mid c.args.variable c.requires.rounds.consistent c.in_ok-load.ensures.turn c.requires.assumed in
+    let assumed : HasAssumed mid c.args.variable =
+    still_assumed old mid c.args.variable c.requires.rounds.consistent c.in_ok-load.ensures.turn c.requires.assumed in
     omega (arith, assumed_inside mid c.args.variable c.in_ok-load.ensures.rounds.consistent assumed, c.in_ok-retract.ensures.cut.size)
 
 pub assume-requires-clause-free : goal.assume-requires-clause-free
 assume-requires-clause-free g c =
     let old = c.args.self.now.search in
     let mid = c.load.new.self.search in
-    let assumed : HasAssumed mid c.args.variable = still_assumed old mid c.args.variable c.requires.rounds.consistent c.in_ok-load.ensures.turn c.requires.assumed in
+    let assumed : HasAssumed mid c.args.variable =
+    still_assumed old mid c.args.variable c.requires.rounds.consistent c.in_ok-load.ensures.turn c.requires.assumed in
     ap (slot_of (trail_of c.retract.new.self)) (sym assumed.place) ∙ c.in_ok-retract.ensures.free
 
 pub follow-requires-clause-loaded : goal.follow-requires-clause-loaded
@@ -45,16 +50,24 @@ follow-requires-clause-loaded g c =
 pub follow-requires-clause-mark : goal.follow-requires-clause-mark
 follow-requires-clause-mark g c =
     let mark = c.in_ok-load.ensures.rounds.mark in
-    record { base = mark.base; follows = mark.follows; kept = c.in_ok-assume.ensures.kept mark.base (c.in_ok-retract.ensures.kept mark.base mark.kept); known = mark.known }
+    record {
+      base = mark.base;
+      follows = mark.follows;
+      kept = c.in_ok-assume.ensures.kept mark.base (c.in_ok-retract.ensures.kept mark.base mark.kept);
+      known = mark.known;
+    }
 
 pub returns-clause-rounds : goal.returns-clause-rounds
 returns-clause-rounds g c =
     let u = g.D.Interner.universe c.args.provider.now in
     let old = c.args.self.now.search in
     let mid = c.load.new.self in
-    let assumed : HasAssumed mid.search c.args.variable = still_assumed old mid.search c.args.variable c.requires.rounds.consistent c.in_ok-load.ensures.turn c.requires.assumed in
-    rounds_followed u mid (record mid { search = c.assume.new.self }) c.follow.new.self c.in_ok-follow.field-0 c.in_ok-load.ensures.rounds refl c.in_ok-follow.ensures.following
-    (refused_within u mid (trail_of c.retract.new.self) (trail_of c.assume.new.self) c.args.variable _ c.in_ok-load.ensures.rounds assumed.base c.in_ok-retract.ensures.cut c.in_ok-assume.ensures.gains
+    let assumed : HasAssumed mid.search c.args.variable =
+    still_assumed old mid.search c.args.variable c.requires.rounds.consistent c.in_ok-load.ensures.turn c.requires.assumed in
+    rounds_followed u mid (record mid { search = c.assume.new.self }) c.follow.new.self c.in_ok-follow.field-0 c.in_ok-load.ensures.rounds refl
+    c.in_ok-follow.ensures.following
+    (refused_within u mid (trail_of c.retract.new.self)
+    (trail_of c.assume.new.self) c.args.variable _ c.in_ok-load.ensures.rounds assumed.base c.in_ok-retract.ensures.cut c.in_ok-assume.ensures.gains
     (ap (slot_of (trail_of c.retract.new.self)) (sym assumed.place) ∙ c.in_ok-retract.ensures.free) c.in_ok-follow.ensures.followed.chosen)
 
 pub returns-clause-refused : goal.returns-clause-refused
@@ -62,11 +75,14 @@ returns-clause-refused g c =
     let u = g.D.Interner.universe c.args.provider.now in
     let old = c.args.self.now in
     let mid = c.load.new.self in
-    let assumed : HasAssumed mid.search c.args.variable = still_assumed old.search mid.search c.args.variable c.requires.rounds.consistent c.in_ok-load.ensures.turn c.requires.assumed in
+    let assumed : HasAssumed mid.search c.args.variable =
+    still_assumed old.search mid.search c.args.variable c.requires.rounds.consistent c.in_ok-load.ensures.turn c.requires.assumed in
     let encoding : c.follow.new.self.encoding ≡ c.end_turn.new.self = c.in_ok-follow.ensures.following.encoding ∙ c.in_ok-load.ensures.same.encoding in
     let Ended : Encoding g.row.N.Denot g.row.S.Denot → Type 0 = λ e. IsTurnEnd u (notes_of old) (notes_in e) in
     let CutTo : ℕ → Type 0 = λ n. IsCut (trail_of mid.search) (trail_of c.retract.new.self) (n - 1) in
-    let GainsTo : Trail → Type 0 = λ t. Gains (trail_of c.retract.new.self) t (record { variable = c.args.variable; positive = false }) (level_of (trail_of c.retract.new.self) + 1) Assumed in
+    let GainsTo : Trail → Type 0 =
+    λ t. Gains (trail_of c.retract.new.self) t (record { variable = c.args.variable; positive = false })
+    (level_of (trail_of c.retract.new.self) + 1) Assumed in
     record {
       ended = subst Ended (sym encoding) c.in_ok-end_turn.ensures.ended;
       exempt = ap (λ (e : Encoding g.row.N.Denot g.row.S.Denot). (notes_in e).exempt) encoding ∙ c.in_ok-end_turn.ensures.exempt;
@@ -83,7 +99,8 @@ returns-clause-counted g c =
     let mid = c.load.new.self in
     let followed = c.in_ok-follow.ensures.followed in
     still_all mid c.follow.new.self (ap (λ (e : Encoding g.row.N.Denot g.row.S.Denot). length (notes_in e).kinds) c.in_ok-follow.ensures.following.encoding)
-    (followed.clauses ∙ c.in_ok-assume.ensures.clauses ∙ c.in_ok-retract.ensures.clauses) (followed.learnt ∙ c.in_ok-assume.ensures.learnt ∙ c.in_ok-retract.ensures.learnt) c.in_ok-load.ensures.counted
+    (followed.clauses ∙ c.in_ok-assume.ensures.clauses ∙ c.in_ok-retract.ensures.clauses)
+    (followed.learnt ∙ c.in_ok-assume.ensures.learnt ∙ c.in_ok-retract.ensures.learnt) c.in_ok-load.ensures.counted
 
 pub returns-clause-is_true : goal.returns-clause-is_true
 returns-clause-is_true g c = grind (arith, common_steps)

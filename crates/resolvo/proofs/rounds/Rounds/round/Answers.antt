@@ -10,27 +10,34 @@ use Rattle.resolvo.proofs.GoingLemmas.{all_clauses, answering, goes_searched, go
 use Rattle.resolvo.proofs.rounds.Rounds.round.Goals as goal
 
 pub returns-in-Contradiction-clause-keeps : goal.returns-in-Contradiction-clause-keeps
-returns-in-Contradiction-clause-keeps g c = goes_searched (g.D.Interner.universe c.args.provider.now) c.args.self.now c.search.new.self c.in_ok-core.ensures.same c.in_ok-core.ensures.turn
+returns-in-Contradiction-clause-keeps g c =
+    goes_searched (g.D.Interner.universe c.args.provider.now) c.args.self.now c.search.new.self c.in_ok-core.ensures.same c.in_ok-core.ensures.turn
 
 pub returns-in-Refused-clause-keeps : goal.returns-in-Refused-clause-keeps
-returns-in-Refused-clause-keeps g c = goes_searched (g.D.Interner.universe c.args.provider.now) c.args.self.now c.search.new.self c.in_ok-core.ensures.same c.in_ok-core.ensures.turn
+returns-in-Refused-clause-keeps g c =
+    goes_searched (g.D.Interner.universe c.args.provider.now) c.args.self.now c.search.new.self c.in_ok-core.ensures.same c.in_ok-core.ensures.turn
 
 pub returns-in-Contradiction-clause-round : goal.returns-in-Contradiction-clause-round
 returns-in-Contradiction-clause-round g c =
     let u = g.D.Interner.universe c.args.provider.now in
     let mid = c.search.new.self in
-    let outcome : OutcomeIs (notes_of mid).table (notes_of mid).requirements (trail_of mid.search) (base_of mid.search) c.in_ok-core.field-0 = c.in_ok-core.ensures.outcome in
+    let outcome : OutcomeIs (notes_of mid).table (notes_of mid).requirements (trail_of mid.search) (base_of mid.search) c.in_ok-core.field-0 =
+    c.in_ok-core.ensures.outcome in
     (rw c.in-Contradiction.is at outcome, all_clauses u mid c.in_ok-core.ensures.rounds c.in_ok-core.ensures.loaded)
 
 pub returns-in-Refused-clause-round : goal.returns-in-Refused-clause-round
 returns-in-Refused-clause-round g c =
     let u = g.D.Interner.universe c.args.provider.now in
     let mid = c.search.new.self in
-    let outcome : OutcomeIs (notes_of mid).table (notes_of mid).requirements (trail_of mid.search) (base_of mid.search) c.in_ok-core.field-0 = c.in_ok-core.ensures.outcome in
+    let outcome : OutcomeIs (notes_of mid).table (notes_of mid).requirements (trail_of mid.search) (base_of mid.search) c.in_ok-core.field-0 =
+    c.in_ok-core.ensures.outcome in
     (rw c.in-Refused.is at outcome, all_clauses u mid c.in_ok-core.ensures.rounds c.in_ok-core.ensures.loaded)
 
 pub returns-in-Nothing-clause-keeps : goal.returns-in-Nothing-clause-keeps
-returns-in-Nothing-clause-keeps g c = goes_trans (g.D.Interner.universe c.args.provider.now) c.args.self.now c.search.new.self c.read.new.self c.requires.rounds.variables (goes_searched (g.D.Interner.universe c.args.provider.now) c.args.self.now c.search.new.self c.in_ok-core.ensures.same c.in_ok-core.ensures.turn) c.in_ok-read-in-Finished.ensures.keeps
+returns-in-Nothing-clause-keeps g c =
+    goes_trans (g.D.Interner.universe c.args.provider.now) c.args.self.now c.search.new.self c.read.new.self c.requires.rounds.variables
+    (goes_searched (g.D.Interner.universe c.args.provider.now) c.args.self.now c.search.new.self c.in_ok-core.ensures.same c.in_ok-core.ensures.turn)
+    c.in_ok-read-in-Finished.ensures.keeps
 
 pub returns-in-Nothing-clause-round : goal.returns-in-Nothing-clause-round
 returns-in-Nothing-clause-round g c =
@@ -39,18 +46,29 @@ returns-in-Nothing-clause-round g c =
     let new = c.read.new.self in
     let up = c.in_ok-core.ensures.loaded in
     let followed = c.in_ok-read-in-Finished.ensures.followed in
-    let outcome : OutcomeIs (notes_of mid).table (notes_of mid).requirements (trail_of mid.search) (base_of mid.search) c.in_ok-core.field-0 = c.in_ok-core.ensures.outcome in
-    let finished : (requirements : List RequirementClause) → numbers_of requirements ≡ (notes_of mid).requirements → IsFinished (notes_of mid).table requirements (trail_of mid.search) = rw c.in-Finished.is at outcome in
+    let outcome : OutcomeIs (notes_of mid).table (notes_of mid).requirements (trail_of mid.search) (base_of mid.search) c.in_ok-core.field-0 =
+    c.in_ok-core.ensures.outcome in
+    let finished : (requirements : List RequirementClause) → numbers_of requirements ≡ (notes_of mid).requirements →
+    IsFinished (notes_of mid).table requirements (trail_of mid.search) = rw c.in-Finished.is at outcome in
     let progress : IsProgress (notes_of mid) (notes_of new) c.in_ok-read-in-Finished.field-0 = c.in_ok-read-in-Finished.ensures.progress in
     let same : notes_of new ≡ notes_of mid = rw c.in-Nothing.is at progress in (
       answering u mid new mid.encoding.requirements.items
-          (lawful_solvables u g.S.PartialEq.eq (g.met.D.Interner.lawful_ids c.args.provider.now) (g.met.D.Interner.solvables_compare c.args.provider.now) g.met.D.Interner.solvables_are_values) (g.met.D.DependencyProvider.lawful_packages c.args.provider.now)
+          (lawful_solvables u g.S.PartialEq.eq (g.met.D.Interner.lawful_ids c.args.provider.now)
+          (g.met.D.Interner.solvables_compare c.args.provider.now) g.met.D.Interner.solvables_are_values)
+          (g.met.D.DependencyProvider.lawful_packages c.args.provider.now)
           up c.in_ok-core.ensures.rounds followed same followed.marked refl (finished mid.encoding.requirements.items refl),
-      still_all mid new (ap (λ (n : Notes g.row.N.Denot g.row.S.Denot). length n.kinds) same) followed.clauses followed.learnt (all_clauses u mid c.in_ok-core.ensures.rounds up),
+      still_all mid new (ap (λ (n : Notes g.row.N.Denot g.row.S.Denot). length n.kinds) same) followed.clauses followed.learnt
+          (all_clauses u mid c.in_ok-core.ensures.rounds up),
     )
 
 pub returns-in-Fired-clause-keeps : goal.returns-in-Fired-clause-keeps
-returns-in-Fired-clause-keeps g c = goes_trans (g.D.Interner.universe c.args.provider.now) c.args.self.now c.search.new.self c.read.new.self c.requires.rounds.variables (goes_searched (g.D.Interner.universe c.args.provider.now) c.args.self.now c.search.new.self c.in_ok-core.ensures.same c.in_ok-core.ensures.turn) c.in_ok-read-in-Finished.ensures.keeps
+returns-in-Fired-clause-keeps g c =
+    goes_trans (g.D.Interner.universe c.args.provider.now) c.args.self.now c.search.new.self c.read.new.self c.requires.rounds.variables
+    (goes_searched (g.D.Interner.universe c.args.provider.now) c.args.self.now c.search.new.self c.in_ok-core.ensures.same c.in_ok-core.ensures.turn)
+    c.in_ok-read-in-Finished.ensures.keeps
 
 pub returns-in-Read-clause-keeps : goal.returns-in-Read-clause-keeps
-returns-in-Read-clause-keeps g c = goes_trans (g.D.Interner.universe c.args.provider.now) c.args.self.now c.search.new.self c.read.new.self c.requires.rounds.variables (goes_searched (g.D.Interner.universe c.args.provider.now) c.args.self.now c.search.new.self c.in_ok-core.ensures.same c.in_ok-core.ensures.turn) c.in_ok-read-in-Finished.ensures.keeps
+returns-in-Read-clause-keeps g c =
+    goes_trans (g.D.Interner.universe c.args.provider.now) c.args.self.now c.search.new.self c.read.new.self c.requires.rounds.variables
+    (goes_searched (g.D.Interner.universe c.args.provider.now) c.args.self.now c.search.new.self c.in_ok-core.ensures.same c.in_ok-core.ensures.turn)
+    c.in_ok-read-in-Finished.ensures.keeps

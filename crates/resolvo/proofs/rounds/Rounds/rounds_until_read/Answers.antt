@@ -5,10 +5,14 @@ use Rattle.resolvo.proofs.GoingLemmas.{goes_trans}
 use Rattle.resolvo.proofs.rounds.Rounds.rounds_until_read.Goals as goal
 
 pub returns-in-Last-clause-keeps : goal.returns-in-Last-clause-keeps
-returns-in-Last-clause-keeps g c = goes_trans (g.D.Interner.universe c.args.provider.now) c.args.self.now c.rounds.self c.round.new.self c.requires.rounds.variables c.rounds.invariant.keeps c.in_ok-found.ensures.keeps
+returns-in-Last-clause-keeps g c =
+    goes_trans (g.D.Interner.universe c.args.provider.now) c.args.self.now c.rounds.self c.round.new.self c.requires.rounds.variables c.rounds.invariant.keeps
+    c.in_ok-found.ensures.keeps
 
 pub returns-in-Read-clause-keeps : goal.returns-in-Read-clause-keeps
-returns-in-Read-clause-keeps g c = goes_trans (g.D.Interner.universe c.args.provider.now) c.args.self.now c.rounds.self c.round.new.self c.requires.rounds.variables c.rounds.invariant.keeps c.in_ok-found.ensures.keeps
+returns-in-Read-clause-keeps g c =
+    goes_trans (g.D.Interner.universe c.args.provider.now) c.args.self.now c.rounds.self c.round.new.self c.requires.rounds.variables c.rounds.invariant.keeps
+    c.in_ok-found.ensures.keeps
 
 pub rounds-preserved : goal.rounds-preserved
 rounds-preserved g c =
@@ -17,7 +21,8 @@ rounds-preserved g c =
     record {
       is_true = c.in_ok-found.ensures.is_true;
       rounds = c.in_ok-found.ensures.rounds;
-      keeps = goes_trans (g.D.Interner.universe c.args.provider.now) c.args.self.now c.rounds.self c.round.new.self c.requires.rounds.variables c.rounds.invariant.keeps c.in_ok-found.ensures.keeps;
+      keeps = goes_trans (g.D.Interner.universe c.args.provider.now) c.args.self.now c.rounds.self c.round.new.self c.requires.rounds.variables
+          c.rounds.invariant.keeps c.in_ok-found.ensures.keeps;
       room = room_trans c.args.self.now c.rounds.self c.round.new.self c.rounds.invariant.room c.in_ok-found.ensures.limits;
       read = fired.0 ∙ c.rounds.invariant.read;
     }

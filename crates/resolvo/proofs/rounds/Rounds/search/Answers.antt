@@ -11,13 +11,18 @@ returns-clause-rounds g c =
     let mid = c.load.new.self in
     let up = c.in_ok-load.ensures.loaded in
     searched (g.D.Interner.universe c.args.provider.now) mid c.run.new.self c.in_ok-load.ensures.rounds c.in_ok-outcome.ensures.consistent
-    (c.in_ok-outcome.ensures.loaded (notes_of mid).table (notes_of mid).requirements up.loaded) (c.in_ok-outcome.ensures.variables ∙ up.variables) c.in_ok-outcome.ensures.kept
+    (c.in_ok-outcome.ensures.loaded (notes_of mid).table (notes_of mid).requirements up.loaded)
+    (c.in_ok-outcome.ensures.variables ∙ up.variables) c.in_ok-outcome.ensures.kept
 
 pub returns-clause-loaded : goal.returns-clause-loaded
 returns-clause-loaded g c =
     let mid = c.load.new.self in
     let up = c.in_ok-load.ensures.loaded in
-    record { loaded = c.in_ok-outcome.ensures.loaded (notes_of mid).table (notes_of mid).requirements up.loaded; variables = c.in_ok-outcome.ensures.variables ∙ up.variables }
+    record {
+      loaded = c.in_ok-outcome.ensures.loaded (notes_of mid).table (notes_of mid).requirements up.loaded;
+      variables = c.in_ok-outcome.ensures.variables ∙
+          up.variables;
+    }
 
 pub returns-clause-turn : goal.returns-clause-turn
 returns-clause-turn g c = turn-trans c.args.self.now.search c.load.new.self.search c.run.new.self c.in_ok-load.ensures.turn c.in_ok-outcome.ensures.turn

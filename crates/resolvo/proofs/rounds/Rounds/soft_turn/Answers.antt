@@ -15,7 +15,8 @@ returns-in_ok-turn-in-Solvable-clause-between g c = λ root done b.
     let r : SoftRequirement g.row.S.Denot = Solvable s in
     let Between : SoftRequirement g.row.S.Denot → Type 0 = λ q. IsBetween u root (done ++ q ∷ []) c.turn.new.self in
     subst Between (sym c.in-Solvable.is) (between_solvable u root done s c.args.self.now c.turn.new.self _ b
-    (c.in_ok-turn-in-Solvable.ensures.turned root b.taken b.refused (flat_map (options u) (done ++ r ∷ [])) (flat_map (own_packages u) (done ++ r ∷ [])) (gathered_last (options u) done r s (here s [])) (standing_for u root done r b.taken b.refused c.args.self.now b.standing)))
+    (c.in_ok-turn-in-Solvable.ensures.turned root b.taken b.refused (flat_map (options u) (done ++ r ∷ [])) (flat_map (own_packages u) (done ++ r ∷ []))
+    (gathered_last (options u) done r s (here s [])) (standing_for u root done r b.taken b.refused c.args.self.now b.standing)))
 
 pub returns-in_ok-version_set_turn-in-Matching-clause-between : goal.returns-in_ok-version_set_turn-in-Matching-clause-between
 returns-in_ok-version_set_turn-in-Matching-clause-between g c = λ root done b.

@@ -34,6 +34,8 @@ loop-solvable-preserved g c =
       counted = c.in_ok-soft_turn.ensures.counted;
       room = room_trans c.args.self.now c.loop-solvable.self c.soft_turn.new.self before.room c.soft_turn.ensures.limits;
       between = λ root b.
-          let Between : List (SoftRequirement g.row.S.Denot) → Type 0 = λ list. IsBetween (g.D.Interner.universe c.args.provider.now) root list c.soft_turn.new.self in
-          subst Between (sym (map-append Solvable c.loop-solvable.yielded (s ∷ []))) (c.in_ok-soft_turn.ensures.between root (map Solvable c.loop-solvable.yielded) (before.between root b));
+          let Between : List (SoftRequirement g.row.S.Denot) → Type 0 =
+          λ list. IsBetween (g.D.Interner.universe c.args.provider.now) root list c.soft_turn.new.self in
+          subst Between (sym (map-append Solvable c.loop-solvable.yielded (s ∷ [])))
+          (c.in_ok-soft_turn.ensures.between root (map Solvable c.loop-solvable.yielded) (before.between root b));
     }

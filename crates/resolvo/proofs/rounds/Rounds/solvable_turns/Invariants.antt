@@ -13,5 +13,6 @@ invariant-loop-solvable g l = record {
   still : IsStill l.self;
   counted : HasAllClauses l.self;
   room : KeepsRoom l.fn.self l.self;
-  between : (root : Demands) → IsBetween (g.D.Interner.universe l.provider) root [] l.fn.self → IsBetween (g.D.Interner.universe l.provider) root (map Solvable l.yielded) l.self;
+  between : (root : Demands) → IsBetween (g.D.Interner.universe l.provider) root [] l.fn.self →
+      IsBetween (g.D.Interner.universe l.provider) root (map Solvable l.yielded) l.self;
 }

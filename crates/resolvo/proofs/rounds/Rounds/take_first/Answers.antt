@@ -16,7 +16,8 @@ loop-candidate-init g c = record {
   still = c.requires.still;
   counted = c.requires.counted;
   room = room_same c.args.self.now;
-  turned = λ root taken refused seeds packages within b. none_tried (g.D.Interner.universe c.args.provider.now) root taken seeds packages c.args.self.now refused b;
+  turned = λ root taken refused seeds packages within b. none_tried
+      (g.D.Interner.universe c.args.provider.now) root taken seeds packages c.args.self.now refused b;
 }
 
 pub returns-then-branch-clause-turned : goal.returns-then-branch-clause-turned
@@ -29,7 +30,8 @@ returns-then-branch-clause-turned g c = λ root taken refused seeds packages wit
     let listed = Contains-item c.args.candidates.now c.loop-candidate.candidate-index s (omega arith) c.candidate-item.is in
     let asked = All-contains (λ t. Contains (notes_of c.args.self.now).asked (u.name t)) c.args.candidates.now s c.requires.asked listed in
     let Turned : Bool → Type 0 = λ on. HasTurned u root h.taken_now h.refused_now seeds packages s mid new on in
-    tried_last u root taken seeds packages c.args.self.now (take c.loop-candidate.candidate-index c.args.candidates.now) mid new s h asked c.args.candidates.now listed c.requires.none
+    tried_last u root taken seeds packages c.args.self.now
+    (take c.loop-candidate.candidate-index c.args.candidates.now) mid new s h asked c.args.candidates.now listed c.requires.none
     (subst Turned c.if-branch.true (c.in_ok-turn.ensures.turned root h.taken_now h.refused_now seeds packages (within s listed) h.standing))
 
 pub loop-candidate-preserved : goal.loop-candidate-preserved
@@ -54,7 +56,8 @@ loop-candidate-preserved g c =
           let Turned : Bool → Type 0 = λ on. HasTurned u root h.taken_now h.refused_now seeds packages s mid new on in
           let Cases : List g.row.S.Denot → Type 0 = λ list. (t : g.row.S.Denot) → Contains list t → Contains (take i all) t ⊎ (s ≡ t) in
           let more : take (i + 1) all ≡ take i all ++ s ∷ [] = take_more all i s (omega arith) ∙ ap (λ x. take i all ++ x ∷ []) (sym c.candidate-item.is) in
-          tried_more u root taken seeds packages c.args.self.now (take i all) mid new s h asked (take (i + 1) all) (subst Cases (sym more) (λ t k. pushed_cases (take i all) s t k))
+          tried_more u root taken seeds packages c.args.self.now (take i all) mid new s h asked (take (i + 1) all)
+          (subst Cases (sym more) (λ t k. pushed_cases (take i all) s t k))
           (subst Turned c.if-branch.false (c.in_ok-turn.ensures.turned root h.taken_now h.refused_now seeds packages (within s listed) h.standing));
     }
 

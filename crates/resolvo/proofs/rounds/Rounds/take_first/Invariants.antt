@@ -12,6 +12,7 @@ invariant-loop-candidate g l = record {
   still : IsStill l.self;
   counted : HasAllClauses l.self;
   room : KeepsRoom l.fn.self l.self;
-  turned : (root : Demands) (taken refused seeds : List g.row.S.Denot) (packages : List g.row.N.Denot) → IsWithin l.candidates seeds → IsStanding (g.D.Interner.universe l.provider) root taken refused seeds packages l.fn.self →
+  turned : (root : Demands) (taken refused seeds : List g.row.S.Denot) (packages : List g.row.N.Denot) → IsWithin l.candidates seeds →
+      IsStanding (g.D.Interner.universe l.provider) root taken refused seeds packages l.fn.self →
       HaveTurned (g.D.Interner.universe l.provider) root taken seeds packages (take l.candidate-index l.candidates) l.fn.self l.self false;
 }

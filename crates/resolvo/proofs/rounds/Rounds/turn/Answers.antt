@@ -18,11 +18,15 @@ pub load-requires : goal.load-requires
 load-requires g c =
     let u = g.D.Interner.universe c.args.provider.now in
     let old = c.args.self.now in
-    record { rounds = rounds_added u old c.register.new.self c.requires.rounds c.register.ensures.bounded (registered_adds u c.args.solvable (notes_of old) (notes_in c.register.new.self) c.in_ok-variable.ensures.registered) }
+    record {
+      rounds = rounds_added u old c.register.new.self c.requires.rounds c.register.ensures.bounded
+          (registered_adds u c.args.solvable (notes_of old) (notes_in c.register.new.self) c.in_ok-variable.ensures.registered);
+    }
 
 pub slot-requires : goal.slot-requires
 slot-requires g c =
-    let inside : c.in_ok-variable.variable < length (notes_in c.register.new.self).origins = slice_get_within (notes_in c.register.new.self).origins c.in_ok-variable.variable (SolvableOrigin c.args.solvable) c.in_ok-variable.ensures.variable in
+    let inside : c.in_ok-variable.variable < length (notes_in c.register.new.self).origins =
+    slice_get_within (notes_in c.register.new.self).origins c.in_ok-variable.variable (SolvableOrigin c.args.solvable) c.in_ok-variable.ensures.variable in
     let up = c.in_ok-load.ensures.loaded in
     let Origins : Encoding g.row.N.Denot g.row.S.Denot → Type 0 = λ e. c.in_ok-variable.variable < length (notes_in e).origins in
     let now : c.in_ok-variable.variable < length (notes_of c.load.new.self).origins = subst Origins (sym c.in_ok-load.ensures.same.encoding) inside in
@@ -51,12 +55,16 @@ returns-in-Some-clause-turned g c = λ root taken refused seeds packages seed b.
     let registered = c.in_ok-variable.ensures.registered in
     let adds = registered_adds u s (notes_of old) (notes_in e) registered in
     let same = c.in_ok-load.ensures.same in
-    let loaded = standing_loaded u root taken refused seeds packages (record old { encoding = e }) new (rounds_added u old e c.requires.rounds c.register.ensures.bounded adds).variables same c.in_ok-load.ensures.turn
+    let loaded = standing_loaded u root taken refused seeds packages (record old { encoding = e }) new
+    (rounds_added u old e c.requires.rounds c.register.ensures.bounded adds).variables same c.in_ok-load.ensures.turn
     (standing_registered u root taken refused seeds packages old e c.requires.rounds adds registered.exempt b s seed registered.only registered.asked) in
     let Stands : Encoding g.row.N.Denot g.row.S.Denot → Type 0 = λ x. slice_get (notes_in x).origins c.in_ok-variable.variable ≡ Some (SolvableOrigin s) in
     let At : Trail → Type 0 = λ t. slot_of t c.in_ok-variable.variable ≡ Some c.in-Some.slot in
-    turned_from u root taken refused seeds packages s old new new c.in-Some.slot.value (ap chosen_in same.chosen) (ap (λ x. (notes_in x).exempt) same.encoding ∙ registered.exempt) (ap (λ x. (notes_in x).asked) same.encoding ∙ registered.asked)
-    (skipped u (lawful_solvables u g.S.PartialEq.eq (g.met.D.Interner.lawful_ids c.args.provider.now) (g.met.D.Interner.solvables_compare c.args.provider.now) g.met.D.Interner.solvables_are_values) g.N.PartialEq.eq g.met.D.Interner.names_are_values root taken refused seeds packages s c.in_ok-variable.variable c.in-Some.slot new c.in_ok-load.ensures.rounds c.in_ok-load.ensures.loaded.variables
+    turned_from u root taken refused seeds packages s old new new c.in-Some.slot.value (ap chosen_in same.chosen)
+    (ap (λ x. (notes_in x).exempt) same.encoding ∙ registered.exempt) (ap (λ x. (notes_in x).asked) same.encoding ∙ registered.asked)
+    (skipped u (lawful_solvables u g.S.PartialEq.eq (g.met.D.Interner.lawful_ids c.args.provider.now)
+    (g.met.D.Interner.solvables_compare c.args.provider.now) g.met.D.Interner.solvables_are_values) g.N.PartialEq.eq g.met.D.Interner.names_are_values root
+    taken refused seeds packages s c.in_ok-variable.variable c.in-Some.slot new c.in_ok-load.ensures.rounds c.in_ok-load.ensures.loaded.variables
     (c.in_ok-load.ensures.still (still_added u old e c.requires.rounds registered.origins c.requires.still))
     (subst Stands (sym same.encoding) c.in_ok-variable.ensures.variable)
     (subst At c.trail.ensures (sym c.slot.ensures ∙ c.in-Some.is)) loaded)
@@ -71,10 +79,12 @@ returns-in_ok-is_chosen-in-None-clause-turned g c = λ root taken refused seeds 
     let registered = c.in_ok-variable.ensures.registered in
     let adds = registered_adds u s (notes_of old) (notes_in e) registered in
     let same = c.in_ok-load.ensures.same in
-    let loaded = standing_loaded u root taken refused seeds packages (record old { encoding = e }) mid (rounds_added u old e c.requires.rounds c.register.ensures.bounded adds).variables same c.in_ok-load.ensures.turn
+    let loaded = standing_loaded u root taken refused seeds packages (record old { encoding = e }) mid
+    (rounds_added u old e c.requires.rounds c.register.ensures.bounded adds).variables same c.in_ok-load.ensures.turn
     (standing_registered u root taken refused seeds packages old e c.requires.rounds adds registered.exempt b s seed registered.only registered.asked) in
     let Seen : Encoding g.row.N.Denot g.row.S.Denot → Type 0 = λ x. Contains (notes_in x).seen s in
-    turned_from u root taken refused seeds packages s old mid _ _ (ap chosen_in same.chosen) (ap (λ x. (notes_in x).exempt) same.encoding ∙ registered.exempt) (ap (λ x. (notes_in x).asked) same.encoding ∙ registered.asked)
+    turned_from u root taken refused seeds packages s old mid _ _ (ap chosen_in same.chosen) (ap (λ x. (notes_in x).exempt) same.encoding ∙ registered.exempt)
+    (ap (λ x. (notes_in x).asked) same.encoding ∙ registered.asked)
     (c.in_ok-is_chosen-in-None.ensures.turned root taken refused seeds packages (subst Seen (sym same.encoding) registered.here) seed loaded)
 
 pub returns-in_ok-is_chosen-in-None-clause-counted : goal.returns-in_ok-is_chosen-in-None-clause-counted

@@ -18,18 +18,25 @@ returns-then-has_any-clause-between g c = λ root done b.
     let u = g.D.Interner.universe c.args.provider.now in
     let v = c.args.version_set in
     let laws = g.met.D.DependencyProvider.lawful_packages c.args.provider.now in
-    let lawful = lawful_solvables u g.S.PartialEq.eq (g.met.D.Interner.lawful_ids c.args.provider.now) (g.met.D.Interner.solvables_compare c.args.provider.now) g.met.D.Interner.solvables_are_values in
+    let lawful = lawful_solvables u g.S.PartialEq.eq (g.met.D.Interner.lawful_ids c.args.provider.now)
+    (g.met.D.Interner.solvables_compare c.args.provider.now) g.met.D.Interner.solvables_are_values in
     let same : c.deref.result.now ≡ sorted_candidates u v = c.deref.ensures.value ∙ c.in_ok-candidates.ensures.value in
     let m : Meets c.deref.result.now c.solvables.result.now.keys = c.if-has_any.ensures in
     let Has : List g.row.S.Denot → Type 0 = λ list. Contains list m.shared in
-    between_met u root done v c.args.self.now (record { shared = m.shared; in_first = sorted_matches u laws lawful.same_solvable v m.shared (subst Has same m.in_first); in_second = subst Has c.solvables.ensures m.in_second }) b
+    between_met u root done v c.args.self.now
+    (record {
+      shared = m.shared;
+      in_first = sorted_matches u laws lawful.same_solvable v m.shared (subst Has same m.in_first);
+      in_second = subst Has c.solvables.ensures m.in_second;
+    }) b
 
 pub take_first-requires-clause-asked : goal.take_first-requires-clause-asked
 take_first-requires-clause-asked g c = λ k d below.
     let u = g.D.Interner.universe c.args.provider.now in
     let v = c.args.version_set in
     let laws = g.met.D.DependencyProvider.lawful_packages c.args.provider.now in
-    let lawful = lawful_solvables u g.S.PartialEq.eq (g.met.D.Interner.lawful_ids c.args.provider.now) (g.met.D.Interner.solvables_compare c.args.provider.now) g.met.D.Interner.solvables_are_values in
+    let lawful = lawful_solvables u g.S.PartialEq.eq (g.met.D.Interner.lawful_ids c.args.provider.now)
+    (g.met.D.Interner.solvables_compare c.args.provider.now) g.met.D.Interner.solvables_are_values in
     let all = c.deref-2.result.now in
     let same : all ≡ sorted_candidates u v = c.deref-2.ensures.value ∙ c.in_ok-candidates.ensures.value in
     let s = get_or all k d in
@@ -41,27 +48,40 @@ take_first-requires-clause-asked g c = λ k d below.
 pub take_first-requires-clause-none : goal.take_first-requires-clause-none
 take_first-requires-clause-none g c = λ m.
     let Has : List g.row.S.Denot → Type 0 = λ list. Contains list m.shared in
-    c.if-has_any.ensures (record { shared = m.shared; in_first = subst Has (c.deref-2.ensures.value ∙ sym c.deref.ensures.value) m.in_first; in_second = subst Has (c.in_ok-ask.ensures.chosen ∙ sym c.solvables.ensures) m.in_second })
+    c.if-has_any.ensures (record {
+      shared = m.shared;
+      in_first = subst Has (c.deref-2.ensures.value ∙ sym c.deref.ensures.value) m.in_first;
+      in_second = subst Has (c.in_ok-ask.ensures.chosen ∙ sym c.solvables.ensures) m.in_second;
+    })
 
 pub returns-clause-between : goal.returns-clause-between
 returns-clause-between g c = λ root done b.
     let u = g.D.Interner.universe c.args.provider.now in
     let v = c.args.version_set in
     let laws = g.met.D.DependencyProvider.lawful_packages c.args.provider.now in
-    let lawful = lawful_solvables u g.S.PartialEq.eq (g.met.D.Interner.lawful_ids c.args.provider.now) (g.met.D.Interner.solvables_compare c.args.provider.now) g.met.D.Interner.solvables_are_values in
+    let lawful = lawful_solvables u g.S.PartialEq.eq (g.met.D.Interner.lawful_ids c.args.provider.now)
+    (g.met.D.Interner.solvables_compare c.args.provider.now) g.met.D.Interner.solvables_are_values in
     let old = c.args.self.now in
     let all = c.deref-2.result.now in
     let same : all ≡ sorted_candidates u v = c.deref-2.ensures.value ∙ c.in_ok-candidates.ensures.value in
     let r : SoftRequirement g.row.S.Denot = Matching v in
     let seeds : List g.row.S.Denot = flat_map (options u) (done ++ r ∷ []) in
     let packages : List g.row.N.Denot = flat_map (own_packages u) (done ++ r ∷ []) in
-    let match : IsWithin all (matching u v) = λ s h. let Has : List g.row.S.Denot → Type 0 = λ list. Contains list s in sorted_matches u laws lawful.same_solvable v s (subst Has same h) in
-    let every : IsWithin (matching u v) all = λ s h. let Has : List g.row.S.Denot → Type 0 = λ list. Contains list s in subst Has (sym same) (sorted_has u lawful.same_solvable laws v s h) in
+    let match : IsWithin all (matching u v) = λ s h. let Has : List g.row.S.Denot → Type 0 = λ list. Contains list s in
+    sorted_matches u laws lawful.same_solvable v s (subst Has same h) in
+    let every : IsWithin (matching u v) all = λ s h. let Has : List g.row.S.Denot → Type 0 = λ list. Contains list s in
+    subst Has (sym same) (sorted_has u lawful.same_solvable laws v s h) in
     let own : Contains packages (u.version_set_name v) = gathered_last (own_packages u) done r (u.version_set_name v) (here (u.version_set_name v) []) in
     let never : Meets (matching u v) (chosen_of old) → ⊥ = λ m.
     let Has : List g.row.S.Denot → Type 0 = λ list. Contains list m.shared in
-    c.if-has_any.ensures (record { shared = m.shared; in_first = subst Has (c.deref-2.ensures.value ∙ sym c.deref.ensures.value) (every m.shared m.in_first); in_second = subst Has (sym c.solvables.ensures) m.in_second })
+    c.if-has_any.ensures (record {
+      shared = m.shared;
+      in_first = subst Has (c.deref-2.ensures.value ∙ sym c.deref.ensures.value) (every m.shared m.in_first);
+      in_second = subst Has (sym c.solvables.ensures) m.in_second;
+    })
     in
     let alone = c.in_ok-ask.ensures.alone in
-    between_tried u root done v all old c.ask.new.self c.take_first.new.self _ b never match every c.in_ok-ask.ensures.chosen alone.exempt alone.asked.stays (alone.asked.all (u.version_set_name v) refl)
-    (c.in_ok-take_first.ensures.turned root b.taken b.refused seeds packages (λ s h. gathered_last (options u) done r s (match s h)) (c.in_ok-ask.ensures.standing root b.taken b.refused seeds packages own (standing_for u root done r b.taken b.refused old b.standing)))
+    between_tried u root done v all old c.ask.new.self c.take_first.new.self _ b never match every c.in_ok-ask.ensures.chosen alone.exempt alone.asked.stays
+    (alone.asked.all (u.version_set_name v) refl)
+    (c.in_ok-take_first.ensures.turned root b.taken b.refused seeds packages (λ s h. gathered_last (options u) done r s (match s h))
+    (c.in_ok-ask.ensures.standing root b.taken b.refused seeds packages own (standing_for u root done r b.taken b.refused old b.standing)))

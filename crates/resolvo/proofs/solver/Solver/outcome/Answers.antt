@@ -12,8 +12,10 @@ pub returns-in-Ok-Contradiction-clause-refusal : goal.returns-in-Ok-Contradictio
 returns-in-Ok-Contradiction-clause-refusal g c = λ root soft done.
     let u = g.D.Interner.universe c.args.self.now.provider in
     let rounds = c.args.rounds.now in
-    let it : IsDone u root soft rounds c.in-Ok-Contradiction.field-0 = found_at (IsDone u root soft rounds) c.args.found c.in-Ok-Contradiction.field-0 c.in-Ok-Contradiction.is done in
-    let both : IsReadSoFar u root (chosen_of rounds) (notes_of rounds) × IsCore (notes_of rounds).table c.in-Ok-Contradiction.core.items = rw c.in-Ok-Contradiction.field-0-is at it in
+    let it : IsDone u root soft rounds c.in-Ok-Contradiction.field-0 =
+    found_at (IsDone u root soft rounds) c.args.found c.in-Ok-Contradiction.field-0 c.in-Ok-Contradiction.is done in
+    let both : IsReadSoFar u root (chosen_of rounds) (notes_of rounds) × IsCore (notes_of rounds).table c.in-Ok-Contradiction.core.items =
+    rw c.in-Ok-Contradiction.field-0-is at it in
     let CoreOf : List ℕ → Type 0 = λ ns. IsCore (notes_of rounds).table ns in
     c.refuse.ensures.refusal root (notes_of rounds) (sym c.kinds.ensures) both.0.half.encoding (subst CoreOf (sym c.deref.ensures.value) both.1)
 

@@ -15,7 +15,8 @@ use Rattle.resolvo.proofs.RefusalLemmas.{IfErr-weaker}
 use Rattle.resolvo.proofs.solver.Solver.solve.Goals as goal
 
 pub outcome-answer-requires-clause-sound : goal.outcome-answer-requires-clause-sound
-outcome-answer-requires-clause-sound g c = still_sound g.D.Interner.universe _ c.count.new.self c.find-found.ensures.is_true c.requires.sound.fits c.count.ensures.rest
+outcome-answer-requires-clause-sound g c =
+    still_sound g.D.Interner.universe _ c.count.new.self c.find-found.ensures.is_true c.requires.sound.fits c.count.ensures.rest
 
 pub outcome-answer-requires-clause-stop : goal.outcome-answer-requires-clause-stop
 outcome-answer-requires-clause-stop g c =
@@ -26,7 +27,10 @@ outcome-answer-requires-clause-stop g c =
     let limits = c.count.ensures.rest.limits in
     IfErr-weaker (IsStop (g.D.DependencyProvider.may_cancel p) (IsStuck rounds)) (IsStop (g.D.DependencyProvider.may_cancel s.provider) (IsAtLimit s))
     (λ e h. let Stops : g.row.D.Denot → Type 0 = λ q. IsStop (g.D.DependencyProvider.may_cancel q) (IsAtLimit s) e in
-    subst Stops (sym c.count.ensures.rest.provider) (stop_weaker (g.D.DependencyProvider.may_cancel p) (IsStuck rounds) (IsAtLimit s) (at_limit c.new-rounds.result rounds s c.find-found.ensures.limits (made.variables ∙ sym limits.variables) (made.clauses ∙ sym limits.clauses) (made.all_clauses ∙ sym limits.clauses) (made.learnt ∙ sym limits.learnt) c.count.ensures.counted) e h))
+    subst Stops (sym c.count.ensures.rest.provider)
+    (stop_weaker (g.D.DependencyProvider.may_cancel p) (IsStuck rounds) (IsAtLimit s)
+    (at_limit c.new-rounds.result rounds s c.find-found.ensures.limits (made.variables ∙ sym limits.variables) (made.clauses ∙ sym limits.clauses)
+    (made.all_clauses ∙ sym limits.clauses) (made.learnt ∙ sym limits.learnt) c.count.ensures.counted) e h))
     c.find-found.result c.find-found.ensures.refusal
 
 pub returns-clause-answer : goal.returns-clause-answer
@@ -36,21 +40,37 @@ returns-clause-answer g c =
     let rounds = c.find-found.new.self in
     let root = demands_in c.args.problem in
     let given : Demands = record { requirements = c.root_requirements.result.now; constraints = c.root_constraints.result.now } in
-    let same : given ≡ root = same_demands root c.root_requirements.result.now c.root_constraints.result.now c.root_requirements.ensures c.root_constraints.ensures in
+    let same : given ≡ root = same_demands root c.root_requirements.result.now c.root_constraints.result.now c.root_requirements.ensures
+    c.root_constraints.ensures in
     let provider : s.provider ≡ p = c.count.ensures.rest.provider in
     let Gives : List g.row.D-SolvableId.Denot → Type 0 = λ xs. AreItems g.S.Iterator.next_gives (soft_in c.args.problem) xs in
-    let From : Option g.row.S.Denot → Type 0 = λ o. IfOk c.find-found.result (λ f. (xs : List g.row.D-SolvableId.Denot) × (f ≡ Answer → AreItems g.S.Iterator.next_gives o xs) × IsDone (g.D.Interner.universe p) given (map Solvable xs ++ c.listed_soft_requirements.result.now) rounds f) in
-    let w = soft_given Gives (λ f. f ≡ Answer) (λ xs f. IsDone (g.D.Interner.universe p) given (map Solvable xs ++ c.listed_soft_requirements.result.now) rounds f) c.find-found.result (subst From c.take-soft.ensures.value c.find-found.ensures.done) in
-    let DoneFor : g.row.D.Denot → Demands → Type 0 = λ q d. IfOk c.find-found.result (IsDone (g.D.Interner.universe q) d (map Solvable w.0 ++ c.listed_soft_requirements.result.now) rounds) in
+    let From : Option g.row.S.Denot → Type 0 =
+    λ o. IfOk c.find-found.result (λ f.
+    (xs : List g.row.D-SolvableId.Denot) × (f ≡ Answer → AreItems g.S.Iterator.next_gives o xs) ×
+    IsDone (g.D.Interner.universe p) given (map Solvable xs ++ c.listed_soft_requirements.result.now) rounds f) in
+    let w = soft_given Gives (λ f. f ≡ Answer) (λ xs f.
+    IsDone (g.D.Interner.universe p) given (map Solvable xs ++ c.listed_soft_requirements.result.now) rounds f) c.find-found.result
+    (subst From c.take-soft.ensures.value c.find-found.ensures.done) in
+    let DoneFor : g.row.D.Denot → Demands → Type 0 =
+    λ q d. IfOk c.find-found.result (IsDone (g.D.Interner.universe q) d (map Solvable w.0 ++ c.listed_soft_requirements.result.now) rounds) in
     let DoneBy : g.row.D.Denot → Type 0 = λ q. DoneFor q root in
     let done : DoneFor s.provider root = subst DoneBy (sym provider) (subst (DoneFor p) same w.2) in
     let list = c.listed_soft_requirements.result.now in
-    let Answered : List (SoftRequirement g.row.D-SolvableId.Denot) → List g.row.D-SolvableId.Denot → Type 0 = λ more chosen. IsSoftAnswer (g.D.Interner.universe p) root (map Solvable w.0 ++ more) chosen (exempt_in c.outcome-answer.new.self) in
-    IfOk-both (λ chosen. (d : Demands) (xs : List (SoftRequirement g.row.D-SolvableId.Denot)) → IfOk c.find-found.result (IsDone (g.D.Interner.universe s.provider) d xs rounds) → IsSoftAnswer (g.D.Interner.universe s.provider) d xs chosen.items (exempt_in c.outcome-answer.new.self))
-    (λ chosen. (xs : List g.row.D-SolvableId.Denot) × Gives xs × IsSoftAnswer (g.D.Interner.universe p) root (map Solvable xs ++ list_in c.args.problem) chosen.items (exempt_in c.outcome-answer.new.self))
+    let Answered : List (SoftRequirement g.row.D-SolvableId.Denot) → List g.row.D-SolvableId.Denot → Type 0 =
+    λ more chosen. IsSoftAnswer (g.D.Interner.universe p) root (map Solvable w.0 ++ more) chosen (exempt_in c.outcome-answer.new.self) in
+    IfOk-both (λ chosen. (d : Demands) (xs : List (SoftRequirement g.row.D-SolvableId.Denot)) →
+    IfOk c.find-found.result (IsDone (g.D.Interner.universe s.provider) d xs rounds) →
+    IsSoftAnswer (g.D.Interner.universe s.provider) d xs chosen.items (exempt_in c.outcome-answer.new.self))
+    (λ chosen. (xs : List g.row.D-SolvableId.Denot) × Gives xs ×
+    IsSoftAnswer (g.D.Interner.universe p) root (map Solvable xs ++ list_in c.args.problem) chosen.items (exempt_in c.outcome-answer.new.self))
     (c.find-found.result ≡ Ok Answer)
-    (λ chosen h is. let For : g.row.D.Denot → Type 0 = λ q. IsSoftAnswer (g.D.Interner.universe q) root (map Solvable w.0 ++ list) chosen.items (exempt_in c.outcome-answer.new.self) in
-    (w.0, found_at (λ f. f ≡ Answer → Gives w.0) c.find-found.result Answer is w.1 refl, (let For-list : List (SoftRequirement g.row.D-SolvableId.Denot) → Type 0 = λ more. Answered more chosen.items in subst For-list c.listed_soft_requirements.ensures (subst For provider (h root (map Solvable w.0 ++ list) done)))))
+    (λ chosen h is. let For : g.row.D.Denot →
+    Type 0 = λ q. IsSoftAnswer (g.D.Interner.universe q) root (map Solvable w.0 ++ list) chosen.items (exempt_in c.outcome-answer.new.self) in (
+      w.0,
+      found_at (λ f. f ≡ Answer → Gives w.0) c.find-found.result Answer is w.1 refl,
+      (let For-list : List (SoftRequirement g.row.D-SolvableId.Denot) → Type 0 = λ more. Answered more chosen.items in
+          subst For-list c.listed_soft_requirements.ensures (subst For provider (h root (map Solvable w.0 ++ list) done))),
+    ))
     c.outcome-answer.result c.outcome-answer.ensures.answer c.outcome-answer.ensures.found
 
 pub returns-clause-refusal : goal.returns-clause-refusal
@@ -60,14 +80,22 @@ returns-clause-refusal g c =
     let rounds = c.find-found.new.self in
     let root = demands_in c.args.problem in
     let given : Demands = record { requirements = c.root_requirements.result.now; constraints = c.root_constraints.result.now } in
-    let same : given ≡ root = same_demands root c.root_requirements.result.now c.root_constraints.result.now c.root_requirements.ensures c.root_constraints.ensures in
+    let same : given ≡ root = same_demands root c.root_requirements.result.now c.root_constraints.result.now c.root_requirements.ensures
+    c.root_constraints.ensures in
     let provider : s.provider ≡ p = c.count.ensures.rest.provider in
     let Gives : List g.row.D-SolvableId.Denot → Type 0 = λ xs. AreItems g.S.Iterator.next_gives c.take-soft.result xs in
-    let w = soft_given Gives (λ f. f ≡ Answer) (λ xs f. IsDone (g.D.Interner.universe p) given (map Solvable xs ++ c.listed_soft_requirements.result.now) rounds f) c.find-found.result c.find-found.ensures.done in
-    let DoneFor : g.row.D.Denot → Demands → Type 0 = λ q d. IfOk c.find-found.result (IsDone (g.D.Interner.universe q) d (map Solvable w.0 ++ c.listed_soft_requirements.result.now) rounds) in
+    let w = soft_given Gives (λ f. f ≡ Answer) (λ xs f.
+    IsDone (g.D.Interner.universe p) given
+    (map Solvable xs ++ c.listed_soft_requirements.result.now) rounds f) c.find-found.result c.find-found.ensures.done in
+    let DoneFor : g.row.D.Denot → Demands → Type 0 =
+    λ q d. IfOk c.find-found.result (IsDone (g.D.Interner.universe q) d (map Solvable w.0 ++ c.listed_soft_requirements.result.now) rounds) in
     let DoneBy : g.row.D.Denot → Type 0 = λ q. DoneFor q root in
     let done : DoneFor s.provider root = subst DoneBy (sym provider) (subst (DoneFor p) same w.2) in
-    IfErr-weaker (λ e. (d : Demands) (xs : List (SoftRequirement g.row.D-SolvableId.Denot)) → IfOk c.find-found.result (IsDone (g.D.Interner.universe s.provider) d xs rounds) → IsRefusal (g.D.Interner.universe s.provider) (g.D.DependencyProvider.may_cancel s.provider) d (IsAtLimit c.outcome-answer.new.self) e)
+    IfErr-weaker (λ e. (d : Demands) (xs : List (SoftRequirement g.row.D-SolvableId.Denot)) →
+    IfOk c.find-found.result (IsDone (g.D.Interner.universe s.provider) d xs rounds) →
+    IsRefusal (g.D.Interner.universe s.provider) (g.D.DependencyProvider.may_cancel s.provider) d (IsAtLimit c.outcome-answer.new.self) e)
     (λ e. IsRefusal (g.D.Interner.universe p) (g.D.DependencyProvider.may_cancel p) root (IsAtLimit c.outcome-answer.new.self) e)
-    (λ e h. let For : g.row.D.Denot → Type 0 = λ q. IsRefusal (g.D.Interner.universe q) (g.D.DependencyProvider.may_cancel q) root (IsAtLimit c.outcome-answer.new.self) e in subst For provider (h root (map Solvable w.0 ++ c.listed_soft_requirements.result.now) done))
+    (λ e h. let For : g.row.D.Denot →
+    Type 0 = λ q. IsRefusal (g.D.Interner.universe q) (g.D.DependencyProvider.may_cancel q) root (IsAtLimit c.outcome-answer.new.self) e in
+    subst For provider (h root (map Solvable w.0 ++ c.listed_soft_requirements.result.now) done))
     c.outcome-answer.result c.outcome-answer.ensures.refusal

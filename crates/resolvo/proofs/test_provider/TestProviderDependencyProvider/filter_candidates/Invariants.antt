@@ -3,4 +3,5 @@ use Rattle.resolvo.specs.TestProvider.{takes}
 use Rattle.resolvo.proofs.test_provider.TestProviderDependencyProvider.filter_candidates.Given as goal
 
 abbrev pub invariant-loop-solvable : goal.invariant-loop-solvable
-invariant-loop-solvable l = l.kept.items ≡ cond l.inverse (filter (λ s. not (takes l.version_set s)) (take l.solvable-index l.candidates)) (filter (takes l.version_set) (take l.solvable-index l.candidates))
+invariant-loop-solvable l = l.kept.items ≡ cond l.inverse (filter (λ s. not (takes l.version_set s)) (take l.solvable-index l.candidates))
+    (filter (takes l.version_set) (take l.solvable-index l.candidates))

@@ -7,19 +7,43 @@ use Rattle.resolve.proofs.catalog.tables.PackageTable.exclude.Goals as goal
 
 pub invariant_of-self : goal.invariant_of-self
 invariant_of-self c =
-    let h = IsPackageOf-at c.args.self.now.versions.keys c.args.self.now.packages.items c.in-Some.package c.index_mut.result.now c.in-Some.ensures.within c.index_mut.ensures.value c.args.self.now.lawful in
-    record { lawful = ArePackagesOf-set _ _ _ _ c.args.self.now.lawful (record { listed = h.listed; rising = h.rising; favored = h.favored; locked = h.locked; excluded = All-pushed (λ e. IsVersionOf c.args.self.now.versions.keys c.in-Some.package e.0) _ _ _ _ c.push.ensures.items h.excluded c.in-Some.ensures.version }) }
+    let h = IsPackageOf-at c.args.self.now.versions.keys c.args.self.now.packages.items c.in-Some.package c.index_mut.result.now c.in-Some.ensures.within
+    c.index_mut.ensures.value c.args.self.now.lawful in
+    record {
+      lawful = ArePackagesOf-set _ _ _ _ c.args.self.now.lawful
+          (record {
+            listed = h.listed;
+            rising = h.rising;
+            favored = h.favored;
+            locked = h.locked;
+            excluded = All-pushed (λ e. IsVersionOf c.args.self.now.versions.keys c.in-Some.package e.0) _ _ _ _ c.push.ensures.items h.excluded
+                c.in-Some.ensures.version;
+          });
+    }
 
 pub invariant_of-self-2 : goal.invariant_of-self-2
 invariant_of-self-2 c =
-    let h = IsPackageOf-at c.args.self.now.versions.keys c.args.self.now.packages.items c.in-Some.package c.index_mut.result.now c.in-Some.ensures.within c.index_mut.ensures.value c.args.self.now.lawful in
-    record { lawful = ArePackagesOf-set _ _ _ _ c.args.self.now.lawful (record { listed = h.listed; rising = h.rising; favored = h.favored; locked = h.locked; excluded = All-pushed (λ e. IsVersionOf c.args.self.now.versions.keys c.in-Some.package e.0) _ _ _ _ c.push.ensures.items h.excluded c.in-Some.ensures.version }) }
+    let h = IsPackageOf-at c.args.self.now.versions.keys c.args.self.now.packages.items c.in-Some.package c.index_mut.result.now c.in-Some.ensures.within
+    c.index_mut.ensures.value c.args.self.now.lawful in
+    record {
+      lawful = ArePackagesOf-set _ _ _ _ c.args.self.now.lawful
+          (record {
+            listed = h.listed;
+            rising = h.rising;
+            favored = h.favored;
+            locked = h.locked;
+            excluded = All-pushed (λ e. IsVersionOf c.args.self.now.versions.keys c.in-Some.package e.0) _ _ _ _ c.push.ensures.items h.excluded
+                c.in-Some.ensures.version;
+          });
+    }
 
 pub returns-clause-excluded : goal.returns-clause-excluded
 returns-clause-excluded c =
     let within : c.args.solvable.0 < length c.args.self.now.solvables.items = omega arith in
-    let read = slice_get_read c.args.self.now.solvables.items (length c.args.self.now.solvables.items) c.args.solvable.0 c.index.result.now refl within c.index.ensures in
-    let stood = slice_get_read c.args.self.now.solvables.items (length c.args.self.now.solvables.items) c.args.solvable.0 c.index_mut-2.result.now refl within c.index_mut-2.ensures.value in
+    let read = slice_get_read c.args.self.now.solvables.items
+    (length c.args.self.now.solvables.items) c.args.solvable.0 c.index.result.now refl within c.index.ensures in
+    let stood = slice_get_read c.args.self.now.solvables.items
+    (length c.args.self.now.solvables.items) c.args.solvable.0 c.index_mut-2.result.now refl within c.index_mut-2.ensures.value in
     record {
       before = c.index_mut-2.result.now;
       stood = stood;
@@ -27,8 +51,11 @@ returns-clause-excluded c =
       marked = refl;
       package_before = c.index_mut.result.now;
       package_after = record c.index_mut.result.now { excluded = c.push.new.self };
-      package_stood = ap (λ (n : ℕ). slice_get c.args.self.now.packages.items n) c.in-Some.ensures.version.named ∙ slice_get_read c.args.self.now.packages.items (length c.args.self.now.packages.items) c.in-Some.package c.index_mut.result.now refl c.in-Some.ensures.within c.index_mut.ensures.value;
-      written = ap (λ (n : ℕ). set c.args.self.now.packages.items n (record c.index_mut.result.now { excluded = c.push.new.self })) (sym c.in-Some.ensures.version.named);
+      package_stood = ap (λ (n : ℕ). slice_get c.args.self.now.packages.items n) c.in-Some.ensures.version.named ∙
+          slice_get_read c.args.self.now.packages.items
+          (length c.args.self.now.packages.items) c.in-Some.package c.index_mut.result.now refl c.in-Some.ensures.within c.index_mut.ensures.value;
+      written = ap (λ (n : ℕ). set c.args.self.now.packages.items n (record c.index_mut.result.now { excluded = c.push.new.self }))
+          (sym c.in-Some.ensures.version.named);
       excluded = c.in_ok-push.ensures.items;
       candidates = refl;
       favored = refl;
