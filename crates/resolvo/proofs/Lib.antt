@@ -35,3 +35,4 @@ pub mod DecideLemmas
 pub mod MarkedLemmas
 pub mod VerdictLemmas
 pub mod RuleClauseLemmas
+pub mod RotationLemmas

@@ -217,10 +217,10 @@ marked_among (false ∷ marks) (true ∷ others) (y ∷ xs) among x inside =
 marked_among (false ∷ marks) (false ∷ others) (y ∷ xs) among x inside = marked_among marks others xs (λ k is. among (suc k) is) x inside
 
 -- which of the others there are
-others_before : (kept : List Bool) (n k : ℕ) → k < length kept → get_or (others_of kept n) k false ≡ get_or kept k false
+pub others_before : (kept : List Bool) (n k : ℕ) → k < length kept → get_or (others_of kept n) k false ≡ get_or kept k false
 others_before kept n k below = get_or_append_left kept (false ∷ replicate n true) false k below
 
-others_at : (kept : List Bool) (n : ℕ) → get_or (others_of kept n) (length kept) false ≡ false
+pub others_at : (kept : List Bool) (n : ℕ) → get_or (others_of kept n) (length kept) false ≡ false
 others_at kept n = get_or-append_seam kept false (replicate n true) false
 
 others_behind : (kept : List Bool) (n k : ℕ) → length kept < k → k < length kept + suc n → get_or (others_of kept n) k false ≡ true

@@ -20,5 +20,6 @@ pub mod RoundStates
 pub mod Minimal
 pub mod RuleClauses
 pub mod MarkedClauses
+pub mod Rotations
 pub mod NoPackages
 pub mod AddedLines

@@ -14,7 +14,7 @@ use Rattle.resolvo.specs.Minimal.{IsRefutedPart, marked}
 use Rattle.resolvo.specs.declared.clause_search.Outcome.{Outcome}
 use Rattle.resolvo.specs.declared.clause_search.Outcome.TheVariants.{Finished, Contradiction, Refused}
 use Rattle.resolvo.specs.declared.minimal.decision.Verdict.{Verdict}
-use Rattle.resolvo.specs.declared.minimal.decision.Verdict.TheVariants.{Obeyed, Refuted, Undecided}
+use Rattle.resolvo.specs.declared.minimal.decision.Verdict.TheVariants.{Obeyed, Refuted}
 use Rattle.resolvo.specs.declared.minimal.rule_clauses.RuleClause.{RuleClause}
 
 -- the rule of the clause is marked
@@ -55,8 +55,7 @@ EndsWith given numbers trail Finished = (requirements : List RequirementClause) 
 EndsWith given numbers trail (Contradiction core) = IsCore given core.items
 EndsWith given numbers trail Refused = ⊤
 
--- some set obeys the marked rules, or none obeys those with these marks, or nothing is known
+-- some set obeys the marked rules, or none obeys those with these marks
 abbrev pub VerdictIs : {N S : Type 0} → List (Rule N S) → List Bool → Verdict → Type 0
-VerdictIs rules marks Obeyed = IsRefuted (marked marks rules) → ⊥
+VerdictIs rules marks (Obeyed values) = IsRefuted (marked marks rules) → ⊥
 VerdictIs rules marks (Refuted part) = IsRefutedPart rules marks part.items
-VerdictIs rules marks Undecided = ⊤

@@ -2,21 +2,24 @@
 
 mod decision;
 mod no_packages;
+mod rotation;
 mod rule_clauses;
 mod rule_codes;
 
-ghost use Rattle.std.specs.Prelude.{[], IfErr, IfNone, IfOk, IfSome, OnOk, length, take, ◌+◌, ◌-◌, ◌<◌, ◌≡◌};
-ghost use Rattle.std.specs.List.{AllZip};
+ghost use Rattle.std.specs.Prelude.{[], IfErr, IfOk, IfSome, IsSome, OnOk, false, length, take, true, ◌+◌, ◌-◌, ◌<◌, ◌≡◌};
+ghost use Rattle.std.specs.List.{AllZip, slice_index_or};
 ghost use Rattle.resolver_clause_store.specs.Laws.{IsIdentity};
 ghost use Rattle.resolver_clause_store.specs.Statements.{StatesTheSame};
 ghost use Rattle.resolver_clause_store.specs.Rules.{IsRefuted};
 ghost use Rattle.resolvo.specs.MarkedClauses.{VerdictIs};
 ghost use Rattle.resolvo.specs.RuleClauses.{DecideRules};
-ghost use Rattle.resolvo.specs.Minimal.{IsRefutedPart, IsUnderway, LeavesInTurn, marked, others_of};
+ghost use Rattle.resolvo.specs.Minimal.{IsUnderway, LeavesInTurn, marked, others_of};
+ghost use Rattle.resolvo.specs.Rotations.{AreNeeded, AreUnderway};
 
 use decision::{Verdict, decide};
 use resolver_clause_store::{Exhausted, Rule};
 use resolver_report::find;
+use rotation::rotate;
 use rule_clauses::{RuleClauses, clauses_of};
 use std::alloc::{AllocError, Global};
 use std::hash::Hash;
@@ -83,10 +86,10 @@ fn verdict_of<N, S>(
     rules: &[Rule<N, S>],
     form: &Option<RuleClauses>,
     marks: &[bool],
-) -> Result<Verdict, Exhausted>
+) -> Result<Option<Verdict>, Exhausted>
     requires size { length marks.now ≡ length rules.now }
     requires form { IfSome form.now (λ form. DecideRules rules.now form.variables form.clauses.items) }
-    ensures verdict { IfOk result (VerdictIs rules.now marks.now) }
+    ensures verdict { IfOk result (λ answer. IfSome answer (VerdictIs rules.now marks.now)) }
     ensures memory { IfErr result (λ e. e ≡ Exhausted.Memory) }
 {
     match form {
@@ -94,54 +97,51 @@ fn verdict_of<N, S>(
             let verdict = decide(alloc, rules, form, marks)?;
             Ok(verdict)
         }
-        None => Ok(Verdict::Undecided),
+        None => Ok(None),
     }
 }
 
-/// The same as `refuted_part` by the plain search, which may take exponential time.
-fn refuted_plainly<N: Copy + Eq + Drop, S: Copy + Eq + Drop>(
+/// What the plain search decides of the marked rules, which may take exponential time.
+fn decide_plainly<N: Copy + Eq + Drop, S: Copy + Eq + Drop>(
     alloc: Global,
     rules: &[Rule<N, S>],
     marks: &[bool],
-) -> Result<Option<Vec<bool>>, Exhausted>
+) -> Result<Verdict, Exhausted>
     requires names { IsIdentity N.eq }
     requires solvables { IsIdentity S.eq }
     requires size { length marks.now ≡ length rules.now }
-    ensures part { IfOk result (λ answer. IfSome answer (λ part. IsRefutedPart rules.now marks.now part.items)) }
-    ensures obeyed { IfOk result (λ answer. IfNone answer (IsRefuted (marked marks.now rules.now) → ⊥)) }
+    ensures verdict { IfOk result (VerdictIs rules.now marks.now) }
     ensures memory { IfErr result (λ e. e ≡ Exhausted.Memory) }
 {
     let copies = copies_of(alloc, rules, marks)?;
     match find(alloc, &copies)? {
-        Some(_) => Ok(None),
+        Some(_) => Ok(Verdict::Obeyed(Vec::new(alloc))),
         None => {
             let part = Vec::from_slice(alloc, marks)?;
-            Ok(Some(part))
+            Ok(Verdict::Refuted(part))
         }
     }
 }
 
-/// Marks of a part of these rules that no set obeys, or `None` where some set obeys those whose marks are true.
-fn refuted_part<N: Copy + Eq + Drop, S: Copy + Eq + Drop>(
+/// Whether some set obeys the marked rules: by their clauses, or by the plain search where there are none or ids run out.
+fn verdict_on<N: Copy + Eq + Drop, S: Copy + Eq + Drop>(
     alloc: Global,
     rules: &[Rule<N, S>],
     form: &Option<RuleClauses>,
     marks: &[bool],
-) -> Result<Option<Vec<bool>>, Exhausted>
+) -> Result<Verdict, Exhausted>
     requires names { IsIdentity N.eq }
     requires solvables { IsIdentity S.eq }
     requires size { length marks.now ≡ length rules.now }
     requires form { IfSome form.now (λ form. DecideRules rules.now form.variables form.clauses.items) }
-    ensures part { IfOk result (λ answer. IfSome answer (λ part. IsRefutedPart rules.now marks.now part.items)) }
-    ensures obeyed { IfOk result (λ answer. IfNone answer (IsRefuted (marked marks.now rules.now) → ⊥)) }
+    ensures verdict { IfOk result (VerdictIs rules.now marks.now) }
     ensures memory { IfErr result (λ e. e ≡ Exhausted.Memory) }
 {
     match verdict_of(alloc, rules, form, marks)? {
-        Verdict::Refuted(part) => Ok(Some(part)),
-        Verdict::Obeyed => Ok(None),
-        Verdict::Undecided => {
-            let answer = refuted_plainly(alloc, rules, marks)?;
-            Ok(answer)
+        Some(verdict) => Ok(verdict),
+        None => {
+            let verdict = decide_plainly(alloc, rules, marks)?;
+            Ok(verdict)
         }
     }
 }
@@ -159,39 +159,85 @@ fn others(alloc: Global, kept: &[bool], count: usize) -> Result<Vec<bool>, Alloc
     Ok(marks)
 }
 
+/// How far the turns have come.
+#[derive(Drop)]
+struct Turns {
+    /// Of the rules that had their turns, which were kept.
+    kept: Vec<bool>,
+    /// What the last search has found of rules that no set obeys. All of them are still there.
+    core: Vec<bool>,
+    /// Rules that are known to be needed.
+    needed: Vec<bool>,
+}
+
+/// Marks further rules that are needed, beginning with values under which all rules that are still there but one are obeyed.
+fn note_needed(
+    alloc: Global,
+    form: &Option<RuleClauses>,
+    turns: &mut Turns,
+    values: Vec<bool>,
+) -> Result<(), AllocError>
+    requires needed { IfSome form.now (λ form. AreNeeded form.clauses.items turns.old.kept.items turns.old.needed.items) }
+    ensures needed { OnOk result (IfSome form.now (λ form. AreNeeded form.clauses.items turns.new.kept.items turns.new.needed.items)) }
+    ensures size { OnOk result (length turns.new.needed.items ≡ length turns.old.needed.items) }
+    ensures kept { turns.new.kept ≡ turns.old.kept }
+    ensures core { turns.new.core ≡ turns.old.core }
+{
+    if let Some(form) = form {
+        rotate(alloc, &form.clauses, &turns.kept, &mut turns.needed, values)?;
+    }
+    Ok(())
+}
+
+/// Whether the rule that has its turn is known to be needed.
+fn is_needed(form: &Option<RuleClauses>, turns: &Turns) -> bool
+    requires { length turns.now.kept.items < length turns.now.needed.items }
+    ensures some { result ≡ true → IsSome form.now }
+    ensures marked { result ≡ true → slice_index_or turns.now.needed.items (length turns.now.kept.items) false ≡ true }
+{
+    match form {
+        Some(_) => turns.needed[turns.kept.len()],
+        None => false,
+    }
+}
+
 /// The turn of the rule behind the first ones: it is kept if some set obeys the others.
 ///
-/// A rule outside of the core is left out without a search. The core is what the last search has found, and is there as
-/// long as none of its rules is left out, which asks for a search.
+/// A rule outside of the core is left out without a search, and one that is known to be needed is kept without one. The core
+/// is there as long as none of its rules is left out, which asks for a search.
 fn take_turn<N: Copy + Eq + Drop, S: Copy + Eq + Drop>(
     alloc: Global,
     rules: &[Rule<N, S>],
     form: &Option<RuleClauses>,
-    kept: &mut Vec<bool>,
-    core: &mut Vec<bool>,
+    turns: &mut Turns,
 ) -> Result<(), Exhausted>
     requires names { IsIdentity N.eq }
     requires solvables { IsIdentity S.eq }
     requires form { IfSome form.now (λ form. DecideRules rules.now form.variables form.clauses.items) }
-    requires inside { length kept.old.items < length rules.now }
-    requires underway { IsUnderway rules.now kept.old.items core.old.items }
-    ensures underway { OnOk result (IsUnderway rules.now kept.new.items core.new.items) }
-    ensures next { OnOk result (length kept.new.items ≡ length kept.old.items + 1) }
+    requires inside { length turns.old.kept.items < length rules.now }
+    requires underway { AreUnderway rules.now form.now turns.old }
+    ensures underway { OnOk result (AreUnderway rules.now form.now turns.new) }
+    ensures next { OnOk result (length turns.new.kept.items ≡ length turns.old.kept.items + 1) }
     ensures memory { IfErr result (λ e. e ≡ Exhausted.Memory) }
 {
-    if !core[kept.len()] {
-        kept.push(false)?;
+    if !turns.core[turns.kept.len()] {
+        turns.kept.push(false)?;
         return Ok(());
     }
-    let marks = others(alloc, kept, rules.len())?;
-    match refuted_part(alloc, rules, form, &marks)? {
-        Some(part) => {
-            *core = part;
-            kept.push(false)?;
+    if is_needed(form, turns) {
+        turns.kept.push(true)?;
+        return Ok(());
+    }
+    let marks = others(alloc, &turns.kept, rules.len())?;
+    match verdict_on(alloc, rules, form, &marks)? {
+        Verdict::Refuted(part) => {
+            turns.core = part;
+            turns.kept.push(false)?;
             Ok(())
         }
-        None => {
-            kept.push(true)?;
+        Verdict::Obeyed(values) => {
+            note_needed(alloc, form, turns, values)?;
+            turns.kept.push(true)?;
             Ok(())
         }
     }
@@ -212,12 +258,17 @@ fn take_turns<N: Copy + Eq + Drop, S: Copy + Eq + Drop>(
     ensures size { IfOk result (λ kept. length kept.items ≡ length rules.now) }
     ensures memory { IfErr result (λ e. e ≡ Exhausted.Memory) }
 {
-    let mut core = first;
-    let mut kept = Vec::new(alloc);
+    let needed = vec![in alloc; false; rules.len()]?;
+    let kept = Vec::new(alloc);
+    let mut turns = Turns {
+        kept,
+        core: first,
+        needed,
+    };
     for _turn in 0..rules.len() {
-        take_turn(alloc, rules, form, &mut kept, &mut core)?;
+        take_turn(alloc, rules, form, &mut turns)?;
     }
-    Ok(kept)
+    Ok(turns.kept)
 }
 
 /// Marks of the rules that are left where each has its turn, decided with the clauses of the rules.
@@ -234,12 +285,12 @@ fn left_by<N: Copy + Eq + Drop, S: Copy + Eq + Drop>(
     ensures memory { IfErr result (λ e. e ≡ Exhausted.Memory) }
 {
     let all = vec![in alloc; true; rules.len()]?;
-    match refuted_part(alloc, rules, form, &all)? {
-        Some(core) => {
+    match verdict_on(alloc, rules, form, &all)? {
+        Verdict::Refuted(core) => {
             let kept = take_turns(alloc, rules, form, core)?;
             Ok(kept)
         }
-        None => Ok(all),
+        Verdict::Obeyed(_) => Ok(all),
     }
 }
 

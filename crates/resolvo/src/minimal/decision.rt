@@ -1,6 +1,6 @@
 //! Whether a set obeys the marked rules, decided by a search over their clauses.
 
-ghost use Rattle.std.specs.Prelude.{[], ◌++◌, ◌<◌, ◌≡◌, ◌∷◌, ℕ, All, Bool, IfErr, IfOk, List, OnOk, Vec, length};
+ghost use Rattle.std.specs.Prelude.{[], ◌++◌, ◌<◌, ◌≤◌, ◌≡◌, ◌∷◌, ℕ, All, Bool, IfErr, IfOk, IfSome, List, OnOk, Vec, length};
 ghost use Rattle.std.specs.declared.alloc.Global.{Global};
 ghost use Rattle.resolver_clause_store.specs.Formula.{AreBelow};
 ghost use Rattle.resolver_clause_store.specs.TrailView.{variable_count};
@@ -13,19 +13,19 @@ ghost use Rattle.resolvo.specs.declared.minimal.rule_clauses.RuleClause.{RuleCla
 use super::no_packages::NoPackages;
 use super::rule_clauses::{RuleClause, RuleClauses};
 use crate::clause_search::{ClauseSearch, Outcome};
-use resolver_clause_store::{Activity, Exhausted, Interrupted, Literal, RequirementClause, Rule};
+use resolver_clause_store::{
+    Activity, Exhausted, Interrupted, Literal, RequirementClause, Rule, Trail, Variable,
+};
 use std::alloc::{AllocError, Global};
 use std::mem::drop;
 
 /// What is known of the marked rules.
 #[derive(Drop)]
 pub enum Verdict {
-    /// Some set obeys them.
-    Obeyed,
+    /// Some set obeys them. The values were found by the search, and are empty where another one has decided.
+    Obeyed(Vec<bool>),
     /// No set obeys those with these marks, and each of these is marked.
     Refuted(Vec<bool>),
-    /// Nothing: the search ran out of ids.
-    Undecided,
 }
 
 /// The clauses of the marked rules, as a search takes them.
@@ -128,12 +128,40 @@ pub fn marks_of(
     Ok(marks)
 }
 
+/// Whether the variable with this number is true.
+fn is_set(trail: &Trail, number: usize) -> bool
+    requires { number < variable_count trail.now }
+{
+    match u32::try_from(number) {
+        Ok(index) => {
+            let literal = Literal {
+                variable: Variable::new(index),
+                positive: true,
+            };
+            trail.value(literal) == Some(true)
+        }
+        Err(_) => false,
+    }
+}
+
+/// The values of the first variables. One that has none is false.
+fn values_of(alloc: Global, trail: &Trail, variables: usize) -> Result<Vec<bool>, AllocError>
+    requires { variables ≤ variable_count trail.now }
+{
+    let mut values = Vec::new(alloc);
+    for number in 0..variables {
+        values.push(is_set(trail, number))?;
+    }
+    Ok(values)
+}
+
 /// Searches to the end, or answers `Refused` where ids run out.
 fn search_on(alloc: Global, search: &mut ClauseSearch) -> Result<Outcome, Exhausted>
     requires consistent { IsConsistent search.old }
     requires root { IsRootTurn search.old }
     ensures outcome { IfOk result (λ outcome.
         (given : List (Vec Literal Global)) (numbers : List ℕ) → IsLoaded given numbers search.old → EndsWith given numbers (trail_of search.new) outcome) }
+    ensures variables { IfOk result (λ outcome. outcome ≡ Outcome.Finished → variable_count (trail_of search.new) ≡ variable_count (trail_of search.old)) }
     ensures memory { IfErr result (λ e. e ≡ Exhausted.Memory) }
 {
     match search.run(alloc, &NoPackages { alloc }, usize::MAX, usize::MAX) {
@@ -151,7 +179,7 @@ fn decide_by<N, S>(
     form: &RuleClauses,
     marks: &[bool],
     marked: &MarkedClauses,
-) -> Result<Verdict, Exhausted>
+) -> Result<Option<Verdict>, Exhausted>
     requires consistent { IsConsistent search.old }
     requires blank { IsLoaded [] [] search.old }
     requires variables { variable_count (trail_of search.old) ≡ 0 }
@@ -160,30 +188,33 @@ fn decide_by<N, S>(
     requires form { DecideRules rules.now form.now.variables form.now.clauses.items }
     requires marked { AreMarkedClauses marks.now form.now.clauses.items marked.now.clauses.items marked.now.places.items
         (numbers_of marked.now.requirements.items) }
-    ensures verdict { IfOk result (VerdictIs rules.now marks.now) }
+    ensures verdict { IfOk result (λ answer. IfSome answer (VerdictIs rules.now marks.now)) }
     ensures memory { IfErr result (λ e. e ≡ Exhausted.Memory) }
 {
     search.load(form.variables, &marked.clauses, &marked.requirements, &[])?;
     match search_on(alloc, search)? {
-        Outcome::Finished => Ok(Verdict::Obeyed),
+        Outcome::Finished => {
+            let values = values_of(alloc, search.trail(), form.variables)?;
+            Ok(Some(Verdict::Obeyed(values)))
+        }
         Outcome::Contradiction(core) => {
             let part = marks_of(alloc, rules.len(), &marked.places, &core)?;
-            Ok(Verdict::Refuted(part))
+            Ok(Some(Verdict::Refuted(part)))
         }
-        Outcome::Refused => Ok(Verdict::Undecided),
+        Outcome::Refused => Ok(None),
     }
 }
 
-/// What a search decides of the marked rules.
+/// What a search decides of the marked rules, or `None` where ids run out.
 pub fn decide<N, S>(
     alloc: Global,
     rules: &[Rule<N, S>],
     form: &RuleClauses,
     marks: &[bool],
-) -> Result<Verdict, Exhausted>
+) -> Result<Option<Verdict>, Exhausted>
     requires size { length marks.now ≡ length rules.now }
     requires form { DecideRules rules.now form.now.variables form.now.clauses.items }
-    ensures verdict { IfOk result (VerdictIs rules.now marks.now) }
+    ensures verdict { IfOk result (λ answer. IfSome answer (VerdictIs rules.now marks.now)) }
     ensures memory { IfErr result (λ e. e ≡ Exhausted.Memory) }
 {
     let marked = marked_clauses(alloc, &form.clauses, marks)?;

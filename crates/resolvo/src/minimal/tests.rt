@@ -279,7 +279,7 @@ fn is_seen_obeyed(alloc: Global, rules: &[Rule<u32, u32>]) -> Result<bool, Exhau
     let form = clauses_within(alloc, rules)?;
     let all = vec![in alloc; true; rules.len()]?;
     let verdict = verdict_of(alloc, rules, &form, &all)?;
-    Ok(matches!(verdict, Verdict::Obeyed))
+    Ok(matches!(verdict, Some(Verdict::Obeyed(_))))
 }
 
 /// What came of random rules.

@@ -1,8 +1,9 @@
-use Rattle.std.proofs.Common.{◌≡◌, ℕ, ◌∙◌, ◌-◌, ◌+◌, ◌<◌, length, get_or, arith, false, List, Bool, sym, ap, subst}
+use Rattle.std.proofs.Common.{◌≡◌, ℕ, suc, ◌∙◌, ◌-◌, ◌+◌, ◌<◌, length, get_or, arith, false, true, List, Bool, sym, ap, subst}
 use Rattle.std.proofs.lemmas.List.{get_or_default}
 use Rattle.resolver_clause_store.specs.Rules.{IsRefuted}
-use Rattle.resolvo.specs.Minimal.{IsRefutedPart, IsUnderway, marked, others_of}
+use Rattle.resolvo.specs.Minimal.{IsRefutedPart, marked, others_of}
 use Rattle.resolvo.proofs.MinimalLemmas.{turn_kept, turn_left_out, turn_skipped}
+use Rattle.resolvo.proofs.RotationLemmas.{marked_needed, needed_next}
 use Rattle.resolvo.proofs.minimal.take_turn.Goals as goal
 
 -- the marks as they are lent
@@ -17,33 +18,71 @@ standing core kept place mark at is off = ap (λ n. get_or core n mark) (sym at)
 
 pub returns-then-not-index-clause-underway : goal.returns-then-not-index-clause-underway
 returns-then-not-index-clause-underway g c =
-    let kept = c.args.kept.now.items in
-    let core = c.args.core.now.items in
-    let inside : length kept < length core = omega (arith, c.requires.inside, c.requires.underway.size) in
+    let turns = c.args.turns.now in
+    let kept = turns.kept.items in
+    let core = turns.core.items in
+    let so = c.requires.underway in
+    let inside : length kept < length core = omega (arith, c.requires.inside, so.underway.size) in
     let off : get_or core (length kept) false ≡ false = get_or_default core (length kept) false c.index.result.now inside ∙
-    standing core kept c.len.result c.index.result.now (c.len.ensures ∙ c.args.kept.now.ok.0) c.index.ensures c.if-not-index.true in
-    rw c.in_ok-push.ensures.items (turn_skipped c.args.rules.now c.args.kept.now.items c.args.core.now.items c.requires.inside c.requires.underway off)
+        standing core kept c.len.result c.index.result.now (c.len.ensures ∙ turns.kept.ok.0) c.index.ensures c.if-not-index.true in
+    let is = c.in_ok-push.ensures.items in
+    record {
+      underway = rw is (turn_skipped c.args.rules.now kept core c.requires.inside so.underway off);
+      size = so.size;
+      needed = rw is (needed_next c.args.form.now kept turns.needed.items false so.needed);
+    }
 
-pub returns-in-Some-clause-underway : goal.returns-in-Some-clause-underway
-returns-in-Some-clause-underway g c =
-    let kept = c.args.kept.now.items in
-    let spare = length c.args.rules.now - (length kept + 1) in
+pub returns-then-is_needed-clause-underway : goal.returns-then-is_needed-clause-underway
+returns-then-is_needed-clause-underway g c =
+    let turns = c.args.turns.now in
+    let kept = turns.kept.items in
+    let so = c.requires.underway in
+    let rules = c.args.rules.now in
+    let spare = length rules - (length kept + 1) in
+    let marked_it = c.is_needed.ensures.marked c.if-is_needed.true in
+    let is = c.in_ok-push-2.ensures.items in
+    record {
+      underway = rw is (turn_kept rules kept turns.core.items spare c.requires.inside (omega (arith, c.requires.inside)) so.underway
+          (marked_needed rules kept turns.needed.items spare (omega (arith, c.requires.inside)) marked_it c.args.form.now
+          (c.is_needed.ensures.some c.if-is_needed.true) c.requires.form so.needed));
+      size = so.size;
+      needed = rw is (needed_next c.args.form.now kept turns.needed.items true so.needed);
+    }
+
+pub returns-in-Refuted-clause-underway : goal.returns-in-Refuted-clause-underway
+returns-in-Refuted-clause-underway g c =
+    let turns = c.args.turns.now in
+    let kept = turns.kept.items in
+    let so = c.requires.underway in
+    let rules = c.args.rules.now in
+    let spare = length rules - (length kept + 1) in
     let marks : c.deref-2.result.now ≡ others_of kept spare =
-    same_marks (length c.args.rules.now) c.deref-2.result.now c.in_ok-marks.marks.items c.deref.result.now kept c.deref-2.ensures.value
-    c.in_ok-marks.ensures c.deref.ensures.value in
-    let Part : List Bool → Type 0 = λ q. IsRefutedPart c.args.rules.now q c.in-Some.part.items in
-    rw c.in_ok-push-in-Some.ensures.items
-    (turn_left_out c.args.rules.now kept c.args.core.now.items c.in-Some.part.items spare c.requires.inside
-    (omega (arith, c.requires.inside)) c.requires.underway (subst Part marks (rw c.in-Some.is at c.in_ok-part.ensures.part)))
+        same_marks (length rules) c.deref-2.result.now c.in_ok-marks.marks.items c.deref.result.now kept c.deref-2.ensures.value c.in_ok-marks.ensures c.deref.ensures.value in
+    let Part : List Bool → Type 0 = λ q. IsRefutedPart rules q c.in-Refuted.part.items in
+    let is = c.in_ok-push-in-Refuted.ensures.items in
+    record {
+      underway = rw is (turn_left_out rules kept turns.core.items c.in-Refuted.part.items spare c.requires.inside (omega (arith, c.requires.inside)) so.underway
+          (subst Part marks (rw c.in-Refuted.is at c.in_ok-part.ensures.verdict)));
+      size = so.size;
+      needed = rw is (needed_next c.args.form.now kept turns.needed.items false so.needed);
+    }
 
 pub returns-clause-underway : goal.returns-clause-underway
 returns-clause-underway g c =
-    let kept = c.args.kept.now.items in
-    let spare = length c.args.rules.now - (length kept + 1) in
+    let turns = c.args.turns.now in
+    let kept = turns.kept.items in
+    let so = c.requires.underway in
+    let rules = c.args.rules.now in
+    let spare = length rules - (length kept + 1) in
     let marks : c.deref-2.result.now ≡ others_of kept spare =
-    same_marks (length c.args.rules.now) c.deref-2.result.now c.in_ok-marks.marks.items c.deref.result.now kept c.deref-2.ensures.value
-    c.in_ok-marks.ensures c.deref.ensures.value in
-    let Obeyed : List Bool → Type 0 = λ q. IsRefuted (marked q c.args.rules.now) → ⊥ in
-    rw c.in_ok-push-in-None.ensures.items
-    (turn_kept c.args.rules.now kept c.args.core.now.items spare c.requires.inside (omega (arith, c.requires.inside)) c.requires.underway
-    (subst Obeyed marks (rw c.in-None.is at c.in_ok-part.ensures.obeyed)))
+        same_marks (length rules) c.deref-2.result.now c.in_ok-marks.marks.items c.deref.result.now kept c.deref-2.ensures.value c.in_ok-marks.ensures c.deref.ensures.value in
+    let Obeyed : List Bool → Type 0 = λ q. IsRefuted (marked q rules) → ⊥ in
+    let is = c.in_ok-push-in-Obeyed.ensures.items in
+    let noted = c.in_ok-note_needed-in-Obeyed.ensures in
+    let after = c.note_needed.new.turns in
+    record {
+      underway = rw (is, noted.kept, noted.core) (turn_kept rules kept turns.core.items spare c.requires.inside (omega (arith, c.requires.inside)) so.underway
+          (subst Obeyed marks (rw c.in-Obeyed.is at c.in_ok-part.ensures.verdict)));
+      size = noted.size ∙ so.size;
+      needed = rw is (needed_next c.args.form.now after.kept.items after.needed.items true noted.needed);
+    }

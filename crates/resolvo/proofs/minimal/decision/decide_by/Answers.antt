@@ -35,8 +35,8 @@ marks_of-requires-clause-below g c =
     (places_inside c.args.rules.now c.args.form.now.variables c.args.marks.now c.args.form.now.clauses.items c.args.marked.now.clauses.items
     c.args.marked.now.places.items (numbers_of c.args.marked.now.requirements.items) c.requires.form c.requires.marked)
 
-pub returns-in-Finished-clause-verdict : goal.returns-in-Finished-clause-verdict
-returns-in-Finished-clause-verdict g c =
+pub returns-in_ok-values-in-Finished-clause-verdict : goal.returns-in_ok-values-in-Finished-clause-verdict
+returns-in_ok-values-in-Finished-clause-verdict g c =
     let ended = c.in_ok-search_on.ensures.outcome c.deref.result.now (numbers_of c.deref-2.result.now)
     (c.in_ok-load.ensures.loaded [] [] c.requires.blank c.deref.result.now refl (numbers_of c.deref-2.result.now) refl) in
     let finished = rw (c.in-Finished.is, c.deref.ensures.value, c.deref-2.ensures.value) at ended in

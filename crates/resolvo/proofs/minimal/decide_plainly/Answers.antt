@@ -4,16 +4,16 @@ use Rattle.resolver_clause_store.specs.declared.Rule.{Rule}
 use Rattle.resolvo.specs.Minimal.{marked}
 use Rattle.resolvo.proofs.MinimalLemmas.{whole_part}
 use Rattle.resolvo.proofs.SameLemmas.{IsRefuted-same, Obeys-same, same_flipped}
-use Rattle.resolvo.proofs.minimal.refuted_plainly.Goals as goal
+use Rattle.resolvo.proofs.minimal.decide_plainly.Goals as goal
 
-pub returns-in-Some-clause-obeyed : goal.returns-in-Some-clause-obeyed
-returns-in-Some-clause-obeyed g c = λ refuted.
+pub returns-in-Some-clause-verdict : goal.returns-in-Some-clause-verdict
+returns-in-Some-clause-verdict g c = λ refuted.
     let set = c.in-Some.field-0.items in
     refuted set (Obeys-same (marked c.args.marks.now c.args.rules.now) c.in_ok-copies.copies.items c.in_ok-copies.ensures.same set
     (rw c.deref.ensures.value at (rw c.in-Some.is at c.in_ok-find.ensures.found)))
 
-pub returns-clause-part : goal.returns-clause-part
-returns-clause-part g c =
+pub returns-clause-verdict : goal.returns-clause-verdict
+returns-clause-verdict g c =
     let part = marked c.args.marks.now c.args.rules.now in
     let copies = c.in_ok-copies.copies.items in
     rw c.in_ok-part-in-None.ensures.items
