@@ -234,6 +234,18 @@ string-alone keys text distinct i j at bt =
     let other = unmapped string_bytes (slice_get keys j) text (sym (slice_get-map string_bytes keys j) ∙ bt) in
     alone-at string_bytes string_eq string_eq-Decides keys distinct i j one.0 other.0 one.1 other.1 (one.2 ∙ sym other.2)
 
+-- a text that stands there already
+pub interned-there : (keys : List (String Global)) (text : List ℕ) (place : ℕ) → IsDistinct string_eq keys →
+    position (λ k. bytes_eq text (string_bytes k)) keys ≡ Some place → IsInterned (map string_bytes keys) (map string_bytes keys) text place
+interned-there keys text place distinct found =
+    let at = text-at keys text place found in
+    record {
+      stored = at;
+      alone = λ k other. string-alone keys text distinct k place other at;
+      kept = λ k y is. is;
+      only = λ k y is. inl is;
+    }
+
 pub no_text : (keys : List (String Global)) (text : List ℕ) (place : Option ℕ) (k : ℕ) → place ≡ position (λ t. bytes_eq text (string_bytes t)) keys →
     IfSome place (λ i. 4294967295 ≤ i) → slice_get (map string_bytes keys) k ≡ Some text → k < 4294967295 → ⊥
 no_text keys text place k is none at small =

@@ -61,6 +61,11 @@ impl Catalog {
         ensures packages { KeepsPackages (packages_in self.old) (packages_in self.new) }
         ensures refusal { IfErr result (IsShortage (length (names_in self.old))) }
     {
+        // With the count comes that no two names are equal.
+        prove!(self.names.len() < 1 << 63);
+        if let Some(known) = found_id(self.names.get_index_of(text)) {
+            return Ok(NameId(known));
+        }
         let key = String::from_str(self.alloc, text)?;
         let (place, is_new) = self.names.insert_full(key)?;
         let name = NameId(id_of(place)?);

@@ -10,36 +10,9 @@ use Rattle.resolver_clause_store.specs.Disjuncts.{joined, IsDisjunctive, of_vers
 use Rattle.resolver_clause_store.specs.declared.ids.VersionSetId.{VersionSetId}
 use Rattle.resolver_clause_store.specs.declared.ids.ConditionId.{ConditionId}
 use Rattle.resolver_clause_store.specs.declared.data.LogicalOperator.TheVariants.{And, Or}
+use Rattle.resolver_clause_store.proofs.ListLemmas.{All-front, Contains-cons_cases, Contains-here, Contains-map, Contains-map_back, Contains-none}
+use Rattle.resolver_clause_store.proofs.ListLemmas.{Contains-there}
 use Rattle.resolver_clause_store.specs.declared.data.Condition.TheVariants.{Requirement as Matched, Binary}
-
--- members of a list with one element more
-pub Contains-here : {X : Type 0} (x : X) (xs : List X) → Contains (x ∷ xs) x
-Contains-here x xs = (0, omega arith, refl)
-
-pub Contains-there : {X : Type 0} (y : X) (xs : List X) (x : X) → Contains xs x → Contains (y ∷ xs) x
-Contains-there y xs x (k, below, is) = (suc k, omega arith, is)
-
-pub Contains-cons_cases : {X : Type 0} (y : X) (xs : List X) (x : X) → Contains (y ∷ xs) x → (y ≡ x) ⊎ Contains xs x
-Contains-cons_cases y xs x (zero, below, is) = inl is
-Contains-cons_cases y xs x (suc k, below, is) = inr (k, omega arith, is)
-
-pub Contains-none : {X : Type 0} (x : X) → Contains [] x → ⊥
-Contains-none x h = absurd (omega (arith, h.1))
-
--- members of a mapped list
-pub Contains-map : {X Y : Type 0} (f : X → Y) (xs : List X) (x : X) → Contains xs x → Contains (map f xs) (f x)
-Contains-map f [] x h = absurd (Contains-none x h)
-Contains-map f (y ∷ ys) x h = ⊎_elim
-    (λ e. (0, omega arith, ap f e))
-    (λ t. Contains-there (f y) (map f ys) (f x) (Contains-map f ys x t))
-    (Contains-cons_cases y ys x h)
-
-Contains-map_back : {X Y : Type 0} (f : X → Y) (xs : List X) (y : Y) → Contains (map f xs) y → (x : X) × Contains xs x × (f x ≡ y)
-Contains-map_back f [] y h = absurd (Contains-none y h)
-Contains-map_back f (x ∷ xs) y h = ⊎_elim
-    (λ e. (x, Contains-here x xs, e))
-    (λ t. let w = Contains-map_back f xs y t in (w.0, Contains-there x xs w.0 w.1, w.2))
-    (Contains-cons_cases (f x) (map f xs) y h)
 
 -- members of the joined lists
 Contains-joined : {X : Type 0} (xs ys : List (List X)) (x y : List X) → Contains xs x → Contains ys y → Contains (joined xs ys) (x ++ y)
@@ -57,11 +30,6 @@ Contains-joined_back (z ∷ zs) ys w h = ⊎_elim
     (λ a. let m = Contains-map_back (λ v. z ++ v) ys w a in (z, m.0, Contains-here z zs, m.1, m.2))
     (λ b. let m = Contains-joined_back zs ys w b in (m.0, m.1, Contains-there z zs m.0 m.2, m.3, m.4))
     (Contains-append_cases (map (λ v. z ++ v) ys) (joined zs ys) w h)
-
--- what is true of each element of two lists, one behind the other, is true of each one's
-All-front : {X : Type 0} (P : X → Type 0) (xs ys : List X) → All P (xs ++ ys) → All P xs
-All-front P [] ys all = All-nil P
-All-front P (x ∷ xs) ys all = All-cons P x xs (All-head P x (xs ++ ys) all) (All-front P xs ys (All-tail P x (xs ++ ys) all))
 
 All-behind : {X : Type 0} (P : X → Type 0) (xs ys : List X) → All P (xs ++ ys) → All P ys
 All-behind P [] ys all = all

@@ -64,13 +64,6 @@ false-contains values clause literal is inside =
     All-contains (λ literal. literal_true values literal ≡ false) clause literal
     (All-from_recursion (λ literal. literal_true values literal ≡ false) clause (false-each values clause is)) inside
 
--- two values that are the same as a test says
-pub beq-true : (a b : Bool) → beq a b ≡ true → a ≡ b
-beq-true true true is = refl
-beq-true true false is = cc
-beq-true false true is = cc
-beq-true false false is = refl
-
 pub beq-not : (a b : Bool) → beq a (not b) ≡ false → a ≡ b
 beq-not true true is = refl
 beq-not true false is = cc

@@ -8,7 +8,7 @@ use Rattle.resolver_clause_store.specs.TrailView.{IsGrown, IsUndone, KeepsPlaces
 use Rattle.resolver_clause_store.proofs.TrailLemmas.{Keeps}
 
 -- the slot at a place
-slot_placed : (o : Option Slot) (k : ℕ) → option_map (λ (slot : Slot). slot.place) o ≡ Some k → (slot : Slot) × (o ≡ Some slot) × (slot.place ≡ k)
+pub slot_placed : (o : Option Slot) (k : ℕ) → option_map (λ (slot : Slot). slot.place) o ≡ Some k → (slot : Slot) × (o ≡ Some slot) × (slot.place ≡ k)
 slot_placed None k e = absurd cc
 slot_placed (Some slot) k e = (slot, refl, same_Some _ _ e)
 
@@ -52,7 +52,7 @@ keeps_trans a b c first second k l =
 pub keeps_through : (a b c : Trail) (first second : ℕ) → KeepsPlaces a b first → KeepsPlaces b c second → first ≤ second → KeepsPlaces a c first
 keeps_through a b c first second k l more = keeps_places a c first k.were (λ v s at below. l.slots v s (k.slots v s at below) (omega arith))
 
-at_most : (m n : ℕ) → ((k : ℕ) → k < m → k < n) → m ≤ n
+pub at_most : (m n : ℕ) → ((k : ℕ) → k < m → k < n) → m ≤ n
 at_most zero n back = omega arith
 at_most (suc m) n back = omega (arith, back m (omega arith))
 

@@ -1,3 +1,6 @@
+pub mod ListLemmas
+pub mod BoolLemmas
+pub mod DemandLemmas
 pub mod Filtering
 pub mod SetLemmas
 pub mod ConditionLemmas

@@ -11,23 +11,14 @@ use Rattle.std.proofs.lemmas.Bool.{false≢true}
 use Rattle.std.proofs.lemmas.Map.Keys.{apart_from_distinct}
 use Rattle.std.proofs.Common.{Bool, false}
 use Rattle.resolver_clause_store.specs.Laws.{IsIdentity}
+use Rattle.resolver_clause_store.proofs.ListLemmas.{Contains-at as place_in, slice_get-last as place_last}
 use Rattle.resolver_clause_store.specs.Variables.{AreDistinct, Keeps}
-
-pub slice_get-append_left : {X : Type 0} (xs ys : List X) (k : ℕ) → k < length xs → slice_get (xs ++ ys) k ≡ slice_get xs k
-slice_get-append_left [] ys k h = absurd (omega (arith, h))
-slice_get-append_left (x ∷ xs) ys zero h = refl
-slice_get-append_left (x ∷ xs) ys (suc k) h = slice_get-append_left xs ys k (omega (arith, h))
 
 pub place_left : {X : Type 0} (xs ys : List X) (k : ℕ) (x : X) → slice_get xs k ≡ Some x → slice_get (xs ++ ys) k ≡ Some x
 place_left xs ys k x at =
     let below : k < length xs = slice_get_within xs k x at in
     let long : length (xs ++ ys) ≡ length xs + length ys = simp length-append in
     slice_get-get_or (xs ++ ys) k x (omega (arith, below, long)) ∙ ap Some (get_or-append xs ys x k below ∙ get_or_from_slice_get xs k x x at)
-
-pub place_last : {X : Type 0} (xs : List X) (x : X) → slice_get (xs ++ x ∷ []) (length xs) ≡ Some x
-place_last xs x =
-    let long : length (xs ++ x ∷ []) ≡ length xs + 1 = simp length-append in
-    slice_get-get_or (xs ++ x ∷ []) (length xs) x (omega (arith, long)) ∙ ap Some (get_or-append_seam xs x [] x)
 
 -- what stands in the longer list stood there before, or is the last one
 pub place_cases : {X : Type 0} (xs : List X) (y : X) (k : ℕ) (x : X) → slice_get (xs ++ y ∷ []) k ≡ Some x → (slice_get xs k ≡ Some x) ⊎
@@ -43,9 +34,6 @@ place_cases {X} xs y k x at =
     let At : ℕ → Type 0 = λ n. slice_get (xs ++ y ∷ []) n ≡ Some x in
     inr (end, same_Some y x (sym (place_last xs y) ∙ subst At end at)))
     (cases_lt k (length xs))
-
-pub place_in : {X : Type 0} (xs : List X) (k : ℕ) (x : X) → slice_get xs k ≡ Some x → Contains xs x
-place_in xs k x at = (k, slice_get_within xs k x at, get_or_from_slice_get xs k x x at)
 
 pub place_of_member : {X : Type 0} (xs : List X) (x : X) → Contains xs x → (k : ℕ) × (slice_get xs k ≡ Some x)
 place_of_member xs x (k, below, is) = (k, slice_get-get_or xs k x below ∙ ap Some is)

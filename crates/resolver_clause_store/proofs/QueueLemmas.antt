@@ -26,7 +26,7 @@ use Rattle.resolver_clause_store.specs.declared.queue.DecideQueue.{DecideQueue}
 use Rattle.resolver_clause_store.specs.Queues.{IsFollowed, IsHeld, IsMetBy, IsQueued, IsWaiting, list_of}
 
 -- a slot at a place that is kept was there
-slot-back : (old new : Trail) (count variable : ℕ) (slot : Slot) → KeepsPlaces old new count → slot_of new variable ≡ Some slot → slot.place < count →
+pub slot-back : (old new : Trail) (count variable : ℕ) (slot : Slot) → KeepsPlaces old new count → slot_of new variable ≡ Some slot → slot.place < count →
     slot_of old variable ≡ Some slot
 slot-back old new count variable slot keeps at below =
     let s = slot_at old slot.place (omega (arith, below, keeps.were)) in
@@ -456,7 +456,7 @@ pub found-false : (trail : Trail) (variable : ℕ) (found : Bool) → found ≡ 
 found-false trail variable found is none slot at is_so = false≢true (sym none ∙ is ∙ ap (λ o. option_map_or (λ (s : Slot). s.value) o false) at ∙ is_so)
 
 -- fewer places are kept, too
-places-fewer : (old new : Trail) (count fewer : ℕ) → KeepsPlaces old new count → fewer ≤ count → KeepsPlaces old new fewer
+pub places-fewer : (old new : Trail) (count fewer : ℕ) → KeepsPlaces old new count → fewer ≤ count → KeepsPlaces old new fewer
 places-fewer old new count fewer keeps less = record {
   were = omega (arith, keeps.were, less);
   are = omega (arith, keeps.are, less);

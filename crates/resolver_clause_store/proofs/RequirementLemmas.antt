@@ -12,18 +12,8 @@ use Rattle.resolver_clause_store.specs.Universe.{Universe}
 use Rattle.resolver_clause_store.specs.Candidates.{matching, others, favored_first, sorted_candidates, sorted_in_order, requirement_candidates, version_sets}
 use Rattle.resolver_clause_store.specs.declared.ids.VersionSetId.{VersionSetId}
 use Rattle.resolver_clause_store.specs.declared.data.Requirement.{Requirement}
+use Rattle.resolver_clause_store.proofs.ListLemmas.{Contains-cons_cases, Contains-filter, Contains-here, Contains-none, Contains-there}
 use Rattle.resolver_clause_store.specs.declared.data.Requirement.TheVariants.{Single, Union}
-use Rattle.resolver_clause_store.proofs.DisjunctLemmas.{Contains-here, Contains-there, Contains-cons_cases, Contains-none}
-
--- what a filter, a list without repeats, and a list with one element in front have, the list has
-pub Contains-filter : {X : Type 0} (p : X → Bool) (xs : List X) (x : X) → Contains (filter p xs) x → Contains xs x
-Contains-filter p [] x h = h
-Contains-filter {X} p (y ∷ ys) x h = ⊎_elim
-    (λ e. let Has : Bool → Type 0 = λ b. Contains (cond b (y ∷ filter p ys) (filter p ys)) x in
-    ⊎_elim (λ is. let P : X → Type 0 = λ q. Contains (y ∷ ys) q in subst P is (Contains-here y ys)) (λ t. Contains-there y ys x (Contains-filter p ys x t))
-    (Contains-cons_cases y (filter p ys) x (subst Has e h)))
-    (λ e. let Has : Bool → Type 0 = λ b. Contains (cond b (y ∷ filter p ys) (filter p ys)) x in Contains-there y ys x (Contains-filter p ys x (subst Has e h)))
-    (cases_Bool (p y))
 
 pub Contains-without_repeats : {X : Type 0} (same : X → X → Bool) (xs : List X) (x : X) → Contains (without_repeats same xs) x → Contains xs x
 Contains-without_repeats same [] x h = h

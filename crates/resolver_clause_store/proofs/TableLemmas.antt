@@ -7,10 +7,8 @@ use Rattle.std.proofs.lemmas.Map.Views.{Contains-keys_from_lookup}
 use Rattle.std.proofs.lemmas.List.Elements.{All-cons, All-head, All-tail, Contains-get_or, Contains-append_right}
 use Rattle.std.proofs.lemmas.List.Sorted.{All-permutation, Contains-permutation, IsPermutation-map}
 use Rattle.resolver_clause_store.specs.Laws.{IsIdentity}
+use Rattle.resolver_clause_store.proofs.ListLemmas.{Contains-here as contains_first}
 use Rattle.resolver_clause_store.specs.Lists.{IsWithin}
-
-contains_first : {X : Type 0} (x : X) (xs : List X) → Contains (x ∷ xs) x
-contains_first x xs = Contains-get_or (x ∷ xs) 0 x (omega arith)
 
 -- the lists have the same keys
 pub IsWithin-same : {K X : Type 0} (es fs : List (K × X)) → keys_of fs ≡ keys_of es → IsWithin (keys_of es) (keys_of fs)

@@ -16,11 +16,11 @@ use Rattle.std.proofs.lemmas.List.Sums.{sum_by-swap_remove, sum_by-append, sum_b
 use Rattle.std.proofs.lemmas.List.{get_or-take, get_or_past, length-take-le}
 use Rattle.resolver_clause_store.specs.declared.literals.Literal.{Literal}
 use Rattle.resolver_clause_store.specs.Formula.{clause_at}
-use Rattle.resolver_clause_store.proofs.FormulaLemmas.{beq-true}
 use Rattle.resolver_clause_store.specs.declared.watches.Watch.{Watch}
 use Rattle.resolver_clause_store.specs.declared.watches.WatchedPair.{WatchedPair}
 use Rattle.resolver_clause_store.specs.Watches.{HasBlockers, IsPair, IsWatched, IsWatching, MovesWatch, PutsList, SameClauses, entry_count, is_literal}
 use Rattle.resolver_clause_store.specs.Watches.{is_watched, list_at, list_number, number_at, pair_at, pair_count, replaced, same, stands_in, unwatched}
+use Rattle.resolver_clause_store.proofs.BoolLemmas.{beq-itself, beq-true}
 use Rattle.resolver_clause_store.specs.Watches.{watched_pair}
 
 pub list_at-get_or : (lists : List (Vec Watch Global)) (list : ℕ) (d : Vec Watch Global) → list < length lists →
@@ -179,11 +179,6 @@ list_number-injective one other e =
 
 pub list_number-differ : (one other : Literal) → one ≢ other → list_number one ≢ list_number other
 list_number-differ one other ne = λ e. ne (list_number-injective one other e)
-
--- whether two literals are one
-beq-itself : (b : Bool) → beq b b ≡ true
-beq-itself true = refl
-beq-itself false = refl
 
 pub is_literal-true : (one other : Literal) → is_literal one other ≡ true → one ≡ other
 is_literal-true one other e = ⊎_elim
@@ -599,8 +594,6 @@ module _ (old mid new : List (Vec Watch Global)) (before : List WatchedPair) (fr
   move-blockers table watch is contains has =
       blockers-move table old mid new from to place read _ m.differ m.pushed m.taken at'
       (subst (λ n. Contains (clause_at table n) blocker) (sym (ap (λ (w : Watch). w.number) (found watch is))) contains) has
-
--- the clauses that were there watch what they watched
 
 pub kept-same : (old new : List WatchedPair) → new ≡ old → (number : ℕ) → number < length old → pair_at new number ≡ pair_at old number
 kept-same old new same number inside = ap (λ (ps : List WatchedPair). pair_at ps number) same

@@ -22,8 +22,9 @@ use Rattle.resolver_clause_store.specs.declared.ClauseKind.{ClauseKind}
 use Rattle.resolver_clause_store.specs.declared.ClauseKind.TheVariants.{AnyOf, Constrains, ConstrainsExcluded, ConstrainsParent, HasBit, Lock, Excluded}
 use Rattle.resolver_encoding.specs.Atoms.{IsHelper, Atom, atom, origin_by, atoms_of}
 use Rattle.resolver_encoding.specs.Read.{IsSettled, Covers, IsClosedPart, IsMade, made_direct, made_gated, IsForbidden, forbidden_direct, forbidden_helped}
+use Rattle.resolver_clause_store.proofs.ListLemmas.{Contains-cons_cases as cons_cases, Contains-here as here, Contains-map, Contains-none as none_in}
+use Rattle.resolver_clause_store.proofs.ListLemmas.{Contains-there as there}
 use Rattle.resolver_encoding.specs.Read.{AreApart, apart_coded}
-use Rattle.resolver_encoding.proofs.Lists.{here, there, cons_cases, none_in, Contains-map}
 
 unknown_or : (needs : Needs) → IsKnown needs ⊎ ((reason : _) × (needs ≡ unknown reason))
 unknown_or (known d) = inl tt

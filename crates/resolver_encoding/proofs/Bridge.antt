@@ -51,8 +51,11 @@ use Rattle.resolver_encoding.proofs.Reached.{finished_is_answer}
 use Rattle.resolver_encoding.proofs.Reading.{covers_reached}
 use Rattle.resolver_encoding.proofs.Spared.{Spares-further}
 use Rattle.resolver_encoding.proofs.Extended.{values_by, values_by-origin, table_by_kinds}
-use Rattle.resolver_encoding.proofs.Lists.{Contains-slice, here, there, cons_cases, none_in, Contains-map, Contains-map_back, list_any-contains}
-use Rattle.resolver_encoding.proofs.Lists.{list_any-witness, beq-true, beq-false}
+use Rattle.resolver_clause_store.proofs.BoolLemmas.{beq-false, beq-true}
+use Rattle.resolver_clause_store.proofs.KeptLemmas.{slot_placed}
+use Rattle.resolver_clause_store.proofs.ListLemmas.{Contains-cons_cases as cons_cases, Contains-here as here, Contains-map, Contains-map_back}
+use Rattle.resolver_clause_store.proofs.ListLemmas.{Contains-none as none_in, Contains-there as there, list_any-contains, list_any-witness}
+use Rattle.resolver_encoding.proofs.Lists.{Contains-slice}
 
 pub below_or : (n k : ℕ) → k ≤ n → (k < n) ⊎ (k ≡ n)
 below_or n k h = ⊎_elim (λ (l : k < n). inl l) (λ (g : n ≤ k). inr (omega arith)) (cases_lt k n)
@@ -62,10 +65,6 @@ literal_same l m e f = let Made : ℕ → Bool → Literal = λ x b. record { va
 
 pub any-witness : {X : Type 0} (P : X → Type 0) (xs : List X) → Any P xs → (x : X) × Contains xs x × P x
 any-witness P xs w = (w.1, (w.0, w.2, w.3), w.4)
-
-pub slot_placed : (o : Option Slot) (k : ℕ) → option_map (λ (slot : Slot). slot.place) o ≡ Some k → (slot : Slot) × (o ≡ Some slot) × (slot.place ≡ k)
-slot_placed None k e = absurd cc
-slot_placed (Some slot) k e = (slot, refl, same_Some _ _ e)
 
 literal_false : (o : Option Slot) (slot : Slot) (p q : Bool) → o ≡ Some slot → slot.value ≡ not p → q ≡ p →
     option_map (λ (s : Slot). beq s.value q) o ≡ Some false

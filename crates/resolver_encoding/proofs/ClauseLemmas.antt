@@ -10,8 +10,9 @@ use Rattle.resolver_clause_store.specs.declared.Origin.{Origin}
 use Rattle.resolver_clause_store.proofs.PlaceLemmas.{Keeps-same, Keeps-trans}
 use Rattle.resolver_encoding.specs.Atoms.{Atom}
 use Rattle.resolver_encoding.specs.Encodings.{Adds, AddsClause, AddsRequirement, Grows, Notes}
+use Rattle.resolver_clause_store.proofs.ListLemmas.{AllZip-append, Contains-cons_cases as cons_cases, Contains-here as here, Contains-none as none_in}
+use Rattle.resolver_clause_store.proofs.ListLemmas.{Contains-there as there}
 use Rattle.resolver_encoding.specs.Values.{AreAtoms, IsAtom}
-use Rattle.resolver_encoding.proofs.Lists.{here, there, cons_cases, none_in}
 
 pub Grows-same : {N S : Type 0} (xs : List (Origin N S)) → Grows xs xs
 Grows-same xs = record { keeps = Keeps-same xs; distinct = λ h. h }
@@ -71,13 +72,6 @@ AreAtoms-twice {N} {S} origins ls a b same h =
           (cons_cases a (b ∷ []) c i) in
           one.each_atom c of_a;
     }
-
-pub AllZip-append : {A B : Type 0} (R : A → B → Type 0) (xs xs' : List A) (ys ys' : List B) → AllZip R xs ys → AllZip R xs' ys' →
-    AllZip R (xs ++ xs') (ys ++ ys')
-AllZip-append R [] xs' [] ys' h k = k
-AllZip-append R [] xs' (z ∷ zs) ys' h k = absurd h
-AllZip-append R (z ∷ zs) xs' [] ys' h k = absurd h
-AllZip-append R (z ∷ zs) xs' (w ∷ ws) ys' h k = (h.0, AllZip-append R zs xs' ws ys' h.1 k)
 
 -- nothing is added yet
 pub Adds-none : {N S : Type 0} (origins : List (Origin N S)) (ls : List Literal) → Adds origins ls ls []

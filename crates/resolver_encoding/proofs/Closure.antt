@@ -16,8 +16,9 @@ use Rattle.resolver_clause_store.specs.declared.ConditionalRequirement.{Conditio
 use Rattle.resolver_clause_store.specs.declared.Condition.{Condition}
 use Rattle.resolver_clause_store.specs.declared.Condition.TheVariants.{Requirement as Matched, Binary}
 use Rattle.resolver_clause_store.specs.declared.LogicalOperator.TheVariants.{And, Or}
+use Rattle.resolver_clause_store.proofs.ListLemmas.{Contains-cons_cases as cons_cases, Contains-here as here, Contains-none as none_in, Contains-there as there}
+use Rattle.resolver_clause_store.proofs.ListLemmas.{list_any-contains}
 use Rattle.resolver_clause_store.proofs.ConditionLemmas.{holds_matched, matched_holds, both_hold, either_holds}
-use Rattle.resolver_encoding.proofs.Lists.{here, there, cons_cases, none_in, list_any-contains}
 
 -- a larger set makes more conditions hold
 pub holds_more : {N S : Type 0} (u : Universe N S) (Has More : S → Type 0) → ((s : S) → Has s → More s) → (c : ConditionId) → ConditionHolds u Has c →

@@ -16,8 +16,9 @@ use Rattle.resolver_clause_store.specs.declared.ClauseKind.TheVariants.{AnyOf, C
 use Rattle.resolver_encoding.specs.Atoms.{IsHelper, Defines}
 use Rattle.resolver_encoding.specs.Truth.{follows, IsTrueClause}
 use Rattle.resolver_encoding.specs.Core.{same_helper, says_implies, implied_in}
-use Rattle.resolver_encoding.proofs.Lists.{list_any-contains, list_any-witness}
-use Rattle.resolver_encoding.proofs.Sound.{same_requirement-true, same_requirement-same, and_left, and_right, and_both, nat_same}
+use Rattle.resolver_clause_store.proofs.BoolLemmas.{and_both, and_left, and_right}
+use Rattle.resolver_clause_store.proofs.ListLemmas.{list_any-contains, list_any-witness}
+use Rattle.resolver_encoding.proofs.Sound.{same_requirement-true, same_requirement-same, nat_same}
 
 module _ {N S : Type 0} (u : Universe N S) (same_name : N → N → Bool) (names : IsIdentity same_name) (same : IsIdentity u.same_solvable) where
   same_helper-same : (o : Origin N S) → IsHelper o → same_helper same_name o o ≡ true

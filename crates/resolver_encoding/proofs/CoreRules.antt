@@ -30,10 +30,10 @@ use Rattle.std.proofs.lemmas.Option.{slice_get-get_or}
 use Rattle.resolver_clause_store.specs.Formula.{MakesTrue}
 use Rattle.resolver_clause_store.specs.declared.Literal.{Literal}
 use Rattle.resolver_encoding.specs.Values.{AreEncoded, kinds_at}
-use Rattle.resolver_encoding.proofs.Lists.{list_any-witness, Contains-map}
 use Rattle.resolver_encoding.proofs.Sound.{is_plain-parts, rules_obey}
 use Rattle.resolver_encoding.proofs.Extended.{values_by, clause_by_kind}
 use Rattle.resolver_encoding.proofs.Satisfied.{satisfied}
+use Rattle.resolver_clause_store.proofs.ListLemmas.{Contains-map, list_any-witness}
 use Rattle.resolver_encoding.proofs.CoreLemmas.{implied-follows, defines_core}
 
 module _ {N S : Type 0} (u : Universe N S) (codes : N → ℕ → S → Bool) (are_codes : AreCodes u codes) (root : Demands) (same : IsIdentity u.same_solvable)

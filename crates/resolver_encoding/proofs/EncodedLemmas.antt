@@ -12,8 +12,8 @@ use Rattle.resolver_clause_store.specs.declared.ClauseKind.{ClauseKind}
 use Rattle.resolver_clause_store.specs.declared.ClauseKind.TheVariants.{InstallRoot}
 use Rattle.resolver_clause_store.specs.declared.Literal.{Literal}
 use Rattle.resolver_clause_store.specs.declared.RequirementClause.{RequirementClause}
+use Rattle.resolver_clause_store.proofs.ListLemmas.{Contains-map, slice_get-inside as slice_below}
 use Rattle.resolver_encoding.specs.Encodings.{IsEncoding, Notes}
-use Rattle.resolver_encoding.proofs.Lists.{Contains-map}
 
 slice_past : {X : Type 0} (xs : List X) (n : ℕ) (x : X) → length xs ≤ n → slice_get xs n ≡ Some x → ⊥
 slice_past [] n x h e = absurd cc
@@ -24,9 +24,6 @@ slice_none : {X : Type 0} (xs : List X) (n : ℕ) → length xs ≤ n → slice_
 slice_none [] n h = refl
 slice_none (y ∷ ys) zero h = absurd (omega arith)
 slice_none (y ∷ ys) (suc n) h = slice_none ys n (omega arith)
-
-slice_below : {X : Type 0} (xs : List X) (n : ℕ) (x : X) → slice_get xs n ≡ Some x → n < length xs
-slice_below xs n x e = ⊎_elim (λ (less : n < length xs). less) (λ (more : length xs ≤ n). absurd (slice_past xs n x more e)) (cases_lt n (length xs))
 
 module _ {N S : Type 0} (u : Universe N S) (root : Demands) (notes : Notes N S) (encoding : IsEncoding u root notes) where
   -- each variable of each clause stands for something

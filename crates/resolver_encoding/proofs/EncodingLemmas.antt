@@ -20,7 +20,7 @@ use Rattle.resolver_clause_store.specs.declared.Origin.{Origin}
 use Rattle.resolver_clause_store.specs.declared.Origin.TheVariants.{Root, Solvable}
 use Rattle.resolver_clause_store.specs.declared.Requirement.{Requirement}
 use Rattle.resolver_clause_store.specs.declared.VersionSetId.{VersionSetId}
-use Rattle.resolver_clause_store.proofs.PlaceLemmas.{Keeps-same, Keeps-trans, place_cases, place_in, place_last, place_left, place_of_member}
+use Rattle.resolver_clause_store.proofs.PlaceLemmas.{Keeps-same, Keeps-trans, place_cases, place_left, place_of_member}
 use Rattle.resolver_encoding.specs.Atoms.{Atom, atoms_of}
 use Rattle.resolver_encoding.specs.Called.{Call, to_ask, to_see}
 use Rattle.resolver_encoding.specs.Encodings.{AddsClause, AddsRequirement, AsksForCandidates, Coding, Doing, Extends, Grows, HasUsualHelper, IsAskStep}
@@ -31,6 +31,7 @@ use Rattle.resolver_encoding.specs.Read.{IsForbidden, forbidden_direct, forbidde
 use Rattle.resolver_encoding.specs.ReadState.{Deferred}
 use Rattle.resolver_encoding.specs.Truth.{AreDue, IsTrueClause}
 use Rattle.resolver_encoding.specs.Values.{AreEncoded, AreInOrder, IsAtom, IsClauseOf}
+use Rattle.resolver_clause_store.proofs.ListLemmas.{Contains-at as place_in, slice_get-last as place_last}
 use Rattle.resolver_encoding.proofs.ClauseLemmas.{AllZip-keeps, AreAtoms-keeps, AreAtoms-zip}
 
 pub IsWithin-same : {X : Type 0} (xs : List X) → IsWithin xs xs

@@ -17,8 +17,8 @@ use Rattle.resolver_encoding.specs.Truth.{AreCodes, follows, IsTrueClause, Spare
 use Rattle.resolver_encoding.specs.Atoms.{Atom, is_on, is_satisfied, atoms_of}
 use Rattle.resolver_encoding.specs.Values.{AreAtoms, extension, AreEncoded}
 use Rattle.resolver_encoding.proofs.Satisfied.{satisfied}
+use Rattle.resolver_clause_store.proofs.ListLemmas.{list_any-contains, list_any-witness}
 use Rattle.resolver_encoding.proofs.Sound.{defines, valid_obeys}
-use Rattle.resolver_encoding.proofs.Lists.{list_any-contains, list_any-witness}
 
 -- variables that have the values of their origins make a clause true that is true by its atoms
 pub clause_true-atoms : {N S : Type 0} (origins : List (Origin N S)) (value : Origin N S → Bool) (values : ℕ → Bool) →

@@ -9,8 +9,8 @@ use Rattle.std.proofs.lemmas.List.Elements.{Contains-append_left, Contains-push,
 use Rattle.resolver_clause_store.specs.Variables.{AreDistinct}
 use Rattle.resolver_encoding.specs.Groups.{AddsNamed, AreGroups, IsAt, IsNamed, group_at}
 use Rattle.resolver_encoding.specs.declared.groups.Groups.{Groups}
-use Rattle.resolver_encoding.proofs.Lists.{none_in}
-use Rattle.resolver_clause_store.proofs.PlaceLemmas.{place_in, place_left, place_last, place_cases, place_of_member, AreDistinct-push}
+use Rattle.resolver_clause_store.proofs.ListLemmas.{Contains-at as place_in, Contains-none as none_in, slice_get-last as place_last}
+use Rattle.resolver_clause_store.proofs.PlaceLemmas.{place_left, place_cases, place_of_member, AreDistinct-push}
 
 module _ {N S : Type 0} (old new : Groups N S) (n : N) (s : S) where
   -- the group of a new name

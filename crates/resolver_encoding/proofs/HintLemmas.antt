@@ -16,7 +16,7 @@ use Rattle.resolver_clause_store.specs.declared.Literal.{Literal}
 use Rattle.resolver_clause_store.specs.declared.Origin.{Origin}
 use Rattle.resolver_clause_store.specs.declared.RequirementClause.{RequirementClause}
 use Rattle.resolver_clause_store.specs.declared.Origin.TheVariants.{Root, Solvable, Bit, Gate, ConstraintHelper, ConditionHelper}
-use Rattle.resolver_clause_store.proofs.PlaceLemmas.{Keeps-trans, place_in, slice_get-append_left}
+use Rattle.resolver_clause_store.proofs.PlaceLemmas.{Keeps-trans}
 use Rattle.resolver_encoding.specs.Called.{AreAsked, IsCalledFor, to_ask}
 use Rattle.resolver_encoding.specs.Encodings.{Extends, IsEncoding, IsLeft, Notes}
 use Rattle.resolver_encoding.specs.Hints.{AreHintsReadTo, AreReadIfHinted, IsHinted, IsListedFrom, candidates_at, literals_at, stated_by, stated_by_each}
@@ -25,8 +25,9 @@ use Rattle.resolver_encoding.specs.SoFar.{HasRead, IsHalfRead, IsHintedReading, 
 use Rattle.resolver_encoding.specs.Trails.{solvable_found}
 use Rattle.resolver_encoding.proofs.EncodedLemmas.{encoded_below}
 use Rattle.resolver_encoding.proofs.EncodingLemmas.{Extends-trans, Extends-within}
-use Rattle.resolver_encoding.proofs.Lists.{cons_cases, here, none_in, there}
 use Rattle.resolver_encoding.proofs.ReachLemmas.{near_read, positives_seen}
+use Rattle.resolver_clause_store.proofs.ListLemmas.{Contains-at as place_in, Contains-cons_cases as cons_cases, Contains-here as here, Contains-none as none_in}
+use Rattle.resolver_clause_store.proofs.ListLemmas.{Contains-there as there, slice_get-append_left}
 use Rattle.resolver_encoding.proofs.SoFarLemmas.{IsPresent-within, IsReadingOf-same, IsReadingOf-trans, IsReadingOf-weaker, demanded_asked}
 
 -- what stands at a place stands there in a longer list

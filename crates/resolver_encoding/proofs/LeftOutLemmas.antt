@@ -26,8 +26,8 @@ use Rattle.resolver_encoding.specs.LeftOut.{IsLeftOut}
 use Rattle.resolver_encoding.specs.Truth.{AreDue, HasLawfulSolvables, Spares, follows}
 use Rattle.resolver_encoding.specs.Values.{extension}
 use Rattle.resolver_encoding.proofs.Extended.{valid_satisfies}
-use Rattle.resolver_encoding.proofs.Lists.{Contains-map_back, cons_cases}
 use Rattle.resolver_encoding.proofs.Satisfied.{has-contains}
+use Rattle.resolver_clause_store.proofs.ListLemmas.{Contains-cons_cases as cons_cases, Contains-map_back}
 use Rattle.resolver_encoding.proofs.Spared.{Spares-further}
 
 -- fewer clauses are true where more are

@@ -7,8 +7,8 @@ use Rattle.resolver_clause_store.specs.declared.Rule.TheVariants.{OnePerPackage}
 use Rattle.resolver_encoding.specs.Listing.{AddsRules, AreRulesOf, HasMarks, SomeOf}
 use Rattle.resolver_clause_store.specs.Statements.{Statement, one_per_package, statement_of}
 use Rattle.resolver_encoding.specs.declared.listing.Listing.{Listing}
+use Rattle.resolver_clause_store.proofs.ListLemmas.{Contains-none as none_in}
 use Rattle.resolver_encoding.specs.declared.listing.Mark.{Mark}
-use Rattle.resolver_encoding.proofs.Lists.{none_in}
 
 module _ {N S : Type 0} (old new : Listing N S) where
   -- one more rule, whose mark may be noted

@@ -17,15 +17,15 @@ use Rattle.resolver_clause_store.specs.declared.Origin.TheVariants.{Root, Solvab
 use Rattle.resolver_clause_store.specs.declared.Requirement.{Requirement}
 use Rattle.resolver_clause_store.specs.declared.StringId.{StringId}
 use Rattle.resolver_clause_store.specs.declared.VersionSetId.{VersionSetId}
-use Rattle.resolver_clause_store.proofs.PlaceLemmas.{Keeps-same, place_in, place_of_member}
+use Rattle.resolver_clause_store.proofs.PlaceLemmas.{Keeps-same, place_of_member}
 use Rattle.resolver_clause_store.proofs.SetLemmas.{All-next}
 use Rattle.resolver_encoding.specs.Atoms.{atoms_of}
 use Rattle.resolver_encoding.specs.Called.{Call, IsAsking, IsNamedBy, IsSeeing, IsSeeingEach, to_ask, to_see}
 use Rattle.resolver_encoding.specs.Encodings.{AddsClause, AsksForCandidates, Doing, Extends, Grows, HasUsualHelper, IsAskStep, IsEncodingWhile, IsFollowed}
 use Rattle.resolver_encoding.specs.Encodings.{IsLockRead, IsStep, IsStepWhile, Notes, asking_for, idle}
 use Rattle.resolver_encoding.specs.Truth.{AreDue, IsTrueClause}
-use Rattle.resolver_encoding.proofs.Lists.{cons_cases, here, there}
 use Rattle.resolver_encoding.proofs.EncodingLemmas.{AreEncoded-keeps, Extends-same, HasCodes, IsClauseOf-zip, IsDue, IsPrepared, IsStep-clause, IsWithin-push}
+use Rattle.resolver_clause_store.proofs.ListLemmas.{Contains-at as place_in, Contains-cons_cases as cons_cases, Contains-here as here, Contains-there as there}
 use Rattle.resolver_encoding.proofs.EncodingLemmas.{IsWithin-same}
 
 -- one more element of a list, by facts that grew

@@ -37,14 +37,12 @@ use Rattle.resolver_encoding.specs.TrailAtoms.{IsChosen}
 use Rattle.resolver_encoding.specs.Trails.{AreAssumed, atoms_before, solvables_before}
 use Rattle.resolver_encoding.specs.Truth.{AreCodes, HasLawfulSolvables, is_plain, follows, IsTrueClause, Spares}
 use Rattle.resolver_encoding.proofs.Bridge.{finished_is_valid, is_chosen, is_trail}
-use Rattle.resolver_encoding.proofs.Lists.{here, cons_cases, none_in, list_any-witness, beq-true}
 use Rattle.resolver_encoding.proofs.Reading.{name_matching, sorted_back}
 use Rattle.resolver_encoding.proofs.Satisfied.{has-contains, contains-has, present, helper_meets, satisfied}
-use Rattle.resolver_encoding.proofs.Sound.{requires_by, is_plain-parts, active_by, defines, valid_obeys}
-
-not_same : (b : Bool) → b ≡ not b → ⊥
-not_same true e = false≢true (sym e)
-not_same false e = false≢true e
+use Rattle.resolver_clause_store.proofs.BoolLemmas.{beq-true, not_same}
+use Rattle.resolver_clause_store.proofs.DemandLemmas.{active_by, requires_by}
+use Rattle.resolver_clause_store.proofs.ListLemmas.{Contains-cons_cases as cons_cases, Contains-here as here, Contains-none as none_in, list_any-witness}
+use Rattle.resolver_encoding.proofs.Sound.{is_plain-parts, defines, valid_obeys}
 
 spares_none : {N S : Type 0} (u : Universe N S) (kinds : List (ClauseKind N S)) → Spares u [] kinds
 spares_none u kinds = record { locks = λ s t inside free. none_in t free; exclusions = λ s reason inside free. absurd (none_in s free) }

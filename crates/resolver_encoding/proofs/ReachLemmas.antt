@@ -35,8 +35,8 @@ use Rattle.resolver_encoding.specs.Reach.{AreNear}
 use Rattle.resolver_encoding.specs.ReadState.{Deferred}
 use Rattle.resolver_encoding.specs.SoFar.{IsBare, IsFiring, IsHalfRead, IsReadSoFar, IsReadingOf}
 use Rattle.resolver_encoding.specs.Trails.{origin_at}
-use Rattle.resolver_encoding.proofs.Lists.{Contains-map_back, cons_cases, none_in}
 use Rattle.resolver_encoding.proofs.RequirementLemmas.{active_where}
+use Rattle.resolver_clause_store.proofs.ListLemmas.{Contains-cons_cases as cons_cases, Contains-map_back, Contains-none as none_in}
 use Rattle.resolver_encoding.proofs.SoFarLemmas.{demanded_asked}
 
 module _ {N S : Type 0} (u : Universe N S) (root : Demands) (seeds : List S) (packages : List N) where

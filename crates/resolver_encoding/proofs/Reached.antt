@@ -27,15 +27,14 @@ use Rattle.resolver_encoding.specs.Truth.{AreCodes, is_plain, follows, IsTrueCla
 use Rattle.resolver_encoding.specs.Read.{IsSettled, IsClosedPart}
 use Rattle.resolver_encoding.specs.TrailAtoms.{IsFirstOpen, IsBecause, needed, needed_gate, seeded, left_out, forced, IsTrail, begun, went_on, Takes, IsChosen}
 use Rattle.resolver_encoding.specs.TrailAtoms.{CoversReached, IsAnswerBy}
-use Rattle.resolver_encoding.proofs.Lists.{here, there, cons_cases, none_in, list_any-witness, beq-true}
 use Rattle.resolver_encoding.proofs.Satisfied.{has-contains, contains-has, present, helper_meets, satisfied}
-use Rattle.resolver_encoding.proofs.Sound.{is_plain-parts, active_by, defines, valid_obeys}
+use Rattle.resolver_encoding.proofs.Sound.{is_plain-parts, defines, valid_obeys}
 use Rattle.resolver_encoding.proofs.Closure.{active_more, Closure, closure, Next}
+use Rattle.resolver_clause_store.proofs.BoolLemmas.{beq-true, not_same}
+use Rattle.resolver_clause_store.proofs.DemandLemmas.{active_by}
+use Rattle.resolver_clause_store.proofs.ListLemmas.{Contains-cons_cases as cons_cases, Contains-here as here, Contains-none as none_in, Contains-there as there}
+use Rattle.resolver_clause_store.proofs.ListLemmas.{list_any-witness}
 use Rattle.resolver_encoding.proofs.Answers.{closed_part_is_valid}
-
-not_same : (b : Bool) → b ≡ not b → ⊥
-not_same true e = false≢true (sym e)
-not_same false e = false≢true e
 
 pub first_open_candidate : {N S : Type 0} (u : Universe N S) (earlier : List (Atom N S)) (r : Requirement) (s : S) → IsFirstOpen u earlier r s →
     Contains (requirement_candidates u r) s

@@ -42,7 +42,9 @@ use Rattle.resolver_clause_store.proofs.PlaceLemmas.{place_cases}
 use Rattle.resolver_encoding.proofs.EncodingLemmas.{IsClauseOf-zip, IsForbidden-within}
 use Rattle.resolver_encoding.proofs.CodeLemmas.{apart_of_digits}
 use Rattle.resolver_encoding.proofs.NoteLemmas.{All-grown, asks_not}
-use Rattle.resolver_encoding.proofs.Lists.{Contains-slice, cons_cases, here, none_in, there}
+use Rattle.resolver_clause_store.proofs.ListLemmas.{Contains-cons_cases as cons_cases, Contains-here as here, Contains-none as none_in, Contains-there as there}
+use Rattle.resolver_encoding.proofs.GroupLemmas.{named_of_number as IsNamed-at}
+use Rattle.resolver_encoding.proofs.Lists.{Contains-slice}
 
 module _ {N S : Type 0} (u : Universe N S) (kinds more : List (ClauseKind N S)) (within : IsWithin kinds more) where
   pub HasClause-within : (by : By S) (list : List VersionSetId) (r : Requirement) → HasClause kinds by list r → HasClause more by list r
@@ -131,10 +133,6 @@ module _ {N S : Type 0} where
       let fit = length-le_from_is_member laws seen (solvables_in os) distinct (λ q h.
       list_any-from_Contains laws q (solvables_in os) (solvable_in os q (each q (Contains-from_any identity.alone q seen h)))) in
       omega (arith, fit, no_more os)
-
--- a solvable with a number is one of the name
-IsNamed-at : {N S : Type 0} (g : Groups N S) (n : N) (k : ℕ) (s : S) → IsAt g n k s → IsNamed g n s
-IsNamed-at g n k s at = record { place = at.place; named = at.named; inside = Contains-slice (group_at g.members.items at.place) k s at.at }
 
 module _ {N S : Type 0} (u : Universe N S) where
   needs_demanded : (notes : Notes N S) (s : S) (needs : Needs) → AreNeedsRead u notes s needs → AreDemandsRead u notes (BySolvable s) (demands_of needs)

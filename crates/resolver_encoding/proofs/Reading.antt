@@ -23,45 +23,11 @@ use Rattle.resolver_clause_store.specs.TrueRules.{demands_by}
 use Rattle.resolver_clause_store.specs.declared.ClauseKind.{ClauseKind}
 use Rattle.resolver_encoding.specs.Read.{IsMade, made_direct, made_gated}
 use Rattle.resolver_encoding.specs.ReadState.{Deferred, HasClause, has_direct, has_gate, IsRead, AreSeeds, NoneFires}
+use Rattle.resolver_clause_store.proofs.ListLemmas.{Contains-cons_cases as cons_cases, Contains-here as here, Contains-none as none_in, Contains-there as there}
+use Rattle.resolver_clause_store.proofs.ListLemmas.{list_any-witness}
+use Rattle.resolver_clause_store.proofs.RequirementLemmas.{Contains-cut_left as Contains-cut, Contains-moved_to_front as Contains-front}
+use Rattle.resolver_clause_store.proofs.RequirementLemmas.{Contains-without_repeats as Contains-repeats}
 use Rattle.resolver_encoding.specs.TrailAtoms.{CoversReached}
-use Rattle.resolver_encoding.proofs.Lists.{here, there, cons_cases, none_in, list_any-witness}
-
-Contains-filter : {X : Type 0} (p : X → Bool) (xs : List X) (x : X) → Contains (filter p xs) x → Contains xs x
-Contains-filter p [] x h = h
-Contains-filter {X} p (y ∷ ys) x h = ⊎_elim
-    (λ e. let Has : Bool → Type 0 = λ b. Contains (cond b (y ∷ filter p ys) (filter p ys)) x in
-    ⊎_elim (λ is. let P : X → Type 0 = λ q. Contains (y ∷ ys) q in subst P is (here y ys)) (λ t. there y ys x (Contains-filter p ys x t))
-    (cons_cases y (filter p ys) x (subst Has e h)))
-    (λ e. let Has : Bool → Type 0 = λ b. Contains (cond b (y ∷ filter p ys) (filter p ys)) x in there y ys x (Contains-filter p ys x (subst Has e h)))
-    (cases_Bool (p y))
-
-Contains-repeats : {X : Type 0} (same : X → X → Bool) (xs : List X) (x : X) → Contains (without_repeats same xs) x → Contains xs x
-Contains-repeats same [] x h = h
-Contains-repeats {X} same (y ∷ ys) x h = ⊎_elim
-    (λ is. let P : X → Type 0 = λ q. Contains (y ∷ ys) q in subst P is (here y ys))
-    (λ t. there y ys x (Contains-repeats same ys x (Contains-filter (λ z. not (same z y)) (without_repeats same ys) x t)))
-    (cons_cases y (filter (λ z. not (same z y)) (without_repeats same ys)) x h)
-
-Contains-front : {X : Type 0} (same : X → X → Bool) → IsIdentity same → (y : X) (xs : List X) (x : X) → Contains (moved_to_front same y xs) x → Contains xs x
-Contains-front {X} same id y xs x h =
-    let Has : Bool → Type 0 = λ b. Contains (cond b (y ∷ filter (λ z. not (same z y)) xs) xs) x in
-    ⊎_elim
-    (λ e. ⊎_elim
-    (λ is.
-    let w = list_any-witness (λ z. same z y) xs e in
-    let P : X → Type 0 = λ q. Contains xs q in subst P (id.alone w.0 y w.2 ∙ is) w.1)
-    (λ t. Contains-filter (λ z. not (same z y)) xs x t)
-    (cons_cases y (filter (λ z. not (same z y)) xs) x (subst Has e h)))
-    (λ e. subst Has e h)
-    (cases_Bool (list_any (λ z. same z y) xs))
-
-Contains-cut : {X : Type 0} {xs ys zs : List X} → IsCut xs ys zs → (x : X) → Contains ys x → Contains xs x
-Contains-cut cut_none x h = h
-Contains-cut {X} (cut_left {x = y} {xs = xs} {ys = ys} rest) x h = ⊎_elim
-    (λ is. let P : X → Type 0 = λ q. Contains (y ∷ xs) q in subst P is (here y xs))
-    (λ t. there y xs x (Contains-cut rest x t))
-    (cons_cases y ys x h)
-Contains-cut (cut_right {x = y} {xs = xs} rest) x h = there y xs x (Contains-cut rest x h)
 
 module _ {N S : Type 0} (u : Universe N S) (ids : HasLawfulSolvables u) (packages : HasLawfulPackages u) where
   -- what matches a version set bears its name

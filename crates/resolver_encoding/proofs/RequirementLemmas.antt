@@ -29,7 +29,8 @@ use Rattle.resolver_clause_store.specs.TrueRules.{Implies}
 use Rattle.resolver_encoding.specs.Truth.{follows, is_plain}
 use Rattle.resolver_encoding.proofs.EncodingLemmas.{IsAskStep-weaker, IsEncodingOf-step, IsReadStep-of}
 use Rattle.resolver_encoding.proofs.ReadLemmas.{HasClause-within}
-use Rattle.resolver_encoding.proofs.Lists.{cons_cases, here, list_any-contains, none_in, there}
+use Rattle.resolver_clause_store.proofs.ListLemmas.{Contains-cons_cases as cons_cases, Contains-here as here, Contains-none as none_in, Contains-there as there}
+use Rattle.resolver_clause_store.proofs.ListLemmas.{list_any-contains}
 use Rattle.resolver_encoding.proofs.Sound.{same_requirement-same}
 
 -- what holds of each image holds of each element

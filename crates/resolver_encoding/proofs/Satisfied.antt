@@ -20,7 +20,9 @@ use Rattle.resolver_clause_store.specs.declared.ClauseKind.TheVariants.{InstallR
 use Rattle.resolver_clause_store.specs.declared.ClauseKind.TheVariants.{ConstrainsParent, HasBit, Lock, Excluded}
 use Rattle.resolver_encoding.specs.Atoms.{Atom, atom, origin_by, atoms_of, has, is_on, IsHelper, is_satisfied, IsStated, states_requires, states_constrains}
 use Rattle.resolver_encoding.specs.Atoms.{states_gated, states_helped, states_coded, states_bit, states_lock, states_excluded, Defines}
-use Rattle.resolver_encoding.proofs.Lists.{In, first, later, on_left, on_right, mapped, list_any-contains, list_any-none, list_any-witness, true_if, beq-false}
+use Rattle.resolver_clause_store.proofs.BoolLemmas.{beq-false}
+use Rattle.resolver_clause_store.proofs.ListLemmas.{list_any-contains, list_any-witness}
+use Rattle.resolver_encoding.proofs.Lists.{In, first, later, on_left, on_right, mapped, list_any-none, true_if}
 
 module _ {N S : Type 0} (u : Universe N S) (implies : Origin N S → S → Bool) (same : IsIdentity u.same_solvable) (set : List S) where
   abbrev pub value : Origin N S → Bool

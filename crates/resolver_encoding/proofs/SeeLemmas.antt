@@ -12,7 +12,6 @@ use Rattle.resolver_clause_store.specs.declared.ClauseKind.{ClauseKind}
 use Rattle.resolver_clause_store.specs.declared.ClauseKind.TheVariants.{InstallRoot, Requires, AnyOf, GateRequires, Constrains, ConstrainsExcluded}
 use Rattle.resolver_clause_store.specs.declared.ClauseKind.TheVariants.{ConstrainsParent, HasBit, Lock, Excluded}
 use Rattle.resolver_clause_store.specs.declared.Origin.TheVariants.{Root, Solvable, Bit, Gate, ConstraintHelper, ConditionHelper}
-use Rattle.resolver_clause_store.proofs.PlaceLemmas.{place_in}
 use Rattle.resolver_encoding.specs.Called.{Call, IsSeeing, to_ask, to_see}
 use Rattle.resolver_encoding.specs.Codes.{bit}
 use Rattle.resolver_encoding.specs.Encodings.{AddsClause, Coding, Extends, HasUsualHelper, IsAskStep, IsEncoding, IsEncodingWhile, IsFollowed, IsStepWhile}
@@ -22,9 +21,9 @@ use Rattle.resolver_encoding.specs.declared.groups.Groups.{Groups}
 use Rattle.resolver_encoding.specs.Truth.{AreCodes, IsTrueClause}
 use Rattle.resolver_encoding.proofs.EncodingLemmas.{Extends-push, IsClauseOf-zip, IsStep-clause, IsWithin-same}
 use Rattle.resolver_encoding.proofs.GroupLemmas.{named_of_number, number_is}
-use Rattle.resolver_encoding.proofs.Lists.{cons_cases, here, none_in}
 use Rattle.resolver_encoding.proofs.CodeLemmas.{no_digit, pow_same}
 use Rattle.resolver_encoding.proofs.NoteLemmas.{IsStep-plain, asks_not}
+use Rattle.resolver_clause_store.proofs.ListLemmas.{Contains-at as place_in, Contains-cons_cases as cons_cases, Contains-here as here, Contains-none as none_in}
 use Rattle.resolver_encoding.specs.Atoms.{atoms_of}
 
 -- the first where the test says so, and else the second

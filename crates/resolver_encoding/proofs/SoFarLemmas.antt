@@ -20,7 +20,7 @@ use Rattle.resolver_clause_store.specs.declared.ConditionalRequirement.{Conditio
 use Rattle.resolver_clause_store.specs.declared.Origin.TheVariants.{Solvable}
 use Rattle.resolver_clause_store.specs.declared.Requirement.{Requirement}
 use Rattle.resolver_clause_store.specs.declared.VersionSetId.{VersionSetId}
-use Rattle.resolver_clause_store.proofs.PlaceLemmas.{Keeps-same, Keeps-trans, place_in, place_left, place_of_member}
+use Rattle.resolver_clause_store.proofs.PlaceLemmas.{Keeps-same, Keeps-trans, place_left, place_of_member}
 use Rattle.resolver_clause_store.specs.Statements.{IsPresent, AllMeet}
 use Rattle.resolver_clause_store.specs.TrueRules.{demands_by}
 use Rattle.resolver_encoding.specs.Called.{AreAsked, IsCalledFor, IsDemanded, IsNamedIn, to_ask}
@@ -31,9 +31,9 @@ use Rattle.resolver_encoding.specs.SoFar.{HasFired, HasRead, IsBare, IsFiring, I
 use Rattle.resolver_encoding.specs.SoFar.{IsReadingOf, left_count, progress_by}
 use Rattle.resolver_encoding.specs.Truth.{HasLawfulSolvables}
 use Rattle.resolver_encoding.proofs.EncodingLemmas.{Extends-same, Extends-trans, Extends-within, IsWithin-same, IsWithin-trans}
-use Rattle.resolver_encoding.proofs.Lists.{here, none_in, there}
 use Rattle.resolver_encoding.proofs.ReadLemmas.{AreDemandsRead-grown, AreNeedsRead-grown, HasClause-within, IsConstraintRead-within, demands_read, packages_of}
 use Rattle.resolver_encoding.proofs.Reading.{name_matching}
+use Rattle.resolver_clause_store.proofs.ListLemmas.{Contains-at as place_in, Contains-here as here, Contains-none as none_in, Contains-there as there}
 use Rattle.resolver_encoding.proofs.RequirementLemmas.{active_where}
 
 place_on : {X : Type 0} (xs ys : List X) → Extends xs ys → (k : ℕ) (x : X) → slice_get xs k ≡ Some x → slice_get ys k ≡ Some x

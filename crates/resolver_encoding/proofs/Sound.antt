@@ -30,26 +30,10 @@ use Rattle.resolver_clause_store.specs.declared.ClauseKind.TheVariants.{Requires
 use Rattle.resolver_clause_store.specs.declared.ClauseKind.TheVariants.{Excluded}
 use Rattle.resolver_encoding.specs.Atoms.{IsStated, states_requires, states_constrains, states_gated, states_helped, states_coded, states_bit, states_lock}
 use Rattle.resolver_encoding.specs.Atoms.{states_excluded, Defines}
-use Rattle.resolver_encoding.proofs.Lists.{Contains-map, list_any-contains, list_any-witness}
+use Rattle.resolver_clause_store.proofs.BoolLemmas.{and_left, and_right}
+use Rattle.resolver_clause_store.proofs.DemandLemmas.{active_by, constrains_by, not_unknown, requires_by}
+use Rattle.resolver_clause_store.proofs.ListLemmas.{Contains-map, list_any-contains, list_any-witness}
 use Rattle.resolver_encoding.specs.Truth.{same_requirement, is_plain, AreCodes, follows, IsTrueClause, Spares, AreListed}
-
-pub requires_by : {N S : Type 0} (u : Universe N S) (root : Demands) (set : List S) (by : By S) (r : ConditionalRequirement) → IsPresent by set →
-    Contains (demands_by u root by).requirements r → valid.Requires u root (Contains set) r
-requires_by u root set ByRoot r here asked = inl asked
-requires_by u root set (BySolvable s) r here asked = inr (s, here, asked)
-
-pub constrains_by : {N S : Type 0} (u : Universe N S) (root : Demands) (set : List S) (by : By S) (v : VersionSetId) → IsPresent by set →
-    Contains (demands_by u root by).constraints v → valid.Constrains u root (Contains set) v
-constrains_by u root set ByRoot v here asked = inl asked
-constrains_by u root set (BySolvable s) v here asked = inr (s, here, asked)
-
-pub active_by : {N S : Type 0} (u : Universe N S) (set : List S) (when : List (List S)) (c : Option ConditionId) → Implies u when c → AllMeet set when →
-    OptionalConditionHolds u (Contains set) c
-active_by u set when None implied meets = tt
-active_by u set when (Some c) implied meets = implied set meets
-
-not_unknown : (needs : Needs) (reason : _) → IsKnown needs → needs ≡ unknown reason → ⊥
-not_unknown needs reason known e = subst IsKnown e known
 
 pub same_requirement-true : (r q : Requirement) → same_requirement r q ≡ true → r ≡ q
 same_requirement-true (Single v) (Single w) e = let same : v.0 ≡ w.0 = eqb-true _ _ e in let Of : ℕ → Requirement = λ n. Single (record { 0 = n }) in ap Of same
@@ -64,21 +48,9 @@ pub same_requirement-same : (r : Requirement) → same_requirement r r ≡ true
 same_requirement-same (Single v) = nat_same v.0
 same_requirement-same (Union v) = nat_same v.0
 
-pub and_both : (a b : Bool) → a ≡ true → b ≡ true → (a && b) ≡ true
-and_both true b e f = f
-and_both false b e f = cc
-
 none_is : {X : Type 0} (o : Option X) → is_none o ≡ true → o ≡ None
 none_is None e = refl
 none_is (Some x) e = cc
-
-pub and_left : (a b : Bool) → (a && b) ≡ true → a ≡ true
-and_left true b e = refl
-and_left false b e = cc
-
-pub and_right : (a b : Bool) → (a && b) ≡ true → b ≡ true
-and_right true b e = e
-and_right false b e = cc
 
 pub is_plain-parts : (r : Requirement) (q : ConditionalRequirement) → is_plain r q ≡ true → (q.condition ≡ None) × (q.requirement ≡ r)
 is_plain-parts r q e = (none_is q.condition (and_left _ _ e), same_requirement-true q.requirement r (and_right _ _ e))

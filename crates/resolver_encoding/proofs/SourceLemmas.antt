@@ -12,8 +12,8 @@ use Rattle.resolver_encoding.specs.Groups.{AddsNamed, AreGroups, IsNamed}
 use Rattle.resolver_encoding.specs.Sources.{AreSources, HasGroups, IsExcludedIn}
 use Rattle.resolver_encoding.specs.declared.groups.Groups.{Groups}
 use Rattle.resolver_encoding.specs.declared.sources.Sources.{Sources}
+use Rattle.resolver_clause_store.proofs.ListLemmas.{Contains-none as none_in}
 use Rattle.resolver_encoding.specs.Values.{kinds_at}
-use Rattle.resolver_encoding.proofs.Lists.{none_in}
 
 module _ {N S : Type 0} (kinds : List (ClauseKind N S)) (k : ClauseKind N S) where
   more : (q : ClauseKind N S) → Contains kinds q → Contains (kinds ++ k ∷ []) q

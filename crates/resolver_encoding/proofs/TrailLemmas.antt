@@ -16,9 +16,10 @@ use Rattle.resolver_clause_store.proofs.SlotLemmas.{slot-within}
 use Rattle.resolver_encoding.specs.Encodings.{Extends}
 use Rattle.resolver_encoding.specs.Trails.{Follows, chosen_in, origin_at, solvable_if, solvables_before, value_of, solvable_found}
 use Rattle.resolver_encoding.specs.declared.chosen.Chosen.{Chosen}
-use Rattle.resolver_encoding.proofs.Bridge.{below_or, not_before, slot_placed, solvable_of}
+use Rattle.resolver_encoding.proofs.Bridge.{below_or, not_before, solvable_of}
+use Rattle.resolver_clause_store.proofs.KeptLemmas.{slot_placed}
+use Rattle.resolver_clause_store.proofs.ListLemmas.{Contains-here as here, slice_get-append_left as slice_get-earlier, slice_get-last}
 use Rattle.resolver_encoding.proofs.EncodingLemmas.{Extends-same, Extends-trans}
-use Rattle.resolver_encoding.proofs.Lists.{here}
 
 -- what the look-up of a variable's origin found
 found_some : {N S : Type 0} (origins : List (Origin N S)) (x : ℕ) (s : S) → solvable_found (slice_get origins x) ≡ Some s →
@@ -77,15 +78,6 @@ slice_get-take xs zero k below = absurd (omega arith)
 slice_get-take [] (suc n) k below = refl
 slice_get-take (x ∷ xs) (suc n) zero below = refl
 slice_get-take (x ∷ xs) (suc n) (suc k) below = slice_get-take xs n k (omega arith)
-
-slice_get-earlier : {X : Type 0} (xs ys : List X) (k : ℕ) → k < length xs → slice_get (xs ++ ys) k ≡ slice_get xs k
-slice_get-earlier [] ys k below = absurd (omega arith)
-slice_get-earlier (x ∷ xs) ys zero below = refl
-slice_get-earlier (x ∷ xs) ys (suc k) below = slice_get-earlier xs ys k (omega arith)
-
-slice_get-last : {X : Type 0} (xs : List X) (x : X) → slice_get (xs ++ x ∷ []) (length xs) ≡ Some x
-slice_get-last [] x = refl
-slice_get-last (y ∷ xs) x = slice_get-last xs x
 
 -- a set into which a member was put
 pub inserted_more : {T : Type 0} (b : Bool) (ks new : List T) (q : T) → new ≡ (if b then ks else ks ++ q ∷ []) → Extends ks new

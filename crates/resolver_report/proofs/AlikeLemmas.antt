@@ -10,19 +10,8 @@ use Rattle.resolver_clause_store.specs.declared.Requirement.TheVariants.{Single,
 use Rattle.resolver_report.specs.declared.parts.Side.{Side}
 use Rattle.resolver_report.specs.Same.{same_requirement}
 use Rattle.resolver_report.specs.Merging.{same_required, same_side, has_count, same_counts, same_texts, Key, are_alike, are_alike_if_there, class_in}
+use Rattle.resolver_clause_store.proofs.BoolLemmas.{and_both as both_true, and_left, and_right}
 use Rattle.resolver_report.specs.Merging.{first_of_two}
-
-pub and_left : (a b : Bool) → (a && b) ≡ true → a ≡ true
-and_left true b e = refl
-and_left false b e = absurd (false≢true e)
-
-pub and_right : (a b : Bool) → (a && b) ≡ true → b ≡ true
-and_right true b e = e
-and_right false b e = absurd (false≢true e)
-
-pub both_true : (a b : Bool) → a ≡ true → b ≡ true → (a && b) ≡ true
-both_true true b e f = f
-both_true false b e f = absurd (false≢true e)
 
 pub same_bool : (a b : Bool) → (a ≡ true → b ≡ true) → (b ≡ true → a ≡ true) → a ≡ b
 same_bool true b f g = sym (f refl)

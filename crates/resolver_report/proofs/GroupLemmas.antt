@@ -18,6 +18,7 @@ use Rattle.resolver_report.specs.Simplified.{Group, IsGroupOf}
 use Rattle.resolver_report.specs.Stories.{known_group, group_at}
 use Rattle.std.proofs.lemmas.List.Sums.{position_or_len_is}
 use Rattle.resolver_report.proofs.AlikeLemmas.{first_passes}
+use Rattle.resolver_clause_store.proofs.ListLemmas.{slice_get-inside as below}
 use Rattle.resolver_report.proofs.GraphLemmas.{same_node_is_identity}
 
 -- what a function makes of numbers in a row, at a place
@@ -55,11 +56,6 @@ here [] n x d e = absurd cc
 here (y ∷ ys) zero x d e = cc
 here (y ∷ ys) (suc n) x d e = here ys n x d e
 
-below : {X : Type 0} (xs : List X) (n : ℕ) (x : X) → slice_get xs n ≡ Some x → n < length xs
-below [] n x e = absurd cc
-below (y ∷ ys) zero x e = omega arith
-below (y ∷ ys) (suc n) x e = let h : n < length ys = below ys n x e in omega (arith, h)
-
 -- a node's place is where it stands
 place_is : {S : Type 0} (same : S → S → Bool) → IsIdentity same → (ms : List (ConflictNode S)) → HasNoRepeats ms → (k : ℕ) (s : S) →
     slice_get ms k ≡ Some (Solvable s) → place_in same ms (Solvable s) ≡ k
@@ -86,10 +82,6 @@ match_found {X} {R} (Some x) value o A P e m = let M : Option X → Type 0 = λ 
 
 pub is_none : {X : Type 0} (o : Option X) → o ≡ None → IsNone o
 is_none o e = ap is_some e
-
-pub none_is : {X : Type 0} (o : Option X) → IsNone o → o ≡ None
-none_is None h = refl
-none_is (Some x) h = absurd (true≢false h)
 
 module _ {N S : Type 0} (u : Universe N S) (g : Shape S) where
   -- the key of what is no solvable has no name

@@ -29,8 +29,9 @@ use Rattle.resolver_report.specs.Shapes.{Shape}
 use Rattle.resolver_report.specs.Listed.{items_if}
 use Rattle.resolver_report.specs.Shapes.{places}
 use Rattle.resolver_report.proofs.ListLemmas.{range-next}
-use Rattle.resolver_report.proofs.AlikeLemmas.{agree_counts, and_left, and_right, both_true, counts_agree, itself_number, same_bool, side_alone}
+use Rattle.resolver_report.proofs.AlikeLemmas.{agree_counts, counts_agree, itself_number, same_bool, side_alone}
 use Rattle.resolver_report.proofs.AlikeLemmas.{texts_pointwise}
+use Rattle.resolver_clause_store.proofs.BoolLemmas.{and_both as both_true, and_left, and_right}
 use Rattle.resolver_report.proofs.OrderedLemmas.{sorted_same}
 
 requirement_itself : (r : Requirement) → same_requirement r r ≡ true

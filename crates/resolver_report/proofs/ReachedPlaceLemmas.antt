@@ -28,12 +28,8 @@ use Rattle.resolver_report.specs.ReachedPlaces.{IsWalkedTo, at_root, by_requirem
 use Rattle.resolver_report.specs.Shapes.{as_solvable, ConflictShape}
 use Rattle.resolver_report.proofs.TrueEdgeLemmas.{stands}
 use Rattle.resolver_report.proofs.GraphLemmas.{same_node_is_identity, has-without_repeats, without_repeats_once}
+use Rattle.resolver_clause_store.proofs.ListLemmas.{Contains-map as mapped}
 use Rattle.resolver_report.proofs.ShapeLemmas.{at_other, at_one, swapped_once, AllByRecursion-append, Has, EndsIn, first_ends, without_unresolved, without_ends}
-
-mapped : {X Y : Type 0} (f : X → Y) (xs : List X) (x : X) → Contains xs x → Contains (map f xs) (f x)
-mapped f [] x h = absurd (omega (arith, h.1))
-mapped f (y ∷ ys) x (zero, below, is) = (zero, omega arith, ap f is)
-mapped f (y ∷ ys) x (suc k, below, is) = Contains-append_right (f y ∷ []) (map f ys) (f x) (mapped f ys x (k, omega (arith, below), is))
 
 -- links that require lead from the root to the node, over solvables alone
 pub data IsWalkedNode {S : Type 0} (ls : List (Link S)) : ConflictNode S → Type 0 where

@@ -23,16 +23,10 @@ use Rattle.resolver_report.specs.Listed.{items_if}
 use Rattle.resolver_report.specs.ReachedRules.{IsReachedBy, by_root, by_reached, IsAskerReached, IsKept, LeavesJust}
 use Rattle.resolver_report.specs.Reaching.{IsAbout, IsReachedSet}
 use Rattle.resolver_clause_store.specs.Statements.{IsPresent}
-use Rattle.resolver_clause_store.proofs.PlaceLemmas.{slice_get-append_left}
 use Rattle.resolver_report.proofs.AskedLemmas.{gathered, gathered_from, cases_lt_suc}
 use Rattle.resolver_report.specs.Searching.{all_candidates, candidates_in, count_outside}
+use Rattle.resolver_clause_store.proofs.ListLemmas.{Contains-here as head_in, Contains-none as none_in, slice_get-append_left}
 use Rattle.resolver_report.proofs.SearchLemmas.{Contains-all_candidates, count_outside-lt, list_any-outside}
-
-none_in : {X : Type 0} (x : X) → Contains [] x → ⊥
-none_in x h = absurd (omega (arith, h.1))
-
-head_in : {X : Type 0} (x : X) (xs : List X) → Contains (x ∷ xs) x
-head_in x xs = (zero, omega arith, refl)
 
 tail_in : {X : Type 0} (x : X) (xs : List X) (y : X) → Contains xs y → Contains (x ∷ xs) y
 tail_in x xs y h = Contains-append_right (x ∷ []) xs y h

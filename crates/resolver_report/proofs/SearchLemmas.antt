@@ -7,7 +7,6 @@ use Rattle.std.proofs.lemmas.List.Elements.{Contains-push_cases}
 use Rattle.std.proofs.lemmas.List.{get_or_default}
 use Rattle.std.proofs.lemmas.List.Quantifiers.{all_pairs_push}
 use Rattle.std.proofs.lemmas.List.Folds.{list_any-append, list_any_none}
-use Rattle.resolver_clause_store.proofs.DisjunctLemmas.{Contains-map}
 use Rattle.resolver_clause_store.specs.Laws.{IsIdentity}
 use Rattle.resolver_clause_store.specs.Lists.{HasNoRepeats, Meets, IsWithin}
 use Rattle.resolver_clause_store.specs.declared.By.{By}
@@ -18,6 +17,7 @@ use Rattle.resolver_clause_store.specs.Statements.{lists_of, statement_of, AllMe
 use Rattle.resolver_clause_store.specs.Rules.{AllNeeded, IsNeeded, by_root, by_needed, Obeys}
 use Rattle.resolver_report.specs.Searching.{all_candidates, candidates_in, count_outside}
 use Rattle.resolver_report.specs.Plain.{BreaksSome, Clashes, HasTwo, IsAllowed, IsAloneMarked, IsForbidden, IsMet, IsOpen, IsRefutedFrom, IsUnmet, MarksNoOther}
+use Rattle.resolver_clause_store.proofs.ListLemmas.{Contains-map}
 use Rattle.resolver_report.specs.Plain.{MarksOther}
 
 -- what is there in a set is there in a larger one

@@ -16,6 +16,7 @@ use Rattle.resolver_report.specs.declared.parts.ConflictNode.TheVariants.{Root, 
 use Rattle.resolver_report.specs.Shapes.{Shape, as_solvable, places, solvable_at}
 use Rattle.resolver_report.specs.Merging.{Key, key_of, keys, class_in, first_of_two, group_in, solvables_at}
 use Rattle.resolver_report.specs.Simplified.{Group, Groups, IsGroupOf, IsEarlierGroup, IsMadeAt, IsSimplified, IsSimplifiedBefore}
+use Rattle.resolver_clause_store.proofs.ListLemmas.{slice_get-inside as below}
 use Rattle.resolver_report.proofs.AlikeLemmas.{class_of_first}
 
 match_weaker : {A B : Type 0} {X : Type 0} (o : Option X) (P Q : X → Type 0) → (A → B) → ((x : X) → P x → Q x) → MatchOption o A P → MatchOption o B Q
@@ -31,11 +32,6 @@ node_of (Some Root) s e = absurd cc
 node_of (Some UnresolvedDependency) s e = absurd cc
 node_of (Some (Excluded r)) s e = absurd cc
 node_of None s e = absurd cc
-
-below : {X : Type 0} (xs : List X) (n : ℕ) (x : X) → slice_get xs n ≡ Some x → n < length xs
-below [] n x e = absurd cc
-below (y ∷ ys) zero x e = omega arith
-below (y ∷ ys) (suc n) x e = let h : n < length ys = below ys n x e in omega (arith, h)
 
 here : {X : Type 0} (xs : List X) (n : ℕ) (x : X) → slice_get xs n ≡ Some x → get_or xs n x ≡ x
 here [] n x e = absurd cc

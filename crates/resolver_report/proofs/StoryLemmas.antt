@@ -17,6 +17,7 @@ use Rattle.resolver_report.specs.Merging.{Key, group_in, solvables_at}
 use Rattle.resolver_report.specs.Messages.{RunTold, same_group_as, told_with, version_text}
 use Rattle.resolver_report.specs.Shapes.{Shape, ConflictShape, as_solvable, places, solvable_at}
 use Rattle.resolver_report.specs.Simplified.{Group, IsGroupOf}
+use Rattle.resolver_clause_store.proofs.ListLemmas.{is_none as none_is}
 use Rattle.resolver_report.specs.Stories.{NodeTold, group_at, node_view}
 
 -- An element at the end is left out if one that is the same stands before it.
@@ -90,10 +91,6 @@ pub add_alone : (groups : List (Option ℕ)) (found : List NodeId) (n : NodeId) 
     cond (list_any (λ m. same_group_as (group_at groups n.0) (group_at groups m.0)) found) found (found ++ n ∷ []) ≡ found ++ n ∷ []
 add_alone groups found n e = ap (λ o. cond (list_any (λ m. same_group_as o (group_at groups m.0)) found) found (found ++ n ∷ [])) e ∙
     ap (λ b. cond b found (found ++ n ∷ [])) (no_group groups found)
-
-none_is : {X : Type 0} (o : Option X) → IsNone o → o ≡ None
-none_is None h = refl
-none_is (Some x) h = absurd cc
 
 one_solvable : {S : Type 0} (f : ℕ → Option S) (n : ℕ) (s : S) → f n ≡ Some s → filter_map f (n ∷ []) ≡ s ∷ []
 one_solvable f n s e = rw e refl

@@ -17,28 +17,11 @@ use Rattle.resolver_clause_store.specs.declared.Rule.{Rule}
 use Rattle.resolver_clause_store.specs.declared.Rule.TheVariants.{Requires, Constrains, Lock, Excluded, OnePerPackage}
 use Rattle.resolver_clause_store.specs.Statements.{statement_of, AllMeet, IsPresent, ObeysAlone}
 use Rattle.resolver_clause_store.specs.Rules.{Obeys}
+use Rattle.resolver_clause_store.proofs.DemandLemmas.{active_by, constrains_by, not_unknown, requires_by}
 use Rattle.resolver_clause_store.specs.TrueRules.{demands_by, Implies, IsTrueRule}
-
-requires_by : {N S : Type 0} (u : Universe N S) (root : Demands) (set : List S) (by : By S) (r : ConditionalRequirement) → IsPresent by set →
-    Contains (demands_by u root by).requirements r → valid.Requires u root (Contains set) r
-requires_by u root set Root r here asked = inl asked
-requires_by u root set (Solvable s) r here asked = inr (s, here, asked)
-
-constrains_by : {N S : Type 0} (u : Universe N S) (root : Demands) (set : List S) (by : By S) (v : VersionSetId) → IsPresent by set →
-    Contains (demands_by u root by).constraints v → valid.Constrains u root (Contains set) v
-constrains_by u root set Root v here asked = inl asked
-constrains_by u root set (Solvable s) v here asked = inr (s, here, asked)
-
-active_by : {N S : Type 0} (u : Universe N S) (set : List S) (when : List (List S)) (c : Option ConditionId) → Implies u when c → AllMeet set when →
-    OptionalConditionHolds u (Contains set) c
-active_by u set when None implied meets = tt
-active_by u set when (Some c) implied meets = implied set meets
 
 none_in : {S : Type 0} (s : S) → Contains [] s → ⊥
 none_in s h = absurd (omega (arith, h.1))
-
-not_unknown : (needs : Needs) (reason : _) → IsKnown needs → needs ≡ unknown reason → ⊥
-not_unknown needs reason known e = subst IsKnown e known
 
 obeys_alone : {N S : Type 0} (u : Universe N S) (root : Demands) (set : List S) → IsValid u root set [] → (rule : Rule N S) → IsTrueRule u root rule →
     ObeysAlone set (statement_of rule)

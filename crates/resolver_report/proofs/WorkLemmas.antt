@@ -7,7 +7,6 @@ use Rattle.std.proofs.lemmas.Bool.{false≢true, true≢false, cases_eq, cases_l
 use Rattle.std.proofs.lemmas.List.{drop_all, get_or-map, get_or-set_same, get_or-set_other, get_or_past, length-map, length-replicate, length-set}
 use Rattle.std.proofs.lemmas.List.Elements.{Contains-append_left, Contains-append_right, Contains-push, Contains-push_cases, All-head, All-tail}
 use Rattle.std.proofs.lemmas.List.Sums.{sum_by-set}
-use Rattle.resolver_clause_store.proofs.DisjunctLemmas.{Contains-cons_cases}
 use Rattle.resolver_report.specs.declared.implications.Implication.{Implication}
 use Rattle.resolver_report.specs.declared.implications.Waiting.{Waiting}
 use Rattle.resolver_report.specs.declared.parts.NodeId.{NodeId}
@@ -19,6 +18,8 @@ use Rattle.resolver_report.specs.WorkLists.{WaitsAt, Work, advanced, after_waits
 use Rattle.resolver_report.proofs.AlikeLemmas.{itself_number, same_numbers}
 use Rattle.resolver_report.proofs.LeastLemmas.{IsWithinMarks}
 use Rattle.resolver_report.proofs.AskedLemmas.{cases_lt_suc}
+use Rattle.resolver_clause_store.proofs.BoolLemmas.{and_left as left_true, and_right as right_true}
+use Rattle.resolver_clause_store.proofs.ListLemmas.{Contains-cons_cases}
 use Rattle.resolver_report.proofs.MonotoneLemmas.{and_within, some_within}
 
 -- the groups that are left
@@ -400,14 +401,6 @@ module _ (is : List Implied) (w : Work) where
 
           at_place : (k : ℕ) × (k < length is) × (implies w.marks n (implied_at is k) ≡ true) → is_marked w.marks n ≡ true
           at_place (c, below, e) = at_tended c below e (tended c below)
-
-left_true : (a b : Bool) → (a && b) ≡ true → a ≡ true
-left_true true b h = refl
-left_true false b h = absurd (false≢true h)
-
-right_true : (a b : Bool) → (a && b) ≡ true → b ≡ true
-right_true true b h = h
-right_true false b h = absurd (false≢true h)
 
 -- what was woken last is taken out
 module _ (is : List Implied) (w : Work) (ws : List Waiting) where

@@ -21,7 +21,7 @@ use Rattle.resolver_clause_store.specs.Outcomes.{IsFalseBefore, IsSatisfied}
 use Rattle.resolver_clause_store.specs.TrailView.{Gains, IsCut, IsGrown, IsUndone, KeepsPlaces, length_of, literal_value, slot_of}
 use Rattle.resolver_clause_store.proofs.FormulaLemmas.{clause_at-last, clause_at-past, clause_at-push}
 use Rattle.resolver_clause_store.proofs.KeptLemmas.{keeps_all, keeps_places, keeps_undone}
-use Rattle.resolver_clause_store.proofs.PlaceLemmas.{place_cases, place_in, place_last, place_left}
+use Rattle.resolver_clause_store.proofs.PlaceLemmas.{place_cases, place_left}
 use Rattle.resolver_clause_store.proofs.TrailLemmas.{Keeps, value-true}
 use Rattle.resolvo.specs.declared.propagator.Late.{Late}
 use Rattle.resolvo.specs.declared.propagator.Propagator.{Propagator}
@@ -36,33 +36,17 @@ use Rattle.resolvo.specs.Propagators.{attached_of, head_of, late_of, pending_of}
 use Rattle.resolver_clause_store.specs.Watches.{HasBlockers, IsWatching, list_at, pair_at, pair_from, unwatched, watched_pair}
 use Rattle.resolver_clause_store.specs.WatchesView.{lists_of, pairs_of}
 use Rattle.resolvo.proofs.PropagatorLemmas.{any-map, covers-kept, late-kept}
+use Rattle.resolver_clause_store.proofs.BoolLemmas.{beq-itself as beq-same}
+use Rattle.resolver_clause_store.proofs.ListLemmas.{All-front as all-left, Contains-at as place_in, slice_get-last as place_last}
+use Rattle.resolver_clause_store.proofs.WatchListLemmas.{pair_at-before as pair-before, watching-number as watching-inside}
 use Rattle.resolvo.proofs.JustifiedLemmas.{extends-gains, extends-none, extends-trans, justified-gains}
-
-all-left : {X : Type 0} (P : X → Type 0) (xs ys : List X) → All P (xs ++ ys) → All P xs
-all-left {X} P xs ys all = λ k d below. subst P (get_or-append xs ys d k below) (all k d (omega (arith, below, length-append xs ys)))
 
 contains-one : {X : Type 0} (x y : X) → Contains (x ∷ []) y → x ≡ y
 contains-one x y (zero, below, is) = is
 contains-one x y (suc k, below, is) = absurd (omega arith)
 
--- the pairs of clauses, one of which stands behind the others
-pair-before : (pairs : List WatchedPair) (pair : WatchedPair) (number : ℕ) → number < length pairs → pair_at (pairs ++ pair ∷ []) number ≡ pair_at pairs number
-pair-before pairs pair number less = get_or-append pairs (pair ∷ []) unwatched number less
-
 pair-last : (pairs : List WatchedPair) (pair : WatchedPair) (number : ℕ) → length pairs ≡ number → pair_at (pairs ++ pair ∷ []) number ≡ pair
 pair-last pairs pair number end = get_or_push pairs pair unwatched number end
-
--- a clause that watches a literal is attached
-pub watching-inside : (pairs : List WatchedPair) (number : ℕ) (literal : Literal) → IsWatching pairs number literal → number < length pairs
-watching-inside pairs number literal watching = ⊎_elim
-    (λ (less : number < length pairs). less)
-    (λ (past : length pairs ≤ number).
-    let none : pair_at pairs number ≡ unwatched = get_or_past pairs number unwatched past in
-    ⊎_elim
-    (λ (first : (pair_at pairs number).first ≡ Some literal). absurd (none-some literal (ap (λ (p : WatchedPair). p.first) (sym none) ∙ first)))
-    (λ (second : (pair_at pairs number).second ≡ Some literal). absurd (none-some literal (ap (λ (p : WatchedPair). p.second) (sym none) ∙ second)))
-    watching)
-    (cases_lt number (length pairs))
 
 -- more variables
 pub propagator-grown : (table : List (Vec Literal Global)) (old new : Trail) (variables : ℕ) (p : Propagator) (watches : Watches) →
@@ -642,11 +626,6 @@ pub watched-below : (table : List (Vec Literal Global)) (trail : Trail) (p : Pro
 watched-below table trail p variables number below it =
     λ literal watching. All-contains (λ (l : Literal). l.variable < variables) (clause_at table number) literal (below number)
     (it.watched.own number literal watching)
-
--- a literal of a clause that was set
-beq-same : (b : Bool) → beq b b ≡ true
-beq-same true = refl
-beq-same false = refl
 
 pub gained-satisfied : (old new : Trail) (literal : Literal) (level : ℕ) (reason : Reason) (clause : List Literal) → Gains old new literal level reason →
     Contains clause literal → IsSatisfied new clause

@@ -6,7 +6,6 @@ use Rattle.std.specs.List.{AllZip}
 use Rattle.std.proofs.lemmas.Bool.{cases_order, false≢true, or_cases}
 use Rattle.std.proofs.lemmas.Option.{none-some, same_Some, slice_get_within}
 use Rattle.std.proofs.lemmas.List.Elements.{All-contains}
-use Rattle.resolver_clause_store.proofs.FormulaLemmas.{beq-true}
 use Rattle.resolver_clause_store.specs.Formula.{clause_true, literal_true}
 use Rattle.resolver_clause_store.specs.Lists.{Meets}
 use Rattle.resolver_clause_store.specs.Statements.{lists_of, statement_of, IsPresent, AllMeet, ObeysAlone}
@@ -18,8 +17,7 @@ use Rattle.resolver_clause_store.specs.declared.Literal.{Literal}
 use Rattle.resolver_clause_store.specs.declared.Rule.{Rule}
 use Rattle.resolver_clause_store.specs.declared.Rule.TheVariants.{Requires, Constrains, Lock, Excluded, OnePerPackage}
 use Rattle.resolver_encoding.proofs.CodeLemmas.{digit_apart, pow_under}
-use Rattle.resolver_encoding.proofs.Lists.{Contains-map}
-use Rattle.resolvo.proofs.LineLemmas.{here, there, none_in, Contains-at, some_at, kept_here, kept_there, kept_cases, in_marked, zip_at, zip_right, bit_line}
+use Rattle.resolvo.proofs.LineLemmas.{some_at, kept_here, kept_there, kept_cases, in_marked, zip_at, zip_right, bit_line}
 use Rattle.resolvo.proofs.LineLemmas.{bit_line_in, member_line, member_line_in, line_in, rule_of_line}
 use Rattle.resolver_encoding.specs.Codes.{bit}
 use Rattle.resolvo.specs.Minimal.{marked}
@@ -28,6 +26,8 @@ use Rattle.resolvo.specs.RuleClauses.{IsClauseOf, HasCode, AreClausesOf, MakesMa
 use Rattle.resolvo.specs.declared.minimal.rule_clauses.Atom.{Atom}
 use Rattle.resolvo.specs.declared.minimal.rule_clauses.Proposition.{Proposition}
 use Rattle.resolvo.specs.declared.minimal.rule_clauses.Proposition.TheVariants.{Member, Listed, Bit}
+use Rattle.resolver_clause_store.proofs.BoolLemmas.{beq-true}
+use Rattle.resolver_clause_store.proofs.ListLemmas.{Contains-at, Contains-here as here, Contains-map, Contains-none as none_in, Contains-there as there}
 use Rattle.resolvo.specs.declared.minimal.rule_clauses.RuleClause.{RuleClause}
 
 -- a variable stands for the proposition, and has this value

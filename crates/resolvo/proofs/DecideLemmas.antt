@@ -11,13 +11,14 @@ use Rattle.resolver_clause_store.specs.declared.Literal.{Literal}
 use Rattle.resolver_clause_store.specs.declared.Rule.{Rule}
 use Rattle.resolver_clause_store.specs.declared.Rule.TheVariants.{Requires, Constrains, Lock, Excluded, OnePerPackage}
 use Rattle.resolvo.proofs.CompleteLemmas.{members, chosen_obeys}
-use Rattle.resolvo.proofs.LineLemmas.{cons_cases, none_in, All-each, zip_left, bit_line_from, member_line_from, line_from, rule_of_line}
+use Rattle.resolvo.proofs.LineLemmas.{All-each, zip_left, bit_line_from, member_line_from, line_from, rule_of_line}
 use Rattle.resolvo.proofs.SoundLemmas.{values_true}
 use Rattle.resolvo.specs.RuleClauses.{Line, atom, plain, asking, asker_atoms, list_atoms, candidate_atoms, condition_lines, lines_of, all_lines, IsLiteralOf}
 use Rattle.resolvo.specs.RuleClauses.{IsClauseOf, AreClausesOf, IsGuarded, DecideRules}
 use Rattle.resolvo.specs.declared.minimal.rule_clauses.Atom.{Atom}
 use Rattle.resolvo.specs.declared.minimal.rule_clauses.Proposition.{Proposition}
 use Rattle.resolvo.specs.declared.minimal.rule_clauses.Proposition.TheVariants.{Member}
+use Rattle.resolver_clause_store.proofs.ListLemmas.{Contains-cons_cases as cons_cases, Contains-none as none_in}
 use Rattle.resolvo.specs.declared.minimal.rule_clauses.RuleClause.{RuleClause}
 
 -- one atom or two, of which the first is a negation

@@ -15,7 +15,6 @@ use Rattle.resolver_clause_store.specs.declared.Trail.{Trail}
 use Rattle.resolver_clause_store.specs.Formula.{clause_at}
 use Rattle.resolver_clause_store.specs.Outcomes.{IsFalseBefore, IsFalsified}
 use Rattle.resolver_clause_store.specs.TrailView.{literal_value, slot_of}
-use Rattle.resolver_clause_store.proofs.DisjunctLemmas.{Contains-here, Contains-there}
 use Rattle.resolver_clause_store.proofs.FormulaLemmas.{beq-false, clause_at-get_or}
 use Rattle.resolver_clause_store.proofs.TrailLemmas.{value-false}
 use Rattle.resolvo.specs.declared.clause_search.ClauseSearch.{ClauseSearch}
@@ -27,6 +26,7 @@ use Rattle.resolvo.specs.Resolvents.{AreDrawn, IsDrawn, IsReason, MarksAlso, Neg
 use Rattle.resolvo.proofs.JustifiedLemmas.{why}
 use Rattle.resolvo.proofs.MarkLemmas.{unmarked-set}
 use Rattle.resolvo.proofs.NegationLemmas.{negation}
+use Rattle.resolver_clause_store.proofs.ListLemmas.{Contains-here, Contains-there}
 use Rattle.resolvo.proofs.SourceLemmas.{some_or_none}
 
 -- a literal of the variable, or none

@@ -12,6 +12,7 @@ use Rattle.resolver_clause_store.specs.declared.ConditionalRequirement.{Conditio
 use Rattle.resolver_clause_store.specs.declared.Requirement.TheVariants.{Single, Union}
 use Rattle.resolver_clause_store.specs.declared.VersionSetId.{VersionSetId}
 use Rattle.resolver_clause_store.specs.declared.VersionSetUnionId.{VersionSetUnionId}
+use Rattle.resolver_clause_store.proofs.ListLemmas.{Contains-here as first_in}
 use Rattle.resolver_clause_store.proofs.FirstChoiceLemmas.{IsFirst-least}
 
 abbrev wanted : VersionSetId
@@ -22,9 +23,6 @@ asked = record { condition = None; requirement = Single wanted }
 
 abbrev root : Demands
 root = record { requirements = asked ∷ []; constraints = [] }
-
-first_in : {X : Type 0} (x : X) (xs : List X) → Contains (x ∷ xs) x
-first_in x xs = search rules
 
 -- the only element of a list
 only : {X : Type 0} (x y : X) → Contains (x ∷ []) y → y ≡ x

@@ -44,11 +44,8 @@ use Rattle.resolvo.specs.declared.clause_search.ClauseSearch.{ClauseSearch}
 use Rattle.resolvo.specs.declared.rounds.Rounds.{Rounds}
 use Rattle.resolvo.proofs.DrawnLemmas.{values_drawn}
 use Rattle.resolvo.proofs.TurnLemmas.{decided-assumed, forced-assumed, keeps-none, turn-trans}
+use Rattle.resolver_clause_store.proofs.KeptLemmas.{at_most}
 use Rattle.resolvo.proofs.RoundLemmas.{keeps_itself, keeps_more, keeps_searched, keeps_trans, read_first}
-
-at_most : (m n : ℕ) → ((k : ℕ) → k < m → k < n) → m ≤ n
-at_most zero n back = omega arith
-at_most (suc m) n back = omega (arith, back m (omega arith))
 
 -- a trail in which nothing was set is not longer
 pub not_longer : (old new : Trail) → SetsNone old new → length_of new ≤ length_of old

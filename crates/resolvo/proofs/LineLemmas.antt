@@ -13,43 +13,12 @@ use Rattle.resolver_encoding.specs.Codes.{bit}
 use Rattle.resolvo.specs.Minimal.{marked}
 use Rattle.resolvo.specs.RuleClauses.{Line, atom, plain, asking, asker_atoms, list_atoms, candidate_atoms, member_lines, condition_lines, bit_lines, lines_of}
 use Rattle.resolvo.specs.RuleClauses.{all_lines}
+use Rattle.resolver_clause_store.proofs.ListLemmas.{Contains-cons_cases as cons_cases, Contains-here as here, Contains-map, Contains-map_back}
+use Rattle.resolver_clause_store.proofs.ListLemmas.{Contains-none as none_in, Contains-there as there}
 use Rattle.resolvo.specs.declared.minimal.rule_clauses.Proposition.TheVariants.{Member, Listed, Bit}
-
-pub here : {X : Type 0} (x : X) (xs : List X) → Contains (x ∷ xs) x
-here x xs = (0, omega arith, refl)
-
-pub there : {X : Type 0} (y : X) (xs : List X) (x : X) → Contains xs x → Contains (y ∷ xs) x
-there y xs x (k, below, is) = (suc k, omega arith, is)
-
-pub cons_cases : {X : Type 0} (y : X) (xs : List X) (x : X) → Contains (y ∷ xs) x → (y ≡ x) ⊎ Contains xs x
-cons_cases y xs x (zero, below, is) = inl is
-cons_cases y xs x (suc k, below, is) = inr (k, omega arith, is)
-
-pub none_in : {X : Type 0} (x : X) → Contains [] x → ⊥
-none_in x h = absurd (omega (arith, h.1))
-
-pub Contains-map : {X Y : Type 0} (f : X → Y) (xs : List X) (x : X) → Contains xs x → Contains (map f xs) (f x)
-Contains-map f [] x h = absurd (none_in x h)
-Contains-map f (y ∷ ys) x h = ⊎_elim
-    (λ (same : y ≡ x). (0, omega arith, ap f same))
-    (λ (later : Contains ys x). there (f y) (map f ys) (f x) (Contains-map f ys x later))
-    (cons_cases y ys x h)
-
-pub Contains-map_back : {X Y : Type 0} (f : X → Y) (xs : List X) (y : Y) → Contains (map f xs) y → (x : X) × Contains xs x × (f x ≡ y)
-Contains-map_back f [] y h = absurd (none_in y h)
-Contains-map_back f (x ∷ xs) y h = ⊎_elim
-    (λ (same : f x ≡ y). (x, here x xs, same))
-    (λ (later : Contains (map f xs) y). let w = Contains-map_back f xs y later in (w.0, there x xs w.0 w.1, w.2))
-    (cons_cases (f x) (map f xs) y h)
 
 pub All-each : {X : Type 0} (P : X → Type 0) (xs : List X) → ((x : X) → Contains xs x → P x) → All P xs
 All-each P xs h = λ k d below. h (get_or xs k d) (Contains-get_or xs k d below)
-
--- what stands at a place
-pub Contains-at : {X : Type 0} (xs : List X) (k : ℕ) (x : X) → slice_get xs k ≡ Some x → Contains xs x
-Contains-at [] k x at = absurd (none-some x at)
-Contains-at {X} (y ∷ ys) zero x at = subst (Contains (y ∷ ys)) (same_Some y x at) (here y ys)
-Contains-at (y ∷ ys) (suc k) x at = there y ys x (Contains-at ys k x at)
 
 pub some_at : {X : Type 0} (xs : List X) (k : ℕ) → k < length xs → (x : X) × (slice_get xs k ≡ Some x)
 some_at [] k below = absurd (omega (arith, below))

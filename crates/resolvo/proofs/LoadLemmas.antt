@@ -33,10 +33,11 @@ use Rattle.resolver_clause_store.specs.Settled.{AllSettled}
 use Rattle.resolvo.proofs.ClauseSearchLemmas.{below-push, chosen-grows, chosen-undone, derived-push, grows-push, implied, justified-grows, justified-undone}
 use Rattle.resolvo.proofs.JustifiedLemmas.{chosen-extends, why}
 use Rattle.resolver_clause_store.proofs.SettledLemmas.{propagated}
-use Rattle.resolvo.proofs.TurnLemmas.{held-undone, keeps-fewer, keeps-none, keeps-turn, none-undone, turn-descended, turn-kept, turn-trans, turn-undone}
+use Rattle.resolvo.proofs.TurnLemmas.{held-undone, keeps-none, keeps-turn, none-undone, turn-descended, turn-kept, turn-trans, turn-undone}
 use Rattle.resolver_clause_store.specs.declared.DecideQueue.{DecideQueue}
 use Rattle.resolver_clause_store.specs.Queues.{IsQueued, StaysQueued}
 use Rattle.resolver_clause_store.proofs.QueueLemmas.{queued-grown, queued-longer}
+use Rattle.resolver_clause_store.proofs.QueueLemmas.{places-fewer as keeps-fewer}
 use Rattle.resolvo.proofs.SourceLemmas.{given_at-cases, given_at-last, given_at-push, given_within}
 
 -- a trail that only gains keeps what is kept

@@ -12,10 +12,8 @@ use Rattle.resolver_clause_store.specs.Lists.{IsWithin}
 use Rattle.resolver_clause_store.specs.declared.Literal.{Literal}
 use Rattle.resolver_clause_store.proofs.FormulaLemmas.{clause_at-last, clause_at-push}
 use Rattle.resolvo.specs.MarkedClauses.{AreMarkedClauses, AreMarksOf, IsMarkedClause, IsMarked, IsThere}
+use Rattle.std.proofs.lemmas.List.Elements.{Contains-push as at_end}
 use Rattle.resolvo.specs.declared.minimal.rule_clauses.RuleClause.{RuleClause}
-
-abbrev pub at_end : {X : Type 0} (xs : List X) (x : X) → Contains (xs ++ x ∷ []) x
-at_end xs x = (length xs, rw length-append (omega arith), get_or-append_seam xs x [] x)
 
 -- before any clause
 pub no_clauses : (marks : List Bool) → AreMarkedClauses marks [] [] [] []

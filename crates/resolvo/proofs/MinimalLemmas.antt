@@ -18,6 +18,7 @@ use Rattle.resolver_report.proofs.ReachedRuleLemmas.{All-left}
 use Rattle.resolver_report.specs.ReachedRules.{IsKept, LeavesKept}
 use Rattle.resolvo.proofs.SameLemmas.{AllTrue-same, IsIrreducible-same, IsRefuted-same}
 use Rattle.resolvo.specs.Explanations.{Explains}
+use Rattle.resolver_clause_store.proofs.ListLemmas.{Contains-here as at_front, Contains-there as further}
 use Rattle.resolvo.specs.Minimal.{LeavesInTurn, CopiesLeft, CopiesPart, marked, others_of, AreAmong, IsRefutedPart, IsUnderway}
 
 -- more rules, fewer sets
@@ -26,12 +27,6 @@ IsRefuted-within rules more within refuted = λ set obeys. refuted set (record {
   each = λ rule inside. obeys.each rule (within rule inside);
   one_each = λ n s t first second. obeys.one_each n s t (within _ first) (within _ second);
 })
-
-further : {X : Type 0} (y : X) (ys : List X) (x : X) → Contains ys x → Contains (y ∷ ys) x
-further y ys x inside = Contains-append_right (y ∷ []) ys x inside
-
-at_front : {X : Type 0} (x : X) (xs : List X) → Contains (x ∷ xs) x
-at_front x xs = (zero, omega arith, refl)
 
 front_cases : {X : Type 0} (y : X) (ys : List X) (x : X) → Contains (y ∷ ys) x → (y ≡ x) ⊎ Contains ys x
 front_cases y ys x (zero, below, is) = inl is

@@ -7,8 +7,8 @@ use Rattle.resolver_clause_store.specs.Candidates.{matching}
 use Rattle.resolver_clause_store.specs.Lists.{Meets}
 use Rattle.resolver_clause_store.specs.declared.Origin.TheVariants.{Solvable}
 use Rattle.resolver_encoding.specs.Encodings.{IsUnread, Notes}
+use Rattle.resolver_clause_store.proofs.ListLemmas.{Contains-none as none_in}
 use Rattle.resolver_encoding.specs.SoFar.{IsReadSoFar, IsReading}
-use Rattle.resolver_encoding.proofs.Lists.{none_in}
 
 -- one more member of a list
 pub All-put : {X : Type 0} (P : X → Type 0) (old new : List X) (x : X) → new ≡ old ++ x ∷ [] → All P old → P x → All P new

@@ -16,19 +16,20 @@ use Rattle.resolver_clause_store.specs.declared.Origin.TheVariants.{Root, Solvab
 use Rattle.resolver_clause_store.specs.declared.Reason.TheVariants.{Assumed, Decided, Forced}
 use Rattle.resolver_clause_store.specs.declared.RequirementClause.{RequirementClause}
 use Rattle.resolver_clause_store.specs.declared.Slot.{Slot}
-use Rattle.resolver_clause_store.proofs.FormulaLemmas.{beq-true, clause_at-append}
+use Rattle.resolver_clause_store.proofs.FormulaLemmas.{clause_at-append}
 use Rattle.resolver_clause_store.proofs.SlotLemmas.{slot-within}
 use Rattle.resolver_encoding.specs.Encodings.{IsEncoding, Notes}
 use Rattle.resolver_encoding.specs.LeftOut.{AreTrueIn, IsLeftOut}
 use Rattle.resolver_encoding.specs.Trails.{AreAssumed, origin_at}
 use Rattle.resolver_encoding.proofs.LeftOutLemmas.{asked_candidate, satisfies_fewer}
-use Rattle.resolver_encoding.proofs.Lists.{Contains-map, Contains-map_back, here, list_any-witness}
 use Rattle.resolvo.specs.ClauseSearches.{IsConsistent, IsLoaded, IsRefused, base_of, place_of, trail_of}
 use Rattle.resolvo.specs.Resolvents.{IsFalseAt}
 use Rattle.resolvo.specs.RoundStates.{HasLoaded, IsUnanswered, notes_of}
 use Rattle.resolvo.specs.declared.clause_search.ClauseSearch.{ClauseSearch}
 use Rattle.resolvo.specs.declared.rounds.Rounds.{Rounds}
 use Rattle.resolvo.proofs.ClauseSearchLemmas.{implied, satisfied-at}
+use Rattle.resolver_clause_store.proofs.BoolLemmas.{beq-true}
+use Rattle.resolver_clause_store.proofs.ListLemmas.{Contains-here as here, Contains-map, Contains-map_back, list_any-witness}
 use Rattle.resolvo.proofs.JustifiedLemmas.{why}
 
 -- clauses that contradict each other leave no values

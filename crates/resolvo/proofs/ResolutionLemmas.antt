@@ -16,8 +16,9 @@ use Rattle.resolver_clause_store.specs.TrailView.{slot_of}
 use Rattle.resolver_clause_store.specs.Formula.{literal_true, clause_true, clause_at, MakesTrue}
 use Rattle.resolver_clause_store.specs.Outcomes.{IsFalsified}
 use Rattle.resolvo.specs.Propagation.{IsJustified}
-use Rattle.resolver_clause_store.proofs.FormulaLemmas.{clause-false, beq-true}
+use Rattle.resolver_clause_store.proofs.FormulaLemmas.{clause-false}
 use Rattle.resolvo.specs.Resolvents.{is_marked, MarksAlso, Refutes, IsReason}
+use Rattle.resolver_clause_store.proofs.BoolLemmas.{beq-true}
 use Rattle.resolver_clause_store.proofs.TrailLemmas.{value-false}
 
 -- the variables of a false clause contradict it

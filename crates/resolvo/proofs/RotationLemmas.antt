@@ -18,26 +18,34 @@ use Rattle.resolvo.specs.Rotations.{AreNeeded, BrokenIs, IsStillThere, MakesOthe
 use Rattle.resolvo.specs.declared.minimal.rule_clauses.RuleClause.{RuleClause}
 use Rattle.resolvo.specs.declared.minimal.rule_clauses.RuleClauses.{RuleClauses}
 
-module _ (values : ℕ → Bool) (kept : List Bool) (clauses : List RuleClause) (index : ℕ) (clause : RuleClause) (below : index < length clauses) (is : clause ≡ get_or clauses index clause) where
+module _ (values : ℕ → Bool) (kept : List Bool) (clauses : List RuleClause) (index : ℕ) (clause : RuleClause) (below : index < length clauses)
+    (is : clause ≡ get_or clauses index clause) where
   -- a clause that is true, or whose rule is gone, breaks nothing
-  pub broken_kept : (broken : Option ℕ) → (IsStillThere kept clause.rule → clause_true values clause.literals.items ≡ true) → BrokenIs values kept (take index clauses) broken → BrokenIs values kept (take (index + 1) clauses) broken
-  broken_kept None here so = All-next (λ (c : RuleClause). IsStillThere kept c.rule → clause_true values c.literals.items ≡ true) clauses index clause below is so here
+  pub broken_kept : (broken : Option ℕ) → (IsStillThere kept clause.rule → clause_true values clause.literals.items ≡ true) →
+      BrokenIs values kept (take index clauses) broken → BrokenIs values kept (take (index + 1) clauses) broken
+  broken_kept None here so = All-next (λ (c : RuleClause).
+      IsStillThere kept c.rule → clause_true values c.literals.items ≡ true) clauses index clause below is so here
   broken_kept (Some rule) here so =
-      All-next (λ (c : RuleClause). IsStillThere kept c.rule → c.rule ≢ rule → clause_true values c.literals.items ≡ true) clauses index clause below is so (λ there other. here there)
+      All-next (λ (c : RuleClause). IsStillThere kept c.rule → c.rule ≢ rule →
+      clause_true values c.literals.items ≡ true) clauses index clause below is so (λ there other. here there)
 
   -- a clause of the rule that is broken may be false
-  pub broken_same : (rule : ℕ) → clause.rule ≡ rule → BrokenIs values kept (take index clauses) (Some rule) → BrokenIs values kept (take (index + 1) clauses) (Some rule)
+  pub broken_same : (rule : ℕ) → clause.rule ≡ rule → BrokenIs values kept (take index clauses) (Some rule) →
+      BrokenIs values kept (take (index + 1) clauses) (Some rule)
   broken_same rule same so =
-      All-next (λ (c : RuleClause). IsStillThere kept c.rule → c.rule ≢ rule → clause_true values c.literals.items ≡ true) clauses index clause below is so (λ there other. absurd (other same))
+      All-next (λ (c : RuleClause). IsStillThere kept c.rule → c.rule ≢ rule →
+      clause_true values c.literals.items ≡ true) clauses index clause below is so (λ there other. absurd (other same))
 
   -- the first clause that is false
   pub broken_first : BrokenIs values kept (take index clauses) None → BrokenIs values kept (take (index + 1) clauses) (Some clause.rule)
   broken_first so = broken_same clause.rule refl
       (All-weaker (λ (c : RuleClause). IsStillThere kept c.rule → clause_true values c.literals.items ≡ true)
-      (λ (c : RuleClause). IsStillThere kept c.rule → c.rule ≢ clause.rule → clause_true values c.literals.items ≡ true) (λ c h there other. h there) (take index clauses) so)
+      (λ (c : RuleClause). IsStillThere kept c.rule → c.rule ≢ clause.rule → clause_true values c.literals.items ≡ true) (λ c h there other. h there)
+      (take index clauses) so)
 
 -- one more rule is marked
-pub needed_mark : (clauses : List RuleClause) (kept needed : List Bool) (rule : ℕ) (values : ℕ → Bool) → rule < length needed → MakesOthersTrue values kept rule clauses → AreNeeded clauses kept needed → AreNeeded clauses kept (set needed rule true)
+pub needed_mark : (clauses : List RuleClause) (kept needed : List Bool) (rule : ℕ) (values : ℕ → Bool) → rule < length needed →
+    MakesOthersTrue values kept rule clauses → AreNeeded clauses kept needed → AreNeeded clauses kept (set needed rule true)
 needed_mark clauses kept needed rule values below makes all place marked = ⊎_elim
     (λ (same : place ≡ rule). let P : ℕ → Type 0 = λ p. MakesOthersTrue values kept p clauses in (values, subst P (sym same) makes))
     (λ (other : place ≢ rule). all place (sym (get_or-set_other needed rule place true false other) ∙ marked))
@@ -55,12 +63,14 @@ needed_push clauses kept needed b all place marked =
     let w = all place marked in (w.0, λ k d below there other. w.1 k d below (still_before kept b _ there) other)
 
 -- one more rule had its turn
-pub needed_next : (form : Option RuleClauses) (kept needed : List Bool) (b : Bool) → IfSome form (λ form. AreNeeded form.clauses.items kept needed) → IfSome form (λ form. AreNeeded form.clauses.items (kept ++ b ∷ []) needed)
+pub needed_next : (form : Option RuleClauses) (kept needed : List Bool) (b : Bool) → IfSome form (λ form. AreNeeded form.clauses.items kept needed) →
+    IfSome form (λ form. AreNeeded form.clauses.items (kept ++ b ∷ []) needed)
 needed_next None kept needed b all = tt
 needed_next (Some form) kept needed b all = needed_push form.clauses.items kept needed b all
 
 -- before the first search nothing is marked
-pub needed_none : (form : Option RuleClauses) (kept needed : List Bool) (count : ℕ) → needed ≡ replicate count false → IfSome form (λ form. AreNeeded form.clauses.items kept needed)
+pub needed_none : (form : Option RuleClauses) (kept needed : List Bool) (count : ℕ) → needed ≡ replicate count false →
+    IfSome form (λ form. AreNeeded form.clauses.items kept needed)
 needed_none None kept needed count are = tt
 needed_none (Some form) kept needed count are = λ place marked. absurd (false≢true (sym (off place) ∙ (sym (ap (λ xs. get_or xs place false) are) ∙ marked)))
   where
@@ -70,7 +80,8 @@ needed_none (Some form) kept needed count are = λ place marked. absurd (false�
         (λ (more : count ≤ place). get_or_past (replicate count false) place false (rw length-replicate more))
         (cases_lt place count)
 
-module _ {N S : Type 0} (rules : List (Rule N S)) (kept needed : List Bool) (spare : ℕ) (fit : length rules ≡ length kept + suc spare) (marked_it : get_or needed (length kept) false ≡ true) where
+module _ {N S : Type 0} (rules : List (Rule N S)) (kept needed : List Bool) (spare : ℕ) (fit : length rules ≡ length kept + suc spare)
+    (marked_it : get_or needed (length kept) false ≡ true) where
   size : length (others_of kept spare) ≡ length rules
   size = length-append kept (false ∷ replicate spare true) ∙ (ap (λ n. length kept + suc n) (length-replicate spare true) ∙ sym fit)
 
@@ -81,13 +92,16 @@ module _ {N S : Type 0} (rules : List (Rule N S)) (kept needed : List Bool) (spa
       (cases_lt rule (length kept))
 
   other_one : (rule : ℕ) → get_or (others_of kept spare) rule false ≡ true → rule ≢ length kept
-  other_one rule mark same = let P : ℕ → Type 0 = λ r. get_or (others_of kept spare) r false ≡ true in false≢true (sym (others_at kept spare) ∙ subst P same mark)
+  other_one rule mark same = let P : ℕ → Type 0 = λ r. get_or (others_of kept spare) r false ≡ true in
+      false≢true (sym (others_at kept spare) ∙ subst P same mark)
 
-  needed_by : (variables : ℕ) (clauses : List RuleClause) → DecideRules rules variables clauses → AreNeeded clauses kept needed → IsRefuted (marked (others_of kept spare) rules) → ⊥
+  needed_by : (variables : ℕ) (clauses : List RuleClause) → DecideRules rules variables clauses → AreNeeded clauses kept needed →
+      IsRefuted (marked (others_of kept spare) rules) → ⊥
   needed_by variables clauses decide all = let w = all (length kept) marked_it in
       decide.complete (others_of kept spare) w.0 size (λ k d below mark. w.1 k d below (there _ mark) (other_one _ mark))
 
   -- a rule that is marked is needed
-  pub marked_needed : (form : Option RuleClauses) → IsSome form → IfSome form (λ form. DecideRules rules form.variables form.clauses.items) → IfSome form (λ form. AreNeeded form.clauses.items kept needed) → IsRefuted (marked (others_of kept spare) rules) → ⊥
+  pub marked_needed : (form : Option RuleClauses) → IsSome form → IfSome form (λ form. DecideRules rules form.variables form.clauses.items) →
+      IfSome form (λ form. AreNeeded form.clauses.items kept needed) → IsRefuted (marked (others_of kept spare) rules) → ⊥
   marked_needed None some decide all = absurd (false≢true some)
   marked_needed (Some form) some decide all = needed_by form.variables form.clauses.items decide all

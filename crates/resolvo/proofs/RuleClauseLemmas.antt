@@ -16,6 +16,7 @@ use Rattle.resolvo.specs.RuleClauses.{plain}
 use Rattle.resolvo.specs.declared.minimal.rule_clauses.Atom.{Atom}
 use Rattle.resolvo.specs.declared.minimal.rule_clauses.Proposition.{Proposition}
 use Rattle.resolvo.specs.declared.minimal.rule_clauses.Proposition.TheVariants.{Bit, Listed, Member}
+use Rattle.resolver_clause_store.proofs.ListLemmas.{AllZip-append as zip_append}
 use Rattle.resolvo.specs.declared.minimal.rule_clauses.RuleClause.{RuleClause}
 
 -- a relation that holds place by place gives way to a weaker one
@@ -24,12 +25,6 @@ zip_weaker R Q weaker [] [] h = tt
 zip_weaker R Q weaker [] (y ∷ ys) h = h
 zip_weaker R Q weaker (x ∷ xs) [] h = h
 zip_weaker R Q weaker (x ∷ xs) (y ∷ ys) h = (weaker x y h.0, zip_weaker R Q weaker xs ys h.1)
-
-zip_append : {A B : Type 0} (R : A → B → Type 0) (xs xs' : List A) (ys ys' : List B) → AllZip R xs ys → AllZip R xs' ys' → AllZip R (xs ++ xs') (ys ++ ys')
-zip_append R [] xs' [] ys' h k = k
-zip_append R [] xs' (y ∷ ys) ys' h k = absurd h
-zip_append R (x ∷ xs) xs' [] ys' h k = absurd h
-zip_append R (x ∷ xs) xs' (y ∷ ys) ys' h k = (h.0, zip_append R xs xs' ys ys' h.1 k)
 
 -- a number is not above the power of two of its digits
 pub fits_width : (n width : ℕ) → ((i : ℕ) → 2 ^ i ≤ n → i < width) → n ≤ 2 ^ width

@@ -8,6 +8,7 @@ use Rattle.resolver_clause_store.specs.Statements.{ObeysAlone, StatesTheSame, on
 use Rattle.resolver_clause_store.specs.Rules.{Obeys, IsRefuted, IsIrreducible}
 use Rattle.resolver_clause_store.specs.TrueRules.{IsTrueRule, IsTrueStatement}
 use Rattle.resolver_clause_store.specs.declared.Rule.{Rule}
+use Rattle.resolver_clause_store.proofs.ListLemmas.{Contains-there as further}
 use Rattle.resolver_clause_store.specs.declared.Rule.TheVariants.{Requires, Constrains, Lock, Excluded, OnePerPackage}
 
 pub StatesTheSame-flip : {N S : Type 0} (rule other : Rule N S) → StatesTheSame rule other → StatesTheSame other rule
@@ -21,10 +22,6 @@ ObeysAlone-same set rule other same h = subst (ObeysAlone set) same h
 pub IsTrueRule-same : {N S : Type 0} (u : Universe N S) (root : Demands) (rule other : Rule N S) → StatesTheSame rule other → IsTrueRule u root rule →
     IsTrueRule u root other
 IsTrueRule-same u root rule other same h = subst (IsTrueStatement u root) same h
-
--- an element stands in a longer list
-further : {X : Type 0} (y : X) (ys : List X) (x : X) → Contains ys x → Contains (y ∷ ys) x
-further y ys x inside = Contains-append_right (y ∷ []) ys x inside
 
 -- one of two lists that agree element by element has, for each element, one of the other
 pub zip_left : {X : Type 0} (R : X → X → Type 0) (xs ys : List X) → AllZip R xs ys → (x : X) → Contains xs x → (y : X) × Contains ys y × R x y

@@ -43,7 +43,6 @@ use Rattle.resolver_encoding.specs.declared.encoding.Encoding.{Encoding}
 use Rattle.resolver_encoding.proofs.Bridge.{before-back, has_value, is_chosen, stands, true_before}
 use Rattle.resolver_encoding.proofs.EncodingLemmas.{Extends-same, Extends-trans, Extends-within}
 use Rattle.resolver_encoding.proofs.LeftOutLemmas.{left_out_more, left_out_nowhere, spares_exempting, spares_present}
-use Rattle.resolver_encoding.proofs.Lists.{cons_cases, here, none_in, there}
 use Rattle.resolver_encoding.proofs.TrailLemmas.{before_extends, follows_still, none_at, same_before, same_origin}
 use Rattle.resolvo.specs.ClauseSearches.{IsConsistent, IsRootTurn, KeepsLoaded, KeepsMark, KeepsTurn, base_of, held_of, kept_of, trail_of}
 use Rattle.resolvo.specs.RoundStates.{AreRounds, GoesOn, HasAssumed, HasMark, HasTurned, IsAnswering, IsFollowing, IsBetween, IsRefusing, IsSearchOf}
@@ -54,7 +53,10 @@ use Rattle.resolvo.proofs.RoundLemmas.{Keeps-longer, keeps_itself, so_far_less}
 use Rattle.resolver_encoding.proofs.ReachLemmas.{AreNear-more, asked_named}
 use Rattle.resolvo.proofs.GoingLemmas.{assumed_still}
 use Rattle.resolvo.proofs.RefusingLemmas.{trail_agrees}
-use Rattle.resolvo.proofs.TurnLemmas.{decided-assumed, keeps-back}
+use Rattle.resolver_clause_store.proofs.ListLemmas.{Contains-cons_cases as cons_cases, Contains-here as here, Contains-none as none_in, Contains-there as there}
+use Rattle.resolver_clause_store.proofs.QueueLemmas.{slot-back as keeps-back}
+use Rattle.std.proofs.lemmas.List.Elements.{Contains-push as last_in}
+use Rattle.resolvo.proofs.TurnLemmas.{decided-assumed}
 
 -- clauses were added, and nothing was read or put off
 pub record IsAddition {N S : Type 0} (u : Universe N S) (old new : Notes N S) : Type 0 where
@@ -105,10 +107,6 @@ ended_adds {N} {S} u old new e =
       read = e.read;
       keeps = e.stays.so_far;
     }
-
--- a list with one more behind
-pub last_in : {X : Type 0} (xs : List X) (x : X) → Contains (xs ++ x ∷ []) x
-last_in xs x = Contains-append_right xs (x ∷ []) x (here x [])
 
 pub earlier_in : {X : Type 0} (xs : List X) (x y : X) → Contains xs y → Contains (xs ++ x ∷ []) y
 earlier_in xs x y h = Contains-append_left xs (x ∷ []) y h

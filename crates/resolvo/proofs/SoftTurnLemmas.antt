@@ -17,12 +17,13 @@ use Rattle.resolver_clause_store.specs.Valid.{IsValid}
 use Rattle.resolver_clause_store.specs.declared.SoftRequirement.{SoftRequirement}
 use Rattle.resolver_clause_store.specs.declared.SoftRequirement.TheVariants.{Matching, Solvable}
 use Rattle.resolver_clause_store.specs.declared.VersionSetId.{VersionSetId}
-use Rattle.resolver_encoding.proofs.Lists.{cons_cases, here, none_in, there}
 use Rattle.resolver_encoding.proofs.ReachLemmas.{AreNear-more}
 use Rattle.resolvo.specs.RoundStates.{HasTurned, HaveTurned, IsBetween, IsOneTaken, IsStanding, IsTurned, chosen_of, is_accepted, is_refused, none_fits}
 use Rattle.resolvo.specs.RoundStates.{notes_of, one_fits, was_chosen}
 use Rattle.resolvo.specs.declared.rounds.Rounds.{Rounds}
-use Rattle.resolvo.proofs.SoftLemmas.{asked_for, earlier_in, last_in}
+use Rattle.resolver_clause_store.proofs.ListLemmas.{Contains-cons_cases as cons_cases, Contains-here as here, Contains-none as none_in, Contains-there as there}
+use Rattle.std.proofs.lemmas.List.Elements.{Contains-push as last_in}
+use Rattle.resolvo.proofs.SoftLemmas.{asked_for, earlier_in}
 
 -- a list gathered from parts has what one more part brings
 gathered : {X A : Type 0} (f : X → List A) (xs : List X) (x : X) → flat_map f (xs ++ x ∷ []) ≡ flat_map f xs ++ (f x ++ [])

@@ -46,10 +46,3 @@ shortage_by at_limit Ids h = h refl
 pub shortage_weaker : (at_limit other : Type 0) → (at_limit → other) → (e : Shortage) → IsShortage at_limit e → IsShortage other e
 shortage_weaker at_limit other follows Memory h = tt
 shortage_weaker at_limit other follows Ids h = follows h
-
--- what a provider's laws say of its solvables
-pub lawful_solvables : {N S : Type 0} (u : Universe N S) (eq : S → S → Bool) → HasLawfulIds u → u.same_solvable ≡ eq → IsIdentity eq → HasLawfulSolvables u
-lawful_solvables {N} {S} u eq ids compare same = record {
-  ids = ids;
-  same_solvable = let Same : (S → S → Bool) → Type 0 = λ e. IsIdentity e in subst Same (sym compare) same;
-}

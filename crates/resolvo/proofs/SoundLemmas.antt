@@ -20,7 +20,7 @@ use Rattle.resolver_clause_store.specs.declared.By.TheVariants.{Root, Solvable}
 use Rattle.resolver_clause_store.specs.declared.Literal.{Literal}
 use Rattle.resolver_clause_store.specs.declared.Rule.{Rule}
 use Rattle.resolver_clause_store.specs.declared.Rule.TheVariants.{Requires, Constrains, Lock, Excluded, OnePerPackage}
-use Rattle.resolvo.proofs.LineLemmas.{cons_cases, none_in, All-each, marked_in, zip_left, zip_both, bit_line_from, member_line_from, line_from, rule_of_line}
+use Rattle.resolvo.proofs.LineLemmas.{All-each, marked_in, zip_left, zip_both, bit_line_from, member_line_from, line_from, rule_of_line}
 use Rattle.resolver_encoding.specs.Codes.{bit}
 use Rattle.resolvo.specs.Minimal.{marked}
 use Rattle.resolvo.specs.RuleClauses.{Line, atom, plain, asking, asker_atoms, list_atoms, candidate_atoms, condition_lines, lines_of, all_lines, IsLiteralOf}
@@ -28,19 +28,10 @@ use Rattle.resolvo.specs.RuleClauses.{IsClauseOf, HasCode, AreClausesOf, MakesMa
 use Rattle.resolvo.specs.declared.minimal.rule_clauses.Atom.{Atom}
 use Rattle.resolvo.specs.declared.minimal.rule_clauses.Proposition.{Proposition}
 use Rattle.resolvo.specs.declared.minimal.rule_clauses.Proposition.TheVariants.{Member, Listed, Bit}
+use Rattle.resolver_clause_store.proofs.BoolLemmas.{beq-false as other_value}
+use Rattle.resolver_clause_store.proofs.ListLemmas.{Contains-cons_cases as cons_cases, Contains-none as none_in, list_any-contains as any_of}
+use Rattle.resolver_clause_store.proofs.ListLemmas.{list_any-witness as any_from}
 use Rattle.resolvo.specs.declared.minimal.rule_clauses.RuleClause.{RuleClause}
-
-any_of : {X : Type 0} (p : X → Bool) (xs : List X) (x : X) → Contains xs x → p x ≡ true → list_any p xs ≡ true
-any_of {X} p xs x (k, below, is) e = let P : X → Type 0 = λ t. p t ≡ true in list_any_at p xs k x below (subst P (sym is) e)
-
-any_from : {X : Type 0} (p : X → Bool) (xs : List X) → list_any p xs ≡ true → (x : X) × Contains xs x × (p x ≡ true)
-any_from p xs e = let w = Any-from_list_any p xs e in (w.1, (w.0, w.2, w.3), w.4)
-
-other_value : (a b : Bool) → beq a b ≡ false → a ≡ not b
-other_value true true is = absurd cc
-other_value true false is = refl
-other_value false true is = refl
-other_value false false is = absurd cc
 
 -- whether the rule's list with this number has a member that passes
 abbrev pub list_passes : {N S : Type 0} → (S → Bool) → ℕ → Rule N S → Bool

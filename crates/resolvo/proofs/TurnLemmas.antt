@@ -35,25 +35,8 @@ use Rattle.resolvo.proofs.JustifiedLemmas.{chosen-kept, justified-decides}
 use Rattle.resolvo.proofs.LevelLemmas.{level-in}
 use Rattle.resolver_clause_store.specs.declared.DecideQueue.{DecideQueue}
 use Rattle.resolver_clause_store.specs.Queues.{IsQueued}
+use Rattle.resolver_clause_store.proofs.QueueLemmas.{places-fewer as keeps-fewer, slot-back as keeps-back}
 use Rattle.resolver_clause_store.proofs.QueueLemmas.{queued-left, queued-longer}
-
--- a slot at a place that is kept was there
-pub keeps-back : (old new : Trail) (count variable : ℕ) (slot : Slot) → KeepsPlaces old new count → slot_of new variable ≡ Some slot → slot.place < count →
-    slot_of old variable ≡ Some slot
-keeps-back old new count variable slot keeps at below =
-    let s = slot_at old slot.place (omega (arith, below, keeps.were)) in
-    let named : variable_at old slot.place ≡ variable = sym (keeps.variables slot.place below) ∙ (new.listed variable slot at).1 in
-    let was : slot_of old variable ≡ Some s.0 = ap (λ v. slot_of old v) (sym named) ∙ s.1 in
-    let here : slot_of new variable ≡ Some s.0 = keeps.slots variable s.0 was (omega (arith, s.2, below)) in
-    was ∙ sym here ∙ at
-
-pub keeps-fewer : (old new : Trail) (count fewer : ℕ) → KeepsPlaces old new count → fewer ≤ count → KeepsPlaces old new fewer
-keeps-fewer old new count fewer keeps less = record {
-  were = omega (arith, keeps.were, less);
-  are = omega (arith, keeps.are, less);
-  variables = λ place below. keeps.variables place (omega (arith, below, less));
-  slots = λ v s at below. keeps.slots v s at (omega (arith, below, less));
-}
 
 pub first-held : (old new : Trail) (held : ℕ) → KeepsPlaces old new held → KeepsFirst old held new held
 first-held old new held keeps = λ base k. keeps_through base old new held held k keeps (omega arith)

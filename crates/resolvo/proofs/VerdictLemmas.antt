@@ -22,6 +22,7 @@ use Rattle.resolvo.specs.ClauseSearches.{IsRootTurn, KeepsTurn, numbers_of}
 use Rattle.resolvo.specs.declared.clause_search.ClauseSearch.{ClauseSearch}
 use Rattle.resolvo.specs.Minimal.{AreAmong, IsRefutedPart, marked}
 use Rattle.resolvo.specs.RuleClauses.{DecideRules, IsGuarded, MakesMarkedTrue}
+use Rattle.resolver_clause_store.proofs.ListLemmas.{Contains-here as first_in}
 use Rattle.resolvo.specs.declared.minimal.rule_clauses.RuleClause.{RuleClause}
 
 -- the values of a trail, where a variable that has none is false
@@ -70,9 +71,6 @@ met_true trail clause met = ⊎_elim
     (λ (one : Any (λ (literal : Literal). (literal_value trail literal ≡ None) × (literal.positive ≡ false)) clause).
     one_true (reads trail) clause one.1 (one.0, one.2, one.3) (negation_open_on trail one.1 one.4.0 one.4.1))
     met
-
-abbrev first_in : {X : Type 0} (x : X) (xs : List X) → Contains (x ∷ xs) x
-first_in x xs = (0, omega arith, refl)
 
 abbrev second_in : {X : Type 0} (x y : X) (xs : List X) → Contains (x ∷ y ∷ xs) y
 second_in x y xs = (1, omega arith, refl)

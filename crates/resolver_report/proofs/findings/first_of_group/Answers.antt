@@ -3,7 +3,8 @@ use Rattle.std.specs.Prelude.{Some}
 use Rattle.resolver_report.specs.declared.parts.ConflictNode.TheVariants.{Solvable}
 use Rattle.resolver_report.specs.Graphs.{place_in}
 use Rattle.resolver_report.specs.Merging.{group_in, keys}
-use Rattle.resolver_report.proofs.GroupLemmas.{none_is, some_first, found_first}
+use Rattle.resolver_report.proofs.GroupLemmas.{some_first, found_first}
+use Rattle.resolver_clause_store.proofs.ListLemmas.{is_none as none_is}
 use Rattle.resolver_report.proofs.findings.first_of_group.Goals as goal
 
 pub returns-in_default : goal.returns-in_default

@@ -24,7 +24,7 @@ returns-then-not-index-clause-underway g c =
     let so = c.requires.underway in
     let inside : length kept < length core = omega (arith, c.requires.inside, so.underway.size) in
     let off : get_or core (length kept) false ≡ false = get_or_default core (length kept) false c.index.result.now inside ∙
-        standing core kept c.len.result c.index.result.now (c.len.ensures ∙ turns.kept.ok.0) c.index.ensures c.if-not-index.true in
+    standing core kept c.len.result c.index.result.now (c.len.ensures ∙ turns.kept.ok.0) c.index.ensures c.if-not-index.true in
     let is = c.in_ok-push.ensures.items in
     record {
       underway = rw is (turn_skipped c.args.rules.now kept core c.requires.inside so.underway off);
@@ -57,7 +57,8 @@ returns-in-Refuted-clause-underway g c =
     let rules = c.args.rules.now in
     let spare = length rules - (length kept + 1) in
     let marks : c.deref-2.result.now ≡ others_of kept spare =
-        same_marks (length rules) c.deref-2.result.now c.in_ok-marks.marks.items c.deref.result.now kept c.deref-2.ensures.value c.in_ok-marks.ensures c.deref.ensures.value in
+    same_marks (length rules) c.deref-2.result.now c.in_ok-marks.marks.items c.deref.result.now kept c.deref-2.ensures.value c.in_ok-marks.ensures
+    c.deref.ensures.value in
     let Part : List Bool → Type 0 = λ q. IsRefutedPart rules q c.in-Refuted.part.items in
     let is = c.in_ok-push-in-Refuted.ensures.items in
     record {
@@ -75,7 +76,8 @@ returns-clause-underway g c =
     let rules = c.args.rules.now in
     let spare = length rules - (length kept + 1) in
     let marks : c.deref-2.result.now ≡ others_of kept spare =
-        same_marks (length rules) c.deref-2.result.now c.in_ok-marks.marks.items c.deref.result.now kept c.deref-2.ensures.value c.in_ok-marks.ensures c.deref.ensures.value in
+    same_marks (length rules) c.deref-2.result.now c.in_ok-marks.marks.items c.deref.result.now kept c.deref-2.ensures.value c.in_ok-marks.ensures
+    c.deref.ensures.value in
     let Obeyed : List Bool → Type 0 = λ q. IsRefuted (marked q rules) → ⊥ in
     let is = c.in_ok-push-in-Obeyed.ensures.items in
     let noted = c.in_ok-note_needed-in-Obeyed.ensures in

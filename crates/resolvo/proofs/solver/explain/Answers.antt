@@ -6,7 +6,8 @@ use Rattle.resolver_clause_store.specs.declared.Origin.{Origin}
 use Rattle.resolver_encoding.specs.Core.{implied_in}
 use Rattle.resolver_encoding.specs.Truth.{AreListed, AreStated}
 use Rattle.resolver_encoding.specs.Values.{kinds_at}
-use Rattle.resolvo.proofs.SolveLemmas.{explained, lawful_solvables}
+use Rattle.resolvo.proofs.SolveLemmas.{explained}
+use Rattle.resolver_encoding.proofs.SoFarLemmas.{lawful_solvables}
 use Rattle.resolvo.proofs.solver.explain.Goals as goal
 
 pub returns-clause-explained : goal.returns-clause-explained

@@ -1,10 +1,14 @@
-use Rattle.std.proofs.Common.{sym}
+use Rattle.std.proofs.Common.{sym, ◌∙◌}
 use Rattle.std.specs.Prelude.{string_bytes}
 use Rattle.std.specs.String.{string_eq}
-use Rattle.resolve.proofs.InterningLemmas.{interned, interned_as, string_eq-Decides}
+use Rattle.resolve.proofs.InterningLemmas.{interned, interned-there, interned_as, string_eq-Decides}
 use Rattle.resolve.specs.Catalogs.{tables_in}
 use Rattle.resolve.proofs.TableLemmas.{IsShortage-memory, same_versions_and_solvables}
 use Rattle.resolve.proofs.catalog.Catalog.name.Goals as goal
+
+pub returns-in-Some-clause-interned : goal.returns-in-Some-clause-interned
+returns-in-Some-clause-interned c =
+    interned-there c.args.self.now.names.keys c.args.text.now c.in-Some.known c.len.ensures.unique (sym c.get_index_of.ensures.index ∙ c.in-Some.ensures.found)
 
 pub returns-then-not-is_new-clause-interned : goal.returns-then-not-is_new-clause-interned
 returns-then-not-is_new-clause-interned c =

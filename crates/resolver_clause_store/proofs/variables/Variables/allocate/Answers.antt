@@ -1,5 +1,6 @@
 use Rattle.std.proofs.Common.{rules, sym, ◌∙◌}
-use Rattle.resolver_clause_store.proofs.PlaceLemmas.{AreDistinct-from, AreDistinct-push, Keeps-push, place_last}
+use Rattle.resolver_clause_store.proofs.PlaceLemmas.{AreDistinct-from, AreDistinct-push, Keeps-push}
+use Rattle.resolver_clause_store.proofs.ListLemmas.{slice_get-last as place_last}
 use Rattle.resolver_clause_store.proofs.variables.Variables.allocate.Goals as goal
 
 pub returns-then-index-self-clause-ids : goal.returns-then-index-self-clause-ids

@@ -1,6 +1,6 @@
-use Rattle.resolver_clause_store.proofs.PlaceLemmas.{place_in}
 use Rattle.resolver_encoding.specs.Notes.{entry_of, notes_in}
 use Rattle.resolver_encoding.proofs.FiringLemmas.{IsFiring-taken, fired_fewer, fired_quiet, met_entry}
+use Rattle.resolver_clause_store.proofs.ListLemmas.{Contains-at as place_in}
 use Rattle.resolver_encoding.proofs.encoding.Encoding.fire.Goals as goal
 
 pub encode_disjunct-requires-clause-once : goal.encode_disjunct-requires-clause-once

@@ -9,9 +9,9 @@ use Rattle.resolver_clause_store.specs.declared.Origin.TheVariants.{ConditionHel
 use Rattle.resolver_encoding.specs.Encodings.{idle}
 use Rattle.resolver_encoding.specs.Notes.{notes_in}
 use Rattle.resolver_clause_store.proofs.SetLemmas.{All-done, Contains-item}
-use Rattle.resolver_encoding.proofs.Lists.{list_any-contains}
 use Rattle.resolver_encoding.proofs.EncodingLemmas.{IsStep-same, IsStep-trans, KeepsLimits-same, KeepsLimits-trans, clause_listed}
 use Rattle.resolver_encoding.proofs.NoteLemmas.{All-grown, IsStep-plain}
+use Rattle.resolver_clause_store.proofs.ListLemmas.{list_any-contains}
 use Rattle.resolver_encoding.proofs.encoding.Encoding.imply_each.Goals as goal
 
 pub loop-candidate-init : goal.loop-candidate-init

@@ -7,8 +7,8 @@ use Rattle.resolver_clause_store.proofs.SetLemmas.{All-done, Contains-item}
 use Rattle.resolver_encoding.proofs.EncodingLemmas.{Extends-within, IsReadStep-same, IsReadStep-trans, KeepsLimits-same, KeepsLimits-trans}
 use Rattle.resolver_encoding.proofs.NoteLemmas.{All-grown}
 use Rattle.resolver_clause_store.specs.declared.VersionSetId.{VersionSetId}
-use Rattle.resolver_encoding.proofs.Lists.{Contains-map}
 use Rattle.resolver_encoding.proofs.RequirementLemmas.{IsDisjunctRead-grown, items_of, requirement_read}
+use Rattle.resolver_clause_store.proofs.ListLemmas.{Contains-map}
 use Rattle.resolver_encoding.proofs.encoding.Encoding.read_disjuncts.Goals as goal
 
 pub loop-disjunct-init : goal.loop-disjunct-init

@@ -10,9 +10,9 @@ use Rattle.resolver_encoding.specs.Encodings.{IsReadStep, IsUnmet}
 use Rattle.resolver_encoding.specs.Hints.{IsListedFrom}
 use Rattle.resolver_encoding.specs.Notes.{notes_in}
 use Rattle.resolver_encoding.proofs.HintLemmas.{asked_on, so_far_on}
-use Rattle.resolver_encoding.proofs.Lists.{none_in}
 use Rattle.resolver_encoding.proofs.ReachLemmas.{root_near}
 use Rattle.resolver_encoding.proofs.SoFarLemmas.{root_asked, root_so_far}
+use Rattle.resolver_clause_store.proofs.ListLemmas.{Contains-none as none_in}
 use Rattle.resolver_encoding.proofs.encoding.Encoding.read_root.Goals as goal
 
 pub read_demands-requires-clause-encoding : goal.read_demands-requires-clause-encoding

@@ -4,7 +4,6 @@ use Rattle.std.specs.Prelude.{⊤}
 use Rattle.std.proofs.lemmas.List.Elements.{Contains-push, Contains-push_cases}
 use Rattle.resolver_clause_store.specs.declared.Origin.TheVariants.{Solvable}
 use Rattle.resolver_clause_store.specs.Variables.{limit_in, origins_in}
-use Rattle.resolver_clause_store.proofs.PlaceLemmas.{place_in}
 use Rattle.resolver_encoding.specs.Called.{IsSeeing}
 use Rattle.resolver_encoding.specs.Encodings.{Grows, coding_for, idle}
 use Rattle.resolver_encoding.specs.Groups.{AreGroups}
@@ -14,6 +13,7 @@ use Rattle.resolver_encoding.proofs.EncodingLemmas.{IsAskStep-of, IsAskStep-same
 use Rattle.resolver_encoding.proofs.NoteLemmas.{IsStep-origins}
 use Rattle.resolver_encoding.proofs.SeeLemmas.{IsStep-seen}
 use Rattle.resolver_encoding.proofs.SoFarLemmas.{IsWithin-equal}
+use Rattle.resolver_clause_store.proofs.ListLemmas.{Contains-at as place_in}
 use Rattle.resolver_encoding.proofs.encoding.Encoding.see.Goals as goal
 
 pub returns-then-is_among-clause-step : goal.returns-then-is_among-clause-step

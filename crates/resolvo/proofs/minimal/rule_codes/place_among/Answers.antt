@@ -1,4 +1,5 @@
-use Rattle.resolver_clause_store.proofs.PlaceLemmas.{Keeps-push, Keeps-same, place_last}
+use Rattle.resolver_clause_store.proofs.PlaceLemmas.{Keeps-push, Keeps-same}
+use Rattle.resolver_clause_store.proofs.ListLemmas.{slice_get-last as place_last}
 use Rattle.resolvo.proofs.minimal.rule_codes.place_among.Goals as goal
 
 pub returns-in_ok-append-in-None-clause-keeps : goal.returns-in_ok-append-in-None-clause-keeps

@@ -5,8 +5,8 @@ use Rattle.resolver_encoding.specs.Notes.{notes_in}
 use Rattle.resolvo.specs.ClauseSearches.{trail_of}
 use Rattle.resolvo.specs.RoundStates.{HasAssumed, notes_of}
 use Rattle.resolvo.proofs.GoingLemmas.{still_all}
-use Rattle.resolvo.proofs.SolveLemmas.{lawful_solvables}
 use Rattle.resolvo.proofs.SoftLemmas.{accepted, just_assumed, not_accepted, rounds_assumed, rounds_held, still_assumed, turned_held}
+use Rattle.resolver_encoding.proofs.SoFarLemmas.{lawful_solvables}
 use Rattle.resolvo.proofs.rounds.Rounds.attempt.Goals as goal
 
 pub is_answered-requires-clause-rounds : goal.is_answered-requires-clause-rounds

@@ -5,8 +5,8 @@ use Rattle.resolver_clause_store.specs.declared.RequirementClause.{RequirementCl
 use Rattle.resolver_encoding.specs.SoFar.{IsProgress}
 use Rattle.resolvo.specs.ClauseSearches.{OutcomeIs, base_of, numbers_of, trail_of}
 use Rattle.resolvo.specs.RoundStates.{notes_of}
-use Rattle.resolvo.proofs.SolveLemmas.{lawful_solvables}
 use Rattle.resolvo.proofs.GoingLemmas.{all_clauses, answering, goes_searched, goes_trans, still_all}
+use Rattle.resolver_encoding.proofs.SoFarLemmas.{lawful_solvables}
 use Rattle.resolvo.proofs.rounds.Rounds.round.Goals as goal
 
 pub returns-in-Contradiction-clause-keeps : goal.returns-in-Contradiction-clause-keeps

@@ -3,9 +3,9 @@ use Rattle.std.specs.List.{flat_map}
 use Rattle.resolver_clause_store.specs.SoftRun.{options, own_packages}
 use Rattle.resolver_clause_store.specs.declared.SoftRequirement.{SoftRequirement}
 use Rattle.resolver_clause_store.specs.declared.SoftRequirement.TheVariants.{Solvable}
-use Rattle.resolver_encoding.proofs.Lists.{here}
 use Rattle.resolvo.specs.RoundStates.{IsBetween}
 use Rattle.resolvo.proofs.SoftTurnLemmas.{between_solvable, gathered_last, standing_for}
+use Rattle.resolver_clause_store.proofs.ListLemmas.{Contains-here as here}
 use Rattle.resolvo.proofs.rounds.Rounds.soft_turn.Goals as goal
 
 pub returns-in_ok-turn-in-Solvable-clause-between : goal.returns-in_ok-turn-in-Solvable-clause-between

@@ -10,8 +10,8 @@ use Rattle.resolver_encoding.specs.Trails.{chosen_in}
 use Rattle.resolver_encoding.specs.declared.encoding.Encoding.{Encoding}
 use Rattle.resolvo.specs.ClauseSearches.{trail_of}
 use Rattle.resolvo.specs.RoundStates.{IsStill, notes_of}
-use Rattle.resolvo.proofs.SolveLemmas.{lawful_solvables}
 use Rattle.resolvo.proofs.SoftLemmas.{registered_adds, rounds_added, skipped, standing_loaded, standing_registered, still_added, turned_from}
+use Rattle.resolver_encoding.proofs.SoFarLemmas.{lawful_solvables}
 use Rattle.resolvo.proofs.rounds.Rounds.turn.Goals as goal
 
 pub load-requires : goal.load-requires

@@ -7,10 +7,10 @@ use Rattle.resolver_clause_store.specs.SoftRun.{options, own_packages}
 use Rattle.resolver_clause_store.specs.declared.SoftRequirement.{SoftRequirement}
 use Rattle.resolver_clause_store.specs.declared.SoftRequirement.TheVariants.{Matching}
 use Rattle.resolver_clause_store.proofs.RequirementLemmas.{matching_named, sorted_matches}
-use Rattle.resolver_encoding.proofs.Lists.{here}
 use Rattle.resolvo.specs.RoundStates.{chosen_of, notes_of}
-use Rattle.resolvo.proofs.SolveLemmas.{lawful_solvables}
 use Rattle.resolvo.proofs.SoftTurnLemmas.{between_met, between_tried, gathered_last, sorted_has, standing_for}
+use Rattle.resolver_clause_store.proofs.ListLemmas.{Contains-here as here}
+use Rattle.resolver_encoding.proofs.SoFarLemmas.{lawful_solvables}
 use Rattle.resolvo.proofs.rounds.Rounds.version_set_turn.Goals as goal
 
 pub returns-then-has_any-clause-between : goal.returns-then-has_any-clause-between
