@@ -6,7 +6,7 @@ mod rotation;
 mod rule_clauses;
 mod rule_codes;
 
-ghost use Rattle.std.specs.Prelude.{[], IfErr, IfOk, IfSome, IsSome, OnOk, false, length, take, true, ◌+◌, ◌-◌, ◌<◌, ◌≡◌};
+ghost use Rattle.std.specs.Prelude.{[], IfErr, IfOk, IfSome, IsSome, OnOk, false, length, replicate, take, true, ◌+◌, ◌-◌, ◌<◌, ◌≡◌};
 ghost use Rattle.std.specs.List.{AllZip, slice_index_or};
 ghost use Rattle.resolver_clause_store.specs.Laws.{IsIdentity};
 ghost use Rattle.resolver_clause_store.specs.Statements.{StatesTheSame};
@@ -170,6 +170,20 @@ struct Turns {
     needed: Vec<bool>,
 }
 
+/// Before the first turn nothing was kept, and no rule is known to be needed.
+fn first_turns(alloc: Global, count: usize, core: Vec<bool>) -> Result<Turns, AllocError>
+    ensures kept { IfOk result (λ turns. turns.kept.items ≡ []) }
+    ensures core { IfOk result (λ turns. turns.core ≡ core) }
+    ensures needed { IfOk result (λ turns. turns.needed.items ≡ replicate count false) }
+{
+    let needed = vec![in alloc; false; count]?;
+    Ok(Turns {
+        kept: Vec::new(alloc),
+        core,
+        needed,
+    })
+}
+
 /// Marks further rules that are needed, beginning with values under which all rules that are still there but one are obeyed.
 fn note_needed(
     alloc: Global,
@@ -258,13 +272,7 @@ fn take_turns<N: Copy + Eq + Drop, S: Copy + Eq + Drop>(
     ensures size { IfOk result (λ kept. length kept.items ≡ length rules.now) }
     ensures memory { IfErr result (λ e. e ≡ Exhausted.Memory) }
 {
-    let needed = vec![in alloc; false; rules.len()]?;
-    let kept = Vec::new(alloc);
-    let mut turns = Turns {
-        kept,
-        core: first,
-        needed,
-    };
+    let mut turns = first_turns(alloc, rules.len(), first)?;
     for _turn in 0..rules.len() {
         take_turn(alloc, rules, form, &mut turns)?;
     }
