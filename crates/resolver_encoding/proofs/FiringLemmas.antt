@@ -53,7 +53,7 @@ unmet_at u set list i d below unmet all =
     (Contains-map (matching u) list (get_or list i d) inside))
 
 -- a place of a list from which an element was taken
-kept : {X : Type 0} (xs : List (Option X)) (n i : ℕ) (x : X) → slice_get (slice_set xs n None) i ≡ Some (Some x) → slice_get xs i ≡ Some (Some x)
+pub kept : {X : Type 0} (xs : List (Option X)) (n i : ℕ) (x : X) → slice_get (slice_set xs n None) i ≡ Some (Some x) → slice_get xs i ≡ Some (Some x)
 kept [] n i x at = at
 kept (y ∷ ys) zero zero x at = absurd (none-some x (same_Some _ _ at))
 kept (y ∷ ys) zero (suc i) x at = at

@@ -30,3 +30,5 @@ pub mod TrailLemmas
 pub mod TurnLemmas
 pub mod EncodedLemmas
 pub mod LeftOutLemmas
+pub mod LedLemmas
+pub mod LedReading

@@ -69,7 +69,7 @@ module _ {N S : Type 0} (u : Universe N S) (root : Demands) (seeds : List S) (pa
   named_led list constrains (to_see s) named = absurd named
 
   -- nor does what the root, or what was read, demands in a set
-  demanded_led : (set read : List S) → ((s : S) → Contains set s → Near s) → ((s : S) → Contains read s → Near s) → (by : By S) → IsPresent by read →
+  pub demanded_led : (set read : List S) → ((s : S) → Contains set s → Near s) → ((s : S) → Contains read s → Near s) → (by : By S) → IsPresent by read →
       (call : Call N S) → IsDemanded u set (demands_by u root by) call → IsLed call
   demanded_led set read set_near near by present call demanded = ⊎_elim
       (λ w. wanted_led w.0 (requires_by by read present near w.0 w.1)
@@ -78,7 +78,7 @@ module _ {N S : Type 0} (u : Universe N S) (root : Demands) (seeds : List S) (pa
       demanded
 
   -- nor does a disjunct that was put off, and is met in the set
-  entry_led : (set read : List S) → ((s : S) → Contains set s → Near s) → ((s : S) → Contains read s → Near s) → (e : Deferred S) → IsTrueEntry u root e →
+  pub entry_led : (set read : List S) → ((s : S) → Contains set s → Near s) → ((s : S) → Contains read s → Near s) → (e : Deferred S) → IsTrueEntry u root e →
       IsPresent e.by read → AllMeet set (map (matching u) e.disjunct) → (call : Call N S) → IsWantedBy u e.requirement call → IsLed call
   entry_led set read set_near near e entry present met call wanted =
       let is_true = entry.is_true in

@@ -19,3 +19,4 @@ pub mod Reach
 pub mod SoFar
 pub mod Turns
 pub mod LeftOut
+pub mod Led

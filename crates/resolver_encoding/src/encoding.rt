@@ -1,10 +1,11 @@
 //! The clauses of all that was read.
 
-ghost use Rattle.std.specs.Prelude.{◌≡◌, ◌≤◌, ◌^◌, [], ◌∷◌, ◌++◌, Bool, IfErr, OnErr, OnOk, length, map};
+ghost use Rattle.std.specs.Prelude.{◌≡◌, ◌≤◌, ◌^◌, ◌⊎◌, [], ◌∷◌, ◌++◌, Bool, IfErr, OnErr, OnOk, length, map};
 ghost use Rattle.resolver_clause_store.specs.Laws.{IsIdentity};
 ghost use Rattle.resolver_clause_store.specs.Variables.{origins_in};
 ghost use Rattle.resolver_encoding.specs.Atoms.{atom};
 ghost use Rattle.resolver_encoding.specs.Encodings.{AddsClause, IsFull, IsUnread, KeepsLimits};
+ghost use Rattle.resolver_encoding.specs.Led.{AddsOnly};
 ghost use Rattle.resolver_encoding.specs.Refusals.{IsShortage};
 
 mod asking;
@@ -96,6 +97,8 @@ impl<N: Copy + Eq + Hash + Drop, S: Copy + Eq + Hash + Drop> Encoding<N, S> {
         }) }
         ensures unchanged { OnErr result (notes_in self.new ≡ notes_in self.old) }
         ensures limits { KeepsLimits (notes_in self.old) (notes_in self.new) }
+        ensures origins { (notes_in self.new).origins ≡ (notes_in self.old).origins }
+        ensures deferred { (notes_in self.new).deferred ≡ (notes_in self.old).deferred }
         ensures refusal { IfErr result (IsShortage (IsFull (notes_in self.new))) }
     {
         if self.kinds.len() == self.clause_limit {
@@ -124,6 +127,7 @@ impl<N: Copy + Eq + Hash + Drop, S: Copy + Eq + Hash + Drop> Encoding<N, S> {
         ensures bounded { IsBounded self.new }
         ensures added { OnOk result (AddsClause (notes_in self.old) (notes_in self.new) kind (atom origin positive ∷ [])) }
         ensures limits { KeepsLimits (notes_in self.old) (notes_in self.new) }
+        ensures adds { AddsOnly (λ o. o ≡ origin) (notes_in self.old) (notes_in self.new) }
         ensures refusal { IfErr result (IsShortage (IsFull (notes_in self.new))) }
     {
         let mut literals = Vec::new(self.alloc);
@@ -145,6 +149,7 @@ impl<N: Copy + Eq + Hash + Drop, S: Copy + Eq + Hash + Drop> Encoding<N, S> {
         ensures bounded { IsBounded self.new }
         ensures added { OnOk result (AddsClause (notes_in self.old) (notes_in self.new) kind (atom first.0 first.1 ∷ atom second.0 second.1 ∷ [])) }
         ensures limits { KeepsLimits (notes_in self.old) (notes_in self.new) }
+        ensures adds { AddsOnly (λ o. (o ≡ first.0) ⊎ (o ≡ second.0)) (notes_in self.old) (notes_in self.new) }
         ensures refusal { IfErr result (IsShortage (IsFull (notes_in self.new))) }
     {
         let mut literals = Vec::new(self.alloc);

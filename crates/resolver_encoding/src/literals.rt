@@ -1,12 +1,14 @@
 //! Literals of origins.
 
-ghost use Rattle.std.specs.Prelude.{◌≡◌, [], ◌∷◌, IfErr, MatchBool, OnOk, false, map, true};
+ghost use Rattle.std.specs.Prelude.{◌≡◌, [], ◌∷◌, Contains, IfErr, MatchBool, OnOk, false, map, true};
 ghost use Rattle.resolver_clause_store.specs.Laws.{IsIdentity};
 ghost use Rattle.resolver_clause_store.specs.Variables.{IsBounded, IsFull as AreFull, limit_in, origins_in};
 ghost use Rattle.resolver_clause_store.specs.declared.Origin.TheVariants.{ConditionHelper, Solvable};
+ghost use Rattle.resolver_clause_store.specs.declared.VersionSetId.{VersionSetId as Id};
 ghost use Rattle.resolver_clause_store.specs.declared.By.TheVariants.{Solvable as BySolvable};
 ghost use Rattle.resolver_encoding.specs.Atoms.{atom, origin_by};
 ghost use Rattle.resolver_encoding.specs.Encodings.{Adds, Grows};
+ghost use Rattle.resolver_encoding.specs.Led.{AddsSuch};
 ghost use Rattle.resolver_encoding.specs.Refusals.{IsShortage};
 
 use resolver_clause_store::{By, Exhausted, Literal, Origin, Variables, VersionSetId};
@@ -47,6 +49,7 @@ pub(crate) fn push_literal<N: Copy + Eq + Hash + Drop, S: Copy + Eq + Hash + Dro
     ensures limit { limit_in variables.new ≡ limit_in variables.old }
     ensures grows { Grows (origins_in variables.old) (origins_in variables.new) }
     ensures added { OnOk result (Adds (origins_in variables.new) literals.old.items literals.new.items (atom origin positive ∷ [])) }
+    ensures adds { AddsSuch (λ o. o ≡ origin) (origins_in variables.old) (origins_in variables.new) }
     ensures refusal { IfErr result (IsShortage (AreFull variables.new)) }
 {
     let variable = variables.intern(origin)?;
@@ -68,6 +71,7 @@ pub(crate) fn push_helpers<N: Copy + Eq + Hash + Drop, S: Copy + Eq + Hash + Dro
     ensures grows { Grows (origins_in variables.old) (origins_in variables.new) }
     ensures added { OnOk result (Adds (origins_in variables.new) literals.old.items literals.new.items
         (map (λ v. atom (ConditionHelper v) false) disjunct.now)) }
+    ensures adds { AddsSuch (λ o. (v : Id) × Contains disjunct.now v × (o ≡ ConditionHelper v)) (origins_in variables.old) (origins_in variables.new) }
     ensures refusal { IfErr result (IsShortage (AreFull variables.new)) }
 {
     for version_set in disjunct {
@@ -94,6 +98,7 @@ pub(crate) fn push_candidates<N: Copy + Eq + Hash + Drop, S: Copy + Eq + Hash + 
     ensures limit { limit_in variables.new ≡ limit_in variables.old }
     ensures grows { Grows (origins_in variables.old) (origins_in variables.new) }
     ensures added { OnOk result (Adds (origins_in variables.new) literals.old.items literals.new.items (map (λ s. atom (Solvable s) true) candidates.now)) }
+    ensures adds { AddsSuch (λ o. (s : S) × Contains candidates.now s × (o ≡ Solvable s)) (origins_in variables.old) (origins_in variables.new) }
     ensures refusal { IfErr result (IsShortage (AreFull variables.new)) }
 {
     for candidate in candidates {

@@ -1,6 +1,6 @@
 //! Disjuncts that are put off until they hold.
 
-ghost use Rattle.std.specs.Prelude.{◌≡◌, IfErr, IfSome, IfNone, OnOk, Some, slice_get};
+ghost use Rattle.std.specs.Prelude.{◌≡◌, IfErr, IfSome, IfNone, OnErr, OnOk, Some, slice_get};
 ghost use Rattle.resolver_clause_store.specs.Variables.{AreDistinct};
 ghost use Rattle.resolver_encoding.specs.Encodings.{KeepsLimits};
 ghost use Rattle.resolver_encoding.specs.ReadState.{Deferred};
@@ -26,6 +26,8 @@ impl<N: Copy + Eq + Hash + Drop, S: Copy + Eq + Hash + Drop> Encoding<N, S> {
         requires bounded { IsBounded self.old }
         ensures bounded { IsBounded self.new }
         ensures indexed { OnOk result (IsIndexing (D.universe provider.now) number disjunct.now (notes_in self.old) (notes_in self.new)) }
+        ensures origins { (notes_in self.new).origins ≡ (notes_in self.old).origins }
+        ensures still { (notes_in self.new).deferred ≡ (notes_in self.old).deferred }
         ensures limits { KeepsLimits (notes_in self.old) (notes_in self.new) }
         ensures memory { IfErr result (λ e. e ≡ Exhausted.Memory) }
     {
@@ -50,6 +52,8 @@ impl<N: Copy + Eq + Hash + Drop, S: Copy + Eq + Hash + Drop> Encoding<N, S> {
         ensures deferred { OnOk result
             (IsDeferral (D.universe provider.now) (record { by = by; disjunct = disjunct.items; requirement = requirement }) (notes_in self.old)
             (notes_in self.new)) }
+        ensures origins { (notes_in self.new).origins ≡ (notes_in self.old).origins }
+        ensures still { OnErr result ((notes_in self.new).deferred ≡ (notes_in self.old).deferred) }
         ensures limits { KeepsLimits (notes_in self.old) (notes_in self.new) }
         ensures memory { IfErr result (λ e. e ≡ Exhausted.Memory) }
     {

@@ -4,6 +4,7 @@ ghost use Rattle.std.specs.Prelude.{◌≤◌, All, IfErr, IfOk, MatchBool, OnOk
 ghost use Rattle.resolver_clause_store.specs.Caches.{IsTrueCache};
 ghost use Rattle.resolver_encoding.specs.Encodings.{IsEncodingOf, IsFull, KeepsLimits};
 ghost use Rattle.resolver_encoding.specs.Groups.{AreGroups};
+ghost use Rattle.resolver_encoding.specs.Led.{Brings, IsFired, NoneOwn};
 ghost use Rattle.resolver_encoding.specs.Refusals.{IsStop};
 ghost use Rattle.resolver_encoding.specs.SoFar.{HasFired, HasMet, IsFiring, IsQuietAt, IsQuietUnder};
 
@@ -59,6 +60,8 @@ impl<N: Copy + Eq + Hash + Drop, S: Copy + Eq + Hash + Drop> Encoding<N, S> {
         ensures firing { OnOk result (IsFiring (D.universe provider.now) chosen.now.keys (notes_in self.old) (notes_in self.new)) }
         ensures quiet { OnOk result (IsQuietAt (D.universe provider.now) chosen.now.keys (notes_in self.new) number) }
         ensures fired { OnOk result (HasFired (notes_in self.old) (notes_in self.new) true) }
+        ensures brings { Brings (D.universe provider.now) (IsFired (D.universe provider.now) chosen.now.keys (notes_in self.old)) NoneOwn
+            (notes_in self.old) (notes_in self.new) }
         ensures limits { KeepsLimits (notes_in self.old) (notes_in self.new) }
         ensures refusal { IfErr result (IsStop (D.may_cancel provider.now) (IsFull (notes_in self.new))) }
     {
@@ -92,6 +95,8 @@ impl<N: Copy + Eq + Hash + Drop, S: Copy + Eq + Hash + Drop> Encoding<N, S> {
         ensures firing { OnOk result (IsFiring (D.universe provider.now) chosen.now.keys (notes_in self.old) (notes_in self.new)) }
         ensures quiet { OnOk result (IsQuietAt (D.universe provider.now) chosen.now.keys (notes_in self.new) number) }
         ensures fired { IfOk result (HasFired (notes_in self.old) (notes_in self.new)) }
+        ensures brings { Brings (D.universe provider.now) (IsFired (D.universe provider.now) chosen.now.keys (notes_in self.old)) NoneOwn
+            (notes_in self.old) (notes_in self.new) }
         ensures limits { KeepsLimits (notes_in self.old) (notes_in self.new) }
         ensures refusal { IfErr result (IsStop (D.may_cancel provider.now) (IsFull (notes_in self.new))) }
     {
@@ -118,6 +123,8 @@ impl<N: Copy + Eq + Hash + Drop, S: Copy + Eq + Hash + Drop> Encoding<N, S> {
         ensures firing { OnOk result (IsFiring (D.universe provider.now) chosen.now.keys (notes_in self.old) (notes_in self.new)) }
         ensures quiet { OnOk result (All (IsQuietAt (D.universe provider.now) chosen.now.keys (notes_in self.new)) numbers.now) }
         ensures fired { IfOk result (HasFired (notes_in self.old) (notes_in self.new)) }
+        ensures brings { Brings (D.universe provider.now) (IsFired (D.universe provider.now) chosen.now.keys (notes_in self.old)) NoneOwn
+            (notes_in self.old) (notes_in self.new) }
         ensures limits { KeepsLimits (notes_in self.old) (notes_in self.new) }
         ensures refusal { IfErr result (IsStop (D.may_cancel provider.now) (IsFull (notes_in self.new))) }
     {
@@ -145,6 +152,8 @@ impl<N: Copy + Eq + Hash + Drop, S: Copy + Eq + Hash + Drop> Encoding<N, S> {
         ensures quiet { OnOk result (AreGroups (notes_in self.old).waiting →
             IsQuietUnder (D.universe provider.now) chosen.now.keys (notes_in self.new) ((D.universe provider.now).name solvable)) }
         ensures fired { IfOk result (HasFired (notes_in self.old) (notes_in self.new)) }
+        ensures brings { Brings (D.universe provider.now) (IsFired (D.universe provider.now) chosen.now.keys (notes_in self.old)) NoneOwn
+            (notes_in self.old) (notes_in self.new) }
         ensures limits { KeepsLimits (notes_in self.old) (notes_in self.new) }
         ensures refusal { IfErr result (IsStop (D.may_cancel provider.now) (IsFull (notes_in self.new))) }
     {
@@ -173,6 +182,8 @@ impl<N: Copy + Eq + Hash + Drop, S: Copy + Eq + Hash + Drop> Encoding<N, S> {
             All (λ s. IsQuietUnder (D.universe provider.now) chosen.now.keys (notes_in self.new) ((D.universe provider.now).name s))
             (drop from chosen.now.keys)) }
         ensures fired { IfOk result (HasFired (notes_in self.old) (notes_in self.new)) }
+        ensures brings { Brings (D.universe provider.now) (IsFired (D.universe provider.now) chosen.now.keys (notes_in self.old)) NoneOwn
+            (notes_in self.old) (notes_in self.new) }
         ensures limits { KeepsLimits (notes_in self.old) (notes_in self.new) }
         ensures refusal { IfErr result (IsStop (D.may_cancel provider.now) (IsFull (notes_in self.new))) }
     {

@@ -1,6 +1,6 @@
 //! Requirements.
 
-ghost use Rattle.std.specs.Prelude.{◌≡◌, ◌<◌, ◌^◌, [], ◌∷◌, ◌++◌, All, Contains, IfErr, IfOk, IfSome, None, OnOk, length, map, ⊤};
+ghost use Rattle.std.specs.Prelude.{◌≡◌, ◌⊎◌, ◌<◌, ◌^◌, [], ◌∷◌, ◌++◌, All, Contains, IfErr, IfOk, IfSome, None, OnOk, length, map, ⊤};
 ghost use Rattle.resolver_clause_store.specs.Caches.{IsTrueCache};
 ghost use Rattle.resolver_clause_store.specs.Candidates.{requirement_candidates as candidates_of, version_sets};
 ghost use Rattle.resolver_clause_store.specs.Variables.{AreDistinct};
@@ -8,8 +8,10 @@ ghost use Rattle.resolver_clause_store.specs.declared.By.TheVariants.{Solvable a
 ghost use Rattle.resolver_clause_store.specs.declared.ClauseKind.TheVariants.{Requires as RequiresKind};
 ghost use Rattle.resolver_encoding.specs.Atoms.{atoms_of};
 ghost use Rattle.resolver_encoding.specs.Called.{IsCalledBy, IsWantedBy};
-ghost use Rattle.resolver_encoding.specs.Encodings.{AddsRequirement, AreDisjuncts, AsksFor, IsAskStep, IsDisjunctOf, IsDisjunctRead, IsEncodingOf, IsFull};
-ghost use Rattle.resolver_encoding.specs.Encodings.{IsLeft, IsReadStep, IsStep, IsTrueUnder, IsUnmet, KeepsLimits};
+ghost use Rattle.resolver_encoding.specs.Encodings.{AddsRequirement, AreDisjuncts, AsksFor, IsAskStep, IsDisjunctOf, IsDisjunctRead, IsEncoding, IsEncodingOf};
+ghost use Rattle.resolver_encoding.specs.Encodings.{IsFull, IsLeft, IsReadStep, IsStep, IsTrueUnder, IsUnmet, KeepsLimits};
+ghost use Rattle.resolver_clause_store.specs.Universe.{Demands};
+ghost use Rattle.resolver_encoding.specs.Led.{AddsOnly, Brings, IsCandidate, IsHelped, IsOwn, NoneOwn, with_requirements};
 ghost use Rattle.resolver_encoding.specs.ReadState.{HasClause, IsReadRequirement};
 ghost use Rattle.resolver_encoding.specs.Refusals.{IsShortage, IsStop};
 
@@ -59,6 +61,8 @@ impl<N: Copy + Eq + Hash + Drop, S: Copy + Eq + Hash + Drop> Encoding<N, S> {
           kinds = (notes_in self.old).kinds ++ kind ∷ [];
           requirements = (notes_in self.old).requirements ++ length (notes_in self.old).kinds ∷ [];
         }) }
+        ensures origins { (notes_in self.new).origins ≡ (notes_in self.old).origins }
+        ensures still { (notes_in self.new).deferred ≡ (notes_in self.old).deferred }
         ensures limits { KeepsLimits (notes_in self.old) (notes_in self.new) }
         ensures refusal { IfErr result (IsShortage (IsFull (notes_in self.new))) }
     {
@@ -87,6 +91,8 @@ impl<N: Copy + Eq + Hash + Drop, S: Copy + Eq + Hash + Drop> Encoding<N, S> {
         ensures bounded { IsBounded self.new }
         ensures added { OnOk result (AddsRequirement (notes_in self.old) (notes_in self.new) (RequiresKind by disjunct requirement)
             (atoms_of (D.universe provider.now) (RequiresKind by disjunct requirement))) }
+        ensures adds { AddsOnly (λ o. IsHelped (D.universe provider.now) by disjunct.items o ⊎ IsCandidate (D.universe provider.now) requirement o)
+            (notes_in self.old) (notes_in self.new) }
         ensures limits { KeepsLimits (notes_in self.old) (notes_in self.new) }
         ensures refusal { IfErr result (IsShortage (IsFull (notes_in self.new))) }
     {
@@ -128,6 +134,8 @@ impl<N: Copy + Eq + Hash + Drop, S: Copy + Eq + Hash + Drop> Encoding<N, S> {
         ensures step { OnOk result (IsStep (D.universe provider.now) (IsTrueUnder (D.universe provider.now) by disjunct.items requirement) (notes_in self.old)
             (notes_in self.new)) }
         ensures read { OnOk result (Contains (notes_in self.new).kinds (RequiresKind by disjunct requirement)) }
+        ensures adds { AddsOnly (λ o. IsHelped (D.universe provider.now) by disjunct.items o ⊎ IsCandidate (D.universe provider.now) requirement o)
+            (notes_in self.old) (notes_in self.new) }
         ensures limits { KeepsLimits (notes_in self.old) (notes_in self.new) }
         ensures refusal { IfErr result (IsStop (D.may_cancel provider.now) (IsFull (notes_in self.new))) }
     {
@@ -154,6 +162,8 @@ impl<N: Copy + Eq + Hash + Drop, S: Copy + Eq + Hash + Drop> Encoding<N, S> {
         ensures asked { OnOk result (All (λ v. Contains (notes_in self.new).asked ((D.universe provider.now).version_set_name v))
             (version_sets (D.universe provider.now) requirement)) }
         ensures seen { IfOk result (λ choices. All (Contains (notes_in self.new).seen) choices.candidates.items) }
+        ensures brings { (root : Demands) → IsEncoding (D.universe provider.now) root (notes_in self.old) → Brings (D.universe provider.now)
+            (IsWantedBy (D.universe provider.now) requirement) NoneOwn (notes_in self.old) (notes_in self.new) }
         ensures limits { KeepsLimits (notes_in self.old) (notes_in self.new) }
         ensures refusal { IfErr result (IsStop (D.may_cancel provider.now) (IsFull (notes_in self.new))) }
     {
@@ -180,6 +190,9 @@ impl<N: Copy + Eq + Hash + Drop, S: Copy + Eq + Hash + Drop> Encoding<N, S> {
         ensures step { OnOk result (IsAskStep (D.universe provider.now) (IsWantedBy (D.universe provider.now) requirement)
             (IsTrueUnder (D.universe provider.now) by disjunct.items requirement) (notes_in self.old) (notes_in self.new)) }
         ensures read { OnOk result (HasClause (notes_in self.new).kinds by disjunct.items requirement) }
+        ensures brings { (root : Demands) → IsEncoding (D.universe provider.now) root (notes_in self.old) → Brings (D.universe provider.now)
+            (IsWantedBy (D.universe provider.now) requirement) (IsHelped (D.universe provider.now) by disjunct.items) (notes_in self.old)
+            (notes_in self.new) }
         ensures limits { KeepsLimits (notes_in self.old) (notes_in self.new) }
         ensures refusal { IfErr result (IsStop (D.may_cancel provider.now) (IsFull (notes_in self.new))) }
     {
@@ -207,6 +220,9 @@ impl<N: Copy + Eq + Hash + Drop, S: Copy + Eq + Hash + Drop> Encoding<N, S> {
             (IsCalledBy (D.universe provider.now) chosen.now.keys requirement) (AsksFor (D.universe provider.now) by requirement) (notes_in self.old)
             (notes_in self.new)) }
         ensures read { OnOk result (IsDisjunctRead (notes_in self.new) by requirement.requirement disjunct.now) }
+        ensures brings { (root : Demands) → IsEncoding (D.universe provider.now) root (notes_in self.old) → Brings (D.universe provider.now)
+            (IsCalledBy (D.universe provider.now) chosen.now.keys requirement)
+            (IsOwn (D.universe provider.now) by (with_requirements (requirement ∷ []))) (notes_in self.old) (notes_in self.new) }
         ensures limits { KeepsLimits (notes_in self.old) (notes_in self.new) }
         ensures refusal { IfErr result (IsStop (D.may_cancel provider.now) (IsFull (notes_in self.new))) }
     {
@@ -239,6 +255,9 @@ impl<N: Copy + Eq + Hash + Drop, S: Copy + Eq + Hash + Drop> Encoding<N, S> {
             (IsCalledBy (D.universe provider.now) chosen.now.keys requirement) (AsksFor (D.universe provider.now) by requirement) (notes_in self.old)
             (notes_in self.new)) }
         ensures read { OnOk result (IsReadRequirement (D.universe provider.now) (notes_in self.new).kinds (IsLeft (notes_in self.new)) by requirement) }
+        ensures brings { (root : Demands) → AsksFor (D.universe provider.now) by requirement root → IsEncoding (D.universe provider.now) root
+            (notes_in self.old) → Brings (D.universe provider.now) (IsCalledBy (D.universe provider.now) chosen.now.keys requirement)
+            (IsOwn (D.universe provider.now) by (with_requirements (requirement ∷ []))) (notes_in self.old) (notes_in self.new) }
         ensures limits { KeepsLimits (notes_in self.old) (notes_in self.new) }
         ensures refusal { IfErr result (IsStop (D.may_cancel provider.now) (IsFull (notes_in self.new))) }
     {
@@ -265,6 +284,9 @@ impl<N: Copy + Eq + Hash + Drop, S: Copy + Eq + Hash + Drop> Encoding<N, S> {
             (IsCalledBy (D.universe provider.now) chosen.now.keys requirement) (AsksFor (D.universe provider.now) by requirement) (notes_in self.old)
             (notes_in self.new)) }
         ensures read { OnOk result (IsReadRequirement (D.universe provider.now) (notes_in self.new).kinds (IsLeft (notes_in self.new)) by requirement) }
+        ensures brings { (root : Demands) → AsksFor (D.universe provider.now) by requirement root → IsEncoding (D.universe provider.now) root
+            (notes_in self.old) → Brings (D.universe provider.now) (IsCalledBy (D.universe provider.now) chosen.now.keys requirement)
+            (IsOwn (D.universe provider.now) by (with_requirements (requirement ∷ []))) (notes_in self.old) (notes_in self.new) }
         ensures limits { KeepsLimits (notes_in self.old) (notes_in self.new) }
         ensures refusal { IfErr result (IsStop (D.may_cancel provider.now) (IsFull (notes_in self.new))) }
     {
@@ -291,6 +313,9 @@ impl<N: Copy + Eq + Hash + Drop, S: Copy + Eq + Hash + Drop> Encoding<N, S> {
             (AsksFor (D.universe provider.now) (BySolvable requirer) (record { condition = None; requirement = requirement })) (notes_in self.old)
             (notes_in self.new)) }
         ensures read { OnOk result (HasClause (notes_in self.new).kinds (BySolvable requirer) [] requirement) }
+        ensures brings { Brings (D.universe provider.now) (IsWantedBy (D.universe provider.now) requirement)
+            (IsOwn (D.universe provider.now) (BySolvable requirer) (with_requirements (record { condition = None; requirement = requirement } ∷ [])))
+            (notes_in self.old) (notes_in self.new) }
         ensures limits { KeepsLimits (notes_in self.old) (notes_in self.new) }
         ensures refusal { IfErr result (IsStop (D.may_cancel provider.now) (IsFull (notes_in self.new))) }
     {
@@ -328,6 +353,8 @@ impl<N: Copy + Eq + Hash + Drop, S: Copy + Eq + Hash + Drop> Encoding<N, S> {
             (IsCalledBy (D.universe provider.now) chosen.now.keys requirement) (AsksFor (D.universe provider.now) by requirement) (notes_in self.old)
             (notes_in self.new)) }
         ensures read { OnOk result (IsReadRequirement (D.universe provider.now) (notes_in self.new).kinds (IsLeft (notes_in self.new)) by requirement) }
+        ensures brings { Brings (D.universe provider.now) (IsCalledBy (D.universe provider.now) chosen.now.keys requirement)
+            (IsOwn (D.universe provider.now) by (with_requirements (requirement ∷ []))) (notes_in self.old) (notes_in self.new) }
         ensures limits { KeepsLimits (notes_in self.old) (notes_in self.new) }
         ensures refusal { IfErr result (IsStop (D.may_cancel provider.now) (IsFull (notes_in self.new))) }
     {

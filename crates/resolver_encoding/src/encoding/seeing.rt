@@ -4,8 +4,10 @@ ghost use Rattle.std.specs.Prelude.{◌≡◌, ◌⊎◌, ◌<◌, ◌≤◌, �
 ghost use Rattle.resolver_clause_store.specs.declared.ClauseKind.TheVariants.{HasBit as HasBitKind};
 ghost use Rattle.resolver_encoding.specs.Called.{IsSeeing, IsSeeingEach};
 ghost use Rattle.resolver_encoding.specs.Codes.{bit};
-ghost use Rattle.resolver_encoding.specs.Encodings.{IsAskStep, IsFull, IsStepWhile, KeepsLimits, coding_for};
+ghost use Rattle.resolver_encoding.specs.Encodings.{IsAskStep, IsEncoding, IsFull, IsStepWhile, KeepsLimits, coding_for};
 ghost use Rattle.resolver_encoding.specs.Groups.{AreGroups, IsAt};
+ghost use Rattle.resolver_clause_store.specs.Universe.{Demands};
+ghost use Rattle.resolver_encoding.specs.Led.{AddsOnly, Brings, IsCoded, IsDigitOf, NoneOwn};
 ghost use Rattle.resolver_encoding.specs.Refusals.{IsShortage};
 
 use super::Encoding;
@@ -39,6 +41,7 @@ impl<N: Copy + Eq + Hash + Drop, S: Copy + Eq + Hash + Drop> Encoding<N, S> {
         ensures groups { OnOk result ((notes_in self.new).groups ≡ (notes_in self.old).groups) }
         ensures seen { OnOk result ((notes_in self.new).seen ≡ (notes_in self.old).seen) }
         ensures requirements { OnOk result ((notes_in self.new).requirements ≡ (notes_in self.old).requirements) }
+        ensures adds { AddsOnly (IsCoded (notes_in self.old).groups name number solvable) (notes_in self.old) (notes_in self.new) }
         ensures limits { KeepsLimits (notes_in self.old) (notes_in self.new) }
         ensures refusal { IfErr result (IsShortage (IsFull (notes_in self.new))) }
     {
@@ -74,6 +77,7 @@ impl<N: Copy + Eq + Hash + Drop, S: Copy + Eq + Hash + Drop> Encoding<N, S> {
         ensures groups { OnOk result ((notes_in self.new).groups ≡ (notes_in self.old).groups) }
         ensures seen { OnOk result ((notes_in self.new).seen ≡ (notes_in self.old).seen) }
         ensures requirements { OnOk result ((notes_in self.new).requirements ≡ (notes_in self.old).requirements) }
+        ensures adds { AddsOnly (IsCoded (notes_in self.old).groups name number solvable) (notes_in self.old) (notes_in self.new) }
         ensures limits { KeepsLimits (notes_in self.old) (notes_in self.new) }
         ensures refusal { IfErr result (IsShortage (IsFull (notes_in self.new))) }
     {
@@ -104,6 +108,7 @@ impl<N: Copy + Eq + Hash + Drop, S: Copy + Eq + Hash + Drop> Encoding<N, S> {
         ensures groups { OnOk result ((notes_in self.new).groups ≡ (notes_in self.old).groups) }
         ensures seen { OnOk result ((notes_in self.new).seen ≡ (notes_in self.old).seen) }
         ensures requirements { OnOk result ((notes_in self.new).requirements ≡ (notes_in self.old).requirements) }
+        ensures adds { AddsOnly (IsDigitOf name number solvable) (notes_in self.old) (notes_in self.new) }
         ensures limits { KeepsLimits (notes_in self.old) (notes_in self.new) }
         ensures refusal { IfErr result (IsShortage (IsFull (notes_in self.new))) }
     {
@@ -135,6 +140,8 @@ impl<N: Copy + Eq + Hash + Drop, S: Copy + Eq + Hash + Drop> Encoding<N, S> {
         ensures asked { OnOk result ((notes_in self.new).asked ≡ (notes_in self.old).asked) }
         ensures only { OnOk result ((t : S) → Contains (notes_in self.new).seen t → Contains (notes_in self.old).seen t ⊎ (t ≡ solvable)) }
         ensures requirements { OnOk result ((notes_in self.new).requirements ≡ (notes_in self.old).requirements) }
+        ensures brings { (root : Demands) → IsEncoding (D.universe provider.now) root (notes_in self.old) → Brings (D.universe provider.now)
+            (IsSeeing solvable) NoneOwn (notes_in self.old) (notes_in self.new) }
         ensures limits { KeepsLimits (notes_in self.old) (notes_in self.new) }
         ensures refusal { IfErr result (IsShortage (IsFull (notes_in self.new))) }
     {
@@ -161,6 +168,8 @@ impl<N: Copy + Eq + Hash + Drop, S: Copy + Eq + Hash + Drop> Encoding<N, S> {
         ensures bounded { IsBounded self.new }
         ensures step { OnOk result (IsAskStep (D.universe provider.now) (IsSeeingEach candidates.now) (λ root. ⊤) (notes_in self.old) (notes_in self.new)) }
         ensures seen { OnOk result (All (Contains (notes_in self.new).seen) candidates.now) }
+        ensures brings { (root : Demands) → IsEncoding (D.universe provider.now) root (notes_in self.old) → Brings (D.universe provider.now)
+            (IsSeeingEach candidates.now) NoneOwn (notes_in self.old) (notes_in self.new) }
         ensures limits { KeepsLimits (notes_in self.old) (notes_in self.new) }
         ensures refusal { IfErr result (IsShortage (IsFull (notes_in self.new))) }
     {

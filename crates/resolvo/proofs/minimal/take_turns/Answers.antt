@@ -17,4 +17,5 @@ loop-turn-init g c =
     )
 
 pub returns-clause-left : goal.returns-clause-left
-returns-clause-left g c = underway_done c.args.rules.now c.loop-turn.turns.kept.items c.loop-turn.turns.core.items (omega arith) c.loop-turn.invariant.0.underway
+returns-clause-left g c = underway_done c.args.rules.now c.loop-turn.turns.kept.items c.loop-turn.turns.core.items
+    (omega arith) c.loop-turn.invariant.0.underway

@@ -4,10 +4,12 @@ use Rattle.resolver_encoding.specs.Encodings.{coding_for}
 use Rattle.resolver_encoding.specs.Notes.{notes_in}
 use Rattle.resolver_encoding.proofs.EncodingLemmas.{IsStep-same, IsStep-trans, KeepsLimits-same, KeepsLimits-trans, clause_listed}
 use Rattle.resolver_encoding.proofs.SeeLemmas.{IsStep-own, more_digits}
+use Rattle.resolver_encoding.proofs.LedLemmas.{AddsOnly-equal, AddsOnly-trans, AddsOnly-weaker, code_digit}
 use Rattle.resolver_encoding.proofs.encoding.Encoding.add_code.Goals as goal
 
 pub loop-index-init : goal.loop-index-init
 loop-index-init g c = record {
+  adds = AddsOnly-equal _ _ _ refl refl;
   bounded = c.requires.bounded;
   limits = KeepsLimits-same _;
   step = IsStep-same (g.D.Interner.universe c.args.provider.now) (coding_for c.args.name c.args.number c.args.solvable) (λ root. ⊤) (notes_in c.args.self.now);
@@ -30,6 +32,9 @@ loop-index-preserved g c =
     let step = IsStep-own u g.N.PartialEq.eq g.S.PartialEq.eq g.met.D.Interner.names_are_values g.met.D.Interner.solvables_are_values n k s old new
     c.loop-index.index c.has_digit-value.result adds (sym c.requires.name) c.has_digit-value.ensures in
     record {
+      adds = AddsOnly-trans _ _ _ _ before.adds
+          (AddsOnly-weaker _ _ (code_digit c.args.name c.args.number c.args.solvable c.loop-index.index
+          (c.digit_count-index-end.ensures.each c.loop-index.index (omega arith))) _ _ c.add_pair.ensures.adds);
       bounded = c.add_pair.ensures.bounded;
       limits = KeepsLimits-trans _ _ _ before.limits c.add_pair.ensures.limits;
       step = IsStep-trans u (coding_for n k s) (λ root. ⊤) _ _ _ before.step step;
@@ -39,3 +44,9 @@ loop-index-preserved g c =
       seen = ap (λ x. x.seen) adds.is ∙ before.seen;
       requirements = ap (λ x. x.requirements) adds.is ∙ before.requirements;
     }
+
+pub returns-in_err-add_pair-clause-adds : goal.returns-in_err-add_pair-clause-adds
+returns-in_err-add_pair-clause-adds g c =
+    AddsOnly-trans _ _ _ _ c.loop-index.invariant.adds
+    (AddsOnly-weaker _ _ (code_digit c.args.name c.args.number c.args.solvable c.loop-index.index
+    (c.digit_count-index-end.ensures.each c.loop-index.index (omega arith))) _ _ c.add_pair.ensures.adds)

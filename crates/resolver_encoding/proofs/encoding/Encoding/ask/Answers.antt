@@ -1,4 +1,4 @@
-use Rattle.std.proofs.Common.{◌∙◌, ◌∷◌, ◌++◌, [], sym, ap, subst, All, Contains, List}
+use Rattle.std.proofs.Common.{◌∙◌, ◌∷◌, ◌++◌, [], sym, ap, subst, All, Contains, List, refl}
 use Rattle.std.specs.Prelude.{⊤}
 use Rattle.std.proofs.lemmas.List.Elements.{Contains-push}
 use Rattle.resolver_clause_store.specs.declared.ClauseKind.TheVariants.{Excluded}
@@ -8,6 +8,7 @@ use Rattle.resolver_encoding.proofs.EncodingLemmas.{IsStep-trans}
 use Rattle.resolver_encoding.proofs.NoteLemmas.{IsPackageRead-found, IsStep-asked}
 use Rattle.resolver_encoding.specs.Turns.{AddsPlainly}
 use Rattle.resolver_encoding.proofs.TurnLemmas.{AddsPlainly-trans, AsksOnly-of, AsksOnly-same}
+use Rattle.resolver_encoding.proofs.LedLemmas.{AddsOnly-same_as, AddsOnly-trans}
 use Rattle.resolver_encoding.proofs.encoding.Encoding.ask.Goals as goal
 
 pub append-requires-clause-absent : goal.append-requires-clause-absent
@@ -49,3 +50,15 @@ returns-clause-alone g c =
 
 pub returns-then-is_among-clause-alone : goal.returns-then-is_among-clause-alone
 returns-then-is_among-clause-alone g c = AsksOnly-same (g.D.Interner.universe c.args.provider.now) c.args.name (notes_in c.args.self.now) c.if-is_among.ensures
+
+pub returns-in_err-exclude_each-clause-adds : goal.returns-in_err-exclude_each-clause-adds
+returns-in_err-exclude_each-clause-adds g c = AddsOnly-trans _ _ _ _ c.lock_out_others.ensures.adds c.exclude_each.ensures.adds
+
+pub returns-in_err-append-clause-adds : goal.returns-in_err-append-clause-adds
+returns-in_err-append-clause-adds g c =
+    AddsOnly-same_as _ (notes_in c.args.self.now) (notes_in c.exclude_each.new.self) _
+    (AddsOnly-trans _ _ _ _ c.lock_out_others.ensures.adds c.exclude_each.ensures.adds) refl refl
+
+pub returns-clause-adds : goal.returns-clause-adds
+returns-clause-adds g c = AddsOnly-same_as _ (notes_in c.args.self.now) (notes_in c.exclude_each.new.self) _
+    (AddsOnly-trans _ _ _ _ c.lock_out_others.ensures.adds c.exclude_each.ensures.adds) refl refl

@@ -1,4 +1,4 @@
-use Rattle.std.proofs.Common.{arith, Contains}
+use Rattle.std.proofs.Common.{refl, arith, Contains}
 use Rattle.std.specs.Prelude.{⊤}
 use Rattle.std.proofs.lemmas.List.Elements.{All-nil}
 use Rattle.resolver_encoding.specs.Called.{IsAsking, IsNamedBy}
@@ -6,12 +6,15 @@ use Rattle.resolver_encoding.specs.Notes.{notes_in}
 use Rattle.resolver_clause_store.proofs.SetLemmas.{All-done}
 use Rattle.resolver_encoding.proofs.EncodingLemmas.{IsAskStep-same, IsAskStep-trans, IsAskStep-weaker, KeepsLimits-same, KeepsLimits-trans}
 use Rattle.resolver_encoding.proofs.NoteLemmas.{All-grown_at, named_here}
+use Rattle.resolver_encoding.proofs.LedLemmas.{AddsOnly-equal, AddsOnly-trans}
+use Rattle.resolver_encoding.proofs.LedLemmas.{AddsOnly-weaker, IsBarred-weaker}
 use Rattle.resolver_encoding.proofs.encoding.Encoding.ask_each.Goals as goal
 
 pub loop-version_set-init : goal.loop-version_set-init
 loop-version_set-init g c =
     let u = g.D.Interner.universe c.args.provider.now in
     record {
+      adds = AddsOnly-equal _ _ _ refl refl;
       bounded = c.requires.bounded;
       limits = KeepsLimits-same _;
       step = IsAskStep-same u (IsNamedBy u c.args.named.now) (λ root. ⊤) (notes_in c.args.self.now);
@@ -24,6 +27,10 @@ loop-version_set-preserved g c =
     let u = g.D.Interner.universe c.args.provider.now in
     let before = c.loop-version_set.invariant in
     record {
+      adds = AddsOnly-trans _ _ _ _ before.adds
+          (AddsOnly-weaker _ _ (IsBarred-weaker (g.D.Interner.universe c.args.provider.now) _ _ (λ call is.
+          named_here (g.D.Interner.universe c.args.provider.now) c.args.named.now c.loop-version_set.version_set-index _ _ call
+          (omega arith) c.version_set_name.ensures is)) _ _ c.ask.ensures.adds);
       bounded = c.ask.ensures.bounded;
       limits = KeepsLimits-trans _ _ _ before.limits c.ask.ensures.limits;
       step = IsAskStep-trans u (IsNamedBy u c.args.named.now) (λ root. ⊤) _ _ _ before.step
@@ -41,3 +48,10 @@ returns-clause-asked g c =
     let u = g.D.Interner.universe c.args.provider.now in
     All-done (λ v. Contains c.loop-version_set.self.asked.keys (u.version_set_name v)) c.args.named.now c.loop-version_set.version_set-index
     (omega arith) c.loop-version_set.invariant.asked
+
+pub returns-in_err-ask-clause-adds : goal.returns-in_err-ask-clause-adds
+returns-in_err-ask-clause-adds g c =
+    AddsOnly-trans _ _ _ _ c.loop-version_set.invariant.adds
+    (AddsOnly-weaker _ _ (IsBarred-weaker (g.D.Interner.universe c.args.provider.now) _ _ (λ call is.
+    named_here (g.D.Interner.universe c.args.provider.now) c.args.named.now c.loop-version_set.version_set-index _ _ call
+    (omega arith) c.version_set_name.ensures is)) _ _ c.ask.ensures.adds)

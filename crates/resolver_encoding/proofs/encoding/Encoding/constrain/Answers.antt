@@ -1,4 +1,4 @@
-use Rattle.std.proofs.Common.{◌≡◌, ◌∷◌, [], sym, ap, subst}
+use Rattle.std.proofs.Common.{◌≡◌, ◌∷◌, [], sym, ap, subst, inr}
 use Rattle.std.proofs.Common.{false}
 use Rattle.std.specs.List.{AllZip}
 use Rattle.resolver_clause_store.specs.declared.Origin.{Origin}
@@ -12,6 +12,9 @@ use Rattle.resolver_encoding.specs.Notes.{notes_in}
 use Rattle.resolver_encoding.proofs.ClauseLemmas.{AreAtoms-twice}
 use Rattle.resolver_encoding.proofs.EncodingLemmas.{IsStep-clause, clause_listed}
 use Rattle.resolver_encoding.proofs.NoteLemmas.{IsStep-plain, asks_not}
+use Rattle.resolver_encoding.specs.Led.{own_constraint}
+use Rattle.resolver_encoding.proofs.LedLemmas.{AddsOnly-weaker, constrained_own}
+use Rattle.resolver_clause_store.proofs.ListLemmas.{Contains-here as here}
 use Rattle.resolver_encoding.proofs.encoding.Encoding.constrain.Goals as goal
 
 pub returns-then-is_by-clause-step : goal.returns-then-is_by-clause-step
@@ -57,3 +60,24 @@ returns-clause-step g c =
 
 pub returns-clause-forbidden : goal.returns-clause-forbidden
 returns-clause-forbidden g c = clause_listed (g.D.Interner.universe c.args.provider.now) (notes_in c.args.self.now) _ _ _ c.in_ok-add_pair.ensures.added
+
+pub returns-in_err-add_unit-clause-adds : goal.returns-in_err-add_unit-clause-adds
+returns-in_err-add_unit-clause-adds g c =
+    AddsOnly-weaker _ _ (λ o is. own_constraint c.args.version_set (here c.args.version_set [])
+    (inr (c.args.candidate, c.requires.other, is))) _ _ c.add_unit.ensures.adds
+
+pub returns-then-is_by-clause-adds : goal.returns-then-is_by-clause-adds
+returns-then-is_by-clause-adds g c =
+    AddsOnly-weaker _ _ (λ o is. own_constraint c.args.version_set (here c.args.version_set [])
+    (inr (c.args.candidate, c.requires.other, is))) _ _ c.add_unit.ensures.adds
+
+pub returns-in_err-add_pair-clause-adds : goal.returns-in_err-add_pair-clause-adds
+returns-in_err-add_pair-clause-adds g c =
+    AddsOnly-weaker _ _ (λ o is. constrained_own
+    (g.D.Interner.universe c.args.provider.now) c.args.by c.args.version_set c.args.candidate c.requires.other c.origin_of.result o c.origin_of.ensures is) _ _
+    c.add_pair.ensures.adds
+
+pub returns-clause-adds : goal.returns-clause-adds
+returns-clause-adds g c = AddsOnly-weaker _ _ (λ o is.
+    constrained_own (g.D.Interner.universe c.args.provider.now) c.args.by c.args.version_set c.args.candidate c.requires.other c.origin_of.result o
+    c.origin_of.ensures is) _ _ c.add_pair.ensures.adds

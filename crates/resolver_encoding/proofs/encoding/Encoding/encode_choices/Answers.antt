@@ -8,6 +8,7 @@ use Rattle.resolver_clause_store.specs.declared.ClauseKind.TheVariants.{Requires
 use Rattle.resolver_encoding.specs.Encodings.{IsTrueUnder, idle}
 use Rattle.resolver_encoding.specs.Notes.{notes_in}
 use Rattle.resolver_encoding.proofs.EncodingLemmas.{IsClauseOf-zip, IsStep-requirement, IsStep-trans, IsStep-weaker, requirement_listed}
+use Rattle.resolver_encoding.proofs.LedLemmas.{AddsOnly-trans, helped_choices}
 use Rattle.resolver_encoding.proofs.encoding.Encoding.encode_choices.Goals as goal
 
 pub returns-clause-step : goal.returns-clause-step
@@ -46,3 +47,19 @@ pub returns-clause-read : goal.returns-clause-read
 returns-clause-read g c =
     let u = g.D.Interner.universe c.args.provider.now in
     requirement_listed u (notes_in c.help_each.new.self) (notes_in c.add_requirement.new.self) _ _ c.in_ok-add_requirement.ensures.added
+
+pub returns-in_err-help_each-clause-adds : goal.returns-in_err-help_each-clause-adds
+returns-in_err-help_each-clause-adds g c =
+    (helped_choices (g.D.Interner.universe c.args.provider.now) c.args.by c.args.requirement c.args.disjunct.items c.deref.result.now c.deref.ensures.value
+    (notes_in c.args.self.now) (notes_in c.help_each.new.self) c.help_each.ensures.adds)
+
+pub returns-in_err-add_requirement-clause-adds : goal.returns-in_err-add_requirement-clause-adds
+returns-in_err-add_requirement-clause-adds g c =
+    AddsOnly-trans _ _ _ _ (helped_choices
+    (g.D.Interner.universe c.args.provider.now) c.args.by c.args.requirement c.args.disjunct.items c.deref.result.now c.deref.ensures.value
+    (notes_in c.args.self.now) (notes_in c.help_each.new.self) c.help_each.ensures.adds) c.add_requirement.ensures.adds
+
+pub returns-clause-adds : goal.returns-clause-adds
+returns-clause-adds g c = AddsOnly-trans _ _ _ _
+    (helped_choices (g.D.Interner.universe c.args.provider.now) c.args.by c.args.requirement c.args.disjunct.items c.deref.result.now c.deref.ensures.value
+    (notes_in c.args.self.now) (notes_in c.help_each.new.self) c.help_each.ensures.adds) c.add_requirement.ensures.adds

@@ -5,6 +5,7 @@ use Rattle.resolver_encoding.specs.Notes.{notes_in}
 use Rattle.resolver_encoding.proofs.EncodingLemmas.{clause_listed}
 use Rattle.resolver_encoding.proofs.NoteLemmas.{IsStep-plain}
 use Rattle.resolver_encoding.proofs.TurnLemmas.{AddsPlainly-clause}
+use Rattle.resolver_encoding.proofs.LedLemmas.{AddsOnly-weaker, excluded_barred}
 use Rattle.resolver_encoding.proofs.encoding.Encoding.exclude.Goals as goal
 
 pub returns-clause-step : goal.returns-clause-step
@@ -21,3 +22,13 @@ returns-clause-forbidden g c = λ free. clause_listed (g.D.Interner.universe c.a
 
 pub returns-clause-plain : goal.returns-clause-plain
 returns-clause-plain g c = AddsPlainly-clause (g.D.Interner.universe c.args.provider.now) (notes_in c.args.self.now) _ _ _ c.in_ok-add_unit.ensures.added
+
+pub returns-in_err-add_unit-clause-adds : goal.returns-in_err-add_unit-clause-adds
+returns-in_err-add_unit-clause-adds g c =
+    AddsOnly-weaker _ _ (excluded_barred
+    (g.D.Interner.universe c.args.provider.now) c.args.name c.args.solvable c.args.reason c.requires.named c.requires.excluded) _ _ c.add_unit.ensures.adds
+
+pub returns-clause-adds : goal.returns-clause-adds
+returns-clause-adds g c = AddsOnly-weaker _ _
+    (excluded_barred (g.D.Interner.universe c.args.provider.now) c.args.name c.args.solvable c.args.reason c.requires.named c.requires.excluded) _ _
+    c.add_unit.ensures.adds

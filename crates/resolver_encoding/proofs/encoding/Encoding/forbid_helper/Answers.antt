@@ -9,6 +9,7 @@ use Rattle.resolver_encoding.specs.Encodings.{AddsClause, AsksWithin, idle}
 use Rattle.resolver_encoding.specs.Notes.{notes_in}
 use Rattle.resolver_encoding.proofs.EncodingLemmas.{clause_listed}
 use Rattle.resolver_encoding.proofs.NoteLemmas.{IsStep-plain}
+use Rattle.resolver_encoding.proofs.LedLemmas.{AddsOnly-weaker, parent_own}
 use Rattle.resolver_encoding.proofs.encoding.Encoding.forbid_helper.Goals as goal
 
 pub returns-clause-step : goal.returns-clause-step
@@ -24,3 +25,12 @@ returns-clause-step g c =
 
 pub returns-clause-forbidden : goal.returns-clause-forbidden
 returns-clause-forbidden g c = clause_listed (g.D.Interner.universe c.args.provider.now) (notes_in c.args.self.now) _ _ _ c.in_ok-add_pair.ensures.added
+
+pub returns-in_err-add_pair-clause-adds : goal.returns-in_err-add_pair-clause-adds
+returns-in_err-add_pair-clause-adds g c =
+    AddsOnly-weaker _ _ (λ o is. parent_own
+    (g.D.Interner.universe c.args.provider.now) c.args.by c.args.version_set c.origin_of.result o c.origin_of.ensures is) _ _ c.add_pair.ensures.adds
+
+pub returns-clause-adds : goal.returns-clause-adds
+returns-clause-adds g c = AddsOnly-weaker _ _ (λ o is.
+    parent_own (g.D.Interner.universe c.args.provider.now) c.args.by c.args.version_set c.origin_of.result o c.origin_of.ensures is) _ _ c.add_pair.ensures.adds

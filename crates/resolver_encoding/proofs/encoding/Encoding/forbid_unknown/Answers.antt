@@ -15,3 +15,9 @@ returns-clause-step g c =
 
 pub returns-clause-forbidden : goal.returns-clause-forbidden
 returns-clause-forbidden g c = clause_listed (g.D.Interner.universe c.args.provider.now) (notes_in c.args.self.now) _ _ _ c.in_ok-add_unit.ensures.added
+
+pub returns-in_err-add_unit-clause-adds : goal.returns-in_err-add_unit-clause-adds
+returns-in_err-add_unit-clause-adds g c = c.add_unit.ensures.adds
+
+pub returns-clause-adds : goal.returns-clause-adds
+returns-clause-adds g c = c.add_unit.ensures.adds

@@ -12,10 +12,12 @@ use Rattle.resolver_clause_store.proofs.SetLemmas.{All-done, Contains-item}
 use Rattle.resolver_encoding.proofs.EncodingLemmas.{IsStep-same, IsStep-trans, KeepsLimits-same, KeepsLimits-trans, clause_listed}
 use Rattle.resolver_encoding.proofs.NoteLemmas.{All-grown, IsStep-plain}
 use Rattle.resolver_clause_store.proofs.ListLemmas.{list_any-contains}
+use Rattle.resolver_encoding.proofs.LedLemmas.{AddsOnly-equal, AddsOnly-trans, AddsOnly-weaker, helper_pair}
 use Rattle.resolver_encoding.proofs.encoding.Encoding.imply_each.Goals as goal
 
 pub loop-candidate-init : goal.loop-candidate-init
 loop-candidate-init g c = record {
+  adds = AddsOnly-equal _ _ _ refl refl;
   bounded = c.requires.bounded;
   limits = KeepsLimits-same _;
   step = IsStep-same (g.D.Interner.universe c.args.provider.now) idle (λ root. ⊤) (notes_in c.args.self.now);
@@ -39,6 +41,10 @@ loop-candidate-preserved g c =
     (AnyOf (ConditionHelper v) s) adds tt (λ root _ _ codes _.
     (tt, list_any-contains (u.same_solvable s) (matching u v) s matches (identity.itself s))) tt tt tt in
     record {
+      adds = AddsOnly-trans _ _ _ _ before.adds
+          (AddsOnly-weaker _ _ (helper_pair (g.D.Interner.universe c.args.provider.now) c.args.version_set c.candidate-item.result
+          (rw c.requires.candidates at (Contains-item c.args.candidates.now c.loop-candidate.candidate-index c.candidate-item.result
+          (omega arith) c.candidate-item.is))) _ _ c.add_pair.ensures.adds);
       bounded = c.add_pair.ensures.bounded;
       limits = KeepsLimits-trans _ _ _ before.limits c.add_pair.ensures.limits;
       step = IsStep-trans u idle (λ root. ⊤) _ _ _ before.step step;
@@ -53,3 +59,10 @@ pub returns-clause-follow : goal.returns-clause-follow
 returns-clause-follow g c = All-done (λ t.
     Contains (notes_in c.loop-candidate.self).kinds (AnyOf (ConditionHelper c.args.version_set) t)) c.args.candidates.now c.loop-candidate.candidate-index
     (omega arith) c.loop-candidate.invariant.follow
+
+pub returns-in_err-add_pair-clause-adds : goal.returns-in_err-add_pair-clause-adds
+returns-in_err-add_pair-clause-adds g c =
+    AddsOnly-trans _ _ _ _ c.loop-candidate.invariant.adds
+    (AddsOnly-weaker _ _ (helper_pair (g.D.Interner.universe c.args.provider.now) c.args.version_set c.candidate-item.result
+    (rw c.requires.candidates at (Contains-item c.args.candidates.now c.loop-candidate.candidate-index c.candidate-item.result
+    (omega arith) c.candidate-item.is))) _ _ c.add_pair.ensures.adds)

@@ -20,3 +20,9 @@ returns-clause-step g c =
 
 pub returns-clause-implied : goal.returns-clause-implied
 returns-clause-implied g c = clause_listed (g.D.Interner.universe c.args.provider.now) (notes_in c.args.self.now) _ _ _ c.in_ok-add_pair.ensures.added
+
+pub returns-in_err-add_pair-clause-adds : goal.returns-in_err-add_pair-clause-adds
+returns-in_err-add_pair-clause-adds g c = c.add_pair.ensures.adds
+
+pub returns-clause-adds : goal.returns-clause-adds
+returns-clause-adds g c = c.add_pair.ensures.adds

@@ -8,10 +8,12 @@ use Rattle.resolver_encoding.specs.Notes.{notes_in}
 use Rattle.resolver_clause_store.proofs.SetLemmas.{All-done, Contains-item}
 use Rattle.resolver_encoding.proofs.EncodingLemmas.{IsStep-same, IsStep-trans, KeepsLimits-same, KeepsLimits-trans, clause_listed}
 use Rattle.resolver_encoding.proofs.NoteLemmas.{All-grown, IsStep-plain}
+use Rattle.resolver_encoding.proofs.LedLemmas.{AddsOnly-equal, AddsOnly-trans, AddsOnly-weaker, excluded_own}
 use Rattle.resolver_encoding.proofs.encoding.Encoding.imply_helper.Goals as goal
 
 pub loop-candidate-init : goal.loop-candidate-init
 loop-candidate-init g c = record {
+  adds = AddsOnly-equal _ _ _ refl refl;
   bounded = c.requires.bounded;
   limits = KeepsLimits-same _;
   step = IsStep-same (g.D.Interner.universe c.args.provider.now) idle (λ root. ⊤) (notes_in c.args.self.now);
@@ -32,6 +34,10 @@ loop-candidate-preserved g c =
     let step = IsStep-plain u idle (λ root. ⊤) (notes_in c.loop-candidate.self) (notes_in c.add_pair.new.self)
     (ConstrainsExcluded s v) adds tt (λ root _ _ codes _. other) tt tt tt in
     record {
+      adds = AddsOnly-trans _ _ _ _ before.adds
+          (AddsOnly-weaker _ _ (excluded_own (g.D.Interner.universe c.args.provider.now) c.args.version_set c.candidate-item.result
+          (rw c.requires.forbidden at (Contains-item c.args.forbidden.now c.loop-candidate.candidate-index c.candidate-item.result
+          (omega arith) c.candidate-item.is))) _ _ c.add_pair.ensures.adds);
       bounded = c.add_pair.ensures.bounded;
       limits = KeepsLimits-trans _ _ _ before.limits c.add_pair.ensures.limits;
       step = IsStep-trans u idle (λ root. ⊤) _ _ _ before.step step;
@@ -46,3 +52,10 @@ pub returns-clause-excluded : goal.returns-clause-excluded
 returns-clause-excluded g c = All-done (λ t.
     Contains (notes_in c.loop-candidate.self).kinds (ConstrainsExcluded t c.args.version_set)) c.args.forbidden.now c.loop-candidate.candidate-index
     (omega arith) c.loop-candidate.invariant.excluded
+
+pub returns-in_err-add_pair-clause-adds : goal.returns-in_err-add_pair-clause-adds
+returns-in_err-add_pair-clause-adds g c =
+    AddsOnly-trans _ _ _ _ c.loop-candidate.invariant.adds
+    (AddsOnly-weaker _ _ (excluded_own (g.D.Interner.universe c.args.provider.now) c.args.version_set c.candidate-item.result
+    (rw c.requires.forbidden at (Contains-item c.args.forbidden.now c.loop-candidate.candidate-index c.candidate-item.result
+    (omega arith) c.candidate-item.is))) _ _ c.add_pair.ensures.adds)

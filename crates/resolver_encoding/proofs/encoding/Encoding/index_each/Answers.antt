@@ -11,6 +11,8 @@ pub loop-version_set-init : goal.loop-version_set-init
 loop-version_set-init g c =
     let u = g.D.Interner.universe c.args.provider.now in
     record {
+      origins = refl;
+      still = refl;
       bounded = c.requires.bounded;
       limits = KeepsLimits-same (notes_in c.args.self.now);
       indexed = IsIndexing-same u c.args.number (notes_in c.args.self.now);
@@ -21,6 +23,8 @@ loop-version_set-preserved g c =
     let u = g.D.Interner.universe c.args.provider.now in
     let before = c.loop-version_set.invariant in
     record {
+      origins = before.origins;
+      still = before.still;
       bounded = before.bounded;
       limits = record { variables = before.limits.variables; clauses = before.limits.clauses };
       indexed = IsIndexing-more u c.args.number c.args.disjunct.now c.loop-version_set.version_set-index _ (notes_in c.args.self.now)

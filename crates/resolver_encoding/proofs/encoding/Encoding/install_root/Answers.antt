@@ -8,6 +8,7 @@ use Rattle.resolver_clause_store.specs.declared.Origin.TheVariants.{Root}
 use Rattle.resolver_clause_store.specs.declared.ClauseKind.TheVariants.{InstallRoot}
 use Rattle.resolver_encoding.specs.Notes.{notes_in}
 use Rattle.resolver_encoding.proofs.ReadLemmas.{alone, installed}
+use Rattle.resolver_encoding.proofs.LedLemmas.{AddsOnly-such, AddsOnly-then, AddsSuch-push}
 use Rattle.resolver_encoding.proofs.encoding.Encoding.install_root.Goals as goal
 
 pub returns-clause-installed : goal.returns-clause-installed
@@ -41,3 +42,16 @@ returns-clause-nothing g c =
 
 pub returns-clause-exempt : goal.returns-clause-exempt
 returns-clause-exempt g c = ap (λ n. n.exempt) c.in_ok-add_clause.ensures.added
+
+pub returns-in_err-variable-clause-adds : goal.returns-in_err-variable-clause-adds
+returns-in_err-variable-clause-adds g c = AddsOnly-such _ _ _ (AddsSuch-push _ _ _ c.intern.ensures.added) refl
+
+pub returns-in_err-push-clause-adds : goal.returns-in_err-push-clause-adds
+returns-in_err-push-clause-adds g c = AddsOnly-such _ _ _ (AddsSuch-push _ _ _ c.intern.ensures.added) refl
+
+pub returns-in_err-add_clause-clause-adds : goal.returns-in_err-add_clause-clause-adds
+returns-in_err-add_clause-clause-adds g c =
+    AddsOnly-then _ _ _ _ (AddsSuch-push _ _ _ c.intern.ensures.added) c.add_clause.ensures.origins c.add_clause.ensures.deferred
+
+pub returns-clause-adds : goal.returns-clause-adds
+returns-clause-adds g c = AddsOnly-then _ _ _ _ (AddsSuch-push _ _ _ c.intern.ensures.added) c.add_clause.ensures.origins c.add_clause.ensures.deferred

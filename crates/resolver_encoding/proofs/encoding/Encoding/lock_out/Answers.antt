@@ -5,6 +5,7 @@ use Rattle.resolver_encoding.specs.Notes.{notes_in}
 use Rattle.resolver_encoding.proofs.EncodingLemmas.{clause_listed}
 use Rattle.resolver_encoding.proofs.NoteLemmas.{IsStep-plain, not_same}
 use Rattle.resolver_encoding.proofs.TurnLemmas.{AddsPlainly-clause}
+use Rattle.resolver_encoding.proofs.LedLemmas.{AddsOnly-weaker, locked_barred}
 use Rattle.resolver_encoding.proofs.encoding.Encoding.lock_out.Goals as goal
 
 pub returns-clause-step : goal.returns-clause-step
@@ -24,3 +25,16 @@ returns-clause-forbidden g c =
 
 pub returns-clause-plain : goal.returns-clause-plain
 returns-clause-plain g c = AddsPlainly-clause (g.D.Interner.universe c.args.provider.now) (notes_in c.args.self.now) _ _ _ c.in_ok-add_pair.ensures.added
+
+pub returns-in_err-add_pair-clause-adds : goal.returns-in_err-add_pair-clause-adds
+returns-in_err-add_pair-clause-adds g c =
+    AddsOnly-weaker _ _ (locked_barred
+    (g.D.Interner.universe c.args.provider.now) c.args.name c.args.locked c.args.candidate c.requires.named c.requires.lock c.requires.listed
+    (not_same g.S.PartialEq.eq g.met.D.Interner.solvables_are_values c.args.candidate c.args.locked c.eq.result c.eq.ensures c.if-eq.false)) _ _
+    c.add_pair.ensures.adds
+
+pub returns-clause-adds : goal.returns-clause-adds
+returns-clause-adds g c = AddsOnly-weaker _ _
+    (locked_barred (g.D.Interner.universe c.args.provider.now) c.args.name c.args.locked c.args.candidate c.requires.named c.requires.lock c.requires.listed
+    (not_same g.S.PartialEq.eq g.met.D.Interner.solvables_are_values c.args.candidate c.args.locked c.eq.result c.eq.ensures c.if-eq.false)) _ _
+    c.add_pair.ensures.adds

@@ -9,10 +9,12 @@ use Rattle.resolver_encoding.proofs.EncodingLemmas.{IsStep-same, IsStep-trans, K
 use Rattle.resolver_encoding.proofs.NoteLemmas.{All-grown}
 use Rattle.resolver_encoding.proofs.TurnLemmas.{AddsPlainly-same, AddsPlainly-trans}
 use Rattle.resolver_clause_store.proofs.ListLemmas.{Contains-here as here}
+use Rattle.resolver_encoding.proofs.LedLemmas.{AddsOnly-equal, AddsOnly-trans}
 use Rattle.resolver_encoding.proofs.encoding.Encoding.lock_out_others.Goals as goal
 
 pub loop-candidate-init : goal.loop-candidate-init
 loop-candidate-init g c = record {
+  adds = AddsOnly-equal _ _ _ refl refl;
   bounded = c.requires.bounded;
   limits = KeepsLimits-same _;
   step = IsStep-same (g.D.Interner.universe c.args.provider.now) (asking_for c.args.name) (λ root. ⊤) (notes_in c.args.self.now);
@@ -45,6 +47,7 @@ loop-candidate-preserved g c =
     let Free : List g.row.S.Denot → Type 0 = λ list. (c.candidate-item.result ≡ t → ⊥) → (Contains list c.candidate-item.result → ⊥) →
     Contains (notes_in c.lock_out.new.self).kinds (Lock t c.candidate-item.result) in
     record {
+      adds = AddsOnly-trans _ _ _ _ before.adds c.lock_out.ensures.adds;
       bounded = c.lock_out.ensures.bounded;
       limits = KeepsLimits-trans _ _ _ before.limits c.lock_out.ensures.limits;
       step = IsStep-trans u (asking_for c.args.name) (λ root. ⊤) _ _ _ before.step step;
@@ -65,3 +68,6 @@ returns-clause-read g c =
     (s ≡ t → ⊥) → (Contains (notes_in c.args.self.now).exempt s → ⊥) →
     Contains (notes_in c.loop-candidate.self).kinds (Lock t s)) c.args.listed.now c.loop-candidate.candidate-index
     (omega arith) c.loop-candidate.invariant.forbidden)
+
+pub returns-in_err-lock_out-clause-adds : goal.returns-in_err-lock_out-clause-adds
+returns-in_err-lock_out-clause-adds g c = AddsOnly-trans _ _ _ _ c.loop-candidate.invariant.adds c.lock_out.ensures.adds

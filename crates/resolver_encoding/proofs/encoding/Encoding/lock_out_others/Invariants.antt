@@ -4,6 +4,8 @@ use Rattle.resolver_clause_store.specs.declared.ClauseKind.TheVariants.{Lock}
 use Rattle.resolver_encoding.specs.Encodings.{IsStepWhile, KeepsLimits, asking_for}
 use Rattle.resolver_encoding.specs.Notes.{IsBounded, notes_in}
 use Rattle.resolver_encoding.specs.Turns.{AddsPlainly}
+use Rattle.resolver_encoding.specs.Led.{AddsOnly, IsBarred}
+use Rattle.resolver_encoding.specs.Called.{IsAsking}
 use Rattle.resolver_encoding.proofs.encoding.Encoding.lock_out_others.Given as goal
 
 abbrev pub invariant-loop-candidate : goal.invariant-loop-candidate
@@ -15,4 +17,5 @@ invariant-loop-candidate g l = record {
       (take l.candidate-index l.listed);
   plain : AddsPlainly (notes_in l.fn.self) (notes_in l.self);
   asked : (notes_in l.self).asked ≡ (notes_in l.fn.self).asked;
+  adds : AddsOnly (IsBarred (g.D.Interner.universe l.provider) (IsAsking l.name)) (notes_in l.fn.self) (notes_in l.self);
 }

@@ -9,6 +9,7 @@ use Rattle.resolver_encoding.specs.Encodings.{idle}
 use Rattle.resolver_encoding.specs.Notes.{notes_in}
 use Rattle.resolver_encoding.proofs.EncodingLemmas.{IsClauseOf-zip, IsStep-requirement, IsStep-trans, requirement_listed}
 use Rattle.resolver_encoding.proofs.NoteLemmas.{IsStep-gated}
+use Rattle.resolver_encoding.proofs.LedLemmas.{AddsOnly-same_as}
 use Rattle.resolver_encoding.proofs.encoding.Encoding.make_gate.Goals as goal
 
 pub returns-clause-step : goal.returns-clause-step
@@ -38,3 +39,9 @@ pub returns-clause-gate : goal.returns-clause-gate
 returns-clause-gate g c =
     let Has : List Requirement → Type 0 = λ list. Contains list c.args.requirement in
     subst Has (sym c.in_ok-append.ensures.keys) (Contains-push c.add_gate.new.self.gates.keys c.args.requirement)
+
+pub returns-in_err-append-clause-adds : goal.returns-in_err-append-clause-adds
+returns-in_err-append-clause-adds g c = AddsOnly-same_as _ (notes_in c.args.self.now) (notes_in c.add_gate.new.self) _ c.add_gate.ensures.adds refl refl
+
+pub returns-clause-adds : goal.returns-clause-adds
+returns-clause-adds g c = AddsOnly-same_as _ (notes_in c.args.self.now) (notes_in c.add_gate.new.self) _ c.add_gate.ensures.adds refl refl

@@ -10,10 +10,13 @@ use Rattle.resolver_encoding.specs.Notes.{notes_in}
 use Rattle.resolver_encoding.proofs.EncodingLemmas.{IsStep-same, IsStep-trans, KeepsLimits-same, KeepsLimits-trans, clause_listed}
 use Rattle.resolver_encoding.proofs.NoteLemmas.{All-grown}
 use Rattle.resolver_encoding.proofs.SeeLemmas.{IsStep-begun, place_of_item}
+use Rattle.resolver_encoding.proofs.GroupLemmas.{named_of_number}
+use Rattle.resolver_encoding.proofs.LedLemmas.{AddsOnly-equal, AddsOnly-trans, AddsOnly-weaker, begun_coded}
 use Rattle.resolver_encoding.proofs.encoding.Encoding.open_digit.Goals as goal
 
 pub loop-other-init : goal.loop-other-init
 loop-other-init g c = record {
+  adds = AddsOnly-equal _ _ _ refl refl;
   bounded = c.requires.bounded;
   limits = KeepsLimits-same _;
   step = IsStep-same (g.D.Interner.universe c.args.provider.now) (coding_for c.args.name c.args.number c.args.solvable) (λ root. ⊤) (notes_in c.args.self.now);
@@ -43,6 +46,10 @@ loop-other-preserved g c =
     c.requires.number
     (λ sound. c.requires.below (subst Sound before.groups sound) j t at) (subst At (sym before.groups) at) in
     record {
+      adds = AddsOnly-trans _ _ _ _ before.adds
+          (AddsOnly-weaker _ _ (begun_coded _ c.args.name c.args.number c.args.solvable c.other-item.result c.args.index c.requires.number
+          (named_of_number _ _ _ _ (c.requires.earlier c.loop-other.other-index c.other-item.result
+          (place_of_item c.args.earlier.now c.loop-other.other-index c.other-item.result (omega arith) c.other-item.is)))) _ _ c.add_pair.ensures.adds);
       bounded = c.add_pair.ensures.bounded;
       limits = KeepsLimits-trans _ _ _ before.limits c.add_pair.ensures.limits;
       step = IsStep-trans u (coding_for n k s) (λ root. ⊤) _ _ _ before.step step;
@@ -57,3 +64,10 @@ pub returns-clause-begun : goal.returns-clause-begun
 returns-clause-begun g c = All-done (λ x.
     Contains (notes_in c.loop-other.self).kinds (HasBit c.args.name x c.args.index false)) c.args.earlier.now c.loop-other.other-index
     (omega arith) c.loop-other.invariant.begun
+
+pub returns-in_err-add_pair-clause-adds : goal.returns-in_err-add_pair-clause-adds
+returns-in_err-add_pair-clause-adds g c =
+    AddsOnly-trans _ _ _ _ c.loop-other.invariant.adds
+    (AddsOnly-weaker _ _ (begun_coded _ c.args.name c.args.number c.args.solvable c.other-item.result c.args.index c.requires.number
+    (named_of_number _ _ _ _ (c.requires.earlier c.loop-other.other-index c.other-item.result
+    (place_of_item c.args.earlier.now c.loop-other.other-index c.other-item.result (omega arith) c.other-item.is)))) _ _ c.add_pair.ensures.adds)

@@ -1,9 +1,14 @@
 use Rattle.std.proofs.Common.{◌∙◌, ap, sym, subst, Contains, List}
 use Rattle.std.specs.Prelude.{⊤}
-use Rattle.resolver_encoding.specs.Encodings.{owing_for}
+use Rattle.resolver_encoding.specs.Encodings.{IsFollowed, owing_for}
 use Rattle.resolver_encoding.specs.Notes.{notes_in}
 use Rattle.resolver_encoding.proofs.EncodingLemmas.{IsStep-trans}
 use Rattle.resolver_encoding.proofs.TurnLemmas.{AddsPlainly-trans, IsPaid-found, IsPaid-unasked}
+use Rattle.resolver_clause_store.specs.declared.Origin.{Origin}
+use Rattle.resolver_encoding.specs.Called.{IsAsking}
+use Rattle.resolver_encoding.specs.Led.{IsBarred}
+use Rattle.resolver_encoding.proofs.LedLemmas.{AddsOnly-trans, AddsOnly-weaker, IsBarred-weaker}
+use Rattle.resolver_encoding.proofs.LedReading.{asked_followed}
 use Rattle.resolver_encoding.proofs.encoding.Encoding.pay.Goals as goal
 
 pub pay_exclusions-requires-clause-asked : goal.pay_exclusions-requires-clause-asked
@@ -34,3 +39,36 @@ returns-clause-paid g c =
     c.in_ok-pay_exclusions.ensures.step.kinds c.in_ok-pay_lock.ensures.step.exempt c.in_ok-pay_exclusions.ensures.step.exempt _ _ _
     (c.deref.ensures.value ∙ ap (λ p. p.listed) answer) (ap (λ p. p.locked) answer) (c.deref-2.ensures.value ∙ ap (λ p. p.excluded) answer)
     c.in_ok-pay_lock.ensures.paid c.in_ok-pay_exclusions.ensures.paid
+
+pub returns-in_err-pay_lock-clause-adds : goal.returns-in_err-pay_lock-clause-adds
+returns-in_err-pay_lock-clause-adds g c =
+    let u = g.D.Interner.universe c.args.provider.now in
+    let old = notes_in c.args.self.now in
+    let n = c.solvable_name-name.result in
+    let followed : (o : Origin g.row.N.Denot g.row.S.Denot) → IsBarred u (IsAsking n) o → IsBarred u (IsFollowed old) o =
+    IsBarred-weaker u (IsAsking n) (IsFollowed old) (asked_followed u old n c.if-not-is_among.ensures) in
+    AddsOnly-weaker (IsBarred u (IsAsking n)) (IsBarred u (IsFollowed old)) followed old (notes_in c.pay_lock.new.self) c.pay_lock.ensures.adds
+
+pub returns-in_err-pay_exclusions-clause-adds : goal.returns-in_err-pay_exclusions-clause-adds
+returns-in_err-pay_exclusions-clause-adds g c =
+    let u = g.D.Interner.universe c.args.provider.now in
+    let old = notes_in c.args.self.now in
+    let n = c.solvable_name-name.result in
+    let followed : (o : Origin g.row.N.Denot g.row.S.Denot) → IsBarred u (IsAsking n) o → IsBarred u (IsFollowed old) o =
+    IsBarred-weaker u (IsAsking n) (IsFollowed old) (asked_followed u old n c.if-not-is_among.ensures) in
+    let mid = notes_in c.pay_lock.new.self in
+    let new = notes_in c.pay_exclusions.new.self in
+    AddsOnly-weaker (IsBarred u (IsAsking n)) (IsBarred u (IsFollowed old)) followed old new
+    (AddsOnly-trans (IsBarred u (IsAsking n)) old mid new c.pay_lock.ensures.adds c.pay_exclusions.ensures.adds)
+
+pub returns-clause-adds : goal.returns-clause-adds
+returns-clause-adds g c =
+    let u = g.D.Interner.universe c.args.provider.now in
+    let old = notes_in c.args.self.now in
+    let n = c.solvable_name-name.result in
+    let followed : (o : Origin g.row.N.Denot g.row.S.Denot) → IsBarred u (IsAsking n) o → IsBarred u (IsFollowed old) o =
+    IsBarred-weaker u (IsAsking n) (IsFollowed old) (asked_followed u old n c.if-not-is_among.ensures) in
+    let mid = notes_in c.pay_lock.new.self in
+    let new = notes_in c.pay_exclusions.new.self in
+    AddsOnly-weaker (IsBarred u (IsAsking n)) (IsBarred u (IsFollowed old)) followed old new
+    (AddsOnly-trans (IsBarred u (IsAsking n)) old mid new c.pay_lock.ensures.adds c.pay_exclusions.ensures.adds)

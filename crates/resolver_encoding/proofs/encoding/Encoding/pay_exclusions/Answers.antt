@@ -1,4 +1,4 @@
-use Rattle.std.proofs.Common.{◌≡◌, sym, subst, arith, Contains, List}
+use Rattle.std.proofs.Common.{◌≡◌, sym, subst, arith, Contains, List, refl}
 use Rattle.std.specs.Prelude.{⊤}
 use Rattle.std.proofs.lemmas.List.Elements.{All-contains, All-nil}
 use Rattle.resolver_clause_store.specs.declared.ClauseKind.TheVariants.{Excluded}
@@ -8,10 +8,12 @@ use Rattle.resolver_clause_store.proofs.SetLemmas.{All-done, Contains-item}
 use Rattle.resolver_encoding.proofs.EncodingLemmas.{IsStep-same, IsStep-trans, KeepsLimits-same, KeepsLimits-trans}
 use Rattle.resolver_encoding.proofs.NoteLemmas.{All-grown}
 use Rattle.resolver_encoding.proofs.TurnLemmas.{AddsPlainly-same, AddsPlainly-trans}
+use Rattle.resolver_encoding.proofs.LedLemmas.{AddsOnly-equal, AddsOnly-trans}
 use Rattle.resolver_encoding.proofs.encoding.Encoding.pay_exclusions.Goals as goal
 
 pub loop-other-init : goal.loop-other-init
 loop-other-init g c = record {
+  adds = AddsOnly-equal _ _ _ refl refl;
   bounded = c.requires.bounded;
   limits = KeepsLimits-same _;
   step = IsStep-same (g.D.Interner.universe c.args.provider.now) (owing_for c.args.solvable) (λ root. ⊤) (notes_in c.args.self.now);
@@ -48,6 +50,7 @@ loop-other-preserved g c =
     let Free : List _ → Type 0 = λ list. c.loop-other-item.result.0 ≡ s → (Contains list s → ⊥) →
     Contains (notes_in c.pay_exclusion.new.self).kinds (Excluded c.loop-other-item.result.0 c.loop-other-item.result.1) in
     record {
+      adds = AddsOnly-trans _ _ _ _ before.adds c.pay_exclusion.ensures.adds;
       bounded = c.pay_exclusion.ensures.bounded;
       limits = KeepsLimits-trans _ _ _ before.limits c.pay_exclusion.ensures.limits;
       step = IsStep-trans u (owing_for s) (λ root. ⊤) _ _ _ before.step step;
@@ -67,3 +70,6 @@ returns-clause-paid g c = All-done (λ e.
 
 pub pay_exclusion-requires-clause-bounded : goal.pay_exclusion-requires-clause-bounded
 pay_exclusion-requires-clause-bounded g c = c.loop-other.invariant.bounded
+
+pub returns-in_err-pay_exclusion-clause-adds : goal.returns-in_err-pay_exclusion-clause-adds
+returns-in_err-pay_exclusion-clause-adds g c = AddsOnly-trans _ _ _ _ c.loop-other.invariant.adds c.pay_exclusion.ensures.adds

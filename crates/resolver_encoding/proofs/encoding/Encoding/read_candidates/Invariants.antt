@@ -4,6 +4,7 @@ use Rattle.resolver_encoding.specs.Encodings.{KeepsLimits}
 use Rattle.resolver_encoding.specs.Hints.{AreReadIfHinted}
 use Rattle.resolver_encoding.specs.Notes.{IsBounded, notes_in}
 use Rattle.resolver_encoding.specs.SoFar.{IsHalfReading, IsHintedReading, IsMoreOrSame}
+use Rattle.resolver_encoding.specs.Led.{KeepsLed}
 use Rattle.resolver_encoding.proofs.encoding.Encoding.read_candidates.Given as goal
 
 abbrev pub invariant-loop-candidate : goal.invariant-loop-candidate
@@ -15,4 +16,5 @@ invariant-loop-candidate g l = record {
   read : AreReadIfHinted (g.D.Interner.universe l.provider) (notes_in l.self) (take l.candidate-index l.candidates);
   more : IsMoreOrSame (notes_in l.fn.self) (notes_in l.self);
   is_true : IsTrueCache (g.D.Interner.universe l.provider) l.cache;
+  led : KeepsLed (g.D.Interner.universe l.provider) l.chosen.keys (notes_in l.fn.self) (notes_in l.self);
 }

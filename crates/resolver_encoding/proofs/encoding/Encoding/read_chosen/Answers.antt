@@ -1,11 +1,14 @@
-use Rattle.std.proofs.Common.{◌≡◌, ℕ, arith, sym, subst, ◌≤◌, length}
+use Rattle.std.proofs.Common.{◌≡◌, ℕ, arith, sym, subst, ◌≤◌, length, Contains}
 use Rattle.resolver_encoding.specs.Notes.{notes_in}
 use Rattle.resolver_encoding.specs.Hints.{AreHintsRead, IsListedFrom}
 use Rattle.resolver_encoding.specs.SoFar.{IsHintedReading, IsProgress}
 use Rattle.resolver_encoding.specs.declared.progress.Progress.{Progress}
 use Rattle.resolver_encoding.proofs.HintLemmas.{asked_on, longer, more_on, progress_then, so_far_on}
-use Rattle.resolver_encoding.proofs.ReachLemmas.{near_after}
+use Rattle.resolver_encoding.proofs.ReachLemmas.{near_after, near_read}
 use Rattle.resolver_encoding.proofs.SoFarLemmas.{all_asked, firing_half, lawful_solvables, progress, read_more, so_far}
+use Rattle.std.proofs.lemmas.List.Elements.{All-contains}
+use Rattle.resolver_clause_store.specs.Near.{IsNear}
+use Rattle.resolver_encoding.proofs.LedReading.{led_fired}
 use Rattle.resolver_encoding.proofs.encoding.Encoding.read_chosen.Goals as goal
 
 pub read_each-requires-clause-half : goal.read_each-requires-clause-half
@@ -125,3 +128,56 @@ returns-clause-progress g c =
     (progress_then old fired new c.in_ok-read.read c.in_ok-fired.fired c.in_ok-hinted.hinted
     (progress u set old mid fired c.in_ok-read.read c.in_ok-fired.fired c.in_ok-read.ensures.any_new c.in_ok-fired.ensures.fired firing)
     c.in_ok-hinted.ensures.any_new)
+
+pub returns-in_err-read-clause-led : goal.returns-in_err-read-clause-led
+returns-in_err-read-clause-led g c = λ root seeds packages so near all led.
+    let u = g.D.Interner.universe c.args.provider.now in
+    let set = c.args.chosen.now.keys in
+    let old = notes_in c.args.self.now in
+    let mid = notes_in c.read_each.new.self in
+    let first = c.read_each.ensures.led.led root seeds packages near all led in
+    first
+
+pub returns-in_err-fired-clause-led : goal.returns-in_err-fired-clause-led
+returns-in_err-fired-clause-led g c = λ root seeds packages so near all led.
+    let u = g.D.Interner.universe c.args.provider.now in
+    let set = c.args.chosen.now.keys in
+    let old = notes_in c.args.self.now in
+    let mid = notes_in c.read_each.new.self in
+    let first = c.read_each.ensures.led.led root seeds packages near all led in
+    let fired = notes_in c.fire_deferred.new.self in
+    let reading = c.in_ok-read.ensures.reading in
+    let half = reading.keeps root so.half in
+    let mid_near = near_read u root seeds packages set (Contains set) old mid reading near all (λ s h. All-contains (IsNear u root seeds) set s all h) in
+    let second = led_fired u root seeds packages set mid fired half mid_near all c.fire_deferred.ensures.brings first in
+    second
+
+pub returns-in_err-hinted-clause-led : goal.returns-in_err-hinted-clause-led
+returns-in_err-hinted-clause-led g c = λ root seeds packages so near all led.
+    let u = g.D.Interner.universe c.args.provider.now in
+    let set = c.args.chosen.now.keys in
+    let old = notes_in c.args.self.now in
+    let mid = notes_in c.read_each.new.self in
+    let first = c.read_each.ensures.led.led root seeds packages near all led in
+    let fired = notes_in c.fire_deferred.new.self in
+    let reading = c.in_ok-read.ensures.reading in
+    let half = reading.keeps root so.half in
+    let mid_near = near_read u root seeds packages set (Contains set) old mid reading near all (λ s h. All-contains (IsNear u root seeds) set s all h) in
+    let second = led_fired u root seeds packages set mid fired half mid_near all c.fire_deferred.ensures.brings first in
+    let fired_near = near_after u root seeds packages set old mid fired reading c.in_ok-fired.ensures.firing so.half near all in
+    c.read_hinted.ensures.led.led root seeds packages fired_near all second
+
+pub returns-clause-led : goal.returns-clause-led
+returns-clause-led g c = λ root seeds packages so near all led.
+    let u = g.D.Interner.universe c.args.provider.now in
+    let set = c.args.chosen.now.keys in
+    let old = notes_in c.args.self.now in
+    let mid = notes_in c.read_each.new.self in
+    let first = c.read_each.ensures.led.led root seeds packages near all led in
+    let fired = notes_in c.fire_deferred.new.self in
+    let reading = c.in_ok-read.ensures.reading in
+    let half = reading.keeps root so.half in
+    let mid_near = near_read u root seeds packages set (Contains set) old mid reading near all (λ s h. All-contains (IsNear u root seeds) set s all h) in
+    let second = led_fired u root seeds packages set mid fired half mid_near all c.fire_deferred.ensures.brings first in
+    let fired_near = near_after u root seeds packages set old mid fired reading c.in_ok-fired.ensures.firing so.half near all in
+    c.read_hinted.ensures.led.led root seeds packages fired_near all second

@@ -1,10 +1,10 @@
-use Rattle.std.proofs.Common.{◌≡◌, inl, inr, sym, subst, All, Contains, List}
+use Rattle.std.proofs.Common.{◌≡◌, inl, inr, sym, subst, All, Contains, List, ◌⊎◌, ⊎_elim}
 use Rattle.std.specs.Prelude.{Option, Some, ⊤}
 use Rattle.std.proofs.lemmas.List.Elements.{All-contains_itself, All-weaker}
 use Rattle.resolver_clause_store.specs.Universe.{Demands}
 use Rattle.resolver_clause_store.specs.declared.ConditionalRequirement.{ConditionalRequirement}
 use Rattle.resolver_clause_store.specs.TrueRules.{demands_by}
-use Rattle.resolver_encoding.specs.Called.{Call, IsCalledByEach, IsDemanded, IsNamedBy, IsPlainlyNamed}
+use Rattle.resolver_encoding.specs.Called.{Call, IsCalledByEach, IsDemanded, IsNamedBy, IsPlainlyNamed, to_see}
 use Rattle.resolver_encoding.specs.Encodings.{AsksFor, AsksWithin, IsLeft, IsUnmet}
 use Rattle.resolver_encoding.specs.Notes.{notes_in}
 use Rattle.resolver_encoding.specs.ReadState.{Deferred, IsReadRequirement}
@@ -12,6 +12,9 @@ use Rattle.resolver_encoding.proofs.EncodingLemmas.{IsAskStep-trans, IsAskStep-w
 use Rattle.resolver_encoding.proofs.EncodingLemmas.{IsReadStep-of, IsReadStep-trans, IsReadStep-weaker}
 use Rattle.resolver_encoding.proofs.ReadLemmas.{IsReadRequirement-within}
 use Rattle.resolver_encoding.proofs.RequirementLemmas.{plainly_called}
+use Rattle.resolver_clause_store.specs.declared.Origin.{Origin}
+use Rattle.resolver_encoding.specs.Led.{IsOwn, with_constraints, with_requirements}
+use Rattle.resolver_encoding.proofs.LedLemmas.{Brings-trans, Brings-weaker, IsOwn-within, barred_brings, none_within}
 use Rattle.resolver_encoding.proofs.encoding.Encoding.read_demands.Goals as goal
 
 pub read_requirements-requires-clause-encoding : goal.read_requirements-requires-clause-encoding
@@ -92,3 +95,135 @@ returns-clause-read g c =
       constraints = c.in_ok-read_constraints.ensures.read;
       packages = c.in_ok-read_constraints.ensures.asked;
     }
+
+pub returns-in_err-ask_plain_each-clause-brings : goal.returns-in_err-ask_plain_each-clause-brings
+returns-in_err-ask_plain_each-clause-brings g c =
+    let u = g.D.Interner.universe c.args.provider.now in
+    let by = c.args.by in
+    let set = c.args.chosen.now.keys in
+    let rs = c.args.requirements.now in
+    let vs = c.args.constraints.now in
+    let demands : Demands = record { requirements = rs; constraints = vs } in
+    let Plainly : Call g.row.N.Denot g.row.S.Denot → Type 0 = λ n. (r : ConditionalRequirement) × Contains rs r × IsPlainlyNamed u r n in
+    let Called = IsDemanded u set demands in
+    let Own : Origin g.row.N.Denot g.row.S.Denot → Type 0 = IsOwn u by demands in
+    let old = notes_in c.args.self.now in
+    let plain = notes_in c.ask_plain_each.new.self in
+    let first = barred_brings u Plainly Called (λ n h. inl (plainly_called u set rs n h)) Own old plain c.ask_plain_each.ensures.adds in
+    first
+
+pub returns-in_err-ask_each-clause-brings : goal.returns-in_err-ask_each-clause-brings
+returns-in_err-ask_each-clause-brings g c =
+    let u = g.D.Interner.universe c.args.provider.now in
+    let by = c.args.by in
+    let set = c.args.chosen.now.keys in
+    let rs = c.args.requirements.now in
+    let vs = c.args.constraints.now in
+    let demands : Demands = record { requirements = rs; constraints = vs } in
+    let Plainly : Call g.row.N.Denot g.row.S.Denot → Type 0 = λ n. (r : ConditionalRequirement) × Contains rs r × IsPlainlyNamed u r n in
+    let Called = IsDemanded u set demands in
+    let Own : Origin g.row.N.Denot g.row.S.Denot → Type 0 = IsOwn u by demands in
+    let old = notes_in c.args.self.now in
+    let plain = notes_in c.ask_plain_each.new.self in
+    let first = barred_brings u Plainly Called (λ n h. inl (plainly_called u set rs n h)) Own old plain c.ask_plain_each.ensures.adds in
+    let named = notes_in c.ask_each.new.self in
+    let seen_plain : (s : g.row.S.Denot) → Contains plain.seen s → Contains old.seen s ⊎ Called (to_see s) =
+    λ s h. ⊎_elim (λ was. inl was) (λ called. inr (inl (plainly_called u set rs (to_see s) called)))
+    (c.in_ok-ask_plain_each.ensures.step.called (to_see s) h) in
+    let second = Brings-trans u Called Own old plain named seen_plain first
+    (barred_brings u (IsNamedBy u vs) Called (λ n h. inr h) Own plain named c.ask_each.ensures.adds) in
+    second
+
+pub returns-in_err-read_requirements-clause-brings : goal.returns-in_err-read_requirements-clause-brings
+returns-in_err-read_requirements-clause-brings g c =
+    let u = g.D.Interner.universe c.args.provider.now in
+    let by = c.args.by in
+    let set = c.args.chosen.now.keys in
+    let rs = c.args.requirements.now in
+    let vs = c.args.constraints.now in
+    let demands : Demands = record { requirements = rs; constraints = vs } in
+    let Plainly : Call g.row.N.Denot g.row.S.Denot → Type 0 = λ n. (r : ConditionalRequirement) × Contains rs r × IsPlainlyNamed u r n in
+    let Called = IsDemanded u set demands in
+    let Own : Origin g.row.N.Denot g.row.S.Denot → Type 0 = IsOwn u by demands in
+    let old = notes_in c.args.self.now in
+    let plain = notes_in c.ask_plain_each.new.self in
+    let first = barred_brings u Plainly Called (λ n h. inl (plainly_called u set rs n h)) Own old plain c.ask_plain_each.ensures.adds in
+    let named = notes_in c.ask_each.new.self in
+    let seen_plain : (s : g.row.S.Denot) → Contains plain.seen s → Contains old.seen s ⊎ Called (to_see s) =
+    λ s h. ⊎_elim (λ was. inl was) (λ called. inr (inl (plainly_called u set rs (to_see s) called)))
+    (c.in_ok-ask_plain_each.ensures.step.called (to_see s) h) in
+    let second = Brings-trans u Called Own old plain named seen_plain first
+    (barred_brings u (IsNamedBy u vs) Called (λ n h. inr h) Own plain named c.ask_each.ensures.adds) in
+    let required = notes_in c.read_requirements.new.self in
+    let seen_named : (s : g.row.S.Denot) → Contains named.seen s → Contains old.seen s ⊎ Called (to_see s) =
+    λ s h. ⊎_elim (λ was. seen_plain s was) (λ called. inr (inr called)) (c.in_ok-ask_each.ensures.step.called (to_see s) h) in
+    let third = Brings-trans u Called Own old named required seen_named second
+    (Brings-weaker u (IsCalledByEach u set rs) Called (λ n h. inl h) (IsOwn u by (with_requirements rs)) Own
+    (IsOwn-within u by (with_requirements rs) demands (λ r h. h) (none_within vs)) named required c.read_requirements.ensures.brings) in
+    third
+
+pub returns-in_err-read_constraints-clause-brings : goal.returns-in_err-read_constraints-clause-brings
+returns-in_err-read_constraints-clause-brings g c =
+    let u = g.D.Interner.universe c.args.provider.now in
+    let by = c.args.by in
+    let set = c.args.chosen.now.keys in
+    let rs = c.args.requirements.now in
+    let vs = c.args.constraints.now in
+    let demands : Demands = record { requirements = rs; constraints = vs } in
+    let Plainly : Call g.row.N.Denot g.row.S.Denot → Type 0 = λ n. (r : ConditionalRequirement) × Contains rs r × IsPlainlyNamed u r n in
+    let Called = IsDemanded u set demands in
+    let Own : Origin g.row.N.Denot g.row.S.Denot → Type 0 = IsOwn u by demands in
+    let old = notes_in c.args.self.now in
+    let plain = notes_in c.ask_plain_each.new.self in
+    let first = barred_brings u Plainly Called (λ n h. inl (plainly_called u set rs n h)) Own old plain c.ask_plain_each.ensures.adds in
+    let named = notes_in c.ask_each.new.self in
+    let seen_plain : (s : g.row.S.Denot) → Contains plain.seen s → Contains old.seen s ⊎ Called (to_see s) =
+    λ s h. ⊎_elim (λ was. inl was) (λ called. inr (inl (plainly_called u set rs (to_see s) called)))
+    (c.in_ok-ask_plain_each.ensures.step.called (to_see s) h) in
+    let second = Brings-trans u Called Own old plain named seen_plain first
+    (barred_brings u (IsNamedBy u vs) Called (λ n h. inr h) Own plain named c.ask_each.ensures.adds) in
+    let required = notes_in c.read_requirements.new.self in
+    let seen_named : (s : g.row.S.Denot) → Contains named.seen s → Contains old.seen s ⊎ Called (to_see s) =
+    λ s h. ⊎_elim (λ was. seen_plain s was) (λ called. inr (inr called)) (c.in_ok-ask_each.ensures.step.called (to_see s) h) in
+    let third = Brings-trans u Called Own old named required seen_named second
+    (Brings-weaker u (IsCalledByEach u set rs) Called (λ n h. inl h) (IsOwn u by (with_requirements rs)) Own
+    (IsOwn-within u by (with_requirements rs) demands (λ r h. h) (none_within vs)) named required c.read_requirements.ensures.brings) in
+    let new = notes_in c.read_constraints.new.self in
+    let seen_required : (s : g.row.S.Denot) → Contains required.seen s → Contains old.seen s ⊎ Called (to_see s) =
+    λ s h. ⊎_elim (λ was. seen_named s was) (λ called. inr (inl called)) (c.in_ok-read_requirements.ensures.step.called (to_see s) h) in
+    Brings-trans u Called Own old required new seen_required third
+    (Brings-weaker u (IsNamedBy u vs) Called (λ n h. inr h) (IsOwn u by (with_constraints vs)) Own
+    (IsOwn-within u by (with_constraints vs) demands (none_within rs) (λ v h. h)) required new c.read_constraints.ensures.brings)
+
+pub returns-clause-brings : goal.returns-clause-brings
+returns-clause-brings g c =
+    let u = g.D.Interner.universe c.args.provider.now in
+    let by = c.args.by in
+    let set = c.args.chosen.now.keys in
+    let rs = c.args.requirements.now in
+    let vs = c.args.constraints.now in
+    let demands : Demands = record { requirements = rs; constraints = vs } in
+    let Plainly : Call g.row.N.Denot g.row.S.Denot → Type 0 = λ n. (r : ConditionalRequirement) × Contains rs r × IsPlainlyNamed u r n in
+    let Called = IsDemanded u set demands in
+    let Own : Origin g.row.N.Denot g.row.S.Denot → Type 0 = IsOwn u by demands in
+    let old = notes_in c.args.self.now in
+    let plain = notes_in c.ask_plain_each.new.self in
+    let first = barred_brings u Plainly Called (λ n h. inl (plainly_called u set rs n h)) Own old plain c.ask_plain_each.ensures.adds in
+    let named = notes_in c.ask_each.new.self in
+    let seen_plain : (s : g.row.S.Denot) → Contains plain.seen s → Contains old.seen s ⊎ Called (to_see s) =
+    λ s h. ⊎_elim (λ was. inl was) (λ called. inr (inl (plainly_called u set rs (to_see s) called)))
+    (c.in_ok-ask_plain_each.ensures.step.called (to_see s) h) in
+    let second = Brings-trans u Called Own old plain named seen_plain first
+    (barred_brings u (IsNamedBy u vs) Called (λ n h. inr h) Own plain named c.ask_each.ensures.adds) in
+    let required = notes_in c.read_requirements.new.self in
+    let seen_named : (s : g.row.S.Denot) → Contains named.seen s → Contains old.seen s ⊎ Called (to_see s) =
+    λ s h. ⊎_elim (λ was. seen_plain s was) (λ called. inr (inr called)) (c.in_ok-ask_each.ensures.step.called (to_see s) h) in
+    let third = Brings-trans u Called Own old named required seen_named second
+    (Brings-weaker u (IsCalledByEach u set rs) Called (λ n h. inl h) (IsOwn u by (with_requirements rs)) Own
+    (IsOwn-within u by (with_requirements rs) demands (λ r h. h) (none_within vs)) named required c.read_requirements.ensures.brings) in
+    let new = notes_in c.read_constraints.new.self in
+    let seen_required : (s : g.row.S.Denot) → Contains required.seen s → Contains old.seen s ⊎ Called (to_see s) =
+    λ s h. ⊎_elim (λ was. seen_named s was) (λ called. inr (inl called)) (c.in_ok-read_requirements.ensures.step.called (to_see s) h) in
+    Brings-trans u Called Own old required new seen_required third
+    (Brings-weaker u (IsNamedBy u vs) Called (λ n h. inr h) (IsOwn u by (with_constraints vs)) Own
+    (IsOwn-within u by (with_constraints vs) demands (none_within rs) (λ v h. h)) required new c.read_constraints.ensures.brings)

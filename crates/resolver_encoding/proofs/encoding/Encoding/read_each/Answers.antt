@@ -7,6 +7,9 @@ use Rattle.resolver_encoding.proofs.EncodingLemmas.{Extends-within, KeepsLimits-
 use Rattle.resolver_encoding.proofs.SoFarLemmas.{AreEach-done, AreEach-more, AreEach-none, Contains-kept, IsMoreOrSame-trans, IsReadingOf-same}
 use Rattle.resolver_encoding.proofs.SoFarLemmas.{IsReadingOf-trans, IsReadingOf-weaker, no_more_read}
 use Rattle.resolver_encoding.proofs.ReadLemmas.{seen_fit}
+use Rattle.resolver_clause_store.specs.Near.{IsNear}
+use Rattle.resolver_encoding.proofs.LedReading.{KeepsLed-same, KeepsLed-trans, led_read}
+use Rattle.resolver_encoding.proofs.ReachLemmas.{near_read}
 use Rattle.resolver_encoding.proofs.encoding.Encoding.read_each.Goals as goal
 
 pub loop-place-init : goal.loop-place-init
@@ -14,6 +17,7 @@ loop-place-init g c =
     let u = g.D.Interner.universe c.args.provider.now in
     let set = c.args.chosen.now.keys in
     record {
+      led = KeepsLed-same u set (notes_in c.args.self.now);
       bounded = c.requires.bounded;
       limits = KeepsLimits-same _;
       half = c.requires.half;
@@ -47,6 +51,20 @@ loop-place-preserved g c =
     let Among : g.row.S.Denot → Type 0 = λ t. Contains set t in
     let inside : Contains set s = (c.loop-place.place, omega arith, sym (subst At c.as_slice.ensures.keys c.index-as_slice-place.is)) in
     record {
+      led =
+          let u = g.D.Interner.universe c.args.provider.now in
+          let set = c.args.chosen.now.keys in
+          let here = c.loop-place.invariant in
+          let s = c.index-as_slice-place.result in
+          let At : List g.row.S.Denot → Type 0 = λ list. s ≡ get_or list c.loop-place.place s in
+          let inside : Contains set s = (c.loop-place.place, omega arith, sym (subst At c.as_slice.ensures.keys c.index-as_slice-place.is)) in
+          let one = notes_in c.args.self.now in
+          let two = notes_in c.loop-place.self in
+          let three = notes_in c.read_new.new.self in
+          KeepsLed-trans u set one two three
+          (λ root seeds packages near all.
+          near_read u root seeds packages set (Contains set) one two here.reading near all (λ t h. All-contains (IsNear u root seeds) set t all h))
+          here.led (led_read u set s two three (λ root seeds packages near all. All-contains (IsNear u root seeds) set s all inside) c.read_new.ensures.brings);
       bounded = c.read_new.ensures.bounded;
       limits = KeepsLimits-trans _ _ _ before.limits c.read_new.ensures.limits;
       half = record { root = before.half.root; half = reading.keeps before.half.root before.half.half };
@@ -78,3 +96,19 @@ returns-clause-fit g c = λ known. seen_fit g.S.PartialEq.eq g.met.D.Interner.so
 
 pub returns-clause-any_new : goal.returns-clause-any_new
 returns-clause-any_new g c = no_more_read _ _ c.loop-place.invariant.more (omega (arith, c.len.ensures.len, c.len-before.ensures.len))
+
+pub returns-in_err-read_new-clause-led : goal.returns-in_err-read_new-clause-led
+returns-in_err-read_new-clause-led g c =
+    let u = g.D.Interner.universe c.args.provider.now in
+    let set = c.args.chosen.now.keys in
+    let here = c.loop-place.invariant in
+    let s = c.index-as_slice-place.result in
+    let At : List g.row.S.Denot → Type 0 = λ list. s ≡ get_or list c.loop-place.place s in
+    let inside : Contains set s = (c.loop-place.place, omega arith, sym (subst At c.as_slice.ensures.keys c.index-as_slice-place.is)) in
+    let one = notes_in c.args.self.now in
+    let two = notes_in c.loop-place.self in
+    let three = notes_in c.read_new.new.self in
+    KeepsLed-trans u set one two three
+    (λ root seeds packages near all.
+    near_read u root seeds packages set (Contains set) one two here.reading near all (λ t h. All-contains (IsNear u root seeds) set t all h))
+    here.led (led_read u set s two three (λ root seeds packages near all. All-contains (IsNear u root seeds) set s all inside) c.read_new.ensures.brings)

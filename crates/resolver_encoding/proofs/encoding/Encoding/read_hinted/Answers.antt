@@ -5,6 +5,7 @@ use Rattle.resolver_encoding.specs.Notes.{notes_in}
 use Rattle.resolver_encoding.specs.SoFar.{HasRead}
 use Rattle.resolver_encoding.proofs.EncodingLemmas.{KeepsLimits-same, KeepsLimits-trans}
 use Rattle.resolver_encoding.proofs.HintLemmas.{HasRead-then, hinted_later, hinted_none, hinted_trans, hints_grown, hints_joined, hints_none, longer}
+use Rattle.resolver_encoding.proofs.LedReading.{KeepsLed-same, KeepsLed-trans}
 use Rattle.resolver_encoding.proofs.encoding.Encoding.read_hinted.Goals as goal
 
 pub waves-init : goal.waves-init
@@ -12,6 +13,7 @@ waves-init g c =
     let u = g.D.Interner.universe c.args.provider.now in
     let notes = notes_in c.args.self.now in
     record {
+      led = KeepsLed-same u c.args.chosen.now.keys notes;
       bounded = c.requires.bounded;
       limits = KeepsLimits-same _;
       half = c.requires.half;
@@ -38,6 +40,8 @@ waves-preserved g c =
     let now : HasRead two three true = subst Was c.if-not-branch.false found.any_new in
     let more : length two.requirements ≤ length three.requirements = longer two.requirements three.requirements reading.requirements in
     record {
+      led = KeepsLed-trans (g.D.Interner.universe c.args.provider.now) c.args.chosen.now.keys (notes_in c.args.self.now) (notes_in c.waves.self)
+          (notes_in c.read_hinted_each.new.self) c.waves.invariant.reading.near c.waves.invariant.led c.read_hinted_each.ensures.led;
       bounded = found.bounded;
       limits = KeepsLimits-trans _ _ _ before.limits c.read_hinted_each.ensures.limits;
       half = record { root = before.half.root; half = reading.keeps before.half.root before.half.half };
@@ -104,3 +108,13 @@ returns-then-not-branch-clause-any_new g c =
     let same : three ≡ two = subst Was c.if-not-branch.true c.in_ok-read_hinted_each.ensures.any_new in
     let Then : Notes g.row.N.Denot g.row.S.Denot → Type 0 = λ n. HasRead one n c.waves.any in
     subst Then (sym same) c.waves.invariant.any_new
+
+pub returns-in_err-read_hinted_each-clause-led : goal.returns-in_err-read_hinted_each-clause-led
+returns-in_err-read_hinted_each-clause-led g c =
+    KeepsLed-trans (g.D.Interner.universe c.args.provider.now) c.args.chosen.now.keys (notes_in c.args.self.now) (notes_in c.waves.self)
+    (notes_in c.read_hinted_each.new.self) c.waves.invariant.reading.near c.waves.invariant.led c.read_hinted_each.ensures.led
+
+pub returns-then-not-branch-clause-led : goal.returns-then-not-branch-clause-led
+returns-then-not-branch-clause-led g c =
+    KeepsLed-trans (g.D.Interner.universe c.args.provider.now) c.args.chosen.now.keys (notes_in c.args.self.now) (notes_in c.waves.self)
+    (notes_in c.read_hinted_each.new.self) c.waves.invariant.reading.near c.waves.invariant.led c.read_hinted_each.ensures.led

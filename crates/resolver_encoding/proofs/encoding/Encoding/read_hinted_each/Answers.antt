@@ -4,12 +4,14 @@ use Rattle.resolver_encoding.proofs.EncodingLemmas.{KeepsLimits-same, KeepsLimit
 use Rattle.resolver_encoding.proofs.HintLemmas.{hinted_later, hinted_none, hinted_trans, hints_at, hints_grown, hints_joined, hints_none, hints_until, longer}
 use Rattle.resolver_encoding.proofs.ReadLemmas.{seen_fit}
 use Rattle.resolver_encoding.proofs.SoFarLemmas.{IsMoreOrSame-trans, no_more_read}
+use Rattle.resolver_encoding.proofs.LedReading.{KeepsLed-same, KeepsLed-trans}
 use Rattle.resolver_encoding.proofs.encoding.Encoding.read_hinted_each.Goals as goal
 
 pub loop-place-init : goal.loop-place-init
 loop-place-init g c =
     let u = g.D.Interner.universe c.args.provider.now in
     record {
+      led = KeepsLed-same u c.args.chosen.now.keys (notes_in c.args.self.now);
       bounded = c.requires.bounded;
       limits = KeepsLimits-same _;
       half = c.requires.half;
@@ -39,6 +41,8 @@ loop-place-preserved g c =
     let half = before.half in
     let more : length one.requirements ≤ length two.requirements = longer one.requirements two.requirements before.reading.reading.requirements in
     record {
+      led = KeepsLed-trans (g.D.Interner.universe c.args.provider.now) c.args.chosen.now.keys (notes_in c.args.self.now) (notes_in c.loop-place.self)
+          (notes_in c.read_hinted_at.new.self) c.loop-place.invariant.reading.near c.loop-place.invariant.led c.read_hinted_at.ensures.led;
       bounded = c.read_hinted_at.ensures.bounded;
       limits = KeepsLimits-trans _ _ _ before.limits c.read_hinted_at.ensures.limits;
       half = record { root = half.root; half = reading.keeps half.root half.half };
@@ -79,3 +83,8 @@ returns-clause-fit g c =
 
 pub returns-clause-any_new : goal.returns-clause-any_new
 returns-clause-any_new g c = no_more_read _ _ c.loop-place.invariant.more (omega (arith, c.len.ensures.len, c.len-before.ensures.len))
+
+pub returns-in_err-read_hinted_at-clause-led : goal.returns-in_err-read_hinted_at-clause-led
+returns-in_err-read_hinted_at-clause-led g c =
+    KeepsLed-trans (g.D.Interner.universe c.args.provider.now) c.args.chosen.now.keys (notes_in c.args.self.now) (notes_in c.loop-place.self)
+    (notes_in c.read_hinted_at.new.self) c.loop-place.invariant.reading.near c.loop-place.invariant.led c.read_hinted_at.ensures.led

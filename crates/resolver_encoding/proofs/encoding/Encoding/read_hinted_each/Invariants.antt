@@ -3,6 +3,7 @@ use Rattle.resolver_encoding.specs.Encodings.{KeepsLimits}
 use Rattle.resolver_encoding.specs.Hints.{AreHintsReadTo}
 use Rattle.resolver_encoding.specs.Notes.{IsBounded, notes_in}
 use Rattle.resolver_encoding.specs.SoFar.{IsHalfReading, IsHintedReading, IsMoreOrSame}
+use Rattle.resolver_encoding.specs.Led.{KeepsLed}
 use Rattle.resolver_encoding.proofs.encoding.Encoding.read_hinted_each.Given as goal
 
 abbrev pub invariant-loop-place : goal.invariant-loop-place
@@ -14,4 +15,5 @@ invariant-loop-place g l = record {
   read : AreHintsReadTo (g.D.Interner.universe l.provider) l.from l.place (notes_in l.self);
   more : IsMoreOrSame (notes_in l.fn.self) (notes_in l.self);
   is_true : IsTrueCache (g.D.Interner.universe l.provider) l.cache;
+  led : KeepsLed (g.D.Interner.universe l.provider) l.chosen.keys (notes_in l.fn.self) (notes_in l.self);
 }

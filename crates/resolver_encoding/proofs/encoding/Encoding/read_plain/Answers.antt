@@ -1,13 +1,19 @@
 use Rattle.std.specs.Prelude.{None, map, ⊤}
-use Rattle.std.proofs.Common.{ap, refl}
+use Rattle.std.proofs.Common.{ap, refl, ◌≡◌, ◌⊎◌, ◌∷◌, [], List, Contains, subst}
 use Rattle.resolver_clause_store.specs.Candidates.{matching}
 use Rattle.resolver_clause_store.specs.declared.By.TheVariants.{Solvable as BySolvable}
-use Rattle.resolver_encoding.specs.Called.{IsWantedBy}
+use Rattle.resolver_encoding.specs.Called.{IsWantedBy, to_see}
 use Rattle.resolver_encoding.specs.Encodings.{AsksFor, IsTrueUnder, idle}
 use Rattle.resolver_encoding.specs.Notes.{notes_in}
 use Rattle.resolver_encoding.specs.ReadState.{has_direct}
 use Rattle.resolver_encoding.proofs.EncodingLemmas.{IsAskStep-of, IsAskStep-trans, IsAskStep-weaker, IsEncodingOf-asked, IsEncodingOf-step, IsStep-weaker}
 use Rattle.resolver_encoding.proofs.RequirementLemmas.{gate_read}
+use Rattle.resolver_clause_store.specs.declared.ConditionalRequirement.{ConditionalRequirement}
+use Rattle.resolver_clause_store.specs.declared.Origin.{Origin}
+use Rattle.resolver_clause_store.specs.declared.Origin.TheVariants.{Gate, Solvable}
+use Rattle.resolver_encoding.specs.Led.{IsHelped, IsOwn, NoneOwn, own_gate, with_requirements}
+use Rattle.resolver_encoding.proofs.LedLemmas.{Brings-trans, Brings-weaker, bare_own, choices_brings, gate_own, own_brings}
+use Rattle.resolver_clause_store.proofs.ListLemmas.{Contains-here as here}
 use Rattle.resolver_encoding.proofs.encoding.Encoding.read_plain.Goals as goal
 
 pub returns-then-is_among-clause-step : goal.returns-then-is_among-clause-step
@@ -61,3 +67,142 @@ returns-clause-read g c =
     let step = c.in_ok-imply_gate-2.ensures.step in
     gate_read u Premise (notes_in c.make_gate.new.self) (notes_in c.imply_gate-2.new.self) c.args.requirer r before step
     (step.gates _ c.in_ok-make_gate.ensures.gate) c.in_ok-imply_gate-2.ensures.implied
+
+pub returns-in_err-imply_gate-clause-brings : goal.returns-in_err-imply_gate-clause-brings
+returns-in_err-imply_gate-clause-brings g c =
+    let u = g.D.Interner.universe c.args.provider.now in
+    let r = c.args.requirement in
+    let by = BySolvable c.args.requirer in
+    let whole : ConditionalRequirement = record { condition = None; requirement = r } in
+    let demands = with_requirements (whole ∷ []) in
+    let Called = IsWantedBy u r in
+    let Own : Origin g.row.N.Denot g.row.S.Denot → Type 0 = IsOwn u by demands in
+    let old = notes_in c.args.self.now in
+    own_brings u Called Own (λ o. (o ≡ Gate r) ⊎ (o ≡ Solvable c.args.requirer)) old (notes_in c.imply_gate.new.self)
+    (gate_own u c.args.requirer r) c.imply_gate.ensures.adds
+
+pub returns-then-is_among-clause-brings : goal.returns-then-is_among-clause-brings
+returns-then-is_among-clause-brings g c =
+    let u = g.D.Interner.universe c.args.provider.now in
+    let r = c.args.requirement in
+    let by = BySolvable c.args.requirer in
+    let whole : ConditionalRequirement = record { condition = None; requirement = r } in
+    let demands = with_requirements (whole ∷ []) in
+    let Called = IsWantedBy u r in
+    let Own : Origin g.row.N.Denot g.row.S.Denot → Type 0 = IsOwn u by demands in
+    let old = notes_in c.args.self.now in
+    own_brings u Called Own (λ o. (o ≡ Gate r) ⊎ (o ≡ Solvable c.args.requirer)) old (notes_in c.imply_gate.new.self)
+    (gate_own u c.args.requirer r) c.imply_gate.ensures.adds
+
+pub returns-in_err-choices-clause-brings : goal.returns-in_err-choices-clause-brings
+returns-in_err-choices-clause-brings g c =
+    let u = g.D.Interner.universe c.args.provider.now in
+    let r = c.args.requirement in
+    let by = BySolvable c.args.requirer in
+    let whole : ConditionalRequirement = record { condition = None; requirement = r } in
+    let demands = with_requirements (whole ∷ []) in
+    let Called = IsWantedBy u r in
+    let Own : Origin g.row.N.Denot g.row.S.Denot → Type 0 = IsOwn u by demands in
+    let old = notes_in c.args.self.now in
+    let e = c.requires.encoding in
+    let mid = notes_in c.choose.new.self in
+    let chosen = Brings-weaker u Called Called (λ call h. h) NoneOwn Own (λ o h. absurd h) old mid (c.choose.ensures.brings e.root e.encoding) in
+    chosen
+
+pub returns-in_err-encode_choices-clause-brings : goal.returns-in_err-encode_choices-clause-brings
+returns-in_err-encode_choices-clause-brings g c =
+    let u = g.D.Interner.universe c.args.provider.now in
+    let r = c.args.requirement in
+    let by = BySolvable c.args.requirer in
+    let whole : ConditionalRequirement = record { condition = None; requirement = r } in
+    let demands = with_requirements (whole ∷ []) in
+    let Called = IsWantedBy u r in
+    let Own : Origin g.row.N.Denot g.row.S.Denot → Type 0 = IsOwn u by demands in
+    let old = notes_in c.args.self.now in
+    let e = c.requires.encoding in
+    let mid = notes_in c.choose.new.self in
+    let chosen = Brings-weaker u Called Called (λ call h. h) NoneOwn Own (λ o h. absurd h) old mid (c.choose.ensures.brings e.root e.encoding) in
+    let new = notes_in c.encode_choices.new.self in
+    let list = c.new-none.result.items in
+    Brings-trans u Called Own old mid new (λ s h. c.in_ok-choices.ensures.step.called (to_see s) h) chosen
+    (choices_brings u Own (IsHelped u by list) r mid new (bare_own u by demands list c.new-none.ensures.items) c.encode_choices.ensures.adds)
+
+pub returns-then-len-lt-GATE_THRESHOLD-clause-brings : goal.returns-then-len-lt-GATE_THRESHOLD-clause-brings
+returns-then-len-lt-GATE_THRESHOLD-clause-brings g c =
+    let u = g.D.Interner.universe c.args.provider.now in
+    let r = c.args.requirement in
+    let by = BySolvable c.args.requirer in
+    let whole : ConditionalRequirement = record { condition = None; requirement = r } in
+    let demands = with_requirements (whole ∷ []) in
+    let Called = IsWantedBy u r in
+    let Own : Origin g.row.N.Denot g.row.S.Denot → Type 0 = IsOwn u by demands in
+    let old = notes_in c.args.self.now in
+    let e = c.requires.encoding in
+    let mid = notes_in c.choose.new.self in
+    let chosen = Brings-weaker u Called Called (λ call h. h) NoneOwn Own (λ o h. absurd h) old mid (c.choose.ensures.brings e.root e.encoding) in
+    let new = notes_in c.encode_choices.new.self in
+    let list = c.new-none.result.items in
+    Brings-trans u Called Own old mid new (λ s h. c.in_ok-choices.ensures.step.called (to_see s) h) chosen
+    (choices_brings u Own (IsHelped u by list) r mid new (bare_own u by demands list c.new-none.ensures.items) c.encode_choices.ensures.adds)
+
+pub returns-in_err-make_gate-clause-brings : goal.returns-in_err-make_gate-clause-brings
+returns-in_err-make_gate-clause-brings g c =
+    let u = g.D.Interner.universe c.args.provider.now in
+    let r = c.args.requirement in
+    let by = BySolvable c.args.requirer in
+    let whole : ConditionalRequirement = record { condition = None; requirement = r } in
+    let demands = with_requirements (whole ∷ []) in
+    let Called = IsWantedBy u r in
+    let Own : Origin g.row.N.Denot g.row.S.Denot → Type 0 = IsOwn u by demands in
+    let old = notes_in c.args.self.now in
+    let e = c.requires.encoding in
+    let mid = notes_in c.choose.new.self in
+    let chosen = Brings-weaker u Called Called (λ call h. h) NoneOwn Own (λ o h. absurd h) old mid (c.choose.ensures.brings e.root e.encoding) in
+    let made = notes_in c.make_gate.new.self in
+    let gated = Brings-trans u Called Own old mid made (λ s h. c.in_ok-choices.ensures.step.called (to_see s) h) chosen
+    (choices_brings u Own (λ o. o ≡ Gate r) r mid made (λ o is. own_gate whole (here whole []) is) c.make_gate.ensures.adds) in
+    gated
+
+pub returns-in_err-imply_gate-2-clause-brings : goal.returns-in_err-imply_gate-2-clause-brings
+returns-in_err-imply_gate-2-clause-brings g c =
+    let u = g.D.Interner.universe c.args.provider.now in
+    let r = c.args.requirement in
+    let by = BySolvable c.args.requirer in
+    let whole : ConditionalRequirement = record { condition = None; requirement = r } in
+    let demands = with_requirements (whole ∷ []) in
+    let Called = IsWantedBy u r in
+    let Own : Origin g.row.N.Denot g.row.S.Denot → Type 0 = IsOwn u by demands in
+    let old = notes_in c.args.self.now in
+    let e = c.requires.encoding in
+    let mid = notes_in c.choose.new.self in
+    let chosen = Brings-weaker u Called Called (λ call h. h) NoneOwn Own (λ o h. absurd h) old mid (c.choose.ensures.brings e.root e.encoding) in
+    let made = notes_in c.make_gate.new.self in
+    let gated = Brings-trans u Called Own old mid made (λ s h. c.in_ok-choices.ensures.step.called (to_see s) h) chosen
+    (choices_brings u Own (λ o. o ≡ Gate r) r mid made (λ o is. own_gate whole (here whole []) is) c.make_gate.ensures.adds) in
+    let new = notes_in c.imply_gate-2.new.self in
+    let step = c.in_ok-make_gate.ensures.step in
+    Brings-trans u Called Own old made new (λ s h.
+    c.in_ok-choices.ensures.step.called (to_see s) (let Has : List g.row.S.Denot → Type 0 = λ list. Contains list s in subst Has step.seen h)) gated
+    (own_brings u Called Own (λ o. (o ≡ Gate r) ⊎ (o ≡ Solvable c.args.requirer)) made new (gate_own u c.args.requirer r) c.imply_gate-2.ensures.adds)
+
+pub returns-clause-brings : goal.returns-clause-brings
+returns-clause-brings g c =
+    let u = g.D.Interner.universe c.args.provider.now in
+    let r = c.args.requirement in
+    let by = BySolvable c.args.requirer in
+    let whole : ConditionalRequirement = record { condition = None; requirement = r } in
+    let demands = with_requirements (whole ∷ []) in
+    let Called = IsWantedBy u r in
+    let Own : Origin g.row.N.Denot g.row.S.Denot → Type 0 = IsOwn u by demands in
+    let old = notes_in c.args.self.now in
+    let e = c.requires.encoding in
+    let mid = notes_in c.choose.new.self in
+    let chosen = Brings-weaker u Called Called (λ call h. h) NoneOwn Own (λ o h. absurd h) old mid (c.choose.ensures.brings e.root e.encoding) in
+    let made = notes_in c.make_gate.new.self in
+    let gated = Brings-trans u Called Own old mid made (λ s h. c.in_ok-choices.ensures.step.called (to_see s) h) chosen
+    (choices_brings u Own (λ o. o ≡ Gate r) r mid made (λ o is. own_gate whole (here whole []) is) c.make_gate.ensures.adds) in
+    let new = notes_in c.imply_gate-2.new.self in
+    let step = c.in_ok-make_gate.ensures.step in
+    Brings-trans u Called Own old made new (λ s h.
+    c.in_ok-choices.ensures.step.called (to_see s) (let Has : List g.row.S.Denot → Type 0 = λ list. Contains list s in subst Has step.seen h)) gated
+    (own_brings u Called Own (λ o. (o ≡ Gate r) ⊎ (o ≡ Solvable c.args.requirer)) made new (gate_own u c.args.requirer r) c.imply_gate-2.ensures.adds)

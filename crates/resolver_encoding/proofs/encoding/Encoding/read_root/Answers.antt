@@ -13,6 +13,8 @@ use Rattle.resolver_encoding.proofs.HintLemmas.{asked_on, so_far_on}
 use Rattle.resolver_encoding.proofs.ReachLemmas.{root_near}
 use Rattle.resolver_encoding.proofs.SoFarLemmas.{root_asked, root_so_far}
 use Rattle.resolver_clause_store.proofs.ListLemmas.{Contains-none as none_in}
+use Rattle.resolver_encoding.specs.Led.{Brings, IsOwn}
+use Rattle.resolver_encoding.proofs.LedReading.{bare_near, led_bare, led_root}
 use Rattle.resolver_encoding.proofs.encoding.Encoding.read_root.Goals as goal
 
 pub read_demands-requires-clause-encoding : goal.read_demands-requires-clause-encoding
@@ -87,3 +89,59 @@ returns-clause-reads g c = λ s h.
 
 pub returns-clause-exempt : goal.returns-clause-exempt
 returns-clause-exempt g c = c.in_ok-read_hinted.ensures.reading.reading.exempt ∙ c.in_ok-read_demands.ensures.step.exempt ∙ c.in_ok-install_root.ensures.exempt
+
+pub returns-in_err-install_root-clause-led : goal.returns-in_err-install_root-clause-led
+returns-in_err-install_root-clause-led g c = λ seeds packages.
+    let u = g.D.Interner.universe c.args.provider.now in
+    let root : Demands = record { requirements = c.args.requirements.now; constraints = c.args.constraints.now } in
+    let old = notes_in c.args.self.now in
+    let bare = notes_in c.install_root.new.self in
+    let first = led_bare u root seeds packages old bare c.requires.nothing_read.no_origins c.requires.nothing_read.none_deferred c.install_root.ensures.adds in
+    first
+
+pub returns-in_err-read_demands-clause-led : goal.returns-in_err-read_demands-clause-led
+returns-in_err-read_demands-clause-led g c = λ seeds packages.
+    let u = g.D.Interner.universe c.args.provider.now in
+    let root : Demands = record { requirements = c.args.requirements.now; constraints = c.args.constraints.now } in
+    let old = notes_in c.args.self.now in
+    let bare = notes_in c.install_root.new.self in
+    let first = led_bare u root seeds packages old bare c.requires.nothing_read.no_origins c.requires.nothing_read.none_deferred c.install_root.ensures.adds in
+    let mid = notes_in c.read_demands.new.self in
+    let Brought : List g.row.S.Denot → Type 0 = λ set. Brings u (IsDemanded u set root) (IsOwn u Root root) bare mid in
+    let second = led_root u root seeds packages bare mid (bare_near u root seeds packages bare c.in_ok-install_root.ensures.nothing)
+    (subst Brought c.new-none.ensures.empty c.read_demands.ensures.brings) first in
+    second
+
+pub returns-in_err-read_hinted-clause-led : goal.returns-in_err-read_hinted-clause-led
+returns-in_err-read_hinted-clause-led g c = λ seeds packages.
+    let u = g.D.Interner.universe c.args.provider.now in
+    let root : Demands = record { requirements = c.args.requirements.now; constraints = c.args.constraints.now } in
+    let old = notes_in c.args.self.now in
+    let bare = notes_in c.install_root.new.self in
+    let first = led_bare u root seeds packages old bare c.requires.nothing_read.no_origins c.requires.nothing_read.none_deferred c.install_root.ensures.adds in
+    let mid = notes_in c.read_demands.new.self in
+    let Brought : List g.row.S.Denot → Type 0 = λ set. Brings u (IsDemanded u set root) (IsOwn u Root root) bare mid in
+    let second = led_root u root seeds packages bare mid (bare_near u root seeds packages bare c.in_ok-install_root.ensures.nothing)
+    (subst Brought c.new-none.ensures.empty c.read_demands.ensures.brings) first in
+    let Step : List g.row.S.Denot → Type 0 = λ set. IsReadStep u (IsUnmet u set Root) (IsDemanded u set root) (λ r. demands_by u r Root ≡ root) bare mid in
+    let step = subst Step c.new-none.ensures.empty c.in_ok-read_demands.ensures.step in
+    let AllNear : List g.row.S.Denot → Type 0 = λ set. All (IsNear u root seeds) set in
+    c.read_hinted.ensures.led.led root seeds packages (root_near u root seeds packages bare mid step c.in_ok-install_root.ensures.nothing)
+    (subst AllNear (sym c.new-none.ensures.empty) (All-nil (IsNear u root seeds))) second
+
+pub returns-clause-led : goal.returns-clause-led
+returns-clause-led g c = λ seeds packages.
+    let u = g.D.Interner.universe c.args.provider.now in
+    let root : Demands = record { requirements = c.args.requirements.now; constraints = c.args.constraints.now } in
+    let old = notes_in c.args.self.now in
+    let bare = notes_in c.install_root.new.self in
+    let first = led_bare u root seeds packages old bare c.requires.nothing_read.no_origins c.requires.nothing_read.none_deferred c.install_root.ensures.adds in
+    let mid = notes_in c.read_demands.new.self in
+    let Brought : List g.row.S.Denot → Type 0 = λ set. Brings u (IsDemanded u set root) (IsOwn u Root root) bare mid in
+    let second = led_root u root seeds packages bare mid (bare_near u root seeds packages bare c.in_ok-install_root.ensures.nothing)
+    (subst Brought c.new-none.ensures.empty c.read_demands.ensures.brings) first in
+    let Step : List g.row.S.Denot → Type 0 = λ set. IsReadStep u (IsUnmet u set Root) (IsDemanded u set root) (λ r. demands_by u r Root ≡ root) bare mid in
+    let step = subst Step c.new-none.ensures.empty c.in_ok-read_demands.ensures.step in
+    let AllNear : List g.row.S.Denot → Type 0 = λ set. All (IsNear u root seeds) set in
+    c.read_hinted.ensures.led.led root seeds packages (root_near u root seeds packages bare mid step c.in_ok-install_root.ensures.nothing)
+    (subst AllNear (sym c.new-none.ensures.empty) (All-nil (IsNear u root seeds))) second

@@ -8,6 +8,10 @@ use Rattle.resolver_encoding.specs.Called.{Call, IsDemanded}
 use Rattle.resolver_encoding.specs.Encodings.{IsUnmet}
 use Rattle.resolver_encoding.specs.Notes.{notes_in}
 use Rattle.resolver_encoding.proofs.EncodingLemmas.{IsAskStep-of, IsEncodingOf-weaker, IsReadStep-of, IsReadStep-weaker}
+use Rattle.resolver_clause_store.specs.declared.Origin.{Origin}
+use Rattle.resolver_clause_store.specs.declared.Origin.TheVariants.{Solvable as SolvableOrigin}
+use Rattle.resolver_encoding.specs.Led.{Brings, IsOwn, own_itself}
+use Rattle.resolver_encoding.proofs.LedLemmas.{Brings-same, own_brings}
 use Rattle.resolver_encoding.proofs.encoding.Encoding.read_solvable.Goals as goal
 
 demands_known : (d : Demands) (needs : Needs) → known d ≡ needs → demands_of needs ≡ d
@@ -56,3 +60,98 @@ returns-in_ok-read_demands-in-Known-clause-step g c =
     IsReadStep-weaker u (IsUnmet u set (Solvable c.args.solvable)) (IsDemanded u set demands) (IsDemanded u set (demands_of (u.needs c.args.solvable))) (λ n h.
     subst (Demanded n) (sym same) h)
     (λ root. demands_by u root (Solvable c.args.solvable) ≡ demands) (λ root. ⊤) (λ root _. same) _ _ c.in_ok-read_demands-in-Known.ensures.step
+
+pub returns-in_err-ask_dependencies-clause-brings : goal.returns-in_err-ask_dependencies-clause-brings
+returns-in_err-ask_dependencies-clause-brings g c =
+    let u = g.D.Interner.universe c.args.provider.now in
+    let s = c.args.solvable in
+    let set = c.args.chosen.now.keys in
+    let old = notes_in c.args.self.now in
+    let needed = demands_of (u.needs s) in
+    let Called = IsDemanded u set needed in
+    let Own : Origin g.row.N.Denot g.row.S.Denot → Type 0 = IsOwn u (Solvable s) needed in
+    Brings-same u Called Own old
+
+pub returns-in_err-forbid_unknown-in-Unknown-clause-brings : goal.returns-in_err-forbid_unknown-in-Unknown-clause-brings
+returns-in_err-forbid_unknown-in-Unknown-clause-brings g c =
+    let u = g.D.Interner.universe c.args.provider.now in
+    let s = c.args.solvable in
+    let set = c.args.chosen.now.keys in
+    let old = notes_in c.args.self.now in
+    let needed = demands_of (u.needs s) in
+    let Called = IsDemanded u set needed in
+    let Own : Origin g.row.N.Denot g.row.S.Denot → Type 0 = IsOwn u (Solvable s) needed in
+    own_brings u Called Own (λ o. o ≡ SolvableOrigin s) old (notes_in c.forbid_unknown.new.self) (λ o is. own_itself is) c.forbid_unknown.ensures.adds
+
+pub returns-in_ok-forbid_unknown-in-Unknown-clause-brings : goal.returns-in_ok-forbid_unknown-in-Unknown-clause-brings
+returns-in_ok-forbid_unknown-in-Unknown-clause-brings g c =
+    let u = g.D.Interner.universe c.args.provider.now in
+    let s = c.args.solvable in
+    let set = c.args.chosen.now.keys in
+    let old = notes_in c.args.self.now in
+    let needed = demands_of (u.needs s) in
+    let Called = IsDemanded u set needed in
+    let Own : Origin g.row.N.Denot g.row.S.Denot → Type 0 = IsOwn u (Solvable s) needed in
+    own_brings u Called Own (λ o. o ≡ SolvableOrigin s) old (notes_in c.forbid_unknown.new.self) (λ o is. own_itself is) c.forbid_unknown.ensures.adds
+
+pub returns-in_err-requirements-in-Known-clause-brings : goal.returns-in_err-requirements-in-Known-clause-brings
+returns-in_err-requirements-in-Known-clause-brings g c =
+    let u = g.D.Interner.universe c.args.provider.now in
+    let s = c.args.solvable in
+    let set = c.args.chosen.now.keys in
+    let old = notes_in c.args.self.now in
+    let needed = demands_of (u.needs s) in
+    let Called = IsDemanded u set needed in
+    let Own : Origin g.row.N.Denot g.row.S.Denot → Type 0 = IsOwn u (Solvable s) needed in
+    Brings-same u Called Own old
+
+pub returns-in_err-constraints-in-Known-clause-brings : goal.returns-in_err-constraints-in-Known-clause-brings
+returns-in_err-constraints-in-Known-clause-brings g c =
+    let u = g.D.Interner.universe c.args.provider.now in
+    let s = c.args.solvable in
+    let set = c.args.chosen.now.keys in
+    let old = notes_in c.args.self.now in
+    let needed = demands_of (u.needs s) in
+    let Called = IsDemanded u set needed in
+    let Own : Origin g.row.N.Denot g.row.S.Denot → Type 0 = IsOwn u (Solvable s) needed in
+    Brings-same u Called Own old
+
+pub returns-in_err-read_demands-in-Known-clause-brings : goal.returns-in_err-read_demands-in-Known-clause-brings
+returns-in_err-read_demands-in-Known-clause-brings g c =
+    let u = g.D.Interner.universe c.args.provider.now in
+    let s = c.args.solvable in
+    let set = c.args.chosen.now.keys in
+    let old = notes_in c.args.self.now in
+    let needed = demands_of (u.needs s) in
+    let Called = IsDemanded u set needed in
+    let Own : Origin g.row.N.Denot g.row.S.Denot → Type 0 = IsOwn u (Solvable s) needed in
+    let answer = rw c.in-Known.is at (c.dependencies.ensures u c.ask_dependencies.ensures.is_true) in
+    let copied_requirements = c.deref-in-Known-2.ensures.value ∙ c.in_ok-requirements-in-Known.ensures.items ∙ c.deref.ensures.value in
+    let copied_constraints = c.deref-in-Known-3.ensures.value ∙ c.in_ok-constraints-in-Known.ensures.items ∙ c.deref-in-Known.ensures.value in
+    let demands : Demands = record { requirements = c.deref-in-Known-2.result.now; constraints = c.deref-in-Known-3.result.now } in
+    let copied : demands ≡ record { requirements = c.in-Known.known.requirements.items; constraints = c.in-Known.known.constrains.items } =
+    λ i. record { requirements = copied_requirements i; constraints = copied_constraints i } in
+    let same : needed ≡ demands = demands_known _ _ answer ∙ sym copied in
+    let new = notes_in c.read_demands.new.self in
+    let Brought : Demands → Type 0 = λ d. Brings u (IsDemanded u set d) (IsOwn u (Solvable s) d) old new in
+    subst Brought (sym same) c.read_demands.ensures.brings
+
+pub returns-in_ok-read_demands-in-Known-clause-brings : goal.returns-in_ok-read_demands-in-Known-clause-brings
+returns-in_ok-read_demands-in-Known-clause-brings g c =
+    let u = g.D.Interner.universe c.args.provider.now in
+    let s = c.args.solvable in
+    let set = c.args.chosen.now.keys in
+    let old = notes_in c.args.self.now in
+    let needed = demands_of (u.needs s) in
+    let Called = IsDemanded u set needed in
+    let Own : Origin g.row.N.Denot g.row.S.Denot → Type 0 = IsOwn u (Solvable s) needed in
+    let answer = rw c.in-Known.is at (c.dependencies.ensures u c.ask_dependencies.ensures.is_true) in
+    let copied_requirements = c.deref-in-Known-2.ensures.value ∙ c.in_ok-requirements-in-Known.ensures.items ∙ c.deref.ensures.value in
+    let copied_constraints = c.deref-in-Known-3.ensures.value ∙ c.in_ok-constraints-in-Known.ensures.items ∙ c.deref-in-Known.ensures.value in
+    let demands : Demands = record { requirements = c.deref-in-Known-2.result.now; constraints = c.deref-in-Known-3.result.now } in
+    let copied : demands ≡ record { requirements = c.in-Known.known.requirements.items; constraints = c.in-Known.known.constrains.items } =
+    λ i. record { requirements = copied_requirements i; constraints = copied_constraints i } in
+    let same : needed ≡ demands = demands_known _ _ answer ∙ sym copied in
+    let new = notes_in c.read_demands.new.self in
+    let Brought : Demands → Type 0 = λ d. Brings u (IsDemanded u set d) (IsOwn u (Solvable s) d) old new in
+    subst Brought (sym same) c.read_demands.ensures.brings

@@ -7,6 +7,7 @@ use Rattle.resolver_clause_store.specs.Variables.{limit_in, origins_in}
 use Rattle.resolver_encoding.specs.Called.{IsSeeing}
 use Rattle.resolver_encoding.specs.Encodings.{Grows, coding_for, idle}
 use Rattle.resolver_encoding.specs.Groups.{AreGroups}
+use Rattle.resolver_encoding.specs.Led.{NoneOwn, brought_candidate}
 use Rattle.resolver_encoding.specs.declared.groups.Groups.{Groups}
 use Rattle.resolver_encoding.specs.Notes.{notes_in}
 use Rattle.resolver_encoding.proofs.EncodingLemmas.{IsAskStep-of, IsAskStep-same, IsAskStep-trans, IsStep-trans}
@@ -14,6 +15,8 @@ use Rattle.resolver_encoding.proofs.NoteLemmas.{IsStep-origins}
 use Rattle.resolver_encoding.proofs.SeeLemmas.{IsStep-seen}
 use Rattle.resolver_encoding.proofs.SoFarLemmas.{IsWithin-equal}
 use Rattle.resolver_clause_store.proofs.ListLemmas.{Contains-at as place_in}
+use Rattle.resolver_encoding.proofs.LedLemmas.{AddsOnly-same_as, AddsOnly-such, AddsOnly-then-such, AddsOnly-trans, AddsOnly-weaker, AddsSuch-push}
+use Rattle.resolver_encoding.proofs.LedLemmas.{AddsSuch-weaker, Brings-of, Brings-same, own_code, see_brings}
 use Rattle.resolver_encoding.proofs.encoding.Encoding.see.Goals as goal
 
 pub returns-then-is_among-clause-step : goal.returns-then-is_among-clause-step
@@ -65,3 +68,61 @@ returns-clause-only g c = λ t h.
     (λ (last : c.args.solvable ≡ t). inr (sym last))
     (Contains-push_cases mid.seen c.args.solvable t
     (IsWithin-equal c.append.new.set.keys (mid.seen ++ c.args.solvable ∷ []) (sym c.in_ok-append.ensures.keys) t h))
+
+pub returns-then-is_among-clause-brings : goal.returns-then-is_among-clause-brings
+returns-then-is_among-clause-brings g c =
+    λ root before. Brings-same (g.D.Interner.universe c.args.provider.now) (IsSeeing c.args.solvable) NoneOwn (notes_in c.args.self.now)
+
+pub returns-in_err-intern-clause-brings : goal.returns-in_err-intern-clause-brings
+returns-in_err-intern-clause-brings g c =
+    λ root before. Brings-of (g.D.Interner.universe c.args.provider.now) (IsSeeing c.args.solvable) NoneOwn (λ o. o ≡ Solvable c.args.solvable)
+    (notes_in c.args.self.now) _ (λ o is. inr (brought_candidate c.args.solvable refl is))
+    (AddsOnly-such _ _ _ (AddsSuch-push _ _ _ c.intern.ensures.added) refl)
+
+pub returns-in_err-begin_digit-clause-brings : goal.returns-in_err-begin_digit-clause-brings
+returns-in_err-begin_digit-clause-brings g c =
+    λ root before. (see_brings (g.D.Interner.universe c.args.provider.now) root
+    (notes_in c.args.self.now) before c.solvable_name-name.result c.named-number.result.now c.named-number.ensures.each_at
+    (length c.named-number.result.now) c.args.solvable _ c.named-number.ensures.each refl
+    (AddsOnly-then-such _ _ _ _ (AddsSuch-weaker _ _ (λ o is. own_code _ _ _ _ o (inl is)) _ _
+    (AddsSuch-push _ _ _ c.intern.ensures.added)) c.begin_digit.ensures.adds.origins c.begin_digit.ensures.adds.deferred))
+
+pub returns-in_err-add_code-clause-brings : goal.returns-in_err-add_code-clause-brings
+returns-in_err-add_code-clause-brings g c =
+    λ root before. (see_brings (g.D.Interner.universe c.args.provider.now) root
+    (notes_in c.args.self.now) before c.solvable_name-name.result c.named-number.result.now c.named-number.ensures.each_at
+    (length c.named-number.result.now) c.args.solvable _ c.named-number.ensures.each refl
+    (AddsOnly-trans _ _ _ _ (AddsOnly-then-such _ _ _ _
+    (AddsSuch-weaker _ _ (λ o is. own_code _ _ _ _ o (inl is)) _ _
+    (AddsSuch-push _ _ _ c.intern.ensures.added)) c.begin_digit.ensures.adds.origins c.begin_digit.ensures.adds.deferred)
+    (AddsOnly-weaker _ _ (own_code _ _ _ _) _ _ c.add_code.ensures.adds)))
+
+pub returns-in_err-add-clause-brings : goal.returns-in_err-add-clause-brings
+returns-in_err-add-clause-brings g c =
+    λ root before. (see_brings (g.D.Interner.universe c.args.provider.now) root
+    (notes_in c.args.self.now) before c.solvable_name-name.result c.named-number.result.now c.named-number.ensures.each_at
+    (length c.named-number.result.now) c.args.solvable _ c.named-number.ensures.each refl
+    (AddsOnly-same_as _ _ _ _ (AddsOnly-trans _ _ _ _
+    (AddsOnly-then-such _ _ _ _ (AddsSuch-weaker _ _ (λ o is. own_code _ _ _ _ o (inl is)) _ _
+    (AddsSuch-push _ _ _ c.intern.ensures.added)) c.begin_digit.ensures.adds.origins c.begin_digit.ensures.adds.deferred)
+    (AddsOnly-weaker _ _ (own_code _ _ _ _) _ _ c.add_code.ensures.adds)) refl refl))
+
+pub returns-in_err-append-clause-brings : goal.returns-in_err-append-clause-brings
+returns-in_err-append-clause-brings g c =
+    λ root before. (see_brings (g.D.Interner.universe c.args.provider.now) root
+    (notes_in c.args.self.now) before c.solvable_name-name.result c.named-number.result.now c.named-number.ensures.each_at
+    (length c.named-number.result.now) c.args.solvable _ c.named-number.ensures.each refl
+    (AddsOnly-same_as _ _ _ _ (AddsOnly-trans _ _ _ _
+    (AddsOnly-then-such _ _ _ _ (AddsSuch-weaker _ _ (λ o is. own_code _ _ _ _ o (inl is)) _ _
+    (AddsSuch-push _ _ _ c.intern.ensures.added)) c.begin_digit.ensures.adds.origins c.begin_digit.ensures.adds.deferred)
+    (AddsOnly-weaker _ _ (own_code _ _ _ _) _ _ c.add_code.ensures.adds)) refl refl))
+
+pub returns-clause-brings : goal.returns-clause-brings
+returns-clause-brings g c = λ root before.
+    (see_brings (g.D.Interner.universe c.args.provider.now) root
+    (notes_in c.args.self.now) before c.solvable_name-name.result c.named-number.result.now c.named-number.ensures.each_at
+    (length c.named-number.result.now) c.args.solvable _ c.named-number.ensures.each refl
+    (AddsOnly-same_as _ _ _ _ (AddsOnly-trans _ _ _ _
+    (AddsOnly-then-such _ _ _ _ (AddsSuch-weaker _ _ (λ o is. own_code _ _ _ _ o (inl is)) _ _
+    (AddsSuch-push _ _ _ c.intern.ensures.added)) c.begin_digit.ensures.adds.origins c.begin_digit.ensures.adds.deferred)
+    (AddsOnly-weaker _ _ (own_code _ _ _ _) _ _ c.add_code.ensures.adds)) refl refl))

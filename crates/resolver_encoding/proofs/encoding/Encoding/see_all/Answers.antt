@@ -1,15 +1,18 @@
 use Rattle.std.proofs.Common.{arith, Contains}
 use Rattle.std.specs.Prelude.{⊤}
 use Rattle.std.proofs.lemmas.List.Elements.{All-nil}
-use Rattle.resolver_encoding.specs.Called.{IsSeeing, IsSeeingEach}
+use Rattle.resolver_encoding.specs.Called.{IsSeeing, IsSeeingEach, to_see}
 use Rattle.resolver_encoding.specs.Notes.{notes_in}
 use Rattle.resolver_clause_store.proofs.SetLemmas.{All-done}
 use Rattle.resolver_encoding.proofs.EncodingLemmas.{Extends-within, IsAskStep-same, IsAskStep-trans, IsAskStep-weaker, KeepsLimits-same, KeepsLimits-trans}
 use Rattle.resolver_encoding.proofs.NoteLemmas.{All-grown, seen_here}
+use Rattle.resolver_encoding.proofs.LedLemmas.{Brings-same, Brings-trans, Brings-weaker}
+use Rattle.resolver_encoding.specs.Led.{NoneOwn}
 use Rattle.resolver_encoding.proofs.encoding.Encoding.see_all.Goals as goal
 
 pub loop-candidate-init : goal.loop-candidate-init
 loop-candidate-init g c = record {
+  brings = λ root before. Brings-same (g.D.Interner.universe c.args.provider.now) (IsSeeingEach c.args.candidates.now) NoneOwn (notes_in c.args.self.now);
   bounded = c.requires.bounded;
   limits = KeepsLimits-same _;
   step = IsAskStep-same (g.D.Interner.universe c.args.provider.now) (IsSeeingEach c.args.candidates.now) (λ root. ⊤) (notes_in c.args.self.now);
@@ -21,6 +24,11 @@ loop-candidate-preserved g c =
     let u = g.D.Interner.universe c.args.provider.now in
     let before = c.loop-candidate.invariant in
     record {
+      brings = λ root before. Brings-trans (g.D.Interner.universe c.args.provider.now) (IsSeeingEach c.args.candidates.now) NoneOwn _ _ _ (λ s h.
+          c.loop-candidate.invariant.step.called (to_see s) h) (c.loop-candidate.invariant.brings root before)
+          (Brings-weaker (g.D.Interner.universe c.args.provider.now) (IsSeeing c.candidate-item.result) (IsSeeingEach c.args.candidates.now)
+          (seen_here c.args.candidates.now c.loop-candidate.candidate-index c.candidate-item.result (omega arith) c.candidate-item.is) NoneOwn NoneOwn (λ o h.
+          h) _ _ (c.see.ensures.brings root (c.loop-candidate.invariant.step.keeps root tt before)));
       bounded = c.see.ensures.bounded;
       limits = KeepsLimits-trans _ _ _ before.limits c.see.ensures.limits;
       step = IsAskStep-trans u (IsSeeingEach c.args.candidates.now) (λ root. ⊤) _ _ _ before.step
@@ -35,3 +43,11 @@ loop-candidate-preserved g c =
 pub returns-clause-seen : goal.returns-clause-seen
 returns-clause-seen g c = All-done (Contains c.loop-candidate.self.seen.keys) c.args.candidates.now c.loop-candidate.candidate-index
     (omega arith) c.loop-candidate.invariant.seen
+
+pub returns-in_err-see-clause-brings : goal.returns-in_err-see-clause-brings
+returns-in_err-see-clause-brings g c =
+    λ root before. Brings-trans (g.D.Interner.universe c.args.provider.now) (IsSeeingEach c.args.candidates.now) NoneOwn _ _ _ (λ s h.
+    c.loop-candidate.invariant.step.called (to_see s) h) (c.loop-candidate.invariant.brings root before)
+    (Brings-weaker (g.D.Interner.universe c.args.provider.now) (IsSeeing c.candidate-item.result) (IsSeeingEach c.args.candidates.now)
+    (seen_here c.args.candidates.now c.loop-candidate.candidate-index c.candidate-item.result (omega arith) c.candidate-item.is) NoneOwn NoneOwn (λ o h. h) _ _
+    (c.see.ensures.brings root (c.loop-candidate.invariant.step.keeps root tt before)))
