@@ -185,7 +185,8 @@ impl<N: Copy + Eq + Hash + Drop, S: Copy + Eq + Hash + Drop> Encoding<N, S> {
             version_set,
         };
         let helper = Origin::ConstraintHelper(version_set);
-        self.add_pair(kind, (origin_of(by), false), (helper, false))?;
+        let parent: Origin<N, S> = origin_of(by);
+        self.add_pair(kind, (parent, false), (helper, false))?;
         Ok(())
     }
 

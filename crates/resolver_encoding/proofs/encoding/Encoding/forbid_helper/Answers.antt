@@ -20,7 +20,7 @@ returns-clause-step g c =
     let Adds_of : Origin g.row.N.Denot g.row.S.Denot → Type 0 =
     λ o. AddsClause (notes_in c.args.self.now) (notes_in c.add_pair.new.self) kind (atom o false ∷ atom (ConstraintHelper v) false ∷ []) in
     IsStep-plain u idle (AsksWithin u c.args.by v) (notes_in c.args.self.now) (notes_in c.add_pair.new.self) kind
-    (subst Adds_of c.origin_of.ensures c.in_ok-add_pair.ensures.added) tt
+    (subst Adds_of c.origin_of-parent.ensures c.in_ok-add_pair.ensures.added) tt
     (λ root asks _ codes _. asks) tt tt tt
 
 pub returns-clause-forbidden : goal.returns-clause-forbidden
@@ -29,8 +29,8 @@ returns-clause-forbidden g c = clause_listed (g.D.Interner.universe c.args.provi
 pub returns-in_err-add_pair-clause-adds : goal.returns-in_err-add_pair-clause-adds
 returns-in_err-add_pair-clause-adds g c =
     AddsOnly-weaker _ _ (λ o is. parent_own
-    (g.D.Interner.universe c.args.provider.now) c.args.by c.args.version_set c.origin_of.result o c.origin_of.ensures is) _ _ c.add_pair.ensures.adds
+    (g.D.Interner.universe c.args.provider.now) c.args.by c.args.version_set c.origin_of-parent.result o c.origin_of-parent.ensures is) _ _ c.add_pair.ensures.adds
 
 pub returns-clause-adds : goal.returns-clause-adds
 returns-clause-adds g c = AddsOnly-weaker _ _ (λ o is.
-    parent_own (g.D.Interner.universe c.args.provider.now) c.args.by c.args.version_set c.origin_of.result o c.origin_of.ensures is) _ _ c.add_pair.ensures.adds
+    parent_own (g.D.Interner.universe c.args.provider.now) c.args.by c.args.version_set c.origin_of-parent.result o c.origin_of-parent.ensures is) _ _ c.add_pair.ensures.adds
