@@ -5,13 +5,13 @@ use Rattle.resolver_clause_store.specs.declared.scores.Score.{Score}
 use Rattle.resolver_clause_store.specs.declared.scores.Scores.{Scores}
 
 -- what is left of a score after a learnt clause: so many millionths of it, rounded down
-abbrev pub fade : ℕ → ℕ → ℕ
-fade decay score = min (score * decay) (2 ^ 64 - 1) / 1000000
+abbrev pub after_decay : ℕ → ℕ → ℕ
+after_decay decay score = min (score * decay) (2 ^ 64 - 1) / 1000000
 
 -- and after so many
-abbrev pub fade_often : ℕ → ℕ → ℕ → ℕ
-fade_often decay zero score = score
-fade_often decay (suc times) score = fade_often decay times (fade decay score)
+abbrev pub after_decays : ℕ → ℕ → ℕ → ℕ
+after_decays decay zero score = score
+after_decays decay (suc times) score = after_decays decay times (after_decay decay score)
 
 -- the score of a package as it was kept, and 0 where there is none
 abbrev pub kept_score : List Score → ℕ → Score
@@ -30,4 +30,4 @@ activity_in it = it.activity
 
 -- the score of a package after so many learnt clauses
 abbrev pub score_in : Scores → ℕ → ℕ → ℕ
-score_in it number learnt = fade_often it.activity.decay (learnt - (kept_score it.scores.items number).learnt) (kept_score it.scores.items number).value
+score_in it number learnt = after_decays it.activity.decay (learnt - (kept_score it.scores.items number).learnt) (kept_score it.scores.items number).value

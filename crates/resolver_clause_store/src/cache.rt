@@ -54,7 +54,7 @@ impl<N: Copy + Eq + Hash + Drop, S: Copy + Eq + Hash + Drop> Cache<N, S> {
     }
 
     /// Asks for what a package lists.
-    pub fn ask_candidates<D: DependencyProvider<NameId = N, SolvableId = S>>(
+    pub fn fetch_candidates<D: DependencyProvider<NameId = N, SolvableId = S>>(
         &mut self,
         provider: &D,
         name: N,
@@ -83,7 +83,7 @@ impl<N: Copy + Eq + Hash + Drop, S: Copy + Eq + Hash + Drop> Cache<N, S> {
     }
 
     /// Asks for the listed candidates that a version set takes.
-    pub fn ask_matching<D: DependencyProvider<NameId = N, SolvableId = S>>(
+    pub fn fetch_matching<D: DependencyProvider<NameId = N, SolvableId = S>>(
         &mut self,
         provider: &D,
         version_set: VersionSetId,
@@ -98,7 +98,7 @@ impl<N: Copy + Eq + Hash + Drop, S: Copy + Eq + Hash + Drop> Cache<N, S> {
             return Ok(());
         }
         let name = provider.version_set_name(version_set);
-        self.ask_candidates(provider, name)?;
+        self.fetch_candidates(provider, name)?;
         let listed = &self.candidates(name).candidates;
         let taken = provider.filter_candidates(listed, version_set, false)?;
         self.matching.insert(version_set, taken)?;
@@ -114,7 +114,7 @@ impl<N: Copy + Eq + Hash + Drop, S: Copy + Eq + Hash + Drop> Cache<N, S> {
     }
 
     /// Asks for the listed candidates that a version set does not take.
-    pub fn ask_non_matching<D: DependencyProvider<NameId = N, SolvableId = S>>(
+    pub fn fetch_non_matching<D: DependencyProvider<NameId = N, SolvableId = S>>(
         &mut self,
         provider: &D,
         version_set: VersionSetId,
@@ -129,7 +129,7 @@ impl<N: Copy + Eq + Hash + Drop, S: Copy + Eq + Hash + Drop> Cache<N, S> {
             return Ok(());
         }
         let name = provider.version_set_name(version_set);
-        self.ask_candidates(provider, name)?;
+        self.fetch_candidates(provider, name)?;
         let listed = &self.candidates(name).candidates;
         let left_out = provider.filter_candidates(listed, version_set, true)?;
         self.non_matching.insert(version_set, left_out)?;
@@ -145,7 +145,7 @@ impl<N: Copy + Eq + Hash + Drop, S: Copy + Eq + Hash + Drop> Cache<N, S> {
     }
 
     /// Asks for the candidates of a version set in the order in which they are to be tried.
-    pub fn ask_sorted<D: DependencyProvider<NameId = N, SolvableId = S>>(
+    pub fn fetch_sorted<D: DependencyProvider<NameId = N, SolvableId = S>>(
         &mut self,
         provider: &D,
         version_set: VersionSetId,
@@ -160,8 +160,8 @@ impl<N: Copy + Eq + Hash + Drop, S: Copy + Eq + Hash + Drop> Cache<N, S> {
             return Ok(());
         }
         let name = provider.version_set_name(version_set);
-        self.ask_matching(provider, version_set)?;
-        self.ask_candidates(provider, name)?;
+        self.fetch_matching(provider, version_set)?;
+        self.fetch_candidates(provider, name)?;
         let favored = self.candidates(name).favored;
         let taken = self.matching(version_set);
         let sorted = sorted_favored_first(self.alloc, provider, taken, favored)?;
@@ -178,7 +178,7 @@ impl<N: Copy + Eq + Hash + Drop, S: Copy + Eq + Hash + Drop> Cache<N, S> {
     }
 
     /// Asks for what a solvable requires and constrains.
-    pub fn ask_dependencies<D: DependencyProvider<NameId = N, SolvableId = S>>(
+    pub fn fetch_dependencies<D: DependencyProvider<NameId = N, SolvableId = S>>(
         &mut self,
         provider: &D,
         solvable: S,

@@ -176,7 +176,7 @@ impl DecideQueue {
 
     /// Looks at an active requirement, by its place among them. If it is to be decided, its candidate is answered. Else it is put
     /// aside.
-    fn settle(
+    fn consider(
         &mut self,
         trail: &Trail,
         table: &[Vec<Literal>],
@@ -241,7 +241,7 @@ impl DecideQueue {
             let place = self
                 .ranks
                 .best(self.active.as_slice(), trail, table, requirements)?;
-            match self.settle(trail, table, requirements, place)? {
+            match self.consider(trail, table, requirements, place)? {
                 Some(choice) => return Ok(Some(choice)),
                 None => (),
             }

@@ -29,7 +29,7 @@ pub fn requirement_candidates<D: DependencyProvider>(
 {
     match requirement {
         Requirement::Single(version_set) => {
-            cache.ask_sorted(provider, version_set)?;
+            cache.fetch_sorted(provider, version_set)?;
             Ok(Vec::from_slice(cache.allocator(), cache.sorted(version_set))?)
         }
         Requirement::Union(version_set_union) => {
@@ -54,7 +54,7 @@ fn union_candidates<D: DependencyProvider>(
 {
     let mut candidates = IndexSet::new(cache.allocator());
     for version_set in provider.version_sets_in_union(version_set_union) {
-        cache.ask_sorted(provider, *version_set)?;
+        cache.fetch_sorted(provider, *version_set)?;
         add_all(&mut candidates, cache.sorted(*version_set))?;
     }
     Ok(Vec::from_slice(cache.allocator(), candidates.as_slice())?)

@@ -1,7 +1,7 @@
 //! Scores of packages, which grow with learnt clauses and fade.
 
 ghost use Rattle.std.specs.Prelude.{◌<◌, ◌≡◌, ◌≢◌, ◌≤◌, ◌+◌, ◌-◌, ◌^◌, ℕ, OnOk, length, min, suc};
-ghost use Rattle.resolver_clause_store.specs.Scores.{activity_in, fade, fade_often, kept_at, kept_in, kept_score, score_in};
+ghost use Rattle.resolver_clause_store.specs.Scores.{activity_in, after_decay, after_decays, kept_at, kept_in, kept_score, score_in};
 ghost use Rattle.resolver_clause_store.specs.declared.scores.Scores.{Scores as AllScores};
 
 use std::alloc::{AllocError, Global};
@@ -17,7 +17,7 @@ pub struct Activity {
 
 impl Activity {
     /// Scores in millionths, of which a twentieth fades.
-    pub fn usual() -> Self
+    pub fn standard() -> Self
         ensures add { result.add ≡ 1000000 }
         ensures decay { result.decay ≡ 950000 }
     {
@@ -29,19 +29,19 @@ impl Activity {
 }
 
 /// What is left of a score after a learnt clause.
-pub fn faded(score: u64, decay: u64) -> u64
-    ensures { result ≡ fade decay score }
+pub fn decayed(score: u64, decay: u64) -> u64
+    ensures { result ≡ after_decay decay score }
 {
     score.saturating_mul(decay) / 1_000_000
 }
 
 /// What is left of a score after so many learnt clauses.
-pub fn faded_often(score: u64, decay: u64, times: u64) -> u64
-    ensures { result ≡ fade_often decay times score }
+pub fn decayed_often(score: u64, decay: u64, times: u64) -> u64
+    ensures { result ≡ after_decays decay times score }
 {
     let mut left = score;
     'times: for count in 0..times {
-        let next = faded(left, decay);
+        let next = decayed(left, decay);
         if next == left {
             return left;
         }
@@ -95,7 +95,7 @@ impl Scores {
         ensures { result ≡ score_in self.now number learnt }
     {
         let kept = self.kept(number);
-        faded_often(
+        decayed_often(
             kept.value,
             self.activity.decay,
             learnt.saturating_sub(kept.learnt),
@@ -156,5 +156,5 @@ impl Scores {
 /// A score that is read one learnt clause later has faded once more.
 pub fn scores_fade()
     ensures { (scores : AllScores) (number learnt : ℕ) → (kept_score scores.scores.items number).learnt ≤ learnt →
-        score_in scores number (suc learnt) ≡ fade scores.activity.decay (score_in scores number learnt) }
+        score_in scores number (suc learnt) ≡ after_decay scores.activity.decay (score_in scores number learnt) }
 {}

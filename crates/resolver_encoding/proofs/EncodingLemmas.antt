@@ -23,7 +23,7 @@ use Rattle.resolver_clause_store.specs.declared.VersionSetId.{VersionSetId}
 use Rattle.resolver_clause_store.proofs.PlaceLemmas.{Keeps-same, Keeps-trans, place_cases, place_left, place_of_member}
 use Rattle.resolver_encoding.specs.Atoms.{Atom, atoms_of}
 use Rattle.resolver_encoding.specs.Called.{Call, to_ask, to_see}
-use Rattle.resolver_encoding.specs.Encodings.{AddsClause, AddsRequirement, AsksForCandidates, Coding, Doing, Extends, Grows, HasUsualHelper, IsAskStep}
+use Rattle.resolver_encoding.specs.Encodings.{AddsClause, AddsRequirement, AsksForCandidates, Coding, Doing, Extends, Grows, HasProperHelper, IsAskStep}
 use Rattle.resolver_encoding.specs.Encodings.{IsEncodingOf, IsEncodingWhile, IsFollowed, IsReadStep, IsStep, IsStepWhile, KeepsLimits, Notes, idle}
 use Rattle.resolver_encoding.specs.Codes.{bit}
 use Rattle.resolver_encoding.specs.Groups.{IsAt}
@@ -197,7 +197,7 @@ module _ {N S : Type 0} (u : Universe N S) where
       (kind : ClauseKind N S) : Type 0 where
     pub clause : IsClauseOf u origins literals kind
     pub is_true : (codes : N → ℕ → S → Bool) → HasCodes doing notes codes → IsTrueClause u codes root kind
-    pub usual : HasUsualHelper kind
+    pub proper : HasProperHelper kind
     pub due : IsDue (doing.asking ++ notes.asked) notes.exempt kind
     pub prepared : IsPrepared doing notes kind
 
@@ -249,7 +249,7 @@ module _ {N S : Type 0} (u : Universe N S) where
         own_codes = before.own_codes;
         each_true = All-push (IsTrueClause u before.codes root) notes.kinds kind before.each_true
             (next.is_true before.codes (record { placed = before.placed; coding = before.coding }));
-        each_usual = All-push HasUsualHelper notes.kinds kind before.each_usual next.usual;
+        each_proper = All-push HasProperHelper notes.kinds kind before.each_proper next.proper;
         due = AreDue-push (doing.asking ++ notes.asked) notes.exempt notes.kinds kind before.due next.due;
         installs = within InstallRoot before.installs;
         listed = listed.listed;

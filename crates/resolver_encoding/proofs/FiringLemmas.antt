@@ -213,7 +213,7 @@ module _ {N S : Type 0} (u : Universe N S) where
     codes = before.codes;
     own_codes = before.own_codes;
     each_true = before.each_true;
-    each_usual = before.each_usual;
+    each_proper = before.each_proper;
     due = before.due;
     installs = before.installs;
     listed = before.listed;

@@ -21,7 +21,7 @@ use Rattle.resolver_clause_store.proofs.PlaceLemmas.{Keeps-same, place_of_member
 use Rattle.resolver_clause_store.proofs.SetLemmas.{All-next}
 use Rattle.resolver_encoding.specs.Atoms.{atoms_of}
 use Rattle.resolver_encoding.specs.Called.{Call, IsAsking, IsNamedBy, IsSeeing, IsSeeingEach, to_ask, to_see}
-use Rattle.resolver_encoding.specs.Encodings.{AddsClause, AsksForCandidates, Doing, Extends, Grows, HasUsualHelper, IsAskStep, IsEncodingWhile, IsFollowed}
+use Rattle.resolver_encoding.specs.Encodings.{AddsClause, AsksForCandidates, Doing, Extends, Grows, HasProperHelper, IsAskStep, IsEncodingWhile, IsFollowed}
 use Rattle.resolver_encoding.specs.Encodings.{IsLockRead, IsStep, IsStepWhile, Notes, asking_for, idle}
 use Rattle.resolver_encoding.specs.Truth.{AreDue, IsTrueClause}
 use Rattle.resolver_encoding.proofs.EncodingLemmas.{AreEncoded-keeps, Extends-same, HasCodes, IsClauseOf-zip, IsDue, IsPrepared, IsStep-clause, IsWithin-push}
@@ -84,14 +84,14 @@ module _ {N S : Type 0} (u : Universe N S) where
   pub IsStep-plain : (doing : Doing N S) (Premise : Demands → Type 0) (old new : Notes N S) (kind : ClauseKind N S) →
       AddsClause old new kind (atoms_of u kind) → IsPlain kind →
       ((root : Demands) → Premise root → IsEncodingWhile u doing root old → (codes : N → ℕ → S → Bool) → HasCodes u doing old codes →
-      IsTrueClause u codes root kind) → HasUsualHelper kind → IsDue u (doing.asking ++ old.asked) old.exempt kind → IsPrepared u doing old kind →
+      IsTrueClause u codes root kind) → HasProperHelper kind → IsDue u (doing.asking ++ old.asked) old.exempt kind → IsPrepared u doing old kind →
       IsStepWhile u doing Premise old new
-  IsStep-plain doing Premise old new kind adds plain is_true usual due prepared =
+  IsStep-plain doing Premise old new kind adds plain is_true proper due prepared =
       IsStep-clause u doing Premise old new kind (atoms_of u kind) adds (asks_not kind plain)
       (λ root premise before. record {
         clause = IsClauseOf-zip u new.origins adds.literals.items kind adds.are;
         is_true = is_true root premise before;
-        usual = usual;
+        proper = proper;
         due = due;
         prepared = prepared;
       })
@@ -123,7 +123,7 @@ module _ {N S : Type 0} (u : Universe N S) where
           codes = before.codes;
           own_codes = before.own_codes;
           each_true = before.each_true;
-          each_usual = before.each_usual;
+          each_proper = before.each_proper;
           due = before.due;
           installs = before.installs;
           listed = before.listed;
@@ -181,7 +181,7 @@ module _ {N S : Type 0} (u : Universe N S) where
     codes = start.codes;
     own_codes = start.own_codes;
     each_true = start.each_true;
-    each_usual = start.each_usual;
+    each_proper = start.each_proper;
     due = AreDue-within old.asked (n ∷ old.asked) old.exempt old.kinds (λ m h. there n old.asked m h) start.due;
     installs = start.installs;
     listed = start.listed;
@@ -249,7 +249,7 @@ module _ {N S : Type 0} (u : Universe N S) where
               codes = before.codes;
               own_codes = before.own_codes;
               each_true = before.each_true;
-              each_usual = before.each_usual;
+              each_proper = before.each_proper;
               due = AreDue-within (n ∷ mid.asked) (mid.asked ++ n ∷ []) mid.exempt mid.kinds swap before.due;
               installs = before.installs;
               listed = before.listed;
@@ -337,7 +337,7 @@ module _ {N S : Type 0} (u : Universe N S) where
           codes = before.codes;
           own_codes = before.own_codes;
           each_true = before.each_true;
-          each_usual = before.each_usual;
+          each_proper = before.each_proper;
           due = before.due;
           installs = before.installs;
           listed = before.listed;
@@ -397,7 +397,7 @@ module _ {N S : Type 0} (u : Universe N S) where
           codes = before.codes;
           own_codes = before.own_codes;
           each_true = before.each_true;
-          each_usual = before.each_usual;
+          each_proper = before.each_proper;
           due = before.due;
           installs = before.installs;
           listed = before.listed;
@@ -456,7 +456,7 @@ module _ {N S : Type 0} (u : Universe N S) where
           codes = before.codes;
           own_codes = before.own_codes;
           each_true = before.each_true;
-          each_usual = before.each_usual;
+          each_proper = before.each_proper;
           due = before.due;
           installs = before.installs;
           listed = before.listed;

@@ -30,7 +30,7 @@ use Rattle.resolver_clause_store.specs.Statements.{IsPresent, AllMeet}
 use Rattle.resolver_clause_store.specs.TrueRules.{demands_by}
 use Rattle.resolver_encoding.specs.Atoms.{Atom, atom, atoms_of, origin_by}
 use Rattle.resolver_encoding.specs.Called.{Call, IsDemanded, IsNamedBy, IsSeeing, IsWantedBy, to_ask, to_see}
-use Rattle.resolver_encoding.specs.Encodings.{HasUsualHelper, IsAskStep, IsEncoding, IsFollowed, IsReadStep, IsTrueEntry, IsUnmet, Notes}
+use Rattle.resolver_encoding.specs.Encodings.{HasProperHelper, IsAskStep, IsEncoding, IsFollowed, IsReadStep, IsTrueEntry, IsUnmet, Notes}
 use Rattle.resolver_encoding.specs.Reach.{AreNear}
 use Rattle.resolver_encoding.specs.ReadState.{Deferred}
 use Rattle.resolver_encoding.specs.SoFar.{IsBare, IsFiring, IsHalfRead, IsReadSoFar, IsReadingOf}
@@ -224,9 +224,9 @@ module _ {N S : Type 0} (u : Universe N S) (s : S) where
   neither : (a b c : Atom N S) → (IsIt a → ⊥) → (IsIt b → ⊥) → Contains (a ∷ b ∷ []) c → IsIt c → ⊥
   neither a b c first second h it = ⊎_elim first second (one_of_two a b c h it)
 
-  asks_for_it : (kind : ClauseKind N S) → HasUsualHelper kind → (a : Atom N S) → Contains (atoms_of u kind) a → IsIt a → AsksForIt kind
-  asks_for_it InstallRoot usual a h it = not_root Root refl (only_atom (atom Root true) a h it).1
-  asks_for_it (RequiresKind by disjunct r) usual a h it =
+  asks_for_it : (kind : ClauseKind N S) → HasProperHelper kind → (a : Atom N S) → Contains (atoms_of u kind) a → IsIt a → AsksForIt kind
+  asks_for_it InstallRoot proper a h it = not_root Root refl (only_atom (atom Root true) a h it).1
+  asks_for_it (RequiresKind by disjunct r) proper a h it =
       let helpers : List (Atom N S) = map (λ v. atom (ConditionHelper v) false) disjunct.items in
       let candidates : List (Atom N S) = map (λ t. atom (Solvable t) true) (requirement_candidates u r) in
       ⊎_elim
@@ -236,28 +236,28 @@ module _ {N S : Type 0} (u : Universe N S) (s : S) where
       (λ (candidate : Contains candidates a). candidate_is (requirement_candidates u r) a candidate it)
       (Contains-append_cases helpers candidates a later))
       (cons_cases (atom (origin_by by) false) (helpers ++ candidates) a h)
-  asks_for_it (GateRequires r) usual a h it =
+  asks_for_it (GateRequires r) proper a h it =
       let candidates : List (Atom N S) = map (λ t. atom (Solvable t) true) (requirement_candidates u r) in
       ⊎_elim
       (λ (is : atom (Gate r) false ≡ a). absurd (true≢false (sym (subst IsIt (sym is) it).0)))
       (λ (candidate : Contains candidates a). candidate_is (requirement_candidates u r) a candidate it)
       (cons_cases (atom (Gate r) false) candidates a h)
-  asks_for_it (AnyOf Root t) usual a h it = usual
-  asks_for_it (AnyOf (Solvable q) t) usual a h it = usual
-  asks_for_it (AnyOf (Bit n i) t) usual a h it = usual
-  asks_for_it (AnyOf (ConstraintHelper v) t) usual a h it = usual
-  asks_for_it (AnyOf (Gate r) t) usual a h it = neither (atom (Gate r) true) (atom (Solvable t) false) a (λ i. cc) (λ i. true≢false (sym i.0)) h it
-  asks_for_it (AnyOf (ConditionHelper v) t) usual a h it =
+  asks_for_it (AnyOf Root t) proper a h it = proper
+  asks_for_it (AnyOf (Solvable q) t) proper a h it = proper
+  asks_for_it (AnyOf (Bit n i) t) proper a h it = proper
+  asks_for_it (AnyOf (ConstraintHelper v) t) proper a h it = proper
+  asks_for_it (AnyOf (Gate r) t) proper a h it = neither (atom (Gate r) true) (atom (Solvable t) false) a (λ i. cc) (λ i. true≢false (sym i.0)) h it
+  asks_for_it (AnyOf (ConditionHelper v) t) proper a h it =
       neither (atom (ConditionHelper v) true) (atom (Solvable t) false) a (λ i. cc) (λ i. true≢false (sym i.0)) h it
-  asks_for_it (ConstrainsKind by v t) usual a h it =
+  asks_for_it (ConstrainsKind by v t) proper a h it =
       neither (atom (origin_by by) false) (atom (Solvable t) false) a (by_not by) (λ i. true≢false (sym i.0)) h it
-  asks_for_it (ConstrainsExcluded t v) usual a h it =
+  asks_for_it (ConstrainsExcluded t v) proper a h it =
       neither (atom (Solvable t) false) (atom (ConstraintHelper v) true) a (λ i. true≢false (sym i.0)) (λ i. cc) h it
-  asks_for_it (ConstrainsParent by v) usual a h it =
+  asks_for_it (ConstrainsParent by v) proper a h it =
       neither (atom (origin_by by) false) (atom (ConstraintHelper v) false) a (by_not by) (λ i. true≢false (sym i.0)) h it
-  asks_for_it (HasBit n t i b) usual a h it = neither (atom (Solvable t) false) (atom (Bit n i) b) a (λ j. true≢false (sym j.0)) (λ j. cc) h it
-  asks_for_it (Lock t q) usual a h it = neither (atom Root false) (atom (Solvable q) false) a (λ i. true≢false (sym i.0)) (λ i. true≢false (sym i.0)) h it
-  asks_for_it (Excluded t reason) usual a h it = true≢false (sym (only_atom (atom (Solvable t) false) a h it).0)
+  asks_for_it (HasBit n t i b) proper a h it = neither (atom (Solvable t) false) (atom (Bit n i) b) a (λ j. true≢false (sym j.0)) (λ j. cc) h it
+  asks_for_it (Lock t q) proper a h it = neither (atom Root false) (atom (Solvable q) false) a (λ i. true≢false (sym i.0)) (λ i. true≢false (sym i.0)) h it
+  asks_for_it (Excluded t reason) proper a h it = true≢false (sym (only_atom (atom (Solvable t) false) a h it).0)
 
   asked_seen : (root : Demands) (notes : Notes N S) → IsEncoding u root notes → (kind : ClauseKind N S) → Contains notes.kinds kind → AsksForIt kind →
       Contains notes.seen s
@@ -288,4 +288,4 @@ positives_seen {N} {S} u root notes encoding clause listed l inside positive s s
     let a = (encoding.encoded.each number kind kind_at).atoms.each_literal l (subst Has (sym items) inside) in
     let origin : a.0.origin ≡ Solvable s = sym (get_or_from_slice_get notes.origins l.variable a.0.origin Root a.2.origin) ∙ stands in
     asked_seen u s root notes encoding kind has_kind
-    (asks_for_it u s kind (All-contains HasUsualHelper notes.kinds kind encoding.each_usual has_kind) a.0 a.1 (sym a.2.positive ∙ positive, origin))
+    (asks_for_it u s kind (All-contains HasProperHelper notes.kinds kind encoding.each_proper has_kind) a.0 a.1 (sym a.2.positive ∙ positive, origin))

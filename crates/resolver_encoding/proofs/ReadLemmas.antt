@@ -28,7 +28,7 @@ use Rattle.resolver_clause_store.specs.declared.VersionSetId.{VersionSetId}
 use Rattle.resolver_clause_store.specs.Statements.{IsPresent}
 use Rattle.resolver_clause_store.specs.TrueRules.{demands_by}
 use Rattle.resolver_encoding.specs.Atoms.{atom}
-use Rattle.resolver_encoding.specs.Encodings.{AsksForCandidates, AreDemandsRead, AreNeedsRead, Extends, HasUsualHelper, IsConstraintRead, IsEncoding, IsLeft}
+use Rattle.resolver_encoding.specs.Encodings.{AsksForCandidates, AreDemandsRead, AreNeedsRead, Extends, HasProperHelper, IsConstraintRead, IsEncoding, IsLeft}
 use Rattle.resolver_encoding.specs.Encodings.{IsUnread, Notes}
 use Rattle.resolver_encoding.specs.Groups.{IsAt, IsNamed, group_at}
 use Rattle.resolver_encoding.specs.declared.groups.Groups.{Groups}
@@ -212,7 +212,7 @@ module _ {N S : Type 0} (u : Universe N S) where
         codes = no_codes;
         own_codes = record { named = λ n i s e. absurd (false≢true e) };
         each_true = All-cons (IsTrueClause u no_codes root) InstallRoot [] tt (All-nil (IsTrueClause u no_codes root));
-        each_usual = All-cons HasUsualHelper InstallRoot [] tt (All-nil HasUsualHelper);
+        each_proper = All-cons HasProperHelper InstallRoot [] tt (All-nil HasProperHelper);
         due = record {
           locks = λ s t h. absurd (not_there (Lock s t) (λ q. cc) h);
           exclusions = λ s reason h. absurd (not_there (Excluded s reason) (λ q. cc) h);

@@ -14,7 +14,7 @@ use Rattle.resolver_clause_store.specs.declared.ClauseKind.TheVariants.{Constrai
 use Rattle.resolver_clause_store.specs.declared.Origin.TheVariants.{Root, Solvable, Bit, Gate, ConstraintHelper, ConditionHelper}
 use Rattle.resolver_encoding.specs.Called.{Call, IsSeeing, to_ask, to_see}
 use Rattle.resolver_encoding.specs.Codes.{bit}
-use Rattle.resolver_encoding.specs.Encodings.{AddsClause, Coding, Extends, HasUsualHelper, IsAskStep, IsEncoding, IsEncodingWhile, IsFollowed, IsStepWhile}
+use Rattle.resolver_encoding.specs.Encodings.{AddsClause, Coding, Extends, HasProperHelper, IsAskStep, IsEncoding, IsEncodingWhile, IsFollowed, IsStepWhile}
 use Rattle.resolver_encoding.specs.Encodings.{Notes, coding_for}
 use Rattle.resolver_encoding.specs.Groups.{AddsNamed, AreGroups, IsAt, IsNamed}
 use Rattle.resolver_encoding.specs.declared.groups.Groups.{Groups}
@@ -95,23 +95,23 @@ module _ {N S : Type 0} (u : Universe N S) where
     }
 
     -- a clause that says nothing of the solvable's bits is still true
-    still_true : (codes : N → ℕ → S → Bool) (root : Demands) (kind : ClauseKind N S) → HasUsualHelper kind →
+    still_true : (codes : N → ℕ → S → Bool) (root : Demands) (kind : ClauseKind N S) → HasProperHelper kind →
         ((m : N) (t : S) (i : ℕ) (b : Bool) → kind ≡ HasBit m t i b → t ≡ s → ⊥) → IsTrueClause u codes root kind → IsTrueClause u (coded_also codes) root kind
-    still_true codes root InstallRoot usual apart h = tt
-    still_true codes root (Requires by disjunct r) usual apart h = h
-    still_true codes root (AnyOf (ConditionHelper v) t) usual apart h = h
-    still_true codes root (AnyOf (Gate r) t) usual apart h = h
-    still_true codes root (AnyOf Root t) usual apart h = absurd usual
-    still_true codes root (AnyOf (Solvable r) t) usual apart h = absurd usual
-    still_true codes root (AnyOf (Bit m i) t) usual apart h = absurd usual
-    still_true codes root (AnyOf (ConstraintHelper v) t) usual apart h = absurd usual
-    still_true codes root (Constrains by v t) usual apart h = h
-    still_true codes root (GateRequires r) usual apart h = tt
-    still_true codes root (ConstrainsExcluded t v) usual apart h = h
-    still_true codes root (ConstrainsParent by v) usual apart h = h
-    still_true codes root (HasBit m t i b) usual apart h = (h.0, coded_as_before codes m i t (apart m t i b refl) ∙ h.1)
-    still_true codes root (Lock t r) usual apart h = h
-    still_true codes root (Excluded t reason) usual apart h = h
+    still_true codes root InstallRoot proper apart h = tt
+    still_true codes root (Requires by disjunct r) proper apart h = h
+    still_true codes root (AnyOf (ConditionHelper v) t) proper apart h = h
+    still_true codes root (AnyOf (Gate r) t) proper apart h = h
+    still_true codes root (AnyOf Root t) proper apart h = absurd proper
+    still_true codes root (AnyOf (Solvable r) t) proper apart h = absurd proper
+    still_true codes root (AnyOf (Bit m i) t) proper apart h = absurd proper
+    still_true codes root (AnyOf (ConstraintHelper v) t) proper apart h = absurd proper
+    still_true codes root (Constrains by v t) proper apart h = h
+    still_true codes root (GateRequires r) proper apart h = tt
+    still_true codes root (ConstrainsExcluded t v) proper apart h = h
+    still_true codes root (ConstrainsParent by v) proper apart h = h
+    still_true codes root (HasBit m t i b) proper apart h = (h.0, coded_as_before codes m i t (apart m t i b refl) ∙ h.1)
+    still_true codes root (Lock t r) proper apart h = h
+    still_true codes root (Excluded t reason) proper apart h = h
 
     -- a solvable that is going to get its code
     pub coding_opened : (root : Demands) (old : Notes N S) → u.name s ≡ n → (Contains old.seen s → ⊥) → IsEncoding u root old →
@@ -126,7 +126,7 @@ module _ {N S : Type 0} (u : Universe N S) where
           own_codes = coded_own start.codes name start.own_codes;
           each_true = λ p d below.
               let inside = Contains-get_or old.kinds p d below in
-              still_true start.codes root (get_or old.kinds p d) (start.each_usual p d below)
+              still_true start.codes root (get_or old.kinds p d) (start.each_proper p d below)
               (λ m t i b is same.
               let Has : ClauseKind N S → Type 0 = λ q. Contains old.kinds q in
               ⊎_elim
@@ -134,7 +134,7 @@ module _ {N S : Type 0} (u : Universe N S) where
               (λ (none : Contains (map (λ (c : Coding N S). c.instance) []) t). none_in t none)
               (start.coded m t i b (subst Has is inside)))
               (start.each_true p d below);
-          each_usual = start.each_usual;
+          each_proper = start.each_proper;
           due = start.due;
           installs = start.installs;
           listed = start.listed;
@@ -193,7 +193,7 @@ module _ {N S : Type 0} (u : Universe N S) where
         record {
           clause = IsClauseOf-zip u new.origins adds.literals.items kind adds.are;
           is_true = λ codes has. (member.0, has.placed n j t at i ∙ no_digit j i less);
-          usual = tt;
+          proper = tt;
           due = tt;
           prepared = inl member.1;
         })
@@ -245,7 +245,7 @@ module _ {N S : Type 0} (u : Universe N S) where
                 codes = before.codes;
                 own_codes = before.own_codes;
                 each_true = before.each_true;
-                each_usual = before.each_usual;
+                each_proper = before.each_proper;
                 due = before.due;
                 installs = before.installs;
                 listed = before.listed;

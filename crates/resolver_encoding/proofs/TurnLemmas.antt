@@ -19,7 +19,7 @@ use Rattle.resolver_encoding.specs.Encodings.{AddsClause, IsEncoding, IsEncoding
 use Rattle.resolver_encoding.specs.ReadState.{Deferred}
 use Rattle.resolver_encoding.specs.SoFar.{IsHalfRead}
 use Rattle.resolver_encoding.specs.Truth.{AreDue}
-use Rattle.resolver_encoding.specs.Turns.{AddsPlainly, AsksOnly, IsPaid, IsRegistered, IsTurnEnd, StaysRead}
+use Rattle.resolver_encoding.specs.Turns.{AddsPlainly, AsksOnly, IsRestored, IsRegistered, IsTurnEnd, StaysRead}
 use Rattle.resolver_encoding.proofs.EncodingLemmas.{Extends-same, IsWithin-same}
 use Rattle.resolver_encoding.proofs.ReadLemmas.{AreDemandsRead-grown, AreNeedsRead-grown}
 use Rattle.resolver_clause_store.proofs.ListLemmas.{Contains-cons_cases as cons_cases, Contains-here as here, Contains-there as there}
@@ -91,7 +91,7 @@ module _ {N S : Type 0} (u : Universe N S) where
     codes = start.codes;
     own_codes = start.own_codes;
     each_true = start.each_true;
-    each_usual = start.each_usual;
+    each_proper = start.each_proper;
     due = due;
     installs = start.installs;
     listed = start.listed;
@@ -166,7 +166,7 @@ module _ {N S : Type 0} (u : Universe N S) where
       codes = start.codes;
       own_codes = start.own_codes;
       each_true = start.each_true;
-      each_usual = start.each_usual;
+      each_proper = start.each_proper;
       due = record {
         locks = λ r t h. let w = start.due.locks r t h in (w.0, λ k. w.1 (was_exempt t k));
         exclusions = λ t reason h. ⊎_elim (λ w. inl (w.0, λ k. w.1 (was_exempt t k))) (λ e. inr e) (start.due.exclusions t reason h);
@@ -199,7 +199,7 @@ module _ {N S : Type 0} (u : Universe N S) where
     }
 
     -- the clauses were made
-    module _ (same : S → S → Bool) (solvables : IsIdentity same) (new : Notes N S) (paid : IsPaid u s new) where
+    module _ (same : S → S → Bool) (solvables : IsIdentity same) (new : Notes N S) (restored : IsRestored u s new) where
       abbrev LockOf : S → S → Type 0
       LockOf t r = Contains new.asked (u.name r) → (Contains new.exempt r → ⊥) → (u.package_named (u.name r)).locked ≡ Some t →
           Contains (u.package_named (u.name r)).listed r → r ≢ t → Contains new.kinds (Lock t r)
@@ -224,7 +224,7 @@ module _ {N S : Type 0} (u : Universe N S) where
         codes = start.codes;
         own_codes = start.own_codes;
         each_true = start.each_true;
-        each_usual = start.each_usual;
+        each_proper = start.each_proper;
         due = start.due;
         installs = start.installs;
         listed = start.listed;
@@ -239,11 +239,11 @@ module _ {N S : Type 0} (u : Universe N S) where
         excluded = start.excluded;
         follow = start.follow;
         locks = λ r t h free lock inside differ. ⊎_elim
-            (λ (is : same s r ≡ true). subst (LockOf t) (solvables.alone s r is) (paid.lock t) h free lock inside differ)
+            (λ (is : same s r ≡ true). subst (LockOf t) (solvables.alone s r is) (restored.lock t) h free lock inside differ)
             (λ (apart : same s r ≡ false). start.locks r t h (not_owed r apart free) lock inside differ)
             (cases_Bool (same s r));
         exclusions = λ r reason h free inside. ⊎_elim
-            (λ (is : same s r ≡ true). subst (ExclusionOf reason) (solvables.alone s r is) (paid.exclusions reason) h free inside)
+            (λ (is : same s r ≡ true). subst (ExclusionOf reason) (solvables.alone s r is) (restored.exclusions reason) h free inside)
             (λ (apart : same s r ≡ false). start.exclusions r reason h (not_owed r apart free) inside)
             (cases_Bool (same s r));
         registered = start.registered;
@@ -259,8 +259,8 @@ module _ {N S : Type 0} (u : Universe N S) where
         sound_waiting = start.sound_waiting;
       }
 
-      pub IsTurnEnd-paid : IsStepWhile u (owing_for s) (λ root. ⊤) opened_notes new → AddsPlainly opened_notes new → IsTurnEnd u old new
-      IsTurnEnd-paid step plainly = record {
+      pub IsTurnEnd-restored : IsStepWhile u (owing_for s) (λ root. ⊤) opened_notes new → AddsPlainly opened_notes new → IsTurnEnd u old new
+      IsTurnEnd-restored step plainly = record {
         origins = step.origins;
         table = step.table;
         kinds = step.kinds;
@@ -275,12 +275,12 @@ module _ {N S : Type 0} (u : Universe N S) where
       }
 
   -- what a package lists, locks and excludes, as it was found
-  pub IsPaid-found : (s : S) (old mid new : Notes N S) (n : N) → n ≡ u.name s → IsWithin mid.kinds new.kinds → mid.exempt ≡ old.exempt →
+  pub IsRestored-found : (s : S) (old mid new : Notes N S) (n : N) → n ≡ u.name s → IsWithin mid.kinds new.kinds → mid.exempt ≡ old.exempt →
       new.exempt ≡ mid.exempt → (listed : List S) (locked : Option S) (excluded : List (S × StringId)) →
       listed ≡ (u.package_named n).listed → locked ≡ (u.package_named n).locked → excluded ≡ (u.package_named n).excluded →
       ((t : S) → locked ≡ Some t → Contains listed s → s ≢ t → (Contains old.exempt s → ⊥) → Contains mid.kinds (Lock t s)) →
-      All (λ e. e.0 ≡ s → (Contains mid.exempt s → ⊥) → Contains new.kinds (Excluded e.0 e.1)) excluded → IsPaid u s new
-  IsPaid-found s old mid new n named within same_mid same_new listed locked excluded lists locks excludes lock exclusions = record {
+      All (λ e. e.0 ≡ s → (Contains mid.exempt s → ⊥) → Contains new.kinds (Excluded e.0 e.1)) excluded → IsRestored u s new
+  IsRestored-found s old mid new n named within same_mid same_new listed locked excluded lists locks excludes lock exclusions = record {
     lock = λ t asked free is inside differ. within (Lock t s) (lock t (locks ∙ ap (λ m. (u.package_named m).locked) named ∙ is)
         (IsWithin-equal (u.package_named (u.name s)).listed listed (lists ∙ ap (λ m. (u.package_named m).listed) named) s inside) differ
         (λ k. free (IsWithin-equal old.exempt new.exempt (same_new ∙ same_mid) s k)));
@@ -290,8 +290,8 @@ module _ {N S : Type 0} (u : Universe N S) where
         (λ k. free (IsWithin-equal mid.exempt new.exempt same_new s k));
   }
 
-  pub IsPaid-unasked : (s : S) (notes : Notes N S) → (Contains notes.asked (u.name s) → ⊥) → IsPaid u s notes
-  IsPaid-unasked s notes unasked = record {
+  pub IsRestored-unasked : (s : S) (notes : Notes N S) → (Contains notes.asked (u.name s) → ⊥) → IsRestored u s notes
+  IsRestored-unasked s notes unasked = record {
     lock = λ t asked free is inside differ. absurd (unasked asked);
     exclusions = λ reason asked free inside. absurd (unasked asked);
   }

@@ -77,22 +77,22 @@ AsksForCandidates {N} {S} kind = ((by : By S) × (disjunct : Vec VersionSetId Gl
     ((r : Requirement) × (kind ≡ GateRequires r))
 
 -- what follows from a solvable here is a gate or the helper of a condition
-abbrev pub HasUsualHelper : {N S : Type 0} → ClauseKind N S → Type 0
-HasUsualHelper (AnyOf (ConditionHelper v) s) = ⊤
-HasUsualHelper (AnyOf (Gate r) s) = ⊤
-HasUsualHelper (AnyOf Root s) = ⊥
-HasUsualHelper (AnyOf (Solvable t) s) = ⊥
-HasUsualHelper (AnyOf (Bit n i) s) = ⊥
-HasUsualHelper (AnyOf (ConstraintHelper v) s) = ⊥
-HasUsualHelper InstallRoot = ⊤
-HasUsualHelper (Requires by disjunct r) = ⊤
-HasUsualHelper (Constrains by v s) = ⊤
-HasUsualHelper (GateRequires r) = ⊤
-HasUsualHelper (ConstrainsExcluded s v) = ⊤
-HasUsualHelper (ConstrainsParent by v) = ⊤
-HasUsualHelper (HasBit n s i b) = ⊤
-HasUsualHelper (Lock s t) = ⊤
-HasUsualHelper (Excluded s reason) = ⊤
+abbrev pub HasProperHelper : {N S : Type 0} → ClauseKind N S → Type 0
+HasProperHelper (AnyOf (ConditionHelper v) s) = ⊤
+HasProperHelper (AnyOf (Gate r) s) = ⊤
+HasProperHelper (AnyOf Root s) = ⊥
+HasProperHelper (AnyOf (Solvable t) s) = ⊥
+HasProperHelper (AnyOf (Bit n i) s) = ⊥
+HasProperHelper (AnyOf (ConstraintHelper v) s) = ⊥
+HasProperHelper InstallRoot = ⊤
+HasProperHelper (Requires by disjunct r) = ⊤
+HasProperHelper (Constrains by v s) = ⊤
+HasProperHelper (GateRequires r) = ⊤
+HasProperHelper (ConstrainsExcluded s v) = ⊤
+HasProperHelper (ConstrainsParent by v) = ⊤
+HasProperHelper (HasBit n s i b) = ⊤
+HasProperHelper (Lock s t) = ⊤
+HasProperHelper (Excluded s reason) = ⊤
 
 -- a solvable that gets the clauses of its code: it will be the one with this number under its name
 pub record Coding (N S : Type 0) : Type 0 where
@@ -128,7 +128,7 @@ pub record IsEncodingWhile {N S : Type 0} (u : Universe N S) (doing : Doing N S)
   pub codes : N → ℕ → S → Bool
   pub own_codes : AreCodes u codes
   pub each_true : All (IsTrueClause u codes root) notes.kinds
-  pub each_usual : All HasUsualHelper notes.kinds
+  pub each_proper : All HasProperHelper notes.kinds
   pub due : AreDue u (doing.asking ++ notes.asked) notes.exempt notes.kinds
   pub installs : Contains notes.kinds InstallRoot
   -- the numbers are just those of the clauses that ask for candidates

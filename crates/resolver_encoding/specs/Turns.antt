@@ -31,7 +31,7 @@ pub record IsRegistered {N S : Type 0} (u : Universe N S) (s : S) (old new : Not
   pub stays : StaysRead u old new
 
 -- The solvable, unless it is exempt, has the clauses of the lock and the exclusions of its package, if that was asked.
-pub record IsPaid {N S : Type 0} (u : Universe N S) (s : S) (notes : Notes N S) : Type 0 where
+pub record IsRestored {N S : Type 0} (u : Universe N S) (s : S) (notes : Notes N S) : Type 0 where
   pub lock : (t : S) → Contains notes.asked (u.name s) → (Contains notes.exempt s → ⊥) → (u.package_named (u.name s)).locked ≡ Some t →
       Contains (u.package_named (u.name s)).listed s → s ≢ t → Contains notes.kinds (Lock t s)
   pub exclusions : (reason : StringId) → Contains notes.asked (u.name s) → (Contains notes.exempt s → ⊥) →

@@ -47,7 +47,7 @@ fn count_next<D: DependencyProvider>(
     ensures small { OnOk result (All (λ n. n < 2 ^ 63) counts.new.items) }
     ensures refusal { IfErr result (IsInterruption (D.may_cancel provider.now)) }
 {
-    cache.ask_sorted(provider, version_set)?;
+    cache.fetch_sorted(provider, version_set)?;
     list_all(listed, cache.sorted(version_set))?;
     counts.push(listed.len())?;
     Ok(())

@@ -36,7 +36,7 @@ fn matching_lists<D: DependencyProvider>(
 {
     let mut lists = Vec::new(alloc);
     for version_set in version_sets {
-        cache.ask_matching(provider, *version_set)?;
+        cache.fetch_matching(provider, *version_set)?;
         lists.push(Vec::from_slice(alloc, cache.matching(*version_set))?)?;
     }
     Ok(lists)

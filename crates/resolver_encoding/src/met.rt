@@ -41,7 +41,7 @@ fn is_matched<D: DependencyProvider>(
         (Meets (matching (D.universe provider.now) version_set) chosen.now.keys → ⊥)) }
     ensures refusal { IfErr result (IsInterruption (D.may_cancel provider.now)) }
 {
-    cache.ask_matching(provider, version_set)?;
+    cache.fetch_matching(provider, version_set)?;
     Ok(is_any_chosen(chosen, cache.matching(version_set)))
 }
 
@@ -56,7 +56,7 @@ fn read_candidates<D: DependencyProvider>(
     ensures refusal { IfErr result (IsInterruption (D.may_cancel provider.now)) }
 {
     for version_set in disjunct {
-        cache.ask_matching(provider, *version_set)?;
+        cache.fetch_matching(provider, *version_set)?;
     }
     Ok(())
 }

@@ -15,7 +15,7 @@ use Rattle.resolver_report.specs.Merging.{Key, are_alike_if_there, class_in, fir
 use Rattle.resolver_report.specs.Same.{same_node}
 use Rattle.resolver_report.specs.Shapes.{Shape, as_solvable, solvable_at}
 use Rattle.resolver_report.specs.Simplified.{Group, IsGroupOf}
-use Rattle.resolver_report.specs.Stories.{known_group, group_at}
+use Rattle.resolver_report.specs.Outlines.{known_group, group_at}
 use Rattle.std.proofs.lemmas.List.Sums.{position_or_len_is}
 use Rattle.resolver_report.proofs.AlikeLemmas.{first_passes}
 use Rattle.resolver_clause_store.proofs.ListLemmas.{slice_get-inside as below}

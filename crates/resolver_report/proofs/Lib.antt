@@ -21,7 +21,7 @@ pub mod RunLemmas
 pub mod TextLemmas
 pub mod ConflictLemmas
 pub mod GroupLemmas
-pub mod StoryLemmas
+pub mod OutlineLemmas
 pub mod TreeLemmas
 pub mod CandidateLemmas
 pub mod LeastLemmas

@@ -27,7 +27,7 @@ pub mod NodeImplications
 pub mod Forests
 pub mod Messages
 pub mod Verdicts
-pub mod Stories
+pub mod Outlines
 pub mod Tellings
 pub mod Displays
 pub mod Picks

@@ -5,13 +5,13 @@ use Rattle.resolver_clause_store.specs.Universe.{Universe}
 use Rattle.resolver_report.specs.declared.parts.NodeId.{NodeId}
 use Rattle.resolver_report.specs.declared.pending.Frame.{Frame}
 use Rattle.resolver_report.specs.declared.pending.Pending.{Pending}
-use Rattle.resolver_report.specs.declared.tree.Story.{Story}
+use Rattle.resolver_report.specs.declared.tree.Outline.{Outline}
 use Rattle.resolver_report.specs.Forests.{text_of}
 use Rattle.resolver_report.specs.Indents.{levels_in}
 use Rattle.resolver_report.specs.Merging.{group_in}
 use Rattle.resolver_report.specs.Messages.{RunTold, Told, side_by_side, told_of}
 use Rattle.resolver_report.specs.Shapes.{outgoing}
-use Rattle.resolver_report.specs.Stories.{run_told_view}
+use Rattle.resolver_report.specs.Outlines.{run_told_view}
 use Rattle.resolver_report.specs.Tellings.{candidate_in, graph_in, keys_in, marks_in, tree_in}
 
 -- a candidate whose tree is being told, and what comes after it
@@ -114,12 +114,12 @@ abbrev pub runs_work : (ℕ → ℕ) → List RunTold → ℕ
 runs_work work [] = 0
 runs_work work (run ∷ runs) = 1 + nodes_work work run.candidates + runs_work work runs
 
-module _ {I N S : Type 0} (universe : I → Universe N S) (story : Story I N S) where
+module _ {I N S : Type 0} (universe : I → Universe N S) (outline : Outline I N S) where
   -- the text of the candidates of a run that are left, and of the runs after it
   abbrev pub left_told : Bool → List Bool → ℕ → List Bool → Bool → List NodeId → List RunTold → List Bool → Told (List ℕ)
   left_told top_indent levels depth branch top candidates runs reported =
-      let told = side_by_side (λ n. candidate_in universe story depth branch n.0) candidates reported in
-      let rest = tree_in universe story depth branch top runs told.reported in
+      let told = side_by_side (λ n. candidate_in universe outline depth branch n.0) candidates reported in
+      let rest = tree_in universe outline depth branch top runs told.reported in
       record { value = text_of top_indent (levels ++ (length runs == 0) ∷ []) told.value ++ text_of top_indent levels rest.value; reported = rest.reported }
 
   -- the text of what comes after the candidates whose trees are being told
@@ -136,7 +136,7 @@ module _ {I N S : Type 0} (universe : I → Universe N S) (story : Story I N S) 
       told.value ++ frames_text p.top_indent p.limit p.frames p.branch told.reported
 
   abbrev pub runs_at : ℕ → List RunTold
-  runs_at n = told_of (graph_in universe story) (group_in (keys_in universe story)) (marks_in universe story) (outgoing (graph_in universe story).shape.edges n)
+  runs_at n = told_of (graph_in universe outline) (group_in (keys_in universe outline)) (marks_in universe outline) (outgoing (graph_in universe outline).shape.edges n)
 
   -- the steps that a candidate takes at most
   abbrev pub candidate_work : ℕ → ℕ → ℕ

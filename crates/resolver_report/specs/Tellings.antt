@@ -1,8 +1,8 @@
 -- What the code that writes a tree writes, as the definitions take it.
 use Rattle.std.specs.Prelude.{◌≡◌, ℕ, Bool, true, false, List, [], ◌∷◌, ◌++◌, IsSome, codes, map, slice_get}
 use Rattle.resolver_clause_store.specs.Universe.{Universe}
-use Rattle.resolver_report.specs.declared.story.NodeStory.{NodeStory}
-use Rattle.resolver_report.specs.declared.tree.Story.{Story}
+use Rattle.resolver_report.specs.declared.outline.NodeOutline.{NodeOutline}
+use Rattle.resolver_report.specs.declared.tree.Outline.{Outline}
 use Rattle.resolver_report.specs.ConflictGraphs.{shape_of}
 use Rattle.resolver_report.specs.Forests.{Forest, Piece, quiet, said, text_of, indent_from}
 use Rattle.resolver_report.specs.Marks.{installable}
@@ -11,7 +11,7 @@ use Rattle.resolver_report.specs.Messages.{Told, RunTold, Verdict, excluded, alo
 use Rattle.resolver_report.specs.Messages.{reason_text, tell_candidate, tell_run, tree_over, version_text}
 use Rattle.resolver_report.specs.Shapes.{ConflictShape, places, solvable_at}
 use Rattle.resolver_report.specs.Simplified.{IsSimplified}
-use Rattle.resolver_report.specs.Stories.{groups_in, node_told, node_view}
+use Rattle.resolver_report.specs.Outlines.{groups_in, node_told, node_view}
 
 -- the text of a piece at these levels
 abbrev pub text_at : Bool → List Bool → Piece → List ℕ
@@ -25,18 +25,18 @@ is_requires second = false
 is_requires (constrains vs) = false
 is_requires requires = true
 
-module _ {I N S : Type 0} (universe : I → Universe N S) (story : Story I N S) where
+module _ {I N S : Type 0} (universe : I → Universe N S) (outline : Outline I N S) where
   abbrev pub meaning : Universe N S
-  meaning = universe story.interner.now
+  meaning = universe outline.interner.now
 
   abbrev pub graph_in : ConflictShape S
-  graph_in = shape_of story.findings.graph.now
+  graph_in = shape_of outline.findings.graph.now
 
   abbrev pub keys_in : List Key
-  keys_in = keys (universe story.interner.now) story.findings.graph.now.graph
+  keys_in = keys (universe outline.interner.now) outline.findings.graph.now.graph
 
   abbrev pub marks_in : List Bool
-  marks_in = installable (shape_of story.findings.graph.now)
+  marks_in = installable (shape_of outline.findings.graph.now)
 
   abbrev pub candidate_in : ℕ → List Bool → ℕ → List Bool → Told Piece
   candidate_in depth branch n reported = tell_candidate meaning graph_in keys_in marks_in depth branch n reported
@@ -50,22 +50,22 @@ module _ {I N S : Type 0} (universe : I → Universe N S) (story : Story I N S) 
   abbrev pub version_text_in : ℕ → List ℕ
   version_text_in n = version_text meaning graph_in keys_in marks_in n
 
-  -- the story has what is told of each node
-  pub record IsStory (same : S → S → Bool) : Type 0 where
-    pub found_groups : (n : ℕ) → groups_in story.findings n ≡ group_in keys_in n
-    pub found_marks : story.findings.installable.items ≡ marks_in
-    pub groups : IsSimplified same meaning story.findings.graph.now.graph story.groups
-    pub nodes : map node_view story.nodes.items ≡ map (node_told graph_in (group_in keys_in) marks_in) (places story.findings.graph.now.graph)
+  -- the outline has what is told of each node
+  pub record IsOutline (same : S → S → Bool) : Type 0 where
+    pub found_groups : (n : ℕ) → groups_in outline.findings n ≡ group_in keys_in n
+    pub found_marks : outline.findings.installable.items ≡ marks_in
+    pub groups : IsSimplified same meaning outline.findings.graph.now.graph outline.groups
+    pub nodes : map node_view outline.nodes.items ≡ map (node_told graph_in (group_in keys_in) marks_in) (places outline.findings.graph.now.graph)
 
   -- a node of which something is told
-  pub record IsToldNode (branch : List Bool) (n : ℕ) (reported : List Bool) (node : NodeStory) : Type 0 where
+  pub record IsToldNode (branch : List Bool) (n : ℕ) (reported : List Bool) (node : NodeOutline) : Type 0 where
     pub loud : is_quiet meaning graph_in keys_in marks_in branch n reported ≡ false
-    pub solvable : IsSome (solvable_at story.findings.graph.now.graph n)
+    pub solvable : IsSome (solvable_at outline.findings.graph.now.graph n)
     pub view : node_view node ≡ node_told graph_in (group_in keys_in) marks_in n
 
   -- what follows a candidate's versions, but for what it requires
   abbrev pub verdict_rest : Bool → List Bool → Verdict → List ℕ
-  verdict_rest top levels (excluded reason) = codes " is excluded because " ++ reason_text meaning (slice_get story.findings.graph.now.graph.nodes reason.0) ++
+  verdict_rest top levels (excluded reason) = codes " is excluded because " ++ reason_text meaning (slice_get outline.findings.graph.now.graph.nodes reason.0) ++
       10 ∷ []
   verdict_rest top levels alone = 10 ∷ []
   verdict_rest top levels second = codes ", which conflicts with the versions reported above." ++ 10 ∷ []

@@ -7,14 +7,14 @@ ghost use Rattle.resolver_report.specs.Marks.{installable as installable_in};
 ghost use Rattle.resolver_report.specs.Merging.{group_in, keys};
 ghost use Rattle.resolver_report.specs.Places.{HasPlaces};
 ghost use Rattle.resolver_report.specs.Simplified.{IsGroupOf, IsSimplified};
-ghost use Rattle.resolver_report.specs.Stories.{groups_in, group_at};
+ghost use Rattle.resolver_report.specs.Outlines.{groups_in, group_at};
 
 use crate::graph::ConflictGraph;
 use crate::marks::installable;
+use crate::outline::Findings;
 use crate::parts::ConflictNode;
 use crate::places::{place, places_of};
 use crate::simplify::{MergedConflictNode, solvable_at};
-use crate::story::Findings;
 use resolver_clause_store::{Exhausted, Interner};
 use std::alloc::Global;
 use std::collections::HashMap;

@@ -16,6 +16,7 @@ mod links;
 mod listed;
 mod marks;
 mod message;
+mod outline;
 mod parts;
 mod pending;
 mod places;
@@ -23,7 +24,6 @@ mod plain;
 mod reached;
 mod runs;
 mod simplify;
-mod story;
 #[cfg(test)]
 mod test_rules;
 mod texts;

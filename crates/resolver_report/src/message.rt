@@ -5,16 +5,16 @@ ghost use Rattle.resolver_report.specs.ConflictGraphs.{shape_of};
 ghost use Rattle.resolver_report.specs.Messages.{conflict_part, conflict_text, message, missing_part, tree};
 ghost use Rattle.resolver_report.specs.Forests.{text_of};
 ghost use Rattle.resolver_report.specs.Picks.{has_mark};
-ghost use Rattle.resolver_report.specs.Tellings.{IsStory, graph_in, keys_in, marks_in};
+ghost use Rattle.resolver_report.specs.Tellings.{IsOutline, graph_in, keys_in, marks_in};
 
 use crate::findings::findings_of;
 use crate::graph::ConflictGraph;
 use crate::marks::{is_marked, missing};
+use crate::outline::node_stories;
 use crate::parts::Edge;
 use crate::runs::outgoing;
-use crate::story::node_stories;
 use crate::texts::write_conflicts;
-use crate::tree::{Story, tell_edges, write_end};
+use crate::tree::{Outline, tell_edges, write_end};
 use itertools::Itertools;
 use resolver_clause_store::{Exhausted, Interner};
 use std::alloc::Global;
@@ -38,20 +38,20 @@ fn edges_by_mark<S: Copy + Drop>(
 }
 
 /// What a message of the graph is written from.
-fn story_of<'i, I: Interner>(
+fn outline_of<'i, I: Interner>(
     interner: &'i I,
     graph: &'i ConflictGraph<I::SolvableId>,
-) -> Result<Story<'i, I>, Exhausted>
-    ensures story { IfOk result (λ story. IsStory I.universe story I.SolvableId.eq) }
-    ensures interner { IfOk result (λ story. story.interner.now ≡ interner.now) }
-    ensures graph { IfOk result (λ story. story.findings.graph.now ≡ graph.now) }
+) -> Result<Outline<'i, I>, Exhausted>
+    ensures outline { IfOk result (λ outline. IsOutline I.universe outline I.SolvableId.eq) }
+    ensures interner { IfOk result (λ outline. outline.interner.now ≡ interner.now) }
+    ensures graph { IfOk result (λ outline. outline.findings.graph.now ≡ graph.now) }
     ensures memory { IfErr result (λ e. e ≡ Exhausted.Memory) }
 {
     let alloc = graph.graph.allocator();
     let groups = graph.simplify(interner)?;
     let findings = findings_of(alloc, interner, graph, &groups)?;
     let nodes = node_stories(alloc, &findings)?;
-    Ok(Story {
+    Ok(Outline {
         interner,
         findings,
         groups,
@@ -61,60 +61,60 @@ fn story_of<'i, I: Interner>(
 
 /// Writes what cannot be had at all.
 fn write_missing_part<I: Interner>(
-    story: &Story<'_, I>,
+    outline: &Outline<'_, I>,
     edges: &[Edge<I::SolvableId>],
     out: &mut String,
 ) -> Result<(), Exhausted>
-    requires { IsStory I.universe story.now I.SolvableId.eq }
+    requires { IsOutline I.universe outline.now I.SolvableId.eq }
     ensures ok { OnOk result (string_bytes out.new ≡ string_bytes out.old ++
-        missing_part (I.universe story.now.interner.now) (graph_in I.universe story.now) (keys_in I.universe story.now)
-        (marks_in I.universe story.now) edges.now) }
+        missing_part (I.universe outline.now.interner.now) (graph_in I.universe outline.now) (keys_in I.universe outline.now)
+        (marks_in I.universe outline.now) edges.now) }
     ensures memory { IfErr result (λ e. e ≡ Exhausted.Memory) }
 {
     let [_, ..] = edges else {
         return Ok(());
     };
-    tell_edges(story, edges, false, out)?;
+    tell_edges(outline, edges, false, out)?;
     Ok(())
 }
 
 /// Writes a tree of what does not go together, and what the root itself forbids.
 fn write_incompatible<I: Interner>(
-    story: &Story<'_, I>,
+    outline: &Outline<'_, I>,
     root_edges: &[Edge<I::SolvableId>],
     edges: &[Edge<I::SolvableId>],
     out: &mut String,
 ) -> Result<(), Exhausted>
-    requires { IsStory I.universe story.now I.SolvableId.eq }
+    requires { IsOutline I.universe outline.now I.SolvableId.eq }
     ensures ok { OnOk result (string_bytes out.new ≡ string_bytes out.old ++
         (codes "The following packages are incompatible" ++ 10 ∷ [] ++
-        text_of true [] (tree (I.universe story.now.interner.now) (graph_in I.universe story.now) (keys_in I.universe story.now)
-        (marks_in I.universe story.now) edges.now) ++ conflict_text (I.universe story.now.interner.now) root_edges.now)) }
+        text_of true [] (tree (I.universe outline.now.interner.now) (graph_in I.universe outline.now) (keys_in I.universe outline.now)
+        (marks_in I.universe outline.now) edges.now) ++ conflict_text (I.universe outline.now.interner.now) root_edges.now)) }
     ensures memory { IfErr result (λ e. e ≡ Exhausted.Memory) }
 {
     write_end("The following packages are incompatible", out)?;
-    tell_edges(story, edges, true, out)?;
-    write_conflicts(story.interner, root_edges, out)?;
+    tell_edges(outline, edges, true, out)?;
+    write_conflicts(outline.interner, root_edges, out)?;
     Ok(())
 }
 
 /// Writes what does not go together, and what the root itself forbids.
 fn write_conflict_part<I: Interner>(
-    story: &Story<'_, I>,
+    outline: &Outline<'_, I>,
     root_edges: &[Edge<I::SolvableId>],
     edges: &[Edge<I::SolvableId>],
     out: &mut String,
 ) -> Result<(), Exhausted>
-    requires { IsStory I.universe story.now I.SolvableId.eq }
+    requires { IsOutline I.universe outline.now I.SolvableId.eq }
     ensures ok { OnOk result (string_bytes out.new ≡ string_bytes out.old ++
-        conflict_part (I.universe story.now.interner.now) (graph_in I.universe story.now) (keys_in I.universe story.now)
-        (marks_in I.universe story.now) root_edges.now edges.now) }
+        conflict_part (I.universe outline.now.interner.now) (graph_in I.universe outline.now) (keys_in I.universe outline.now)
+        (marks_in I.universe outline.now) root_edges.now edges.now) }
     ensures memory { IfErr result (λ e. e ≡ Exhausted.Memory) }
 {
     let [_, ..] = edges else {
         return Ok(());
     };
-    write_incompatible(story, root_edges, edges, out)?;
+    write_incompatible(outline, root_edges, edges, out)?;
     Ok(())
 }
 
@@ -131,10 +131,10 @@ fn message_text<I: Interner>(
     let root_edges = outgoing(alloc, &graph.graph, graph.root_node)?;
     let lost = edges_by_mark(alloc, &root_edges, &missing, true)?;
     let left = edges_by_mark(alloc, &root_edges, &missing, false)?;
-    let story = story_of(interner, graph)?;
+    let outline = outline_of(interner, graph)?;
     let mut text = String::new(alloc);
-    write_missing_part(&story, &lost, &mut text)?;
-    write_conflict_part(&story, &root_edges, &left, &mut text)?;
+    write_missing_part(&outline, &lost, &mut text)?;
+    write_conflict_part(&outline, &root_edges, &left, &mut text)?;
     Ok(text)
 }
 

@@ -4,11 +4,11 @@
 
 ghost use Rattle.std.specs.Prelude.{◌≡◌, IfErr, IfOk, OnOk, map, not, slice_set};
 ghost use Rattle.resolver_report.specs.PendingTexts.{HasLevels, entered, is_none, left, pending_view, whole_tree};
-ghost use Rattle.resolver_report.specs.Stories.{run_told_view};
+ghost use Rattle.resolver_report.specs.Outlines.{run_told_view};
 
 use crate::indenter::Indenter;
+use crate::outline::RunOutline;
 use crate::parts::NodeId;
-use crate::story::RunStory;
 use resolver_clause_store::Exhausted;
 use std::alloc::Global;
 
@@ -28,7 +28,7 @@ pub struct Frame<'s> {
     /// The candidates after it, of the same run.
     pub candidates: &'s [NodeId],
     /// The runs after that one.
-    pub runs: &'s [RunStory],
+    pub runs: &'s [RunOutline],
 }
 
 /// What is still to be told.
@@ -39,7 +39,7 @@ pub struct Pending<'s> {
     /// The candidates that are left of a run.
     pub candidates: &'s [NodeId],
     /// The runs after that one.
-    pub runs: &'s [RunStory],
+    pub runs: &'s [RunOutline],
     /// The levels of the tree that the runs are in.
     pub indenter: Indenter,
     /// The groups that were reported.
@@ -54,7 +54,7 @@ impl<'s> Pending<'s> {
     /// What is still to be told of a whole tree, where a branch has at most so many candidates.
     pub fn whole(
         alloc: Global,
-        runs: &'s [RunStory],
+        runs: &'s [RunOutline],
         top_level_indent: bool,
         limit: usize,
     ) -> Result<Self, Exhausted>
@@ -78,7 +78,7 @@ impl<'s> Pending<'s> {
         &mut self,
         node: NodeId,
         candidates: &'s [NodeId],
-        runs: &'s [RunStory],
+        runs: &'s [RunOutline],
         indenter: Indenter,
     ) -> Result<(), Exhausted>
         ensures view { OnOk result (pending_view self.new ≡ entered (pending_view self.old) node.0 candidates.now

@@ -7,18 +7,18 @@ ghost use Rattle.resolver_report.specs.Indents.{is_last_child, levels_in};
 ghost use Rattle.resolver_report.specs.Messages.{excluded, constraint_line as constraint_line_in, tree, is_quiet, is_reported as is_reported_in, lines_of};
 ghost use Rattle.resolver_report.specs.Messages.{reason_text, run_text, requirement_text, unmarked, with_group};
 ghost use Rattle.resolver_report.specs.PendingTexts.{HasLevels, IsTellStep, below_run as below_run_in, pending_text, pending_view};
-ghost use Rattle.resolver_report.specs.Stories.{run_told_view};
-ghost use Rattle.resolver_report.specs.Tellings.{IsStory, IsToldNode, graph_in, keys_in, marks_in, is_requires, tree_in, verdict_rest, version_text_in};
+ghost use Rattle.resolver_report.specs.Outlines.{run_told_view};
+ghost use Rattle.resolver_report.specs.Tellings.{IsOutline, IsToldNode, graph_in, keys_in, marks_in, is_requires, tree_in, verdict_rest, version_text_in};
 ghost use Rattle.resolver_report.specs.Shapes.{solvable_at as solvable_at_place};
 ghost use Rattle.resolver_report.specs.Verdicts.{verdict_view};
 
 use crate::findings::group_at_node;
 use crate::indenter::{ChildOrder, Indenter};
 use crate::marks::is_marked;
+use crate::outline::{Findings, NodeOutline, RunOutline, outlines_of};
 use crate::parts::{Edge, NodeId};
 use crate::pending::{Pending, set_mark};
 use crate::simplify::{MergedConflictNode, solvable_at};
-use crate::story::{Findings, NodeStory, RunStory, stories_of};
 use crate::texts::{write_reason, write_run_text, write_version, write_version_set};
 use crate::verdict::Verdict;
 use resolver_clause_store::{Exhausted, Interner, VersionSetId};
@@ -27,13 +27,13 @@ use std::rc::Rc;
 
 /// What a message is written from.
 #[derive(Drop)]
-pub struct Story<'i, I: Interner> {
+pub struct Outline<'i, I: Interner> {
     pub interner: &'i I,
     pub findings: Findings<'i, I::SolvableId>,
     /// The groups of the solvables that are told of together.
     pub groups: HashMap<I::SolvableId, Rc<MergedConflictNode<I::SolvableId>>>,
     /// What is told of each node.
-    pub nodes: Vec<NodeStory>,
+    pub nodes: Vec<NodeOutline>,
 }
 
 /// Whether a group is reported.
@@ -58,19 +58,19 @@ fn report(group: Option<usize>, reported: &mut Vec<bool>)
 
 /// What is told of a node, unless it is no solvable, its group is reported, or it stands above in the branch.
 fn told_node<'s, I: Interner>(
-    story: &'s Story<'_, I>,
+    outline: &'s Outline<'_, I>,
     n: NodeId,
     reported: &[bool],
     branch: &[bool],
-) -> Option<&'s NodeStory>
-    requires { IsStory I.universe story.now I.SolvableId.eq }
-    ensures { MatchOption result (is_quiet (I.universe story.now.interner.now) (graph_in I.universe story.now) (keys_in I.universe story.now)
-        (marks_in I.universe story.now) branch.now n.0 reported.now ≡ true) (λ node. IsToldNode I.universe story.now branch.now n.0 reported.now node.now) }
+) -> Option<&'s NodeOutline>
+    requires { IsOutline I.universe outline.now I.SolvableId.eq }
+    ensures { MatchOption result (is_quiet (I.universe outline.now.interner.now) (graph_in I.universe outline.now) (keys_in I.universe outline.now)
+        (marks_in I.universe outline.now) branch.now n.0 reported.now ≡ true) (λ node. IsToldNode I.universe outline.now branch.now n.0 reported.now node.now) }
 {
-    let Some(_) = solvable_at(&story.findings.graph.graph, n.0) else {
+    let Some(_) = solvable_at(&outline.findings.graph.graph, n.0) else {
         return None;
     };
-    let node = &story.nodes[n.0];
+    let node = &outline.nodes[n.0];
     if is_reported(node.group, reported) {
         return None;
     }
@@ -82,23 +82,28 @@ fn told_node<'s, I: Interner>(
 
 /// Writes a solvable as one version, or the versions of its group.
 fn write_versions<I: Interner>(
-    story: &Story<'_, I>,
+    outline: &Outline<'_, I>,
     n: NodeId,
     out: &mut String,
 ) -> Result<(), Exhausted>
-    requires story { IsStory I.universe story.now I.SolvableId.eq }
-    requires solvable { IsSome (solvable_at_place story.now.findings.graph.now.graph n.0) }
-    ensures ok { OnOk result (string_bytes out.new ≡ string_bytes out.old ++ version_text_in I.universe story.now n.0) }
+    requires outline { IsOutline I.universe outline.now I.SolvableId.eq }
+    requires solvable { IsSome (solvable_at_place outline.now.findings.graph.now.graph n.0) }
+    ensures ok { OnOk result (string_bytes out.new ≡ string_bytes out.old ++ version_text_in I.universe outline.now n.0) }
     ensures memory { IfErr result (λ e. e ≡ Exhausted.Memory) }
 {
-    let Some(group) = group_at_node(story.interner, story.findings.graph, &story.groups, n.0) else {
-        let Some(solvable) = solvable_at(&story.findings.graph.graph, n.0) else {
+    let Some(group) = group_at_node(
+        outline.interner,
+        outline.findings.graph,
+        &outline.groups,
+        n.0,
+    ) else {
+        let Some(solvable) = solvable_at(&outline.findings.graph.graph, n.0) else {
             return Ok(());
         };
-        write_version(story.interner, solvable, out)?;
+        write_version(outline.interner, solvable, out)?;
         return Ok(());
     };
-    story.interner.display_merged_solvables(&group.ids, out)?;
+    outline.interner.display_merged_solvables(&group.ids, out)?;
     Ok(())
 }
 
@@ -162,18 +167,18 @@ fn write_constraint_lines<I: Interner>(
 
 /// Writes what follows a candidate's versions: the end of its line, and what it would constrain.
 fn write_verdict<I: Interner>(
-    story: &Story<'_, I>,
+    outline: &Outline<'_, I>,
     indenter: &Indenter,
     verdict: &Verdict,
     out: &mut String,
 ) -> Result<(), Exhausted>
     ensures ok { OnOk result (string_bytes out.new ≡ string_bytes out.old ++
-        verdict_rest I.universe story.now indenter.now.top_level_indent (levels_in indenter.now) (verdict_view verdict.now)) }
+        verdict_rest I.universe outline.now indenter.now.top_level_indent (levels_in indenter.now) (verdict_view verdict.now)) }
     ensures memory { IfErr result (λ e. e ≡ Exhausted.Memory) }
 {
     match verdict {
         Verdict::Excluded(reason) => {
-            write_exclusion(story, *reason, out)?;
+            write_exclusion(outline, *reason, out)?;
             Ok(())
         }
         Verdict::Alone => {
@@ -186,7 +191,7 @@ fn write_verdict<I: Interner>(
         }
         Verdict::Constrains(version_sets) => {
             write_end(" would constrain", out)?;
-            write_constraint_lines(story.interner, indenter, version_sets, out)?;
+            write_constraint_lines(outline.interner, indenter, version_sets, out)?;
             Ok(())
         }
         Verdict::Requires => {
@@ -208,17 +213,17 @@ pub fn write_end(text: &str, out: &mut String) -> Result<(), Exhausted>
 
 /// Writes the reason that a node stands for.
 fn write_reason_at<I: Interner>(
-    story: &Story<'_, I>,
+    outline: &Outline<'_, I>,
     n: NodeId,
     out: &mut String,
 ) -> Result<(), Exhausted>
     ensures ok { OnOk result (string_bytes out.new ≡ string_bytes out.old ++
-        reason_text (I.universe story.now.interner.now) (slice_get story.now.findings.graph.now.graph.nodes n.0)) }
+        reason_text (I.universe outline.now.interner.now) (slice_get outline.now.findings.graph.now.graph.nodes n.0)) }
     ensures memory { IfErr result (λ e. e ≡ Exhausted.Memory) }
 {
-    match story.findings.graph.graph.nodes().get(n.0) {
+    match outline.findings.graph.graph.nodes().get(n.0) {
         Some(node) => {
-            write_reason(story.interner, node, out)?;
+            write_reason(outline.interner, node, out)?;
             Ok(())
         }
         None => Ok(()),
@@ -227,37 +232,37 @@ fn write_reason_at<I: Interner>(
 
 /// Writes that a candidate is excluded, and why.
 fn write_exclusion<I: Interner>(
-    story: &Story<'_, I>,
+    outline: &Outline<'_, I>,
     reason: NodeId,
     out: &mut String,
 ) -> Result<(), Exhausted>
-    ensures ok { OnOk result (string_bytes out.new ≡ string_bytes out.old ++ verdict_rest I.universe story.now false [] (excluded reason)) }
+    ensures ok { OnOk result (string_bytes out.new ≡ string_bytes out.old ++ verdict_rest I.universe outline.now false [] (excluded reason)) }
     ensures memory { IfErr result (λ e. e ≡ Exhausted.Memory) }
 {
     out.push_str(" is excluded because ")?;
-    write_reason_at(story, reason, out)?;
+    write_reason_at(outline, reason, out)?;
     out.push_str("\n")?;
     Ok(())
 }
 
 /// Writes the line of a candidate, and what it would constrain.
 fn write_candidate<I: Interner>(
-    story: &Story<'_, I>,
+    outline: &Outline<'_, I>,
     indenter: &Indenter,
     n: NodeId,
     verdict: &Verdict,
     out: &mut String,
 ) -> Result<(), Exhausted>
-    requires story { IsStory I.universe story.now I.SolvableId.eq }
-    requires solvable { IsSome (solvable_at_place story.now.findings.graph.now.graph n.0) }
+    requires outline { IsOutline I.universe outline.now I.SolvableId.eq }
+    requires solvable { IsSome (solvable_at_place outline.now.findings.graph.now.graph n.0) }
     ensures ok { OnOk result (string_bytes out.new ≡ string_bytes out.old ++
-        (indent_from indenter.now.top_level_indent (levels_in indenter.now) ++ version_text_in I.universe story.now n.0 ++
-        verdict_rest I.universe story.now indenter.now.top_level_indent (levels_in indenter.now) (verdict_view verdict.now))) }
+        (indent_from indenter.now.top_level_indent (levels_in indenter.now) ++ version_text_in I.universe outline.now n.0 ++
+        verdict_rest I.universe outline.now indenter.now.top_level_indent (levels_in indenter.now) (verdict_view verdict.now))) }
     ensures memory { IfErr result (λ e. e ≡ Exhausted.Memory) }
 {
     indenter.write(out)?;
-    write_versions(story, n, out)?;
-    write_verdict(story, indenter, verdict, out)?;
+    write_versions(outline, n, out)?;
+    write_verdict(outline, indenter, verdict, out)?;
     Ok(())
 }
 
@@ -276,7 +281,7 @@ fn write_run_line<I: Interner>(
     interner: &I,
     indenter: &Indenter,
     top: bool,
-    run: &RunStory,
+    run: &RunOutline,
     out: &mut String,
 ) -> Result<(), Exhausted>
     ensures ok { OnOk result (string_bytes out.new ≡ string_bytes out.old ++
@@ -298,7 +303,7 @@ fn write_run_line<I: Interner>(
 }
 
 /// The candidates that are told of below a run.
-fn below_run(run: &RunStory) -> &[NodeId]
+fn below_run(run: &RunOutline) -> &[NodeId]
     ensures { result.now ≡ below_run_in (run_told_view run.now) }
 {
     if run.is_unresolved {
@@ -309,16 +314,16 @@ fn below_run(run: &RunStory) -> &[NodeId]
 
 /// Writes the line of a run, and goes on with its candidates.
 fn tell_run<'s, I: Interner>(
-    story: &Story<'_, I>,
+    outline: &Outline<'_, I>,
     pending: &mut Pending<'s>,
-    run: &'s RunStory,
-    rest: &'s [RunStory],
+    run: &'s RunOutline,
+    rest: &'s [RunOutline],
     out: &mut String,
 ) -> Result<(), Exhausted>
     requires levels { HasLevels pending.old }
     requires candidates { pending.old.candidates.now ≡ [] }
     requires runs { pending.old.runs.now ≡ run.now ∷ rest.now }
-    ensures step { OnOk result (IsTellStep I.universe story.now (pending_view pending.old) (pending_view pending.new) (string_bytes out.old)
+    ensures step { OnOk result (IsTellStep I.universe outline.now (pending_view pending.old) (pending_view pending.new) (string_bytes out.old)
         (string_bytes out.new)) }
     ensures levels { OnOk result (HasLevels pending.new) }
     ensures memory { IfErr result (λ e. e ≡ Exhausted.Memory) }
@@ -326,7 +331,7 @@ fn tell_run<'s, I: Interner>(
     let order = ChildOrder::before(rest);
     let deeper = pending.indenter.deeper(order)?;
     let top = pending.frames.is_empty();
-    write_run_line(story.interner, &deeper, top, run, out)?;
+    write_run_line(outline.interner, &deeper, top, run, out)?;
     pending.candidates = below_run(run);
     pending.runs = rest;
     Ok(())
@@ -346,26 +351,26 @@ fn candidate_levels(pending: &Pending<'_>, rest: &[NodeId]) -> Result<Indenter, 
 
 /// Writes the lines of a candidate of which something is told, and goes down to what it requires.
 fn tell_node<'s, I: Interner>(
-    story: &'s Story<'_, I>,
+    outline: &'s Outline<'_, I>,
     pending: &mut Pending<'s>,
     n: NodeId,
-    node: &'s NodeStory,
+    node: &'s NodeOutline,
     rest: &'s [NodeId],
     out: &mut String,
 ) -> Result<(), Exhausted>
-    requires story { IsStory I.universe story.now I.SolvableId.eq }
+    requires outline { IsOutline I.universe outline.now I.SolvableId.eq }
     requires levels { HasLevels pending.old }
     requires candidates { pending.old.candidates.now ≡ n ∷ rest.now }
     requires deep { length pending.old.frames.items < pending.old.limit }
-    requires node { IsToldNode I.universe story.now pending.old.branch.items n.0 pending.old.reported.items node.now }
-    ensures step { OnOk result (IsTellStep I.universe story.now (pending_view pending.old) (pending_view pending.new) (string_bytes out.old)
+    requires node { IsToldNode I.universe outline.now pending.old.branch.items n.0 pending.old.reported.items node.now }
+    ensures step { OnOk result (IsTellStep I.universe outline.now (pending_view pending.old) (pending_view pending.new) (string_bytes out.old)
         (string_bytes out.new)) }
     ensures levels { OnOk result (HasLevels pending.new) }
     ensures memory { IfErr result (λ e. e ≡ Exhausted.Memory) }
 {
     report(node.group, &mut pending.reported);
     let deeper = candidate_levels(pending, rest)?;
-    write_candidate(story, &deeper, n, &node.verdict, out)?;
+    write_candidate(outline, &deeper, n, &node.verdict, out)?;
     if !requires_more(&node.verdict) {
         pending.candidates = rest;
         return Ok(());
@@ -376,16 +381,16 @@ fn tell_node<'s, I: Interner>(
 
 /// Writes the lines of a candidate, and goes down to what it requires.
 fn tell_candidate<'s, I: Interner>(
-    story: &'s Story<'_, I>,
+    outline: &'s Outline<'_, I>,
     pending: &mut Pending<'s>,
     n: NodeId,
     rest: &'s [NodeId],
     out: &mut String,
 ) -> Result<(), Exhausted>
-    requires story { IsStory I.universe story.now I.SolvableId.eq }
+    requires outline { IsOutline I.universe outline.now I.SolvableId.eq }
     requires levels { HasLevels pending.old }
     requires candidates { pending.old.candidates.now ≡ n ∷ rest.now }
-    ensures step { OnOk result (IsTellStep I.universe story.now (pending_view pending.old) (pending_view pending.new) (string_bytes out.old)
+    ensures step { OnOk result (IsTellStep I.universe outline.now (pending_view pending.old) (pending_view pending.new) (string_bytes out.old)
         (string_bytes out.new)) }
     ensures levels { OnOk result (HasLevels pending.new) }
     ensures memory { IfErr result (λ e. e ≡ Exhausted.Memory) }
@@ -394,35 +399,35 @@ fn tell_candidate<'s, I: Interner>(
         pending.candidates = rest;
         return Ok(());
     }
-    let Some(node) = told_node(story, n, &pending.reported, &pending.branch) else {
+    let Some(node) = told_node(outline, n, &pending.reported, &pending.branch) else {
         pending.candidates = rest;
         return Ok(());
     };
-    tell_node(story, pending, n, node, rest, out)?;
+    tell_node(outline, pending, n, node, rest, out)?;
     Ok(())
 }
 
 /// Tells the next candidate or run, or goes up from a tree that is told. Whether something was left to do.
 fn tell_next<'s, I: Interner>(
-    story: &'s Story<'_, I>,
+    outline: &'s Outline<'_, I>,
     pending: &mut Pending<'s>,
     out: &mut String,
 ) -> Result<bool, Exhausted>
-    requires story { IsStory I.universe story.now I.SolvableId.eq }
+    requires outline { IsOutline I.universe outline.now I.SolvableId.eq }
     requires levels { HasLevels pending.old }
     ensures step { IfOk result (λ more.
-        IsTrue more → IsTellStep I.universe story.now (pending_view pending.old) (pending_view pending.new) (string_bytes out.old) (string_bytes out.new)) }
+        IsTrue more → IsTellStep I.universe outline.now (pending_view pending.old) (pending_view pending.new) (string_bytes out.old) (string_bytes out.new)) }
     ensures levels { IfOk result (λ more. IsTrue more → HasLevels pending.new) }
-    ensures told { IfOk result (λ more. IsFalse more → pending_text I.universe story.now (pending_view pending.old) ≡ []) }
+    ensures told { IfOk result (λ more. IsFalse more → pending_text I.universe outline.now (pending_view pending.old) ≡ []) }
     ensures same { IfOk result (λ more. IsFalse more → string_bytes out.new ≡ string_bytes out.old) }
     ensures memory { IfErr result (λ e. e ≡ Exhausted.Memory) }
 {
     if let [n, rest @ ..] = pending.candidates {
-        tell_candidate(story, pending, *n, rest, out)?;
+        tell_candidate(outline, pending, *n, rest, out)?;
         return Ok(true);
     }
     if let [run, rest @ ..] = pending.runs {
-        tell_run(story, pending, run, rest, out)?;
+        tell_run(outline, pending, run, rest, out)?;
         return Ok(true);
     }
     let more = pending.leave();
@@ -431,34 +436,34 @@ fn tell_next<'s, I: Interner>(
 
 /// Writes all that is still to be told.
 fn tell_pending<'s, I: Interner>(
-    story: &'s Story<'_, I>,
+    outline: &'s Outline<'_, I>,
     pending: &mut Pending<'s>,
     out: &mut String,
 ) -> Result<(), Exhausted>
-    requires story { IsStory I.universe story.now I.SolvableId.eq }
+    requires outline { IsOutline I.universe outline.now I.SolvableId.eq }
     requires levels { HasLevels pending.old }
-    ensures text { OnOk result (string_bytes out.new ≡ string_bytes out.old ++ pending_text I.universe story.now (pending_view pending.old)) }
+    ensures text { OnOk result (string_bytes out.new ≡ string_bytes out.old ++ pending_text I.universe outline.now (pending_view pending.old)) }
     ensures memory { IfErr result (λ e. e ≡ Exhausted.Memory) }
 {
-    while tell_next(story, pending, out)? {}
+    while tell_next(outline, pending, out)? {}
     Ok(())
 }
 
 /// Makes room in a text for all that is still to be told. It is told once into a line that is thrown away. So a text
 /// that memory cannot hold is refused before it is there, and one that it can hold is not copied while it grows.
 fn reserve_pending<'s, I: Interner>(
-    story: &'s Story<'_, I>,
+    outline: &'s Outline<'_, I>,
     pending: &mut Pending<'s>,
     line: &mut String,
     out: &mut String,
 ) -> Result<(), Exhausted>
-    requires story { IsStory I.universe story.now I.SolvableId.eq }
+    requires outline { IsOutline I.universe outline.now I.SolvableId.eq }
     requires levels { HasLevels pending.old }
     ensures kept { OnOk result (string_bytes out.new ≡ string_bytes out.old) }
     ensures memory { IfErr result (λ e. e ≡ Exhausted.Memory) }
 {
     let mut length: usize = 0;
-    while tell_next(story, pending, line)? {
+    while tell_next(outline, pending, line)? {
         length = length.saturating_add(line.len());
         line.clear();
         out.reserve(length)?;
@@ -468,59 +473,59 @@ fn reserve_pending<'s, I: Interner>(
 
 /// Makes room in a text for the tree over what is told of some edges.
 fn reserve_tree<'s, I: Interner>(
-    story: &'s Story<'_, I>,
-    runs: &'s [RunStory],
+    outline: &'s Outline<'_, I>,
+    runs: &'s [RunOutline],
     top_level_indent: bool,
     out: &mut String,
 ) -> Result<(), Exhausted>
-    requires { IsStory I.universe story.now I.SolvableId.eq }
+    requires { IsOutline I.universe outline.now I.SolvableId.eq }
     ensures kept { OnOk result (string_bytes out.new ≡ string_bytes out.old) }
     ensures memory { IfErr result (λ e. e ≡ Exhausted.Memory) }
 {
-    let count = story.findings.graph.graph.nodes().len();
+    let count = outline.findings.graph.graph.nodes().len();
     let mut pending = Pending::whole(*out.allocator(), runs, top_level_indent, count)?;
     let mut line = String::new(*out.allocator());
-    reserve_pending(story, &mut pending, &mut line, out)?;
+    reserve_pending(outline, &mut pending, &mut line, out)?;
     drop(pending);
     Ok(())
 }
 
 /// Writes the tree over what is told of some edges.
 fn tell_tree<'s, I: Interner>(
-    story: &'s Story<'_, I>,
-    runs: &'s [RunStory],
+    outline: &'s Outline<'_, I>,
+    runs: &'s [RunOutline],
     top_level_indent: bool,
     out: &mut String,
 ) -> Result<(), Exhausted>
-    requires { IsStory I.universe story.now I.SolvableId.eq }
+    requires { IsOutline I.universe outline.now I.SolvableId.eq }
     ensures text { OnOk result (string_bytes out.new ≡ string_bytes out.old ++
-        text_of top_level_indent [] (tree_in I.universe story.now (length story.now.findings.graph.now.graph.nodes)
-        (unmarked story.now.findings.graph.now.graph) true (map run_told_view runs.now) (unmarked story.now.findings.graph.now.graph)).value) }
+        text_of top_level_indent [] (tree_in I.universe outline.now (length outline.now.findings.graph.now.graph.nodes)
+        (unmarked outline.now.findings.graph.now.graph) true (map run_told_view runs.now) (unmarked outline.now.findings.graph.now.graph)).value) }
     ensures memory { IfErr result (λ e. e ≡ Exhausted.Memory) }
 {
-    reserve_tree(story, runs, top_level_indent, out)?;
-    let count = story.findings.graph.graph.nodes().len();
+    reserve_tree(outline, runs, top_level_indent, out)?;
+    let count = outline.findings.graph.graph.nodes().len();
     let mut pending = Pending::whole(*out.allocator(), runs, top_level_indent, count)?;
-    tell_pending(story, &mut pending, out)?;
+    tell_pending(outline, &mut pending, out)?;
     drop(pending);
     Ok(())
 }
 
 /// Writes the tree over some of the root's edges, newest first.
 pub fn tell_edges<I: Interner>(
-    story: &Story<'_, I>,
+    outline: &Outline<'_, I>,
     edges: &[Edge<I::SolvableId>],
     top_level_indent: bool,
     out: &mut String,
 ) -> Result<(), Exhausted>
-    requires { IsStory I.universe story.now I.SolvableId.eq }
+    requires { IsOutline I.universe outline.now I.SolvableId.eq }
     ensures ok { OnOk result (string_bytes out.new ≡ string_bytes out.old ++
-        text_of top_level_indent [] (tree (I.universe story.now.interner.now) (graph_in I.universe story.now) (keys_in I.universe story.now)
-        (marks_in I.universe story.now) edges.now)) }
+        text_of top_level_indent [] (tree (I.universe outline.now.interner.now) (graph_in I.universe outline.now) (keys_in I.universe outline.now)
+        (marks_in I.universe outline.now) edges.now)) }
     ensures memory { IfErr result (λ e. e ≡ Exhausted.Memory) }
 {
     let alloc = *out.allocator();
-    let runs = stories_of(alloc, &story.findings, edges)?;
-    tell_tree(story, &runs, top_level_indent, out)?;
+    let runs = outlines_of(alloc, &outline.findings, edges)?;
+    tell_tree(outline, &runs, top_level_indent, out)?;
     Ok(())
 }

@@ -65,21 +65,21 @@ lowest-next trail clause level start i e lowest new within so low least either =
     }
 
 -- what is known of the jump level after some literals
-pub record JumpSo (trail : Trail) (clause : List Literal) (asserted count level : ℕ) : Type 0 where
+pub record IsBacktrackLevelSoFar (trail : Trail) (clause : List Literal) (asserted count level : ℕ) : Type 0 where
   pub top : All (λ (literal : Literal). (literal.variable ≡ asserted) ⊎ (level_in trail literal.variable ≤ level)) (take count clause)
   pub reached : (level ≡ 0) ⊎ Any (λ (literal : Literal). (literal.variable ≢ asserted) × (level_in trail literal.variable ≡ level)) clause
 
-pub jump-same : (trail : Trail) (clause : List Literal) (asserted i : ℕ) (e : Literal) (level : ℕ) → i < length clause →
-    (get_or clause i e).variable ≡ asserted → JumpSo trail clause asserted i level → JumpSo trail clause asserted (i + 1) level
-jump-same trail clause asserted i e level within is so = record {
+pub backtrack_level-same : (trail : Trail) (clause : List Literal) (asserted i : ℕ) (e : Literal) (level : ℕ) → i < length clause →
+    (get_or clause i e).variable ≡ asserted → IsBacktrackLevelSoFar trail clause asserted i level → IsBacktrackLevelSoFar trail clause asserted (i + 1) level
+backtrack_level-same trail clause asserted i e level within is so = record {
   top = All-more (λ (literal : Literal). (literal.variable ≡ asserted) ⊎ (level_in trail literal.variable ≤ level)) clause i e within so.top (inl is);
   reached = so.reached;
 }
 
-pub jump-next : (trail : Trail) (clause : List Literal) (asserted i : ℕ) (e : Literal) (level here new : ℕ) → i < length clause →
-    (get_or clause i e).variable ≢ asserted → here ≡ level_in trail (get_or clause i e).variable → JumpSo trail clause asserted i level → level ≤ new →
-    here ≤ new → (new ≡ here) ⊎ (new ≡ level) → JumpSo trail clause asserted (i + 1) new
-jump-next trail clause asserted i e level here new within differ is so more least either =
+pub backtrack_level-next : (trail : Trail) (clause : List Literal) (asserted i : ℕ) (e : Literal) (level here new : ℕ) → i < length clause →
+    (get_or clause i e).variable ≢ asserted → here ≡ level_in trail (get_or clause i e).variable → IsBacktrackLevelSoFar trail clause asserted i level → level ≤ new →
+    here ≤ new → (new ≡ here) ⊎ (new ≡ level) → IsBacktrackLevelSoFar trail clause asserted (i + 1) new
+backtrack_level-next trail clause asserted i e level here new within differ is so more least either =
     let P : ℕ → Literal → Type 0 = λ n literal. (literal.variable ≡ asserted) ⊎ (level_in trail literal.variable ≤ n) in
     record {
       top = All-more (P new) clause i e within
@@ -314,12 +314,12 @@ lowest-inside trail resolvent place levelled some = let h = levelled.mark some i
     omega (arith, h.stands.place_is, (trail.listed h.variable h.stands.slot h.stands.is).0)
 
 -- the learnt clause has one literal of its highest level
-pub asserting : (trail : Trail) (marks : List Bool) (literals : List Literal) (literal : Literal) (level jump variable : ℕ) →
+pub asserting : (trail : Trail) (marks : List Bool) (literals : List Literal) (literal : Literal) (level backtrack_level variable : ℕ) →
     IsSingle trail marks level variable → Negates trail marks literals → 0 < level →
     ((slot : Slot) → slot_of trail variable ≡ Some slot → literal ≡ record { variable = variable; positive = not slot.value }) →
-    All (λ (l : Literal). (l.variable ≡ variable) ⊎ (level_in trail l.variable ≤ jump)) literals → (jump ≡ 0) ⊎
-    Any (λ (l : Literal). (l.variable ≢ variable) × (level_in trail l.variable ≡ jump)) literals → IsAsserting trail jump literal literals
-asserting trail marks literals literal level jump variable single negates some negated top reached =
+    All (λ (l : Literal). (l.variable ≡ variable) ⊎ (level_in trail l.variable ≤ backtrack_level)) literals → (backtrack_level ≡ 0) ⊎
+    Any (λ (l : Literal). (l.variable ≢ variable) × (level_in trail l.variable ≡ backtrack_level)) literals → IsAsserting trail backtrack_level literal literals
+asserting trail marks literals literal level backtrack_level variable single negates some negated top reached =
     let s = single.slot in
     let l-is = negated s single.is in
     let var-is : literal.variable ≡ variable = ap (λ (x : Literal). x.variable) l-is in
@@ -328,8 +328,8 @@ asserting trail marks literals literal level jump variable single negates some n
       slot = s;
       is = ap (λ v. slot_of trail v) var-is ∙ single.is;
       above = ⊎_elim
-          (λ (bottom : jump ≡ 0). omega (arith, bottom, some, single.level_is))
-          (λ (there : Any (λ (l : Literal). (l.variable ≢ variable) × (level_in trail l.variable ≡ jump)) literals).
+          (λ (bottom : backtrack_level ≡ 0). omega (arith, bottom, some, single.level_is))
+          (λ (there : Any (λ (l : Literal). (l.variable ≢ variable) × (level_in trail l.variable ≡ backtrack_level)) literals).
           let v = value-false _ _ (negates.falsified there.0 there.1 there.2) in
           let name : (get_or literals there.0 there.1).variable ≡ there.1.variable = ap (λ (x : Literal). x.variable) there.3 in
           let here : slot_of trail there.1.variable ≡ Some v.0 = ap (λ n. slot_of trail n) (sym name) ∙ v.1 in
@@ -345,12 +345,12 @@ asserting trail marks literals literal level jump variable single negates some n
           let sign : l.positive ≡ not s.value = beq-false _ _ v.2 ∙ ap (λ (t : Slot). not t.value) same in
           let back : negation variable s ≡ l = rw (← e, ← sign) refl in
           inl (sym back ∙ sym l-is))
-          (λ (low : level_in trail l.variable ≤ jump). inr
+          (λ (low : level_in trail l.variable ≤ backtrack_level). inr
           (record { slot = v.0; is = v.1; false_there = v.2; low = omega (arith, low, level-in trail l.variable v.0 v.1) }))
           (top k d below);
       reached = ⊎_elim
-          (λ (bottom : jump ≡ 0). inl bottom)
-          (λ (there : Any (λ (l : Literal). (l.variable ≢ variable) × (level_in trail l.variable ≡ jump)) literals). inr
+          (λ (bottom : backtrack_level ≡ 0). inl bottom)
+          (λ (there : Any (λ (l : Literal). (l.variable ≢ variable) × (level_in trail l.variable ≡ backtrack_level)) literals). inr
           (there.0, there.1, there.2, there.3, (λ e. there.4.0 (ap (λ (x : Literal). x.variable) e ∙ var-is), there.4.1)))
           reached;
     }

@@ -61,17 +61,17 @@ turn-undone old new base held kept level left turn undone high is =
     turn-kept old new base held kept left turn keeps (omega (arith, turn.marked, keeps.are, is))
 
 -- and where a literal is set then
-pub held-jumped : (old middle new : Trail) (base held kept level : ℕ) → IsTurn old base held kept → IsUndone old middle level → base ≤ level →
+pub held-backtracked : (old middle new : Trail) (base held kept level : ℕ) → IsTurn old base held kept → IsUndone old middle level → base ≤ level →
     Keeps middle new → KeepsPlaces old new held
-held-jumped old middle new base held kept level turn undone high keeps =
+held-backtracked old middle new base held kept level turn undone high keeps =
     let first = held-undone old middle base held kept level turn undone high in
     keeps_through old middle new held held first (keeps-fewer middle new (length_of middle) held (keeps_all middle new keeps) first.are) (omega arith)
 
-pub turn-jumped : (old middle new : Trail) (base held kept level left : ℕ) → IsTurn old base held kept → IsUndone old middle level → base ≤ level →
+pub turn-backtracked : (old middle new : Trail) (base held kept level left : ℕ) → IsTurn old base held kept → IsUndone old middle level → base ≤ level →
     Keeps middle new → left ≡ min kept (length_of middle) → IsTurn new base held left
-turn-jumped old middle new base held kept level left turn undone high keeps is =
+turn-backtracked old middle new base held kept level left turn undone high keeps is =
     let first = held-undone old middle base held kept level turn undone high in
-    turn-kept old new base held kept left turn (held-jumped old middle new base held kept level turn undone high keeps)
+    turn-kept old new base held kept left turn (held-backtracked old middle new base held kept level turn undone high keeps)
     (omega (arith, turn.marked, first.are, is))
 
 -- no step but the beginning of a turn assumes a variable
@@ -345,15 +345,15 @@ refused it given numbers learnt holds loaded is low =
             false_there = v.2;
             low = ⊎_elim
                 (λ e. omega (arith, ap (λ (t : Slot). t.level) (same_Some _ _ (sym v.1 ∙ ap (λ (l : Literal). slot_of it.trail l.variable) e ∙ a.is)), top))
-                (λ (f : IsFalseAt it.trail learnt.jump _). omega (arith, ap (λ (t : Slot). t.level) (same_Some _ _ (sym v.1 ∙ f.is)), f.low, a.above, top))
+                (λ (f : IsFalseAt it.trail learnt.backtrack_level _). omega (arith, ap (λ (t : Slot). t.level) (same_Some _ _ (sym v.1 ∙ f.is)), f.low, a.above, top))
                 (a.others k d below);
           };
     }
 
 -- the level that is jumped to is below the one of the literal that is set
-pub below-asserted : (trail : Trail) (jump base back : ℕ) (literal : Literal) (literals : List Literal) → IsAsserting trail jump literal literals →
-    base < level_in trail literal.variable → back ≡ max jump base → back < level_in trail literal.variable
-below-asserted trail jump base back literal literals asserting above is =
+pub below-asserted : (trail : Trail) (backtrack_level base back : ℕ) (literal : Literal) (literals : List Literal) → IsAsserting trail backtrack_level literal literals →
+    base < level_in trail literal.variable → back ≡ max backtrack_level base → back < level_in trail literal.variable
+below-asserted trail backtrack_level base back literal literals asserting above is =
     omega (arith, is, asserting.above, above, level-in trail literal.variable asserting.slot asserting.is)
 
 -- a trail that was taken back to where a turn began is as it was then

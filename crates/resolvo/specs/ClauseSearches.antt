@@ -140,7 +140,7 @@ pub record IsSameSearch (old new : ClauseSearch) : Type 0 where
   pub turn : KeepsTurn old new
 
 -- the levels above this one are undone, and then the clause with this number forces the literal
-pub record IsJump (old new : Trail) (literal : Literal) (level number : ℕ) : Type 0 where
+pub record IsBacktrack (old new : Trail) (literal : Literal) (level number : ℕ) : Type 0 where
   pub middle : Trail
   pub undone : IsUndone old middle level
   pub gains : Gains middle new literal (level_of middle) (Forced number)

@@ -12,8 +12,8 @@ use Rattle.resolver_clause_store.specs.Outcomes.{IsFalsified}
 use Rattle.resolver_clause_store.specs.TrailView.{slot_of, variable_count}
 use Rattle.resolvo.specs.declared.analyze.Resolvent.{Resolvent}
 use Rattle.resolvo.specs.declared.analyze.Learnt.{Learnt}
-use Rattle.resolvo.specs.declared.analyze.Lesson.{Lesson}
-use Rattle.resolvo.specs.declared.analyze.Lesson.TheVariants.{Contradiction, Clause}
+use Rattle.resolvo.specs.declared.analyze.Analysis.{Analysis}
+use Rattle.resolvo.specs.declared.analyze.Analysis.TheVariants.{Contradiction, Clause}
 
 -- whether a number is marked
 abbrev pub is_marked : List Bool → ℕ → Bool
@@ -132,14 +132,14 @@ pub record IsFalseAt (trail : Trail) (level : ℕ) (literal : Literal) : Type 0 
   pub false_there : beq slot.value literal.positive ≡ false
   pub low : slot.level ≤ level
 
--- one literal of the clause is of a level above `jump`, which is the highest level of the others, or 0
-pub record IsAsserting (trail : Trail) (jump : ℕ) (literal : Literal) (literals : List Literal) : Type 0 where
+-- one literal of the clause is of a level above `backtrack_level`, which is the highest level of the others, or 0
+pub record IsAsserting (trail : Trail) (backtrack_level : ℕ) (literal : Literal) (literals : List Literal) : Type 0 where
   pub contains : Contains literals literal
   pub slot : Slot
   pub is : slot_of trail literal.variable ≡ Some slot
-  pub above : jump < slot.level
-  pub others : All (λ (other : Literal). (other ≡ literal) ⊎ IsFalseAt trail jump other) literals
-  pub reached : (jump ≡ 0) ⊎ Any (λ (other : Literal). (other ≢ literal) × (level_in trail other.variable ≡ jump)) literals
+  pub above : backtrack_level < slot.level
+  pub others : All (λ (other : Literal). (other ≡ literal) ⊎ IsFalseAt trail backtrack_level other) literals
+  pub reached : (backtrack_level ≡ 0) ⊎ Any (λ (other : Literal). (other ≢ literal) × (level_in trail other.variable ≡ backtrack_level)) literals
 
 -- the clause follows from its causes, whose literals are the only ones that it has, and is false under the trail, and one literal alone is of its highest level
 pub record IsLearnt (table : List (Vec Literal Global)) (trail : Trail) (learnt : Learnt) : Type 0 where
@@ -147,9 +147,9 @@ pub record IsLearnt (table : List (Vec Literal Global)) (trail : Trail) (learnt 
   pub follows : FollowsFrom table learnt.causes.items learnt.literals.items
   pub drawn : All (IsDrawn table learnt.causes.items) learnt.literals.items
   pub falsified : IsFalsified trail learnt.literals.items
-  pub asserting : IsAsserting trail learnt.jump learnt.literal learnt.literals.items
+  pub asserting : IsAsserting trail learnt.backtrack_level learnt.literal learnt.literals.items
 
 -- clauses of the table that contradict each other, or a clause that follows from some
-abbrev pub LessonIs : List (Vec Literal Global) → Trail → Lesson → Type 0
-LessonIs table trail (Contradiction causes) = All (λ number. number < length table) causes.items × FollowsFrom table causes.items []
-LessonIs table trail (Clause learnt) = IsLearnt table trail learnt
+abbrev pub AnalysisIs : List (Vec Literal Global) → Trail → Analysis → Type 0
+AnalysisIs table trail (Contradiction causes) = All (λ number. number < length table) causes.items × FollowsFrom table causes.items []
+AnalysisIs table trail (Clause learnt) = IsLearnt table trail learnt

@@ -14,8 +14,8 @@ use Rattle.resolver_clause_store.specs.WatchesView.{lists_of}
 use Rattle.resolvo.specs.declared.propagator.Late.{Late}
 use Rattle.resolvo.specs.declared.propagator.Propagator.{Propagator}
 use Rattle.resolvo.specs.declared.propagator.visiting.FalseLiteral.{FalseLiteral}
-use Rattle.resolvo.specs.declared.propagator.visiting.Look.{Look}
-use Rattle.resolvo.specs.declared.propagator.visiting.Look.TheVariants.{Next, Conflict}
+use Rattle.resolvo.specs.declared.propagator.visiting.WatchOutcome.{WatchOutcome}
+use Rattle.resolvo.specs.declared.propagator.visiting.WatchOutcome.TheVariants.{Next, Conflict}
 use Rattle.resolver_clause_store.specs.declared.Watch.{Watch}
 use Rattle.resolver_clause_store.specs.declared.WatchedPair.{WatchedPair}
 
@@ -59,9 +59,9 @@ pub record Fails (table : List (Vec Literal Global)) (trail : Trail) (new : Prop
   pub attached : IsAttached table new
 
 -- what a look at the clause at a place did
-abbrev pub LookIs : List (Vec Literal Global) → Trail → Propagator → Propagator → FalseLiteral → ℕ → Look → Type 0
-LookIs table trail old new falsified place (Next next) = GoesOn table trail old new falsified place next
-LookIs table trail old new falsified place (Conflict number) = Fails table trail new number
+abbrev pub WatchOutcomeIs : List (Vec Literal Global) → Trail → Propagator → Propagator → FalseLiteral → ℕ → WatchOutcome → Type 0
+WatchOutcomeIs table trail old new falsified place (Next next) = GoesOn table trail old new falsified place next
+WatchOutcomeIs table trail old new falsified place (Conflict number) = Fails table trail new number
 
 -- a literal of the clause that is not false and is not this one
 pub record Replaces (trail : Trail) (clause : List Literal) (other to : Literal) : Type 0 where

@@ -7,7 +7,7 @@ ghost use Rattle.resolver_clause_store.specs.TrailView.{length_of, place_of, slo
 ghost use Rattle.resolvo.specs.Propagation.{IsConflict, IsJustified};
 ghost use Rattle.resolver_clause_store.specs.declared.Slot.{Slot};
 ghost use Rattle.resolver_clause_store.specs.declared.Literal.{Literal};
-ghost use Rattle.resolvo.specs.Resolvents.{AddsNegation, AllBefore, IsLevelled, IsReason, IsResolvent, IsSingle, IsUnmarked, LessonIs, ListsMarks, MarksAlso};
+ghost use Rattle.resolvo.specs.Resolvents.{AddsNegation, AllBefore, IsLevelled, IsReason, IsResolvent, IsSingle, IsUnmarked, AnalysisIs, ListsMarks, MarksAlso};
 ghost use Rattle.resolvo.specs.Resolvents.{Negates, StandsAt, level_in, is_marked};
 
 use resolver_clause_store::{Literal, Reason, Trail, Variable, clause};
@@ -69,12 +69,12 @@ pub struct Learnt {
     /// The one literal of the highest level, where the clause has literals.
     pub literal: Literal,
     /// The highest level of the other literals, and 0 where there are none.
-    pub jump: usize,
+    pub backtrack_level: usize,
 }
 
 /// What a conflict teaches.
 #[derive(Drop)]
-pub enum Lesson {
+pub enum Analysis {
     /// The clauses with these numbers contradict each other.
     Contradiction(Vec<usize>),
     /// A clause that follows from others.
@@ -335,7 +335,7 @@ pub fn literals_of(
 }
 
 /// The highest level of the clause's literals but those of one variable.
-pub fn jump_level(trail: &Trail, literals: &[Literal], asserted: Variable) -> usize
+pub fn backtrack_level(trail: &Trail, literals: &[Literal], asserted: Variable) -> usize
     requires { IsBelow (variable_count trail.now) literals.now }
     ensures top { All (λ (literal : Literal). (literal.variable ≡ asserted) ⊎ (level_in trail.now literal.variable ≤ result)) literals.now }
     ensures reached { (result ≡ 0) ⊎ Any (λ (literal : Literal). (literal.variable ≢ asserted) × (level_in trail.now literal.variable ≡ result)) literals.now }
@@ -382,11 +382,11 @@ pub fn analyze(
     table: &[Vec<Literal>],
     trail: &Trail,
     number: usize,
-) -> Result<Lesson, AllocError>
+) -> Result<Analysis, AllocError>
     requires below { AreBelow (variable_count trail.now) table.now }
     requires justified { IsJustified table.now trail.now }
     requires conflict { IsConflict trail.now table.now number }
-    ensures { IfOk result (LessonIs table.now trail.now) }
+    ensures { IfOk result (AnalysisIs table.now trail.now) }
 {
     let blank = marks.take(alloc, trail.variable_count())?;
     let mut resolvent = begin(alloc, blank, table, trail, number)?;
@@ -400,15 +400,15 @@ pub fn analyze(
     unmark_all(&mut resolvent.marks, resolvent.marked.as_slice());
     marks.put(resolvent.marks);
     if resolvent.level == 0 {
-        return Ok(Lesson::Contradiction(resolvent.causes));
+        return Ok(Analysis::Contradiction(resolvent.causes));
     }
     let variable = trail.variable_at(resolvent.lowest);
-    let jump = jump_level(trail, literals.as_slice(), variable);
+    let backtrack_level = backtrack_level(trail, literals.as_slice(), variable);
     let literal = negation_of(trail, variable);
-    Ok(Lesson::Clause(Learnt {
+    Ok(Analysis::Clause(Learnt {
         literals,
         causes: resolvent.causes,
         literal,
-        jump,
+        backtrack_level,
     }))
 }

@@ -23,10 +23,10 @@ ghost use Rattle.resolvo.specs.WatchedClauses.{AreInLists, AreOwned};
 ghost use Rattle.resolver_clause_store.specs.Queues.{IsQueued};
 ghost use Rattle.resolvo.specs.Resolvents.{IsLearnt, level_in};
 
-use crate::analyze::{BlankMarks, Learnt, Lesson, analyze, asserted_level};
+use crate::analyze::{Analysis, BlankMarks, Learnt, analyze, asserted_level};
 use crate::contradiction::{Source, core};
 use crate::propagate::{State, examine};
-use crate::propagator::{Propagator, begins_level, propagate, settle_all};
+use crate::propagator::{Propagator, apply_all_pending, begins_level, propagate};
 use resolver_clause_store::{
     Activity, Choice, DecideQueue, DependencyProvider, Exhausted, Interrupted, Literal,
     RequirementClause, Trail, check_cancel, clause,
@@ -125,7 +125,7 @@ pub fn descend<D: DependencyProvider>(
     ensures refusal { IfErr result (IsInterruption (D.may_cancel provider.now)) }
 {
     check_cancel(provider)?;
-    if let Some(number) = settle_all(trail, table, propagator)? {
+    if let Some(number) = apply_all_pending(trail, table, propagator)? {
         return Ok(Some(number));
     }
     'rounds: loop {
@@ -153,7 +153,7 @@ fn level_for(trail: &Trail, literals: &[Literal], base: usize) -> usize
 }
 
 impl ClauseSearch {
-    ghost use Rattle.resolvo.specs.ClauseSearches.{IsConsistent, IsJump, IsLoaded, IsRootTurn, IsSameProblem, IsSameSearch, SetsNone, StaysMarked, KeepsLoaded};
+    ghost use Rattle.resolvo.specs.ClauseSearches.{IsConsistent, IsBacktrack, IsLoaded, IsRootTurn, IsSameProblem, IsSameSearch, SetsNone, StaysMarked, KeepsLoaded};
     ghost use Rattle.resolvo.specs.ClauseSearches.{KeepsMark, KeepsTurn, OutcomeIs, base_of, clause_count_of, held_of, kept_of, learnt_count_of, numbers_of};
     ghost use Rattle.resolvo.specs.ClauseSearches.{trail_of};
 
@@ -409,13 +409,13 @@ impl ClauseSearch {
 
     /// Puts a learnt clause behind the others, jumps back to the highest level of all its literals but one, though not below
     /// the base, and sets that one.
-    fn jump_back(&mut self, learnt: Learnt) -> Result<(), AllocError>
+    fn backtrack(&mut self, learnt: Learnt) -> Result<(), AllocError>
         requires consistent { IsConsistent self.old }
         requires learnt { IsLearnt self.old.table.items self.old.trail learnt }
         requires above { self.old.base < level_in self.old.trail learnt.literal.variable }
         ensures consistent { OnOk result (IsConsistent self.new) }
         ensures same { OnOk result (IsSameProblem self.old self.new) }
-        ensures jump { OnOk result (IsJump self.old.trail self.new.trail learnt.literal (max learnt.jump self.old.base) (length self.old.table.items)) }
+        ensures backtrack_level { OnOk result (IsBacktrack self.old.trail self.new.trail learnt.literal (max learnt.backtrack_level self.old.base) (length self.old.table.items)) }
         ensures stored { OnOk result (clause_at self.new.table.items (length self.old.table.items) ≡ learnt.literals.items) }
         ensures count { OnOk result (learnt_count_of self.new ≡ learnt_count_of self.old + 1) }
     {
@@ -423,7 +423,7 @@ impl ClauseSearch {
             literals,
             causes,
             literal,
-            jump,
+            backtrack_level,
         } = learnt;
         let number = self.table.len();
         self.queue.learn(&literals)?;
@@ -431,7 +431,7 @@ impl ClauseSearch {
         self.table.push(literals)?;
         self.sources.push(Source::Learnt(causes))?;
         self.learnt += 1;
-        let back = jump.max(self.base);
+        let back = backtrack_level.max(self.base);
         self.trail.undo_until(back);
         self.propagator.cut(&self.trail)?;
         let left = self.trail.len();
@@ -465,7 +465,7 @@ impl ClauseSearch {
         if learnt_limit <= self.learnt || clause_limit <= self.table.len() {
             return Err(Exhausted::Ids);
         }
-        self.jump_back(learnt)?;
+        self.backtrack(learnt)?;
         Ok(None)
     }
 
@@ -496,7 +496,7 @@ impl ClauseSearch {
             &self.trail,
             number,
         )? {
-            Lesson::Contradiction(causes) => {
+            Analysis::Contradiction(causes) => {
                 let numbers = core(
                     alloc,
                     self.table.as_slice(),
@@ -505,7 +505,7 @@ impl ClauseSearch {
                 )?;
                 Ok(Some(Outcome::Contradiction(numbers)))
             }
-            Lesson::Clause(learnt) => {
+            Analysis::Clause(learnt) => {
                 let answer = self.add_learnt(learnt, learnt_limit, clause_limit)?;
                 Ok(answer)
             }

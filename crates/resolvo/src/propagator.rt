@@ -4,7 +4,7 @@ mod attaching;
 mod returning;
 mod visiting;
 
-pub use attaching::settle_all;
+pub use attaching::apply_all_pending;
 use resolver_clause_store::Watches;
 pub use returning::begins_level;
 pub use visiting::propagate;

@@ -20,7 +20,7 @@ pub enum Effect {
 }
 
 /// Sets the last literal of a clause whose others are false.
-fn look_at(trail: &mut Trail, table: &[Vec<Literal>], number: usize) -> Result<Effect, AllocError>
+fn scan_one(trail: &mut Trail, table: &[Vec<Literal>], number: usize) -> Result<Effect, AllocError>
     requires inside { number < length table.now }
     requires below { AreBelow (variable_count trail.old) table.now }
     ensures size { variable_count trail.new ≡ variable_count trail.old }
@@ -36,13 +36,13 @@ fn look_at(trail: &mut Trail, table: &[Vec<Literal>], number: usize) -> Result<E
 }
 
 /// Looks at every clause once, until one is false.
-fn look_at_all(trail: &mut Trail, table: &[Vec<Literal>]) -> Result<Effect, AllocError>
+fn scan_all(trail: &mut Trail, table: &[Vec<Literal>]) -> Result<Effect, AllocError>
     requires below { AreBelow (variable_count trail.old) table.now }
     ensures size { variable_count trail.new ≡ variable_count trail.old }
 {
     let mut effect = Effect::Nothing;
     'clauses: for number in 0..table.len() {
-        match look_at(trail, table, number)? {
+        match scan_one(trail, table, number)? {
             Effect::Nothing => (),
             Effect::Assigned => effect = Effect::Assigned,
             Effect::Conflict(number) => return Ok(Effect::Conflict(number)),
@@ -57,7 +57,7 @@ pub fn propagate(trail: &mut Trail, table: &[Vec<Literal>]) -> Result<Option<usi
     ensures size { variable_count trail.new ≡ variable_count trail.old }
 {
     'passes: for _ in 0..=trail.variable_count() {
-        match look_at_all(trail, table)? {
+        match scan_all(trail, table)? {
             Effect::Nothing => return Ok(None),
             Effect::Assigned => (),
             Effect::Conflict(number) => return Ok(Some(number)),

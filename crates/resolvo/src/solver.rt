@@ -109,7 +109,7 @@ impl<D: DependencyProvider> Solver<D> {
             variable_limit: 1 << 31,
             clause_limit: 1 << 31,
             learnt_limit: 1 << 31,
-            activity: Activity::usual(),
+            activity: Activity::standard(),
         }
     }
 

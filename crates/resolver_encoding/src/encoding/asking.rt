@@ -167,7 +167,7 @@ impl<N: Copy + Eq + Hash + Drop, S: Copy + Eq + Hash + Drop> Encoding<N, S> {
         if is_among(&self.asked, &name) {
             return Ok(());
         }
-        cache.ask_candidates(provider, name)?;
+        cache.fetch_candidates(provider, name)?;
         let package = cache.candidates(name);
         self.lock_out_others(provider, name, &package.candidates, package.locked)?;
         self.exclude_each(provider, name, &package.excluded)?;

@@ -269,7 +269,7 @@ impl<N: Copy + Eq + Hash + Drop, S: Copy + Eq + Hash + Drop> Encoding<N, S> {
         ensures refusal { IfErr result (IsStop (D.may_cancel provider.now) (IsFull (notes_in self.new))) }
     {
         self.ask(provider, cache, provider.version_set_name(version_set))?;
-        cache.ask_non_matching(provider, version_set)?;
+        cache.fetch_non_matching(provider, version_set)?;
         let forbidden = cache.non_matching(version_set);
         if forbidden.len() < CONSTRAINT_HELPER_THRESHOLD {
             self.constrain_each(provider, by, version_set, forbidden)?;

@@ -69,7 +69,7 @@ impl<N: Copy + Eq + Hash + Drop, S: Copy + Eq + Hash + Drop> Encoding<N, S> {
         if is_among(&self.helped, &version_set) {
             return Ok(());
         }
-        cache.ask_matching(provider, version_set)?;
+        cache.fetch_matching(provider, version_set)?;
         self.imply_each(provider, version_set, cache.matching(version_set))?;
         append(&mut self.helped, version_set)?;
         Ok(())

@@ -143,7 +143,7 @@ impl<N: Copy + Eq + Hash + Drop, S: Copy + Eq + Hash + Drop> Encoding<N, S> {
         ensures limits { KeepsLimits (notes_in self.old) (notes_in self.new) }
         ensures refusal { IfErr result (IsStop (D.may_cancel provider.now) (IsFull (notes_in self.new))) }
     {
-        cache.ask_candidates(provider, provider.solvable_name(candidate))?;
+        cache.fetch_candidates(provider, provider.solvable_name(candidate))?;
         self.read_if_at_hand(provider, cache, chosen, candidate)?;
         Ok(())
     }

@@ -242,7 +242,7 @@ impl<N: Copy + Eq + Hash + Drop, S: Copy + Eq + Hash + Drop> Encoding<N, S> {
         ensures limits { KeepsLimits (notes_in self.old) (notes_in self.new) }
         ensures refusal { IfErr result (IsStop (D.may_cancel provider.now) (IsFull (notes_in self.new))) }
     {
-        cache.ask_dependencies(provider, solvable)?;
+        cache.fetch_dependencies(provider, solvable)?;
         match cache.dependencies(solvable) {
             Dependencies::Unknown(reason) => {
                 self.forbid_unknown(provider, solvable, *reason)?;

@@ -10,7 +10,7 @@ ghost use Rattle.resolver_clause_store.specs.Universe.{Demands};
 ghost use Rattle.resolver_encoding.specs.Called.{IsAsking, IsSeeing};
 ghost use Rattle.resolver_encoding.specs.Led.{AddsOnly, Brings, IsBarred, NoneOwn};
 ghost use Rattle.resolver_encoding.specs.Refusals.{IsShortage, IsStop};
-ghost use Rattle.resolver_encoding.specs.Turns.{AddsPlainly, IsPaid, IsRegistered, IsTurnEnd, StaysRead};
+ghost use Rattle.resolver_encoding.specs.Turns.{AddsPlainly, IsRestored, IsRegistered, IsTurnEnd, StaysRead};
 
 use super::Encoding;
 use resolver_clause_store::{
@@ -80,7 +80,7 @@ impl<N: Copy + Eq + Hash + Drop, S: Copy + Eq + Hash + Drop> Encoding<N, S> {
     }
 
     /// Makes the lock's clause for a solvable that its package lists.
-    fn pay_lock<D: DependencyProvider<NameId = N, SolvableId = S>>(
+    fn restore_lock<D: DependencyProvider<NameId = N, SolvableId = S>>(
         &mut self,
         provider: &D,
         name: N,
@@ -96,7 +96,7 @@ impl<N: Copy + Eq + Hash + Drop, S: Copy + Eq + Hash + Drop> Encoding<N, S> {
         ensures bounded { IsBounded self.new }
         ensures step { OnOk result (IsStepWhile (D.universe provider.now) (owing_for solvable) (λ root. ⊤) (notes_in self.old) (notes_in self.new)) }
         ensures plain { OnOk result (AddsPlainly (notes_in self.old) (notes_in self.new)) }
-        ensures paid { OnOk result ((t : S) → locked ≡ Some t → Contains listed.now solvable → solvable ≢ t →
+        ensures restored { OnOk result ((t : S) → locked ≡ Some t → Contains listed.now solvable → solvable ≢ t →
             (Contains (notes_in self.old).exempt solvable → ⊥) → Contains (notes_in self.new).kinds (LockKind t solvable)) }
         ensures adds { AddsOnly (IsBarred (D.universe provider.now) (IsAsking name)) (notes_in self.old) (notes_in self.new) }
         ensures limits { KeepsLimits (notes_in self.old) (notes_in self.new) }
@@ -113,7 +113,7 @@ impl<N: Copy + Eq + Hash + Drop, S: Copy + Eq + Hash + Drop> Encoding<N, S> {
     }
 
     /// Makes the clause of an exclusion if it is one of the solvable.
-    fn pay_exclusion<D: DependencyProvider<NameId = N, SolvableId = S>>(
+    fn restore_exclusion<D: DependencyProvider<NameId = N, SolvableId = S>>(
         &mut self,
         provider: &D,
         name: N,
@@ -128,7 +128,7 @@ impl<N: Copy + Eq + Hash + Drop, S: Copy + Eq + Hash + Drop> Encoding<N, S> {
         ensures bounded { IsBounded self.new }
         ensures step { OnOk result (IsStepWhile (D.universe provider.now) (owing_for solvable) (λ root. ⊤) (notes_in self.old) (notes_in self.new)) }
         ensures plain { OnOk result (AddsPlainly (notes_in self.old) (notes_in self.new)) }
-        ensures paid { OnOk result (excluded ≡ solvable → (Contains (notes_in self.old).exempt solvable → ⊥) →
+        ensures restored { OnOk result (excluded ≡ solvable → (Contains (notes_in self.old).exempt solvable → ⊥) →
             Contains (notes_in self.new).kinds (ExcludedKind excluded reason)) }
         ensures adds { AddsOnly (IsBarred (D.universe provider.now) (IsAsking name)) (notes_in self.old) (notes_in self.new) }
         ensures limits { KeepsLimits (notes_in self.old) (notes_in self.new) }
@@ -142,7 +142,7 @@ impl<N: Copy + Eq + Hash + Drop, S: Copy + Eq + Hash + Drop> Encoding<N, S> {
     }
 
     /// Makes the clauses of a solvable's exclusions.
-    fn pay_exclusions<D: DependencyProvider<NameId = N, SolvableId = S>>(
+    fn restore_exclusions<D: DependencyProvider<NameId = N, SolvableId = S>>(
         &mut self,
         provider: &D,
         name: N,
@@ -155,20 +155,20 @@ impl<N: Copy + Eq + Hash + Drop, S: Copy + Eq + Hash + Drop> Encoding<N, S> {
         ensures bounded { IsBounded self.new }
         ensures step { OnOk result (IsStepWhile (D.universe provider.now) (owing_for solvable) (λ root. ⊤) (notes_in self.old) (notes_in self.new)) }
         ensures plain { OnOk result (AddsPlainly (notes_in self.old) (notes_in self.new)) }
-        ensures paid { OnOk result (All (λ e.
+        ensures restored { OnOk result (All (λ e.
             e.0 ≡ solvable → (Contains (notes_in self.old).exempt solvable → ⊥) → Contains (notes_in self.new).kinds (ExcludedKind e.0 e.1)) excluded.now) }
         ensures adds { AddsOnly (IsBarred (D.universe provider.now) (IsAsking name)) (notes_in self.old) (notes_in self.new) }
         ensures limits { KeepsLimits (notes_in self.old) (notes_in self.new) }
         ensures refusal { IfErr result (IsShortage (IsFull (notes_in self.new))) }
     {
         for (other, reason) in excluded {
-            self.pay_exclusion(provider, name, *other, *reason, solvable)?;
+            self.restore_exclusion(provider, name, *other, *reason, solvable)?;
         }
         Ok(())
     }
 
     /// Makes the clauses that a solvable was spared, if its package was asked.
-    fn pay<D: DependencyProvider<NameId = N, SolvableId = S>>(
+    fn restore<D: DependencyProvider<NameId = N, SolvableId = S>>(
         &mut self,
         provider: &D,
         cache: &mut Cache<N, S>,
@@ -180,7 +180,7 @@ impl<N: Copy + Eq + Hash + Drop, S: Copy + Eq + Hash + Drop> Encoding<N, S> {
         ensures is_true { IsTrueCache (D.universe provider.now) cache.new }
         ensures step { OnOk result (IsStepWhile (D.universe provider.now) (owing_for solvable) (λ root. ⊤) (notes_in self.old) (notes_in self.new)) }
         ensures plain { OnOk result (AddsPlainly (notes_in self.old) (notes_in self.new)) }
-        ensures paid { OnOk result (IsPaid (D.universe provider.now) solvable (notes_in self.new)) }
+        ensures restored { OnOk result (IsRestored (D.universe provider.now) solvable (notes_in self.new)) }
         ensures adds { AddsOnly (IsBarred (D.universe provider.now) (IsFollowed (notes_in self.old))) (notes_in self.old) (notes_in self.new) }
         ensures limits { KeepsLimits (notes_in self.old) (notes_in self.new) }
         ensures refusal { IfErr result (IsStop (D.may_cancel provider.now) (IsFull (notes_in self.new))) }
@@ -189,16 +189,16 @@ impl<N: Copy + Eq + Hash + Drop, S: Copy + Eq + Hash + Drop> Encoding<N, S> {
         if !is_among(&self.asked, &name) {
             return Ok(());
         }
-        cache.ask_candidates(provider, name)?;
+        cache.fetch_candidates(provider, name)?;
         let package = cache.candidates(name);
-        self.pay_lock(
+        self.restore_lock(
             provider,
             name,
             &package.candidates,
             package.locked,
             solvable,
         )?;
-        self.pay_exclusions(provider, name, &package.excluded, solvable)?;
+        self.restore_exclusions(provider, name, &package.excluded, solvable)?;
         Ok(())
     }
 
@@ -229,7 +229,7 @@ impl<N: Copy + Eq + Hash + Drop, S: Copy + Eq + Hash + Drop> Encoding<N, S> {
         match self.exempt.pop() {
             None => Ok(()),
             Some(solvable) => {
-                self.pay(provider, cache, solvable)?;
+                self.restore(provider, cache, solvable)?;
                 Ok(())
             }
         }

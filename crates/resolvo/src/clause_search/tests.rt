@@ -571,7 +571,7 @@ fn does(
 /// owns one.
 fn is_done(alloc: Global, table: &[Vec<Literal>], task: &Task<'_>) -> Result<bool, AllocError> {
     let provider = provider_of_nothing(alloc);
-    let mut search = ClauseSearch::new(alloc, Activity::usual());
+    let mut search = ClauseSearch::new(alloc, Activity::standard());
     does(alloc, &mut search, &provider, table, task)
 }
 
@@ -699,8 +699,8 @@ fn a_core_names_given_clauses_whenever_they_came(rt: HostRuntime) -> Result<(), 
 fn places_are_kept_as_far_as_the_trail_stays(rt: HostRuntime) -> Result<(), Fail> {
     let gained: [&[i32]; 3] = [&[1, 2], &[3, 4], &[5]];
     assert!(rt; finds(rt.alloc(), &gained, &Task::Keep((2, 2, 2, 2)))?);
-    let jumped: [&[i32]; 4] = [&[1, 2], &[3, 4], &[-1, -3, 5], &[-1, -3, -5]];
-    assert!(rt; finds(rt.alloc(), &jumped, &Task::Keep((2, 2, 2, 1)))?);
+    let backtracked: [&[i32]; 4] = [&[1, 2], &[3, 4], &[-1, -3, 5], &[-1, -3, -5]];
+    assert!(rt; finds(rt.alloc(), &backtracked, &Task::Keep((2, 2, 2, 1)))?);
     Ok(())
 }
 

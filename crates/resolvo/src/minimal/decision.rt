@@ -218,7 +218,7 @@ pub fn decide<N, S>(
     ensures memory { IfErr result (λ e. e ≡ Exhausted.Memory) }
 {
     let marked = marked_clauses(alloc, &form.clauses, marks)?;
-    let mut search = ClauseSearch::new(alloc, Activity::usual());
+    let mut search = ClauseSearch::new(alloc, Activity::standard());
     let verdict = decide_by(alloc, &mut search, rules, form, marks, &marked);
     drop(search);
     drop(marked);

@@ -88,7 +88,7 @@ impl Propagator {
 }
 
 impl Propagator {
-    /// Takes the last one of the clauses that have to be looked at again away. It is true.
+    /// Pops a pending clause that is satisfied.
     fn pass(&mut self, trail: &Trail, number: usize) -> Result<(), AllocError>
         requires last { EndsWith (pending_of self.old) number }
         requires inside { number < attached_of self.old }
@@ -258,8 +258,8 @@ fn pair_of(trail: &Trail, literals: &[Literal]) -> Option<(Literal, Literal)>
     Some((literals[first], literals[second]))
 }
 
-/// Looks at the last one of the clauses that have to be looked at again. Answers whether it is not false.
-fn settle(
+/// Applies the last pending clause: forces its last literal, or puts it by. Answers whether it is not false.
+fn apply_pending(
     trail: &mut Trail,
     table: &[Vec<Literal>],
     propagator: &mut Propagator,
@@ -293,8 +293,8 @@ fn settle(
     }
 }
 
-/// Looks at the clauses that have to be looked at, until one is false, whose number is answered.
-pub fn settle_all(
+/// Applies pending clauses until none is left, or one is false, whose number is answered.
+pub fn apply_all_pending(
     trail: &mut Trail,
     table: &[Vec<Literal>],
     propagator: &mut Propagator,
@@ -310,7 +310,7 @@ pub fn settle_all(
 {
     'pending: while let Some(number) = propagator.pending.last() {
         let number = *number;
-        if !settle(trail, table, propagator, number)? {
+        if !apply_pending(trail, table, propagator, number)? {
             return Ok(Some(number));
         }
     }

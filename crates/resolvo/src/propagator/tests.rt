@@ -110,7 +110,7 @@ fn follow(
     ensures justified { OnOk result (IsJustified table.now trail.new) }
     ensures propagator { OnOk result (IsPropagator table.now trail.new propagator.new) }
 {
-    if settle_all(trail, table, propagator)?.is_some() {
+    if apply_all_pending(trail, table, propagator)?.is_some() {
         return Ok(false);
     }
     Ok(propagate(trail, table, propagator)?.is_none())

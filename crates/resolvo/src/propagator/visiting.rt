@@ -8,7 +8,7 @@ ghost use Rattle.resolver_clause_store.specs.declared.Literal.{Literal};
 ghost use Rattle.resolvo.specs.Propagation.{Extends, IsConflict, IsJustified, IsUnit};
 ghost use Rattle.resolver_clause_store.specs.Settled.{AllSettled};
 ghost use Rattle.resolvo.specs.Propagators.{IsAttached, IsPropagator};
-ghost use Rattle.resolvo.specs.Visits.{FailsAt, IsPaired, IsVisiting, LookIs, Replaces, StandsAt};
+ghost use Rattle.resolvo.specs.Visits.{FailsAt, IsPaired, IsVisiting, WatchOutcomeIs, Replaces, StandsAt};
 ghost use Rattle.resolvo.specs.WatchedClauses.{AreOwned};
 ghost use Rattle.resolver_clause_store.specs.Watches.{IsPair};
 ghost use Rattle.resolver_clause_store.specs.WatchesView.{pairs_of};
@@ -36,9 +36,9 @@ pub struct Watcher {
     other: Literal,
 }
 
-/// What a look at a clause did.
+/// What the visit of a watcher came to.
 #[derive(Clone, Copy)]
-pub enum Look {
+pub enum WatchOutcome {
     /// The place of the clause to look at next.
     Next(usize),
     /// Each literal of the clause with this number is false.
@@ -134,16 +134,16 @@ impl Propagator {
         falsified: &FalseLiteral,
         place: usize,
         number: usize,
-    ) -> Result<Look, AllocError>
+    ) -> Result<WatchOutcome, AllocError>
         requires visiting { IsVisiting table.now trail.now self.old falsified.now place }
         requires stands { StandsAt (watchers_of self.old falsified.now.literal) place number }
         requires inside { number < attached_of self.old }
         requires satisfied { IsSatisfied trail.now (clause_at table.now number) }
-        ensures look { IfOk result (LookIs table.now trail.now self.old self.new falsified.now place) }
+        ensures outcome { IfOk result (WatchOutcomeIs table.now trail.now self.old self.new falsified.now place) }
         ensures refused { OnErr result (AreOwned table.now (pairs_of self.new.watches)) }
     {
         self.note(trail, number, falsified)?;
-        Ok(Look::Next(place + 1))
+        Ok(WatchOutcome::Next(place + 1))
     }
 
     /// Passes a clause by whose other watched literal is true, which becomes the blocker.
@@ -153,19 +153,19 @@ impl Propagator {
         table: &[Vec<Literal>],
         falsified: &FalseLiteral,
         watcher: &Watcher,
-    ) -> Result<Look, AllocError>
+    ) -> Result<WatchOutcome, AllocError>
         requires visiting { IsVisiting table.now trail.now self.old falsified.now watcher.now.place }
         requires stands { StandsAt (watchers_of self.old falsified.now.literal) watcher.now.place watcher.now.number }
         requires inside { watcher.now.number < attached_of self.old }
         requires pair { IsPaired (pairs_of self.old.watches) watcher.now.number falsified.now.literal watcher.now.other }
         requires satisfied { literal_value trail.now watcher.now.other ≡ Some true }
-        ensures look { IfOk result (LookIs table.now trail.now self.old self.new falsified.now watcher.now.place) }
+        ensures outcome { IfOk result (WatchOutcomeIs table.now trail.now self.old self.new falsified.now watcher.now.place) }
         ensures refused { OnErr result (AreOwned table.now (pairs_of self.new.watches)) }
     {
         self.watches
             .set_blocker(falsified.literal, watcher.place, watcher.other);
-        let look = self.pass_by(trail, table, falsified, watcher.place, watcher.number)?;
-        Ok(look)
+        let outcome = self.pass_by(trail, table, falsified, watcher.place, watcher.number)?;
+        Ok(outcome)
     }
 
     /// Sets the last literal of a clause whose others are false.
@@ -175,7 +175,7 @@ impl Propagator {
         table: &[Vec<Literal>],
         falsified: &FalseLiteral,
         watcher: &Watcher,
-    ) -> Result<Look, AllocError>
+    ) -> Result<WatchOutcome, AllocError>
         requires visiting { IsVisiting table.now trail.old self.old falsified.now watcher.now.place }
         requires justified { IsJustified table.now trail.old }
         requires stands { StandsAt (watchers_of self.old falsified.now.literal) watcher.now.place watcher.now.number }
@@ -183,7 +183,7 @@ impl Propagator {
         requires pair { IsPaired (pairs_of self.old.watches) watcher.now.number falsified.now.literal watcher.now.other }
         requires unit { IsUnit trail.old watcher.now.other (clause_at table.now watcher.now.number) }
         requires not_true { literal_value trail.old watcher.now.other ≢ Some true }
-        ensures look { IfOk result (LookIs table.now trail.new self.old self.new falsified.now watcher.now.place) }
+        ensures outcome { IfOk result (WatchOutcomeIs table.now trail.new self.old self.new falsified.now watcher.now.place) }
         ensures refused { OnErr result (AreOwned table.now (pairs_of self.new.watches)) }
         ensures justified { IsJustified table.now trail.new }
         ensures extends { Extends trail.old trail.new }
@@ -192,30 +192,30 @@ impl Propagator {
         ensures total { open_count trail.new + length_of trail.new ≡ open_count trail.old + length_of trail.old }
     {
         match trail.value(watcher.other) {
-            Some(_) => Ok(Look::Conflict(watcher.number)),
+            Some(_) => Ok(WatchOutcome::Conflict(watcher.number)),
             None => {
                 trail.force(watcher.other, watcher.number)?;
-                let look = self.pass_by_other(trail, table, falsified, watcher)?;
-                Ok(look)
+                let outcome = self.pass_by_other(trail, table, falsified, watcher)?;
+                Ok(outcome)
             }
         }
     }
 
-    /// Looks at a clause whose other watched literal is not true: it watches another literal, or its last literal is set.
-    fn look_for_another(
+    /// Finds a replacement for a watched literal that is false, where the other one is not true; where there is none, the last literal is set.
+    fn find_replacement(
         &mut self,
         trail: &mut Trail,
         table: &[Vec<Literal>],
         falsified: &FalseLiteral,
         watcher: &Watcher,
-    ) -> Result<Look, AllocError>
+    ) -> Result<WatchOutcome, AllocError>
         requires visiting { IsVisiting table.now trail.old self.old falsified.now watcher.now.place }
         requires justified { IsJustified table.now trail.old }
         requires stands { StandsAt (watchers_of self.old falsified.now.literal) watcher.now.place watcher.now.number }
         requires inside { watcher.now.number < attached_of self.old }
         requires pair { IsPaired (pairs_of self.old.watches) watcher.now.number falsified.now.literal watcher.now.other }
         requires not_true { literal_value trail.old watcher.now.other ≢ Some true }
-        ensures look { IfOk result (LookIs table.now trail.new self.old self.new falsified.now watcher.now.place) }
+        ensures outcome { IfOk result (WatchOutcomeIs table.now trail.new self.old self.new falsified.now watcher.now.place) }
         ensures refused { OnErr result (AreOwned table.now (pairs_of self.new.watches)) }
         ensures justified { IsJustified table.now trail.new }
         ensures extends { Extends trail.old trail.new }
@@ -227,27 +227,27 @@ impl Propagator {
             Some(to) => {
                 self.watches
                     .move_watch(falsified.literal, watcher.place, to, watcher.other)?;
-                Ok(Look::Next(watcher.place))
+                Ok(WatchOutcome::Next(watcher.place))
             }
             None => {
-                let look = self.force_other(trail, table, falsified, watcher)?;
-                Ok(look)
+                let outcome = self.force_other(trail, table, falsified, watcher)?;
+                Ok(outcome)
             }
         }
     }
 
-    /// Looks at the clause at a place of the list of a literal that has become false.
-    fn look(
+    /// Visits the watcher at a place in the list of a literal that has become false.
+    fn visit_watcher(
         &mut self,
         trail: &mut Trail,
         table: &[Vec<Literal>],
         falsified: &FalseLiteral,
         place: usize,
-    ) -> Result<Look, AllocError>
+    ) -> Result<WatchOutcome, AllocError>
         requires visiting { IsVisiting table.now trail.old self.old falsified.now place }
         requires justified { IsJustified table.now trail.old }
         requires place { place < length (watchers_of self.old falsified.now.literal) }
-        ensures look { IfOk result (LookIs table.now trail.new self.old self.new falsified.now place) }
+        ensures outcome { IfOk result (WatchOutcomeIs table.now trail.new self.old self.new falsified.now place) }
         ensures refused { OnErr result (AreOwned table.now (pairs_of self.new.watches)) }
         ensures justified { IsJustified table.now trail.new }
         ensures extends { Extends trail.old trail.new }
@@ -257,8 +257,8 @@ impl Propagator {
     {
         let watch = self.watches.watch_at(falsified.literal, place);
         if trail.value(watch.blocker) == Some(true) {
-            let look = self.pass_by(trail, table, falsified, place, watch.number)?;
-            return Ok(look);
+            let outcome = self.pass_by(trail, table, falsified, place, watch.number)?;
+            return Ok(outcome);
         }
         let pair = self.watches.pair(watch.number);
         let watcher = Watcher {
@@ -267,14 +267,14 @@ impl Propagator {
             other: other_watched(&pair, &falsified.literal),
         };
         if trail.value(watcher.other) == Some(true) {
-            let look = self.pass_by_other(trail, table, falsified, &watcher)?;
-            return Ok(look);
+            let outcome = self.pass_by_other(trail, table, falsified, &watcher)?;
+            return Ok(outcome);
         }
-        let look = self.look_for_another(trail, table, falsified, &watcher)?;
-        Ok(look)
+        let outcome = self.find_replacement(trail, table, falsified, &watcher)?;
+        Ok(outcome)
     }
 
-    /// Looks at each clause that watches the literal which is false at the head, and takes the head a place further.
+    /// Visits each watcher of the literal that is false at the head, and advances the head by one place.
     fn visit(
         &mut self,
         trail: &mut Trail,
@@ -299,9 +299,9 @@ impl Propagator {
         let falsified = self.false_literal(trail);
         let mut place = 0;
         'watchers: while place < self.watches.count(falsified.literal) {
-            match self.look(trail, table, &falsified, place)? {
-                Look::Next(next) => place = next,
-                Look::Conflict(number) => return Ok(Some(number)),
+            match self.visit_watcher(trail, table, &falsified, place)? {
+                WatchOutcome::Next(next) => place = next,
+                WatchOutcome::Conflict(number) => return Ok(Some(number)),
             }
         }
         self.head += 1;

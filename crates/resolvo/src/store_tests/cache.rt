@@ -34,14 +34,14 @@ fn empty_cache(alloc: Global, provider: &NotingProvider) -> Cache<u32, u32>
 fn candidates_are_asked_for_once(rt: HostRuntime) -> Result<(), Fail> {
     let provider = provider(rt.alloc())?;
     let mut cache = empty_cache(rt.alloc(), &provider);
-    cache.ask_candidates(&provider, 7)?;
-    cache.ask_candidates(&provider, 7)?;
+    cache.fetch_candidates(&provider, 7)?;
+    cache.fetch_candidates(&provider, 7)?;
     assert_eq!(rt;
         cache.candidates(7).candidates.as_slice(),
         [71, 72, 73].as_slice()
     );
     assert_eq!(rt; provider.log.get(), 12);
-    cache.ask_candidates(&provider, 700)?;
+    cache.fetch_candidates(&provider, 700)?;
     assert!(rt; cache.candidates(700).candidates.is_empty());
     assert_eq!(rt; provider.log.get(), 1212);
     Ok(())
@@ -51,11 +51,11 @@ fn candidates_are_asked_for_once(rt: HostRuntime) -> Result<(), Fail> {
 fn dependencies_are_asked_for_once(rt: HostRuntime) -> Result<(), Fail> {
     let provider = provider(rt.alloc())?;
     let mut cache = empty_cache(rt.alloc(), &provider);
-    cache.ask_dependencies(&provider, 73)?;
-    cache.ask_dependencies(&provider, 73)?;
+    cache.fetch_dependencies(&provider, 73)?;
+    cache.fetch_dependencies(&provider, 73)?;
     assert!(rt; matches!(cache.dependencies(73), Dependencies::Unknown(_)));
     assert_eq!(rt; provider.log.get(), 13);
-    cache.ask_dependencies(&provider, 71)?;
+    cache.fetch_dependencies(&provider, 71)?;
     assert!(rt; matches!(cache.dependencies(71), Dependencies::Known(_)));
     assert_eq!(rt; provider.log.get(), 1313);
     Ok(())
@@ -66,10 +66,10 @@ fn version_sets_are_filtered_once(rt: HostRuntime) -> Result<(), Fail> {
     let provider = provider(rt.alloc())?;
     let mut cache = empty_cache(rt.alloc(), &provider);
     let at_most_two = VersionSetId(72);
-    cache.ask_matching(&provider, at_most_two)?;
-    cache.ask_non_matching(&provider, at_most_two)?;
-    cache.ask_matching(&provider, at_most_two)?;
-    cache.ask_non_matching(&provider, at_most_two)?;
+    cache.fetch_matching(&provider, at_most_two)?;
+    cache.fetch_non_matching(&provider, at_most_two)?;
+    cache.fetch_matching(&provider, at_most_two)?;
+    cache.fetch_non_matching(&provider, at_most_two)?;
     assert_eq!(rt; cache.matching(at_most_two), [71, 72].as_slice());
     assert_eq!(rt; cache.non_matching(at_most_two), [73].as_slice());
     assert_eq!(rt; provider.log.get(), 1244);
@@ -80,8 +80,8 @@ fn version_sets_are_filtered_once(rt: HostRuntime) -> Result<(), Fail> {
 fn the_favored_one_comes_first(rt: HostRuntime) -> Result<(), Fail> {
     let provider = provider(rt.alloc())?;
     let mut cache = empty_cache(rt.alloc(), &provider);
-    cache.ask_sorted(&provider, VersionSetId(73))?;
-    cache.ask_sorted(&provider, VersionSetId(73))?;
+    cache.fetch_sorted(&provider, VersionSetId(73))?;
+    cache.fetch_sorted(&provider, VersionSetId(73))?;
     assert_eq!(rt; cache.sorted(VersionSetId(73)), [71, 73, 72].as_slice());
     assert_eq!(rt; provider.log.get(), 1245);
     Ok(())
@@ -92,14 +92,14 @@ fn a_cancelled_question_can_be_asked_again(rt: HostRuntime) -> Result<(), Fail> 
     let provider = provider(rt.alloc())?;
     let mut cache = empty_cache(rt.alloc(), &provider);
     provider.cancels.set(true);
-    let refused = cache.ask_sorted(&provider, VersionSetId(72));
+    let refused = cache.fetch_sorted(&provider, VersionSetId(72));
     assert!(rt; matches!(refused, Err(Interrupted::Cancelled(42))));
     assert_eq!(rt; provider.log.get(), 1);
-    cache.ask_sorted(&provider, VersionSetId(72))?;
+    cache.fetch_sorted(&provider, VersionSetId(72))?;
     assert_eq!(rt; cache.sorted(VersionSetId(72)), [71, 72].as_slice());
     assert_eq!(rt; provider.log.get(), 11245);
     provider.cancels.set(true);
-    let refused = cache.ask_dependencies(&provider, 71);
+    let refused = cache.fetch_dependencies(&provider, 71);
     assert!(rt; matches!(refused, Err(Interrupted::Cancelled(42))));
     assert!(rt; !cache.are_dependencies_available_for(&provider, 71));
     assert_eq!(rt; provider.log.get(), 112451);
@@ -111,10 +111,10 @@ fn a_hint_covers_what_it_names(rt: HostRuntime) -> Result<(), Fail> {
     let provider = provider(rt.alloc())?;
     let mut cache = empty_cache(rt.alloc(), &provider);
     assert!(rt; !cache.are_dependencies_available_for(&provider, 72));
-    cache.ask_candidates(&provider, 7)?;
+    cache.fetch_candidates(&provider, 7)?;
     assert!(rt; cache.are_dependencies_available_for(&provider, 72));
     assert!(rt; !cache.are_dependencies_available_for(&provider, 71));
-    cache.ask_dependencies(&provider, 71)?;
+    cache.fetch_dependencies(&provider, 71)?;
     assert!(rt; cache.are_dependencies_available_for(&provider, 71));
     Ok(())
 }

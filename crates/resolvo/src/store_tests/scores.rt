@@ -16,7 +16,10 @@ fn score_after(alloc: Global, activity: Activity, times: u64) -> Result<u64, Fai
 #[test]
 fn a_package_of_each_learnt_clause(rt: HostRuntime) -> Result<(), Fail> {
     for (times, wanted) in [(1, 950000), (2, 1852500), (3, 2709875), (4, 3524381)] {
-        assert_eq!(rt; score_after(rt.alloc(), Activity::usual(), times)?, wanted);
+        assert_eq!(rt;
+            score_after(rt.alloc(), Activity::standard(), times)?,
+            wanted
+        );
     }
     Ok(())
 }
@@ -33,7 +36,7 @@ fn a_product_saturates_before_it_is_divided(rt: HostRuntime) -> Result<(), Fail>
 
 #[test]
 fn scores_of_other_packages_fade_when_they_are_read(rt: HostRuntime) -> Result<(), Fail> {
-    let mut scores = Scores::new(rt.alloc(), Activity::usual());
+    let mut scores = Scores::new(rt.alloc(), Activity::standard());
     scores.add(0, 0)?;
     assert_eq!(rt; scores.of(0, 3), 857375);
     assert_eq!(rt; scores.read(0, 2), 902500);

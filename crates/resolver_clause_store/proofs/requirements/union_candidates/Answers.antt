@@ -6,10 +6,10 @@ use Rattle.resolver_clause_store.proofs.requirements.union_candidates.Goals as g
 pub loop-version_set-preserved : goal.loop-version_set-preserved
 loop-version_set-preserved g c =
     let u = g.D.Interner.universe c.args.provider.now in
-    let held = c.ask_sorted.ensures.is_true in
+    let held = c.fetch_sorted.ensures.is_true in
     record {
       is_true = held;
-      keeps = KeepsAnswers-trans _ _ _ c.loop-version_set.invariant.keeps c.ask_sorted.ensures.keeps;
+      keeps = KeepsAnswers-trans _ _ _ c.loop-version_set.invariant.keeps c.fetch_sorted.ensures.keeps;
       taken = taken_more u _ _ _ _ _ _ _ c.loop-version_set-test.true c.loop-version_set.invariant.taken
           (c.sorted.ensures u held) c.in_ok-add_all.ensures.added;
     }

@@ -20,16 +20,16 @@ returns-clause-value g c =
     let left : c.deref-7.result.now ≡ filter (has_mark (missing shape) false) out =
     c.deref-7.ensures.value ∙ c.in_ok-left.ensures.value ∙
     (λ i. filter (has_mark ((c.deref-4.ensures.value ∙ marks) i) false) ((c.deref-3.ensures.value ∙ edges) i)) in
-    let it = c.in_ok-story.ensures.interner in
-    let graph = c.in_ok-story.ensures.graph in
+    let it = c.in_ok-outline.ensures.interner in
+    let graph = c.in_ok-outline.ensures.graph in
     c.in_ok-write_conflict_part.ensures.ok
-    ∙ ap (λ z. z ++ conflict_part (U c.in_ok-story.story.interner.now) (shape_of c.in_ok-story.story.findings.graph.now)
-    (keys (U c.in_ok-story.story.interner.now) c.in_ok-story.story.findings.graph.now.graph)
-    (installable (shape_of c.in_ok-story.story.findings.graph.now)) c.deref-6.result.now c.deref-7.result.now)
+    ∙ ap (λ z. z ++ conflict_part (U c.in_ok-outline.outline.interner.now) (shape_of c.in_ok-outline.outline.findings.graph.now)
+    (keys (U c.in_ok-outline.outline.interner.now) c.in_ok-outline.outline.findings.graph.now.graph)
+    (installable (shape_of c.in_ok-outline.outline.findings.graph.now)) c.deref-6.result.now c.deref-7.result.now)
     (c.in_ok-write_missing_part.ensures.ok ∙
-    ap (λ z. z ++ missing_part (U c.in_ok-story.story.interner.now) (shape_of c.in_ok-story.story.findings.graph.now)
-    (keys (U c.in_ok-story.story.interner.now) c.in_ok-story.story.findings.graph.now.graph)
-    (installable (shape_of c.in_ok-story.story.findings.graph.now)) c.deref-5.result.now) c.new-text.ensures.bytes)
+    ap (λ z. z ++ missing_part (U c.in_ok-outline.outline.interner.now) (shape_of c.in_ok-outline.outline.findings.graph.now)
+    (keys (U c.in_ok-outline.outline.interner.now) c.in_ok-outline.outline.findings.graph.now.graph)
+    (installable (shape_of c.in_ok-outline.outline.findings.graph.now)) c.deref-5.result.now) c.new-text.ensures.bytes)
     ∙ (λ i. missing_part (U (it i)) (shape_of (graph i)) (keys (U (it i)) (graph i).graph) (installable (shape_of (graph i))) (lost i) ++
     conflict_part (U (it i)) (shape_of (graph i)) (keys (U (it i)) (graph i).graph) (installable (shape_of (graph i))) ((c.deref-6.ensures.value ∙ edges) i)
     (left i))

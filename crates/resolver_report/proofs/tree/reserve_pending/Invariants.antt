@@ -10,4 +10,4 @@ invariant-loop-line g l = record {
 }
 
 abbrev pub decreases-loop-line : goal.decreases-loop-line
-decreases-loop-line g l = pending_work g.I.Interner.universe l.story (pending_view l.pending)
+decreases-loop-line g l = pending_work g.I.Interner.universe l.outline (pending_view l.pending)

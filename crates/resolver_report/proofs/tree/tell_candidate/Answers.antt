@@ -3,7 +3,7 @@ use Rattle.std.specs.Prelude.{◌==◌, string_bytes}
 use Rattle.std.proofs.lemmas.List.{append-nil}
 use Rattle.resolver_report.specs.Messages.{is_quiet}
 use Rattle.resolver_report.specs.PendingTexts.{frames_view, levels_of}
-use Rattle.resolver_report.specs.Stories.{run_told_view}
+use Rattle.resolver_report.specs.Outlines.{run_told_view}
 use Rattle.resolver_report.specs.Tellings.{graph_in, keys_in, marks_in, text_at}
 use Rattle.resolver_report.proofs.CandidateLemmas.{quiet_candidate}
 use Rattle.resolver_report.proofs.PendingLemmas.{candidate_step}
@@ -12,7 +12,7 @@ use Rattle.resolver_report.proofs.tree.tell_candidate.Goals as goal
 pub returns-in_default-clause-step : goal.returns-in_default-clause-step
 returns-in_default-clause-step g c =
     let U = g.I.Interner.universe in
-    let s = c.args.story.now in
+    let s = c.args.outline.now in
     let p = c.args.pending.now in
     let n = c.args.n in
     let fs = frames_view p.frames.items in

@@ -3,13 +3,13 @@ use Rattle.std.specs.Prelude.{string_bytes}
 use Rattle.resolver_report.specs.Forests.{text_of}
 use Rattle.resolver_report.specs.Merging.{group_in}
 use Rattle.resolver_report.specs.Messages.{told_of, unmarked}
-use Rattle.resolver_report.specs.Stories.{groups_in, run_told_view}
+use Rattle.resolver_report.specs.Outlines.{groups_in, run_told_view}
 use Rattle.resolver_report.specs.Tellings.{graph_in, keys_in, marks_in, tree_in}
 use Rattle.resolver_report.proofs.tree.tell_edges.Goals as goal
 
 pub returns-clause-ok : goal.returns-clause-ok
 returns-clause-ok g c =
-    let s = c.args.story.now in
+    let s = c.args.outline.now in
     let shape = graph_in g.I.Interner.universe s in
     let ks = keys_in g.I.Interner.universe s in
     let marks = marks_in g.I.Interner.universe s in

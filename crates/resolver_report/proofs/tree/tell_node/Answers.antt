@@ -4,7 +4,7 @@ use Rattle.resolver_report.specs.Forests.{indent_from, text_of}
 use Rattle.resolver_report.specs.Indents.{levels_in}
 use Rattle.resolver_report.specs.Messages.{with_group}
 use Rattle.resolver_report.specs.PendingTexts.{FrameTold, IsTellStep, PendingTold, frames_view, levels_of, pending_view}
-use Rattle.resolver_report.specs.Stories.{run_told_view}
+use Rattle.resolver_report.specs.Outlines.{run_told_view}
 use Rattle.resolver_report.specs.Tellings.{text_at, tree_in, verdict_rest, version_text_in}
 use Rattle.resolver_report.specs.Verdicts.{verdict_view}
 use Rattle.resolver_report.proofs.CandidateLemmas.{more_reported, more_text, off_branch, quiet_reported, quiet_text}
@@ -14,7 +14,7 @@ use Rattle.resolver_report.proofs.tree.tell_node.Goals as goal
 pub returns-then-not-requires_more-clause-step : goal.returns-then-not-requires_more-clause-step
 returns-then-not-requires_more-clause-step g c =
     let U = g.I.Interner.universe in
-    let s = c.args.story.now in
+    let s = c.args.outline.now in
     let p = c.args.pending.now in
     let n = c.args.n in
     let node = c.args.node.now in
@@ -44,7 +44,7 @@ returns-then-not-requires_more-clause-step g c =
 pub returns-clause-step : goal.returns-clause-step
 returns-clause-step g c =
     let U = g.I.Interner.universe in
-    let s = c.args.story.now in
+    let s = c.args.outline.now in
     let p = c.args.pending.now in
     let n = c.args.n in
     let node = c.args.node.now in

@@ -7,6 +7,6 @@ pub returns-clause-ok : goal.returns-clause-ok
 returns-clause-ok g c = written_3 (string_bytes c.args.out.now) (string_bytes c.push_str.new.self) (string_bytes c.write_reason_at.new.out)
     (string_bytes c.push_str-2.new.self)
     (codes " is excluded because ")
-    (reason_text (g.I.Interner.universe c.args.story.now.interner.now) (slice_get c.args.story.now.findings.graph.now.graph.nodes c.args.reason.0))
+    (reason_text (g.I.Interner.universe c.args.outline.now.interner.now) (slice_get c.args.outline.now.findings.graph.now.graph.nodes c.args.reason.0))
     (10 ∷ [])
     c.in_ok-push_str.ensures.bytes c.in_ok-write_reason_at.ensures.ok c.in_ok-push_str-2.ensures.bytes

@@ -78,7 +78,7 @@ returns-in_err-check_cancel-clause-refused g c = refused-any _ _ (owned-of _ _ _
 
 pub returns-in_err-number-clause-refused : goal.returns-in_err-number-clause-refused
 returns-in_err-number-clause-refused g c =
-    refused-any _ _ (owned-same _ _ _ (ap (λ (w : Watches). pairs_of w) c.settle_all.ensures.watches) (owned-of _ _ _ c.requires.propagator))
+    refused-any _ _ (owned-same _ _ _ (ap (λ (w : Watches). pairs_of w) c.apply_all_pending.ensures.watches) (owned-of _ _ _ c.requires.propagator))
 
 pub returns-in_err-choice-clause-refused : goal.returns-in_err-choice-clause-refused
 returns-in_err-choice-clause-refused g c = refused-any _ _ (owned-of _ _ _ c.in_ok-number-2.ensures.propagator)

@@ -168,7 +168,7 @@ fn search_drawn(alloc: Global, seed: u32, count: u32) -> Result<Verdict, AllocEr
     let clauses = draw_clauses(alloc, seed, count)?;
     let table = table_of(alloc, &clauses)?;
     let provider = provider_of_nothing(alloc);
-    let mut search = ClauseSearch::new(alloc, Activity::usual());
+    let mut search = ClauseSearch::new(alloc, Activity::standard());
     let found = verdict_of(alloc, &mut search, &provider, &clauses, &table);
     drop(search);
     found

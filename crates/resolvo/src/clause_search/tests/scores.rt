@@ -280,7 +280,7 @@ fn a_package_of_each_learnt_clause_has_a_score(rt: HostRuntime) -> Result<(), Fa
             score,
             wide_first: 0 < learnt,
         };
-        let seen = seen_after(rt.alloc(), Activity::usual(), &[(&[WIDE], learnt)])?;
+        let seen = seen_after(rt.alloc(), Activity::standard(), &[(&[WIDE], learnt)])?;
         assert!(rt; seen == Some(wanted), "after {learnt}");
     }
     Ok(())
@@ -288,13 +288,13 @@ fn a_package_of_each_learnt_clause_has_a_score(rt: HostRuntime) -> Result<(), Fa
 
 #[test]
 fn scores_fade_with_each_learnt_clause(rt: HostRuntime) -> Result<(), Fail> {
-    let usual = Activity::usual();
+    let standard = Activity::standard();
     let later: [Learnt<'_>; 2] = [(&[NARROW], 1), (&[WIDE], 1)];
-    assert!(rt; prefers_wide(rt.alloc(), usual, &later)? == Some(true));
+    assert!(rt; prefers_wide(rt.alloc(), standard, &later)? == Some(true));
     for (others, wanted) in [(12, true), (13, false)] {
         let learnt: [Learnt<'_>; 3] = [(&[WIDE], 2), (&[OTHER], others), (&[NARROW], 1)];
         assert!(rt;
-            prefers_wide(rt.alloc(), usual, &learnt)? == Some(wanted),
+            prefers_wide(rt.alloc(), standard, &learnt)? == Some(wanted),
             "after {others} other clauses"
         );
     }
@@ -304,7 +304,7 @@ fn scores_fade_with_each_learnt_clause(rt: HostRuntime) -> Result<(), Fail> {
 #[test]
 fn each_solvable_of_a_learnt_clause_counts(rt: HostRuntime) -> Result<(), Fail> {
     let learnt: [Learnt<'_>; 1] = [(&[NARROW, WIDE, WIDE], 1)];
-    assert!(rt; prefers_wide(rt.alloc(), Activity::usual(), &learnt)? == Some(true));
+    assert!(rt; prefers_wide(rt.alloc(), Activity::standard(), &learnt)? == Some(true));
     Ok(())
 }
 

@@ -21,7 +21,7 @@ returns-clause-step g c =
     let u = g.D.Interner.universe c.args.provider.now in
     let n = c.args.name in
     let mid = notes_in c.exclude_each.new.self in
-    let answer = c.candidates-package.ensures u c.ask_candidates.ensures.is_true in
+    let answer = c.candidates-package.ensures u c.fetch_candidates.ensures.is_true in
     let AllFree : List g.row.S.Denot → Type 0 = λ xs. All (λ e. (Contains xs e.0 → ⊥) → Contains mid.kinds (Excluded e.0 e.1)) c.deref-2.result.now in
     IsStep-asked u (notes_in c.args.self.now) mid _ n
     (IsStep-trans u (asking_for n) (λ root. ⊤) _ _ _ c.in_ok-lock_out_others.ensures.step c.in_ok-exclude_each.ensures.step)

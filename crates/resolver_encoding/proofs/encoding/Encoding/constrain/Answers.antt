@@ -36,7 +36,7 @@ returns-then-is_by-clause-step g c =
         in_order = tt;
       };
       is_true = λ codes _. (asks, c.requires.other);
-      usual = tt;
+      proper = tt;
       due = tt;
       prepared = tt;
     })

@@ -29,7 +29,7 @@ returns-clause-step g c =
     (λ root asks before. record {
       clause = IsClauseOf-zip u (notes_in c.add_requirement.new.self).origins adds.literals.items kind adds.are;
       is_true = λ codes _. asks;
-      usual = tt;
+      proper = tt;
       due = tt;
       prepared = record {
         helpers = λ v h. All-contains (Contains mid.helped) list.items v helped h;

@@ -22,7 +22,7 @@ returns-clause-step g c =
     let u = g.D.Interner.universe c.args.provider.now in
     let v = c.args.version_set in
     let mid = notes_in c.imply_each.new.self in
-    let answer = c.matching.ensures u c.ask_matching.ensures.is_true in
+    let answer = c.matching.ensures u c.fetch_matching.ensures.is_true in
     let AllFollow : List g.row.S.Denot → Type 0 = λ list. All (λ s. Contains mid.kinds (AnyOf (ConditionHelper v) s)) list in
     IsStep-trans u idle (λ root. ⊤) _ _ _ c.in_ok-imply_each.ensures.step
     (IsStep-helped u mid _ v (λ i. record mid { helped = c.in_ok-append.ensures.keys i }) (λ s h.

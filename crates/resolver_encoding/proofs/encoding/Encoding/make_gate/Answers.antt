@@ -25,7 +25,7 @@ returns-clause-step g c =
     (λ root _ before. record {
       clause = IsClauseOf-zip u mid.origins adds.literals.items kind adds.are;
       is_true = λ codes _. tt;
-      usual = tt;
+      proper = tt;
       due = tt;
       prepared = record {
         packages = λ v h. All-contains (λ w. Contains old.asked (u.version_set_name w)) (version_sets u r) v c.requires.asked h;

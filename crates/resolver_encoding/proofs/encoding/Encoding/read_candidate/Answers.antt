@@ -11,11 +11,11 @@ use Rattle.resolver_encoding.proofs.encoding.Encoding.read_candidate.Goals as go
 
 pub returns-clause-here : goal.returns-clause-here
 returns-clause-here g c = λ covered.
-    let Has : g.row.N.Denot → Type 0 = λ n. HasCandidates c.ask_candidates.new.self n in
-    c.in_ok-read_if_at_hand.ensures.here (hinted (subst Has c.solvable_name.ensures c.in_ok-ask_candidates.ensures.has) covered)
+    let Has : g.row.N.Denot → Type 0 = λ n. HasCandidates c.fetch_candidates.new.self n in
+    c.in_ok-read_if_at_hand.ensures.here (hinted (subst Has c.solvable_name.ensures c.in_ok-fetch_candidates.ensures.has) covered)
 
-pub returns-in_err-ask_candidates-clause-brings : goal.returns-in_err-ask_candidates-clause-brings
-returns-in_err-ask_candidates-clause-brings g c =
+pub returns-in_err-fetch_candidates-clause-brings : goal.returns-in_err-fetch_candidates-clause-brings
+returns-in_err-fetch_candidates-clause-brings g c =
     let u = g.D.Interner.universe c.args.provider.now in
     let needed = demands_of (u.needs c.args.candidate) in
     let Own : Origin g.row.N.Denot g.row.S.Denot → Type 0 = IsOwn u (BySolvable c.args.candidate) needed in

@@ -59,8 +59,8 @@ returns-in_err-ask-clause-brings g c =
     let asked = barred_brings u (IsAsking c.version_set_name.result) Called (asking_same _ _ c.version_set_name.ensures) Own old mid c.ask.ensures.adds in
     asked
 
-pub returns-in_err-ask_non_matching-clause-brings : goal.returns-in_err-ask_non_matching-clause-brings
-returns-in_err-ask_non_matching-clause-brings g c =
+pub returns-in_err-fetch_non_matching-clause-brings : goal.returns-in_err-fetch_non_matching-clause-brings
+returns-in_err-fetch_non_matching-clause-brings g c =
     let u = g.D.Interner.universe c.args.provider.now in
     let v = c.args.version_set in
     let Called = IsAsking (u.version_set_name v) in

@@ -22,7 +22,7 @@ demands_known d needs is =
 pub read_demands-requires-clause-encoding : goal.read_demands-requires-clause-encoding
 read_demands-requires-clause-encoding g c =
     let u = g.D.Interner.universe c.args.provider.now in
-    let answer = rw c.in-Known.is at (c.dependencies.ensures u c.ask_dependencies.ensures.is_true) in
+    let answer = rw c.in-Known.is at (c.dependencies.ensures u c.fetch_dependencies.ensures.is_true) in
     let copied_requirements = c.deref-in-Known-2.ensures.value ∙ c.in_ok-requirements-in-Known.ensures.items ∙ c.deref.ensures.value in
     let copied_constraints = c.deref-in-Known-3.ensures.value ∙ c.in_ok-constraints-in-Known.ensures.items ∙ c.deref-in-Known.ensures.value in
     let copied : record {
@@ -49,7 +49,7 @@ pub returns-in_ok-read_demands-in-Known-clause-step : goal.returns-in_ok-read_de
 returns-in_ok-read_demands-in-Known-clause-step g c =
     let u = g.D.Interner.universe c.args.provider.now in
     let set = c.args.chosen.now.keys in
-    let answer = rw c.in-Known.is at (c.dependencies.ensures u c.ask_dependencies.ensures.is_true) in
+    let answer = rw c.in-Known.is at (c.dependencies.ensures u c.fetch_dependencies.ensures.is_true) in
     let copied_requirements = c.deref-in-Known-2.ensures.value ∙ c.in_ok-requirements-in-Known.ensures.items ∙ c.deref.ensures.value in
     let copied_constraints = c.deref-in-Known-3.ensures.value ∙ c.in_ok-constraints-in-Known.ensures.items ∙ c.deref-in-Known.ensures.value in
     let demands : Demands = record { requirements = c.deref-in-Known-2.result.now; constraints = c.deref-in-Known-3.result.now } in
@@ -61,8 +61,8 @@ returns-in_ok-read_demands-in-Known-clause-step g c =
     subst (Demanded n) (sym same) h)
     (λ root. demands_by u root (Solvable c.args.solvable) ≡ demands) (λ root. ⊤) (λ root _. same) _ _ c.in_ok-read_demands-in-Known.ensures.step
 
-pub returns-in_err-ask_dependencies-clause-brings : goal.returns-in_err-ask_dependencies-clause-brings
-returns-in_err-ask_dependencies-clause-brings g c =
+pub returns-in_err-fetch_dependencies-clause-brings : goal.returns-in_err-fetch_dependencies-clause-brings
+returns-in_err-fetch_dependencies-clause-brings g c =
     let u = g.D.Interner.universe c.args.provider.now in
     let s = c.args.solvable in
     let set = c.args.chosen.now.keys in
@@ -125,7 +125,7 @@ returns-in_err-read_demands-in-Known-clause-brings g c =
     let needed = demands_of (u.needs s) in
     let Called = IsDemanded u set needed in
     let Own : Origin g.row.N.Denot g.row.S.Denot → Type 0 = IsOwn u (Solvable s) needed in
-    let answer = rw c.in-Known.is at (c.dependencies.ensures u c.ask_dependencies.ensures.is_true) in
+    let answer = rw c.in-Known.is at (c.dependencies.ensures u c.fetch_dependencies.ensures.is_true) in
     let copied_requirements = c.deref-in-Known-2.ensures.value ∙ c.in_ok-requirements-in-Known.ensures.items ∙ c.deref.ensures.value in
     let copied_constraints = c.deref-in-Known-3.ensures.value ∙ c.in_ok-constraints-in-Known.ensures.items ∙ c.deref-in-Known.ensures.value in
     let demands : Demands = record { requirements = c.deref-in-Known-2.result.now; constraints = c.deref-in-Known-3.result.now } in
@@ -145,7 +145,7 @@ returns-in_ok-read_demands-in-Known-clause-brings g c =
     let needed = demands_of (u.needs s) in
     let Called = IsDemanded u set needed in
     let Own : Origin g.row.N.Denot g.row.S.Denot → Type 0 = IsOwn u (Solvable s) needed in
-    let answer = rw c.in-Known.is at (c.dependencies.ensures u c.ask_dependencies.ensures.is_true) in
+    let answer = rw c.in-Known.is at (c.dependencies.ensures u c.fetch_dependencies.ensures.is_true) in
     let copied_requirements = c.deref-in-Known-2.ensures.value ∙ c.in_ok-requirements-in-Known.ensures.items ∙ c.deref.ensures.value in
     let copied_constraints = c.deref-in-Known-3.ensures.value ∙ c.in_ok-constraints-in-Known.ensures.items ∙ c.deref-in-Known.ensures.value in
     let demands : Demands = record { requirements = c.deref-in-Known-2.result.now; constraints = c.deref-in-Known-3.result.now } in

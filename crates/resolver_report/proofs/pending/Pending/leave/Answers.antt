@@ -2,7 +2,7 @@ use Rattle.std.proofs.Common.{◌≡◌, ◌∙◌, ◌++◌, ◌∷◌, [], ap,
 use Rattle.std.specs.Prelude.{◌==◌}
 use Rattle.resolver_report.specs.Indents.{levels_in}
 use Rattle.resolver_report.specs.PendingTexts.{frames_view, levels_of}
-use Rattle.resolver_report.specs.Stories.{run_told_view}
+use Rattle.resolver_report.specs.Outlines.{run_told_view}
 use Rattle.resolver_report.proofs.PendingLemmas.{frames_pushed}
 use Rattle.resolver_report.proofs.pending.Pending.leave.Goals as goal
 

@@ -5,8 +5,8 @@ use Rattle.resolvo.proofs.VisitLemmas.{passes}
 use Rattle.resolvo.proofs.WatchedLemmas.{owned-of, owned-same, refused-any}
 use Rattle.resolvo.proofs.propagator.Propagator.pass_by.Goals as goal
 
-pub returns-clause-look : goal.returns-clause-look
-returns-clause-look c = passes _ _ _ _ _ _ _ c.requires.visiting c.requires.stands c.requires.inside c.requires.satisfied c.note.ensures.watches
+pub returns-clause-outcome : goal.returns-clause-outcome
+returns-clause-outcome c = passes _ _ _ _ _ _ _ c.requires.visiting c.requires.stands c.requires.inside c.requires.satisfied c.note.ensures.watches
     c.note.ensures.pending c.note.ensures.head c.in_ok-note.ensures.late
 
 pub returns-in_err-note-clause-refused : goal.returns-in_err-note-clause-refused

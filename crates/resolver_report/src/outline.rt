@@ -1,0 +1,268 @@
+//! What a message tells of the edges from each node.
+
+ghost use Rattle.std.specs.Prelude.{◌≡◌, ◌<◌, ◌++◌, ◌∷◌, [], if◌then◌else◌, IfOk, IfErr, OnOk, Option, filter, length, map, reverse};
+ghost use Rattle.std.specs.List.{list_any};
+ghost use Rattle.std.specs.Option.{option_map};
+ghost use Rattle.resolver_clause_store.specs.Lists.{without_repeats};
+ghost use Rattle.resolver_report.specs.ConflictGraphs.{shape_of};
+ghost use Rattle.resolver_report.specs.EdgeRuns.{run_view};
+ghost use Rattle.resolver_report.specs.Messages.{candidates_of, is_candidate as is_candidate_in, is_unresolved as is_unresolved_in, is_viable as is_viable_in};
+ghost use Rattle.resolver_report.specs.Messages.{same_group_as, told_of, told_of_run};
+ghost use Rattle.resolver_report.specs.Shapes.{places};
+ghost use Rattle.resolver_report.specs.Outlines.{HasGroupsOf, group_at as group_at_in, groups_in, has_viability, node_told, node_view, run_told_view};
+
+use crate::graph::ConflictGraph;
+use crate::marks::{is_marked, is_place, some_marked};
+use crate::parts::{ConflictNode, Edge, NodeId};
+use crate::runs::{EdgeRun, outgoing, runs_of};
+use crate::verdict::{Verdict, verdict_of};
+use itertools::Itertools;
+use resolver_clause_store::{Exhausted, Requirement};
+use std::alloc::Global;
+use std::collections::HashSet;
+
+/// What was found out of the nodes of a graph.
+#[derive(Drop)]
+pub struct Findings<'g, S> {
+    pub graph: &'g ConflictGraph<S>,
+    /// For each node the place of the first node of its group, if it has one.
+    pub groups: Vec<Option<usize>>,
+    /// Which nodes can be installed.
+    pub installable: Vec<bool>,
+}
+
+/// What is told of neighbouring edges with one requirement.
+#[derive(Drop)]
+pub struct RunOutline {
+    pub requirement: Requirement,
+    /// The requirement has no candidates at all.
+    pub is_unresolved: bool,
+    /// Some candidate can be installed.
+    pub is_viable: bool,
+    /// The candidates that are told of, oldest first.
+    pub candidates: Vec<NodeId>,
+}
+
+/// What is told of a node.
+#[derive(Drop)]
+pub struct NodeOutline {
+    pub group: Option<usize>,
+    pub verdict: Verdict,
+    pub runs: Vec<RunOutline>,
+}
+
+/// The group of a node.
+fn group_at(groups: &[Option<usize>], n: NodeId) -> Option<usize>
+    ensures { result ≡ group_at_in groups.now n.0 }
+{
+    match groups.get(n.0) {
+        Some(group) => *group,
+        None => None,
+    }
+}
+
+/// Adds a node, unless one of its group is there.
+fn add_node(
+    groups: &[Option<usize>],
+    told: &mut HashSet<usize>,
+    found: &mut Vec<NodeId>,
+    n: NodeId,
+) -> Result<(), Exhausted>
+    requires { HasGroupsOf groups.now found.old.items told.old }
+    ensures found { OnOk result (found.new.items ≡
+        (if list_any (λ m. same_group_as (group_at_in groups.now n.0) (group_at_in groups.now m.0)) found.old.items then found.old.items else found.old.items ++
+        n ∷ [])) }
+    ensures told { OnOk result (HasGroupsOf groups.now found.new.items told.new) }
+    ensures memory { IfErr result (λ e. e ≡ Exhausted.Memory) }
+{
+    let Some(group) = group_at(groups, n) else {
+        found.push(n)?;
+        return Ok(());
+    };
+    if told.contains(&group) {
+        return Ok(());
+    }
+    told.insert(group)?;
+    found.push(n)?;
+    Ok(())
+}
+
+/// Of the nodes of one group the first alone.
+fn first_of_groups(
+    alloc: Global,
+    groups: &[Option<usize>],
+    nodes: &[NodeId],
+) -> Result<Vec<NodeId>, Exhausted>
+    ensures value { IfOk result (λ v. v.items ≡ without_repeats (λ m n. same_group_as (group_at_in groups.now m.0) (group_at_in groups.now n.0)) nodes.now) }
+    ensures memory { IfErr result (λ e. e ≡ Exhausted.Memory) }
+{
+    let mut found = Vec::new(alloc);
+    let mut told = HashSet::new(alloc);
+    for n in nodes {
+        add_node(groups, &mut told, &mut found, *n)?;
+    }
+    Ok(found)
+}
+
+/// Whether a node is a solvable that a run tells of.
+fn is_candidate<S>(findings: &Findings<'_, S>, is_viable: bool, n: NodeId) -> bool
+    ensures { result ≡ is_candidate_in (shape_of findings.now.graph.now) (groups_in findings.now) findings.now.installable.items is_viable n.0 }
+{
+    match findings.graph.graph.nodes().get(n.0) {
+        Some(ConflictNode::Solvable(_)) => !is_viable || is_marked(&findings.installable, n),
+        _ => false,
+    }
+}
+
+/// The solvables that a run tells of, newest first.
+fn candidate_targets<S>(
+    alloc: Global,
+    findings: &Findings<'_, S>,
+    is_viable: bool,
+    targets: &[NodeId],
+) -> Result<Vec<NodeId>, Exhausted>
+    ensures value { IfOk result (λ v.
+        v.items ≡ filter (λ n. is_candidate_in (shape_of findings.now.graph.now)
+        (groups_in findings.now) findings.now.installable.items is_viable n.0) targets.now) }
+    ensures memory { IfErr result (λ e. e ≡ Exhausted.Memory) }
+{
+    let found = targets
+        .iter()
+        .copied()
+        .filter(|n| is_candidate(findings, is_viable, *n));
+    Ok(found.collect_vec(alloc)?)
+}
+
+/// Whether a run is one edge to the unresolved node.
+fn is_unresolved(unresolved: Option<NodeId>, targets: &[NodeId]) -> bool
+    ensures { result ≡ is_unresolved_in (option_map (λ n. n.0) unresolved) targets.now }
+{
+    let [n] = targets else {
+        return false;
+    };
+    is_place(unresolved, *n)
+}
+
+/// Whether some target of a run can be installed.
+fn is_viable<S>(findings: &Findings<'_, S>, run: &EdgeRun) -> bool
+    ensures { result ≡ is_viable_in (shape_of findings.now.graph.now) (groups_in findings.now) findings.now.installable.items (run_view run.now) }
+{
+    some_marked(&findings.installable, &run.targets)
+}
+
+/// What is told of a run.
+fn run_outline<S>(
+    alloc: Global,
+    findings: &Findings<'_, S>,
+    run: &EdgeRun,
+) -> Result<RunOutline, Exhausted>
+    ensures value { IfOk result (λ s.
+        run_told_view s ≡ told_of_run (shape_of findings.now.graph.now) (groups_in findings.now) findings.now.installable.items (run_view run.now)) }
+    ensures memory { IfErr result (λ e. e ≡ Exhausted.Memory) }
+{
+    let is_viable = is_viable(findings, run);
+    let targets = candidate_targets(alloc, findings, is_viable, &run.targets)?;
+    let mut candidates = first_of_groups(alloc, &findings.groups, &targets)?;
+    candidates.reverse();
+    Ok(RunOutline {
+        requirement: run.requirement,
+        is_unresolved: is_unresolved(findings.graph.unresolved_node, &run.targets),
+        is_viable,
+        candidates,
+    })
+}
+
+/// Adds what is told of a run, if it is viable as wanted.
+fn add_outline<S>(
+    alloc: Global,
+    findings: &Findings<'_, S>,
+    run: &EdgeRun,
+    wanted: bool,
+    outlines: &mut Vec<RunOutline>,
+) -> Result<(), Exhausted>
+    ensures ok { OnOk result (map run_told_view outlines.new.items ≡ map run_told_view outlines.old.items ++
+        map (told_of_run (shape_of findings.now.graph.now) (groups_in findings.now) findings.now.installable.items)
+        (filter (has_viability findings.now wanted) (run_view run.now ∷ []))) }
+    ensures memory { IfErr result (λ e. e ≡ Exhausted.Memory) }
+{
+    if is_viable(findings, run) != wanted {
+        return Ok(());
+    }
+    outlines.push(run_outline(alloc, findings, run)?)?;
+    Ok(())
+}
+
+/// Adds what is told of the runs that are viable as wanted, older ones first.
+fn add_stories<S>(
+    alloc: Global,
+    findings: &Findings<'_, S>,
+    runs: &[EdgeRun],
+    wanted: bool,
+    outlines: &mut Vec<RunOutline>,
+) -> Result<(), Exhausted>
+    ensures ok { OnOk result (map run_told_view outlines.new.items ≡ map run_told_view outlines.old.items ++
+        map (told_of_run (shape_of findings.now.graph.now) (groups_in findings.now) findings.now.installable.items)
+        (filter (has_viability findings.now wanted) (reverse (map run_view runs.now)))) }
+    ensures memory { IfErr result (λ e. e ≡ Exhausted.Memory) }
+{
+    let mut rest = runs;
+    while let [before @ .., last] = rest {
+        add_outline(alloc, findings, last, wanted, outlines)?;
+        rest = before;
+    }
+    Ok(())
+}
+
+/// What is told of edges, newest first: the viable runs first, and of these the older first.
+pub fn outlines_of<S: Copy + Drop>(
+    alloc: Global,
+    findings: &Findings<'_, S>,
+    edges: &[Edge<S>],
+) -> Result<Vec<RunOutline>, Exhausted>
+    ensures value { IfOk result (λ v.
+        map run_told_view v.items ≡ told_of (shape_of findings.now.graph.now) (groups_in findings.now) findings.now.installable.items edges.now) }
+    ensures memory { IfErr result (λ e. e ≡ Exhausted.Memory) }
+{
+    let runs = runs_of(alloc, edges)?;
+    let mut outlines = Vec::new(alloc);
+    add_stories(alloc, findings, &runs, true, &mut outlines)?;
+    add_stories(alloc, findings, &runs, false, &mut outlines)?;
+    Ok(outlines)
+}
+
+/// What is told of a node.
+fn node_outline<S: Copy + Drop>(
+    alloc: Global,
+    findings: &Findings<'_, S>,
+    n: NodeId,
+) -> Result<NodeOutline, Exhausted>
+    requires { n.0 < length findings.now.graph.now.graph.nodes }
+    ensures value { IfOk result (λ s. node_view s ≡ node_told (shape_of findings.now.graph.now) (groups_in findings.now) findings.now.installable.items n.0) }
+    ensures memory { IfErr result (λ e. e ≡ Exhausted.Memory) }
+{
+    let edges = outgoing(alloc, &findings.graph.graph, n)?;
+    let verdict = verdict_of(alloc, &edges)?;
+    let runs = outlines_of(alloc, findings, &edges)?;
+    Ok(NodeOutline {
+        group: group_at(&findings.groups, n),
+        verdict,
+        runs,
+    })
+}
+
+/// What is told of each node.
+pub fn node_stories<S: Copy + Drop>(
+    alloc: Global,
+    findings: &Findings<'_, S>,
+) -> Result<Vec<NodeOutline>, Exhausted>
+    ensures value { IfOk result (λ v.
+        map node_view v.items ≡ map (node_told (shape_of findings.now.graph.now) (groups_in findings.now) findings.now.installable.items)
+        (places findings.now.graph.now.graph)) }
+    ensures memory { IfErr result (λ e. e ≡ Exhausted.Memory) }
+{
+    let mut outlines = Vec::new(alloc);
+    for n in 0..findings.graph.graph.nodes().len() {
+        outlines.push(node_outline(alloc, findings, NodeId(n))?)?;
+    }
+    Ok(outlines)
+}

@@ -1,0 +1,40 @@
+use Rattle.std.proofs.Common.{arith}
+use Rattle.std.proofs.lemmas.Grind.{common_steps}
+use Rattle.resolvo.proofs.VisitLemmas.{moves-stands, own-other, stands-own}
+use Rattle.resolvo.proofs.WatchedLemmas.{owned-of, owned-same, refused-any}
+use Rattle.resolvo.proofs.propagator.Propagator.find_replacement.Goals as goal
+
+pub returns-in_ok-move_watch-in-Some-clause-outcome :
+    goal.returns-in_ok-move_watch-in-Some-clause-outcome
+returns-in_ok-move_watch-in-Some-clause-outcome c =
+    let was = c.requires.visiting.propagator in
+    let stands = c.requires.stands in
+    let moved = c.in_ok-move_watch-in-Some.ensures in
+    let own = stands-own _ _ _ _ _ stands (own-other _ _ _ _ _ _ was c.requires.pair) in
+    moves-stands _ _ _ _ _ _ _ _ _ c.requires.visiting stands (moved.moved stands.watch stands.is)
+    (moved.blockers _ stands.watch stands.is own was.watched.blockers) c.requires.pair (rw c.clause.ensures at c.in-Some.ensures)
+
+pub returns-in_ok-outcome-in-None-clause-extends : goal.returns-in_ok-outcome-in-None-clause-extends
+returns-in_ok-outcome-in-None-clause-extends c = grind (arith, common_steps)
+
+pub returns-in_ok-outcome-in-None-clause-justified : goal.returns-in_ok-outcome-in-None-clause-justified
+returns-in_ok-outcome-in-None-clause-justified c = grind (arith, common_steps)
+
+pub returns-in_ok-outcome-in-None-clause-outcome : goal.returns-in_ok-outcome-in-None-clause-outcome
+returns-in_ok-outcome-in-None-clause-outcome c = grind (arith, common_steps)
+
+pub returns-in_ok-outcome-in-None-clause-open : goal.returns-in_ok-outcome-in-None-clause-open
+returns-in_ok-outcome-in-None-clause-open c = grind (arith, common_steps)
+
+pub returns-in_ok-move_watch-in-Some-clause-extends : goal.returns-in_ok-move_watch-in-Some-clause-extends
+returns-in_ok-move_watch-in-Some-clause-extends c = grind (arith, common_steps)
+
+pub returns-in_ok-move_watch-in-Some-clause-justified : goal.returns-in_ok-move_watch-in-Some-clause-justified
+returns-in_ok-move_watch-in-Some-clause-justified c = grind (arith, common_steps)
+
+pub returns-in_ok-move_watch-in-Some-clause-open : goal.returns-in_ok-move_watch-in-Some-clause-open
+returns-in_ok-move_watch-in-Some-clause-open c = grind (arith, common_steps)
+
+pub returns-in_err-move_watch-in-Some-clause-refused : goal.returns-in_err-move_watch-in-Some-clause-refused
+returns-in_err-move_watch-in-Some-clause-refused c =
+    refused-any _ _ (owned-same _ _ _ c.in_err-move_watch-in-Some.ensures.kept (owned-of _ _ _ c.requires.visiting.propagator))

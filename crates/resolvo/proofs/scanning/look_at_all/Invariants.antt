@@ -1,6 +1,0 @@
-use Rattle.std.proofs.Common.{◌≡◌}
-use Rattle.resolver_clause_store.specs.TrailView.{variable_count}
-use Rattle.resolvo.proofs.scanning.look_at_all.Given as goal
-
-abbrev pub invariant-clauses : goal.invariant-clauses
-invariant-clauses l = variable_count l.trail ≡ variable_count l.initial.trail
