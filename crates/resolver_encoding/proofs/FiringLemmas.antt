@@ -21,7 +21,7 @@ use Rattle.resolver_encoding.specs.Notes.{entry_of}
 use Rattle.resolver_encoding.specs.ReadState.{Deferred, HasClause}
 use Rattle.resolver_encoding.specs.SoFar.{HasFired, HasMet, IsDeferral, IsFiring, IsIndexing, IsQuietAt, IsQuietUnder, IsTakenOut, left_count}
 use Rattle.resolver_clause_store.specs.Statements.{AllMeet}
-use Rattle.resolver_encoding.specs.declared.entries.Entry.{Entry}
+use Rattle.resolver_encoding.specs.declared.disjuncts.Entry.{Entry}
 use Rattle.resolver_encoding.specs.declared.groups.Groups.{Groups}
 use Rattle.resolver_encoding.proofs.EncodingLemmas.{Extends-push, Extends-same, Extends-trans, IsWithin-same, IsWithin-trans}
 use Rattle.resolver_encoding.proofs.NoteLemmas.{All-grown_at}

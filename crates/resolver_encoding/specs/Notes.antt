@@ -6,7 +6,7 @@ use Rattle.resolver_clause_store.specs.declared.RequirementClause.{RequirementCl
 use Rattle.resolver_encoding.specs.Encodings.{Notes}
 use Rattle.resolver_encoding.specs.ReadState.{Deferred}
 use Rattle.resolver_encoding.specs.declared.encoding.Encoding.{Encoding}
-use Rattle.resolver_encoding.specs.declared.entries.Entry.{Entry}
+use Rattle.resolver_encoding.specs.declared.disjuncts.Entry.{Entry}
 
 abbrev pub entry_of : {S : Type 0} → Entry S → Deferred S
 entry_of entry = record { by = entry.by; disjunct = entry.disjunct.items; requirement = entry.requirement }

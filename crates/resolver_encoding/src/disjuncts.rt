@@ -1,16 +1,33 @@
-//! The disjuncts of a condition.
+//! The disjuncts of a condition: which there are, which hold in a set, and what is noted of one that is put off.
 
-ghost use Rattle.std.specs.Prelude.{◌≡◌, ◌⊎◌, Contains, IfErr, IfOk, OnOk, map};
-ghost use Rattle.resolver_clause_store.specs.Lists.{HaveSameMembers, IsWithin};
+ghost use Rattle.std.specs.Prelude.{◌≡◌, ◌⊎◌, Contains, IfErr, IfOk, OnOk, map, MatchBool};
+ghost use Rattle.resolver_clause_store.specs.Lists.{HaveSameMembers, IsWithin, Meets};
 ghost use Rattle.resolver_clause_store.specs.Variables.{AreDistinct};
 ghost use Rattle.resolver_clause_store.specs.declared.VersionSetId.{VersionSetId as Id};
 ghost use Rattle.resolver_encoding.specs.Encodings.{AreDisjuncts};
+ghost use Rattle.resolver_clause_store.specs.Caches.{IsTrueCache};
+ghost use Rattle.resolver_clause_store.specs.Candidates.{matching};
+ghost use Rattle.resolver_clause_store.specs.Interruptions.{IsInterruption};
+ghost use Rattle.resolver_clause_store.specs.Laws.{IsIdentity};
+ghost use Rattle.resolver_clause_store.specs.Statements.{AllMeet};
 
 use indexmap::IndexSet;
 use resolver_clause_store::{
-    ConditionId, Exhausted, Interner, VersionSetId, append, convert_conditions_to_dnf, is_among,
+    By, Cache, ConditionId, DependencyProvider, Exhausted, Interner, Interrupted, Requirement,
+    VersionSetId, append, convert_conditions_to_dnf, is_among,
 };
 use std::alloc::Global;
+use std::hash::Hash;
+
+/// A disjunct of a requirement's condition that did not hold when it was read.
+#[derive(Drop)]
+pub(crate) struct Entry<S: Copy + Drop> {
+    /// Whose requirement it is.
+    pub(crate) by: By<S>,
+    /// Version sets, each once, of which each has to be met.
+    pub(crate) disjunct: Vec<VersionSetId>,
+    pub(crate) requirement: Requirement,
+}
 
 /// The lists of version sets of which one has to be met: without a condition one list without any.
 pub(crate) fn disjuncts_of<I: Interner>(
@@ -60,4 +77,74 @@ pub(crate) fn without_repeats(
         keep(&mut kept, *version_set)?;
     }
     Ok(Vec::from_slice(alloc, kept.as_slice())?)
+}
+
+/// Whether some of these is in the set.
+fn is_any_chosen<S: Copy + Eq + Hash + Drop>(chosen: &IndexSet<S>, candidates: &[S]) -> bool
+    requires { IsIdentity S.eq }
+    ensures { MatchBool result (Meets candidates.now chosen.now.keys) (Meets candidates.now chosen.now.keys → ⊥) }
+{
+    for candidate in candidates {
+        if is_among(chosen, candidate) {
+            return true;
+        }
+    }
+    false
+}
+
+/// Whether something in the set matches the version set.
+fn is_matched<D: DependencyProvider>(
+    provider: &D,
+    cache: &mut Cache<D::NameId, D::SolvableId>,
+    chosen: &IndexSet<D::SolvableId>,
+    version_set: VersionSetId,
+) -> Result<bool, Interrupted<D::Cancel>>
+    requires is_true { IsTrueCache (D.universe provider.now) cache.old }
+    ensures is_true { IsTrueCache (D.universe provider.now) cache.new }
+    ensures matched { IfOk result (λ met.
+        MatchBool met (Meets (matching (D.universe provider.now) version_set) chosen.now.keys)
+        (Meets (matching (D.universe provider.now) version_set) chosen.now.keys → ⊥)) }
+    ensures refusal { IfErr result (IsInterruption (D.may_cancel provider.now)) }
+{
+    cache.fetch_matching(provider, version_set)?;
+    Ok(is_any_chosen(chosen, cache.matching(version_set)))
+}
+
+/// Reads the candidates of the version sets.
+fn read_candidates<D: DependencyProvider>(
+    provider: &D,
+    cache: &mut Cache<D::NameId, D::SolvableId>,
+    disjunct: &[VersionSetId],
+) -> Result<(), Interrupted<D::Cancel>>
+    requires is_true { IsTrueCache (D.universe provider.now) cache.old }
+    ensures is_true { IsTrueCache (D.universe provider.now) cache.new }
+    ensures refusal { IfErr result (IsInterruption (D.may_cancel provider.now)) }
+{
+    for version_set in disjunct {
+        cache.fetch_matching(provider, *version_set)?;
+    }
+    Ok(())
+}
+
+/// Whether each version set of a disjunct is met in the set. The candidates of all of them are read.
+pub(crate) fn is_met<D: DependencyProvider>(
+    provider: &D,
+    cache: &mut Cache<D::NameId, D::SolvableId>,
+    chosen: &IndexSet<D::SolvableId>,
+    disjunct: &[VersionSetId],
+) -> Result<bool, Interrupted<D::Cancel>>
+    requires is_true { IsTrueCache (D.universe provider.now) cache.old }
+    ensures is_true { IsTrueCache (D.universe provider.now) cache.new }
+    ensures met { IfOk result (λ met.
+        MatchBool met (AllMeet chosen.now.keys (map (matching (D.universe provider.now)) disjunct.now))
+        (AllMeet chosen.now.keys (map (matching (D.universe provider.now)) disjunct.now) → ⊥)) }
+    ensures refusal { IfErr result (IsInterruption (D.may_cancel provider.now)) }
+{
+    read_candidates(provider, cache, disjunct)?;
+    for version_set in disjunct {
+        if !is_matched(provider, cache, chosen, *version_set)? {
+            return Ok(false);
+        }
+    }
+    Ok(true)
 }

@@ -11,7 +11,6 @@ ghost use Rattle.resolver_encoding.specs.Refusals.{IsShortage};
 mod asking;
 mod constraining;
 mod deferring;
-mod firing;
 mod gating;
 mod helping;
 mod hinting;
@@ -20,7 +19,7 @@ mod requiring;
 mod seeing;
 mod turning;
 
-use crate::entries::Entry;
+use crate::disjuncts::Entry;
 use crate::groups::Groups;
 use crate::literals::push_literal;
 use indexmap::IndexSet;

@@ -6,13 +6,11 @@ mod chosen;
 mod codes;
 mod disjuncts;
 mod encoding;
-mod entries;
 mod explain;
 mod groups;
 mod laws;
 mod listing;
 mod literals;
-mod met;
 mod progress;
 mod sources;
 

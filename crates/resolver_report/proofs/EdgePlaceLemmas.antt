@@ -8,7 +8,7 @@ use Rattle.std.proofs.lemmas.List.{take_more}
 use Rattle.std.proofs.Common.{length-append}
 use Rattle.std.proofs.lemmas.Option.{slice_get-get_or}
 use Rattle.std.proofs.lemmas.Bool.{true≢false}
-use Rattle.resolver_report.specs.declared.parts.Edge.{Edge}
+use Rattle.resolver_report.specs.declared.graph.Edge.{Edge}
 use Rattle.resolver_report.specs.EdgePlaces.{AreEmpty, ArePlaces, appended, lists_in, passes, places_passing}
 use Rattle.resolver_report.proofs.AlikeLemmas.{itself_number, same_numbers}
 use Rattle.resolver_report.proofs.AskedLemmas.{cases_lt_suc}

@@ -9,7 +9,7 @@ use Rattle.std.proofs.lemmas.Grind.{flat_map-append}
 use Rattle.std.proofs.lemmas.List.{append-nil, length-map}
 use Rattle.std.proofs.lemmas.List.Elements.{All-nil, All-cons, All-head, All-tail, All-append, All-weaker}
 use Rattle.resolver_report.specs.declared.implications.Implication.{Implication}
-use Rattle.resolver_report.specs.declared.parts.NodeId.{NodeId}
+use Rattle.resolver_report.specs.declared.graph.NodeId.{NodeId}
 use Rattle.resolver_report.specs.Causes.{has_conflict, has_exclusion}
 use Rattle.resolver_report.specs.Implications.{HasLeastMarks, Implied, each_marked, follows, implied, implies}
 use Rattle.resolver_report.specs.Marks.{IsClosed, IsLeastClosed, all_marked, can_be_installed, installable, is_marked, is_place, marked, marked_in, missing}

@@ -14,7 +14,7 @@ use Rattle.std.proofs.lemmas.Iterator.{YieldsList}
 use Rattle.std.proofs.lemmas.Iterator.Adapters.{YieldsList-from_vec}
 use Rattle.std.proofs.lemmas.Iterator.Consumers.{YieldsList-from_copied}
 use Rattle.itertools.proofs.AdaptorLemmas.{items_from_whole_run}
-use Rattle.resolver_report.specs.declared.parts.Side.{Side}
+use Rattle.resolver_report.specs.declared.graph.Side.{Side}
 use Rattle.resolver_report.specs.Keys.{IsInOrder}
 
 -- they are the list that the iterator yields

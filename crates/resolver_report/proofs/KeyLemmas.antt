@@ -20,7 +20,7 @@ use Rattle.resolver_clause_store.specs.Universe.{Universe}
 use Rattle.resolver_clause_store.specs.declared.Requirement.{Requirement}
 use Rattle.resolver_clause_store.specs.declared.Requirement.TheVariants.{Single, Union}
 use Rattle.resolver_report.specs.declared.keys.NodeKey.{NodeKey}
-use Rattle.resolver_report.specs.declared.parts.Side.{Side}
+use Rattle.resolver_report.specs.declared.graph.Side.{Side}
 use Rattle.resolver_report.specs.Classes.{has_key, places_of_key}
 use Rattle.resolver_report.specs.Keys.{AreKeysOf, IsInOrder, IsKeyOf, IsOrderedKey, same_key}
 use Rattle.resolver_report.specs.Merging.{same_required, same_side, same_counts, same_texts, Key, are_alike, are_alike_if_there, class_in, key_of, keys}

@@ -3,12 +3,12 @@ use Rattle.std.specs.Prelude.{◌≡◌, ℕ, ◌==◌, nat_le, if◌then◌else
 use Rattle.resolver_clause_store.specs.Universe.{Universe, hint_none, unknown}
 use Rattle.resolver_clause_store.specs.declared.Requirement.TheVariants.{Single}
 use Rattle.resolver_clause_store.specs.declared.data.Condition.TheVariants.{Requirement as Matched}
-use Rattle.resolver_report.specs.declared.parts.ConflictNode.{ConflictNode}
-use Rattle.resolver_report.specs.declared.parts.ConflictNode.TheVariants.{Root, Solvable, UnresolvedDependency, Excluded as Reason}
-use Rattle.resolver_report.specs.declared.parts.ConflictCause.TheVariants.{Locked, Constrains, ForbidMultipleInstances, Excluded}
-use Rattle.resolver_report.specs.declared.parts.ConflictEdge.{ConflictEdge}
-use Rattle.resolver_report.specs.declared.parts.ConflictEdge.TheVariants.{Requires, Conflict}
-use Rattle.resolver_report.specs.declared.parts.Edge.{Edge}
+use Rattle.resolver_report.specs.declared.graph.ConflictNode.{ConflictNode}
+use Rattle.resolver_report.specs.declared.graph.ConflictNode.TheVariants.{Root, Solvable, UnresolvedDependency, Excluded as Reason}
+use Rattle.resolver_report.specs.declared.graph.ConflictCause.TheVariants.{Locked, Constrains, ForbidMultipleInstances, Excluded}
+use Rattle.resolver_report.specs.declared.graph.ConflictEdge.{ConflictEdge}
+use Rattle.resolver_report.specs.declared.graph.ConflictEdge.TheVariants.{Requires, Conflict}
+use Rattle.resolver_report.specs.declared.graph.Edge.{Edge}
 use Rattle.resolver_report.specs.Shapes.{ConflictShape}
 use Rattle.resolver_report.specs.Messages.{message, joined_texts}
 

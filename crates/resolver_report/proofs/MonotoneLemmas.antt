@@ -3,7 +3,7 @@ use Rattle.std.proofs.Common.{◌≡◌, Bool, true, false, not, ◌||◌, List,
 use Rattle.std.specs.Prelude.{◌&&◌}
 use Rattle.std.specs.List.{list_all, list_any}
 use Rattle.std.proofs.lemmas.Bool.{false≢true}
-use Rattle.resolver_report.specs.declared.parts.NodeId.{NodeId}
+use Rattle.resolver_report.specs.declared.graph.NodeId.{NodeId}
 use Rattle.resolver_report.specs.Causes.{has_conflict, has_exclusion}
 use Rattle.resolver_report.specs.Marks.{all_marked, can_be_installed, is_marked, is_place, must_be_missing, some_marked}
 use Rattle.resolver_report.specs.Runs.{Run, runs_of}

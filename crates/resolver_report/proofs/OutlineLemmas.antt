@@ -10,8 +10,8 @@ use Rattle.std.proofs.lemmas.List.FromFn.{length-range_with_len}
 use Rattle.std.proofs.lemmas.List.Elements.{filter-append}
 use Rattle.resolver_clause_store.specs.Lists.{without_repeats}
 use Rattle.resolver_clause_store.specs.Universe.{Universe}
-use Rattle.resolver_report.specs.declared.parts.ConflictNode.{ConflictNode}
-use Rattle.resolver_report.specs.declared.parts.NodeId.{NodeId}
+use Rattle.resolver_report.specs.declared.graph.ConflictNode.{ConflictNode}
+use Rattle.resolver_report.specs.declared.graph.NodeId.{NodeId}
 use Rattle.resolver_report.specs.declared.outline.NodeOutline.{NodeOutline}
 use Rattle.resolver_report.specs.Merging.{Key, group_in, solvables_at}
 use Rattle.resolver_report.specs.Messages.{RunTold, same_group_as, told_with, version_text}

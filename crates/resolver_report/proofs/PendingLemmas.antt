@@ -6,7 +6,7 @@ use Rattle.std.specs.Prelude.{◌==◌, IsTrue, not, reverse, slice_set}
 use Rattle.std.proofs.lemmas.List.{length-map, length-reverse, reverse-append}
 use Rattle.resolver_clause_store.specs.Universe.{Universe}
 use Rattle.resolver_clause_store.specs.declared.Requirement.{Requirement}
-use Rattle.resolver_report.specs.declared.parts.NodeId.{NodeId}
+use Rattle.resolver_report.specs.declared.graph.NodeId.{NodeId}
 use Rattle.resolver_report.specs.declared.pending.Frame.{Frame}
 use Rattle.resolver_report.specs.declared.tree.Outline.{Outline}
 use Rattle.resolver_report.specs.Forests.{text_of, indent_from}

@@ -6,7 +6,7 @@ use Rattle.std.specs.Option.{unwrap_or}
 use Rattle.std.specs.HashMap.{get, get_by}
 use Rattle.std.specs.Map.{lookup}
 use Rattle.std.proofs.lemmas.List.{append-nil, take_more, length-take, take_all}
-use Rattle.resolver_report.specs.declared.parts.ConflictNode.{ConflictNode}
+use Rattle.resolver_report.specs.declared.graph.ConflictNode.{ConflictNode}
 use Rattle.resolver_report.specs.Same.{same_node}
 use Rattle.resolver_report.specs.Graphs.{place_in}
 use Rattle.resolver_report.specs.Places.{Places, HasPlaces, HasPlacesFrom}

@@ -13,11 +13,11 @@ use Rattle.resolver_clause_store.specs.Lists.{HasNoRepeats}
 use Rattle.resolver_clause_store.specs.declared.Requirement.{Requirement}
 use Rattle.resolver_clause_store.specs.declared.By.{By}
 use Rattle.resolver_clause_store.specs.declared.By.TheVariants.{Root as ByRoot, Solvable as BySolvable}
-use Rattle.resolver_report.specs.declared.parts.ConflictNode.{ConflictNode}
-use Rattle.resolver_report.specs.declared.parts.ConflictNode.TheVariants.{Root, Solvable, UnresolvedDependency, Excluded as Reason}
-use Rattle.resolver_report.specs.declared.parts.ConflictCause.TheVariants.{Excluded as ByExclusion}
-use Rattle.resolver_report.specs.declared.parts.ConflictEdge.TheVariants.{Conflict}
-use Rattle.resolver_report.specs.declared.parts.Link.{Link}
+use Rattle.resolver_report.specs.declared.graph.ConflictNode.{ConflictNode}
+use Rattle.resolver_report.specs.declared.graph.ConflictNode.TheVariants.{Root, Solvable, UnresolvedDependency, Excluded as Reason}
+use Rattle.resolver_report.specs.declared.graph.ConflictCause.TheVariants.{Excluded as ByExclusion}
+use Rattle.resolver_report.specs.declared.graph.ConflictEdge.TheVariants.{Conflict}
+use Rattle.resolver_report.specs.declared.graph.Link.{Link}
 use Rattle.resolver_clause_store.specs.declared.Rule.{Rule}
 use Rattle.resolver_clause_store.specs.declared.Rule.TheVariants.{Requires, Constrains, Lock, Excluded, OnePerPackage}
 use Rattle.resolver_report.specs.Same.{same_node}

@@ -10,9 +10,9 @@ use Rattle.std.proofs.lemmas.List.Sorted.{IsPermutation-swap_remove, list_any-Is
 use Rattle.resolver_clause_store.specs.Laws.{IsIdentity}
 use Rattle.resolver_clause_store.specs.Lists.{HasNoRepeats}
 use Rattle.resolver_clause_store.specs.declared.Requirement.{Requirement}
-use Rattle.resolver_report.specs.declared.parts.ConflictNode.{ConflictNode}
-use Rattle.resolver_report.specs.declared.parts.ConflictNode.TheVariants.{Root, Solvable, UnresolvedDependency, Excluded as Reason}
-use Rattle.resolver_report.specs.declared.parts.Link.{Link}
+use Rattle.resolver_report.specs.declared.graph.ConflictNode.{ConflictNode}
+use Rattle.resolver_report.specs.declared.graph.ConflictNode.TheVariants.{Root, Solvable, UnresolvedDependency, Excluded as Reason}
+use Rattle.resolver_report.specs.declared.graph.Link.{Link}
 use Rattle.resolver_clause_store.specs.declared.By.{By}
 use Rattle.resolver_clause_store.specs.declared.By.TheVariants.{Root as ByRoot, Solvable as BySolvable}
 use Rattle.resolver_clause_store.specs.declared.Rule.{Rule}

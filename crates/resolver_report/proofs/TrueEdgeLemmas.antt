@@ -11,9 +11,9 @@ use Rattle.resolver_clause_store.specs.Candidates.{requirement_candidates}
 use Rattle.resolver_clause_store.specs.declared.Requirement.{Requirement}
 use Rattle.resolver_clause_store.specs.declared.By.{By}
 use Rattle.resolver_clause_store.specs.declared.By.TheVariants.{Root as ByRoot, Solvable as BySolvable}
-use Rattle.resolver_report.specs.declared.parts.ConflictNode.{ConflictNode}
-use Rattle.resolver_report.specs.declared.parts.ConflictNode.TheVariants.{Solvable}
-use Rattle.resolver_report.specs.declared.parts.Link.{Link}
+use Rattle.resolver_report.specs.declared.graph.ConflictNode.{ConflictNode}
+use Rattle.resolver_report.specs.declared.graph.ConflictNode.TheVariants.{Solvable}
+use Rattle.resolver_report.specs.declared.graph.Link.{Link}
 use Rattle.resolver_clause_store.specs.declared.Rule.{Rule}
 use Rattle.resolver_clause_store.specs.declared.Rule.TheVariants.{Requires, Constrains, Lock, Excluded, OnePerPackage}
 use Rattle.resolver_report.specs.Graphs.{node_by, requirement_link, requirement_links, marked_last, mark_links, links_of, links_after, links, is_entered}

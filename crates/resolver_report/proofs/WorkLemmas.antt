@@ -9,7 +9,7 @@ use Rattle.std.proofs.lemmas.List.Elements.{Contains-append_left, Contains-appen
 use Rattle.std.proofs.lemmas.List.Sums.{sum_by-set}
 use Rattle.resolver_report.specs.declared.implications.Implication.{Implication}
 use Rattle.resolver_report.specs.declared.implications.Waiting.{Waiting}
-use Rattle.resolver_report.specs.declared.parts.NodeId.{NodeId}
+use Rattle.resolver_report.specs.declared.graph.NodeId.{NodeId}
 use Rattle.resolver_report.specs.EdgePlaces.{appended, lists_in}
 use Rattle.resolver_report.specs.Implications.{HasLeastMarks, Implied, each_marked, follows, implied, implies}
 use Rattle.resolver_report.specs.Marks.{IsClosed, is_marked, some_marked}

@@ -2,10 +2,10 @@
 use Rattle.std.specs.Prelude.{Bool, true, false, List, Option, Some, None}
 use Rattle.std.specs.List.{list_any}
 use Rattle.resolver_clause_store.specs.declared.VersionSetId.{VersionSetId}
-use Rattle.resolver_report.specs.declared.parts.ConflictCause.TheVariants.{Constrains, ForbidMultipleInstances, Excluded}
-use Rattle.resolver_report.specs.declared.parts.ConflictEdge.{ConflictEdge}
-use Rattle.resolver_report.specs.declared.parts.ConflictEdge.TheVariants.{Requires, Conflict}
-use Rattle.resolver_report.specs.declared.parts.Edge.{Edge}
+use Rattle.resolver_report.specs.declared.graph.ConflictCause.TheVariants.{Constrains, ForbidMultipleInstances, Excluded}
+use Rattle.resolver_report.specs.declared.graph.ConflictEdge.{ConflictEdge}
+use Rattle.resolver_report.specs.declared.graph.ConflictEdge.TheVariants.{Requires, Conflict}
+use Rattle.resolver_report.specs.declared.graph.Edge.{Edge}
 
 abbrev pub is_conflict : {S : Type 0} → ConflictEdge S → Bool
 is_conflict (Requires r) = false

@@ -3,8 +3,8 @@ use Rattle.std.specs.Prelude.{◌≡◌, ℕ, ◌<◌, ◌==◌, Bool, false, Li
 use Rattle.std.specs.Prelude.{slice_set, Vec}
 use Rattle.std.proofs.Common.{Global}
 use Rattle.std.specs.List.{range_with_len}
-use Rattle.resolver_report.specs.declared.edge_places.EdgePlaces.{EdgePlaces}
-use Rattle.resolver_report.specs.declared.parts.Edge.{Edge}
+use Rattle.resolver_report.specs.declared.graph.EdgePlaces.{EdgePlaces}
+use Rattle.resolver_report.specs.declared.graph.Edge.{Edge}
 
 abbrev pub lists_in : {X : Type 0} → List (Vec X Global) → List (List X)
 lists_in vs = map (λ v. v.items) vs

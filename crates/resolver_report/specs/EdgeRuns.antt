@@ -1,7 +1,7 @@
 -- What an `EdgeRun` is, and runs with one edge more.
 use Rattle.std.specs.Prelude.{List, [], ◌∷◌, ◌++◌, if◌then◌else◌}
 use Rattle.resolver_clause_store.specs.declared.Requirement.{Requirement}
-use Rattle.resolver_report.specs.declared.parts.NodeId.{NodeId}
+use Rattle.resolver_report.specs.declared.graph.NodeId.{NodeId}
 use Rattle.resolver_report.specs.declared.runs.EdgeRun.{EdgeRun}
 use Rattle.resolver_report.specs.Same.{same_requirement}
 use Rattle.resolver_report.specs.Runs.{Run}

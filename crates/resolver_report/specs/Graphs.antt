@@ -3,12 +3,12 @@ use Rattle.std.specs.Prelude.{ℕ, Bool, if◌then◌else◌, List, [], ◌∷�
 use Rattle.std.specs.List.{list_any, flat_map, position_or_len, swap_remove}
 use Rattle.resolver_clause_store.specs.Lists.{without_repeats}
 use Rattle.resolver_clause_store.specs.declared.Requirement.{Requirement}
-use Rattle.resolver_report.specs.declared.parts.ConflictNode.{ConflictNode}
-use Rattle.resolver_report.specs.declared.parts.ConflictNode.TheVariants.{Root, Solvable, UnresolvedDependency, Excluded as Reason}
-use Rattle.resolver_report.specs.declared.parts.ConflictCause.TheVariants.{Locked, Constrains as ByConstraint, ForbidMultipleInstances, Excluded as ByExclusion}
-use Rattle.resolver_report.specs.declared.parts.ConflictEdge.TheVariants.{Requires as Required, Conflict}
-use Rattle.resolver_report.specs.declared.parts.Edge.{Edge}
-use Rattle.resolver_report.specs.declared.parts.Link.{Link}
+use Rattle.resolver_report.specs.declared.graph.ConflictNode.{ConflictNode}
+use Rattle.resolver_report.specs.declared.graph.ConflictNode.TheVariants.{Root, Solvable, UnresolvedDependency, Excluded as Reason}
+use Rattle.resolver_report.specs.declared.graph.ConflictCause.TheVariants.{Locked, Constrains as ByConstraint, ForbidMultipleInstances, Excluded as ByExclusion}
+use Rattle.resolver_report.specs.declared.graph.ConflictEdge.TheVariants.{Requires as Required, Conflict}
+use Rattle.resolver_report.specs.declared.graph.Edge.{Edge}
+use Rattle.resolver_report.specs.declared.graph.Link.{Link}
 use Rattle.resolver_clause_store.specs.declared.By.{By}
 use Rattle.resolver_clause_store.specs.declared.By.TheVariants.{Root as ByRoot, Solvable as BySolvable}
 use Rattle.resolver_clause_store.specs.declared.Rule.{Rule}

@@ -2,7 +2,7 @@
 use Rattle.std.specs.Prelude.{◌≡◌, ℕ, ◌==◌, Bool, ◌&&◌, List, length}
 use Rattle.std.specs.List.{list_any, list_all}
 use Rattle.resolver_report.specs.declared.implications.Implication.{Implication}
-use Rattle.resolver_report.specs.declared.parts.NodeId.{NodeId}
+use Rattle.resolver_report.specs.declared.graph.NodeId.{NodeId}
 use Rattle.resolver_report.specs.EdgePlaces.{lists_in}
 use Rattle.resolver_report.specs.Marks.{IsLeastClosed, some_marked}
 

@@ -1,9 +1,9 @@
 -- What a rule links, given the last marks before it.
 use Rattle.std.specs.Prelude.{Bool, if◌then◌else◌, List, [], ◌∷◌, Option, Some}
-use Rattle.resolver_report.specs.declared.parts.ConflictNode.TheVariants.{Root, Solvable, Excluded as Reason}
-use Rattle.resolver_report.specs.declared.parts.ConflictCause.TheVariants.{Locked, Constrains as ByConstraint, Excluded as ByExclusion}
-use Rattle.resolver_report.specs.declared.parts.ConflictEdge.TheVariants.{Conflict}
-use Rattle.resolver_report.specs.declared.parts.Link.{Link}
+use Rattle.resolver_report.specs.declared.graph.ConflictNode.TheVariants.{Root, Solvable, Excluded as Reason}
+use Rattle.resolver_report.specs.declared.graph.ConflictCause.TheVariants.{Locked, Constrains as ByConstraint, Excluded as ByExclusion}
+use Rattle.resolver_report.specs.declared.graph.ConflictEdge.TheVariants.{Conflict}
+use Rattle.resolver_report.specs.declared.graph.Link.{Link}
 use Rattle.resolver_clause_store.specs.declared.Rule.{Rule}
 use Rattle.resolver_clause_store.specs.declared.Rule.TheVariants.{Requires, Constrains, Lock, Excluded, OnePerPackage}
 use Rattle.resolver_report.specs.Graphs.{node_by, requirement_links, mark_links}

@@ -1,7 +1,7 @@
 -- Which nodes of a graph can be installed, and which are missing.
 use Rattle.std.specs.Prelude.{◌≡◌, ℕ, zero, suc, ◌<◌, Bool, true, false, not, ◌==◌, ◌&&◌, ◌||◌, List, [], length, map, Option, Some, None, slice_get, unwrap_or}
 use Rattle.std.specs.List.{list_any, list_all}
-use Rattle.resolver_report.specs.declared.parts.NodeId.{NodeId}
+use Rattle.resolver_report.specs.declared.graph.NodeId.{NodeId}
 use Rattle.resolver_report.specs.Causes.{has_conflict, has_exclusion}
 use Rattle.resolver_report.specs.Runs.{runs_of}
 use Rattle.resolver_report.specs.Shapes.{Shape, ConflictShape, places, outgoing, incoming}

@@ -5,8 +5,8 @@ use Rattle.std.specs.List.{list_all, filter_map, range_with_len}
 use Rattle.std.specs.Option.{option_map}
 use Rattle.resolver_clause_store.specs.Universe.{Universe}
 use Rattle.resolver_clause_store.specs.declared.Requirement.{Requirement}
-use Rattle.resolver_report.specs.declared.parts.Edge.{Edge}
-use Rattle.resolver_report.specs.declared.parts.Side.{Side}
+use Rattle.resolver_report.specs.declared.graph.Edge.{Edge}
+use Rattle.resolver_report.specs.declared.graph.Side.{Side}
 use Rattle.resolver_report.specs.Same.{same_requirement}
 use Rattle.resolver_report.specs.Shapes.{Shape, places, solvable_at, outgoing, incoming, required}
 

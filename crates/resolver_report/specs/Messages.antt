@@ -7,13 +7,13 @@ use Rattle.resolver_clause_store.specs.Universe.{Universe}
 use Rattle.resolver_clause_store.specs.Candidates.{version_sets}
 use Rattle.resolver_clause_store.specs.declared.Requirement.{Requirement}
 use Rattle.resolver_clause_store.specs.declared.VersionSetId.{VersionSetId}
-use Rattle.resolver_report.specs.declared.parts.NodeId.{NodeId}
-use Rattle.resolver_report.specs.declared.parts.ConflictNode.{ConflictNode}
-use Rattle.resolver_report.specs.declared.parts.ConflictNode.TheVariants.{Root, Solvable, UnresolvedDependency, Excluded as Reason}
-use Rattle.resolver_report.specs.declared.parts.ConflictCause.TheVariants.{Locked, Constrains, ForbidMultipleInstances, Excluded}
-use Rattle.resolver_report.specs.declared.parts.ConflictEdge.{ConflictEdge}
-use Rattle.resolver_report.specs.declared.parts.ConflictEdge.TheVariants.{Requires, Conflict}
-use Rattle.resolver_report.specs.declared.parts.Edge.{Edge}
+use Rattle.resolver_report.specs.declared.graph.NodeId.{NodeId}
+use Rattle.resolver_report.specs.declared.graph.ConflictNode.{ConflictNode}
+use Rattle.resolver_report.specs.declared.graph.ConflictNode.TheVariants.{Root, Solvable, UnresolvedDependency, Excluded as Reason}
+use Rattle.resolver_report.specs.declared.graph.ConflictCause.TheVariants.{Locked, Constrains, ForbidMultipleInstances, Excluded}
+use Rattle.resolver_report.specs.declared.graph.ConflictEdge.{ConflictEdge}
+use Rattle.resolver_report.specs.declared.graph.ConflictEdge.TheVariants.{Requires, Conflict}
+use Rattle.resolver_report.specs.declared.graph.Edge.{Edge}
 use Rattle.resolver_report.specs.Causes.{constraint, has_second_instance, is_exclusion}
 use Rattle.resolver_report.specs.Shapes.{Shape, ConflictShape, solvable_at, outgoing}
 use Rattle.resolver_report.specs.Merging.{Key, keys, class_in, group_in, solvables_at}

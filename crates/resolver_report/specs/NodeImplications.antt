@@ -1,7 +1,7 @@
 -- What implies that a node of a graph is marked.
 use Rattle.std.specs.Prelude.{ℕ, if◌then◌else◌, List, [], ◌∷◌, map}
 use Rattle.std.specs.List.{flat_map}
-use Rattle.resolver_report.specs.declared.parts.NodeId.{NodeId}
+use Rattle.resolver_report.specs.declared.graph.NodeId.{NodeId}
 use Rattle.resolver_report.specs.Causes.{has_conflict, has_exclusion}
 use Rattle.resolver_report.specs.Implications.{Implied}
 use Rattle.resolver_report.specs.Marks.{is_place}

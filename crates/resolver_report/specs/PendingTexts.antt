@@ -2,7 +2,7 @@
 use Rattle.std.specs.Prelude.{◌≡◌, ◌∷◌, ◌++◌, ◌+◌, ◌-◌, ◌<◌, ◌==◌, ℕ, zero, suc, Bool, true, false, if◌then◌else◌, List, [], length, map, replicate, reverse}
 use Rattle.std.specs.Prelude.{slice_set}
 use Rattle.resolver_clause_store.specs.Universe.{Universe}
-use Rattle.resolver_report.specs.declared.parts.NodeId.{NodeId}
+use Rattle.resolver_report.specs.declared.graph.NodeId.{NodeId}
 use Rattle.resolver_report.specs.declared.pending.Frame.{Frame}
 use Rattle.resolver_report.specs.declared.pending.Pending.{Pending}
 use Rattle.resolver_report.specs.declared.tree.Outline.{Outline}

@@ -1,6 +1,6 @@
 -- Which edges lead to marked nodes.
 use Rattle.std.specs.Prelude.{Bool, true, false, not, List}
-use Rattle.resolver_report.specs.declared.parts.Edge.{Edge}
+use Rattle.resolver_report.specs.declared.graph.Edge.{Edge}
 use Rattle.resolver_report.specs.Marks.{is_marked}
 
 -- the target is marked, or not, as is wanted

@@ -4,7 +4,7 @@ use Rattle.std.specs.Option.{unwrap_or}
 use Rattle.std.specs.HashMap.{HashMap, get}
 use Rattle.std.specs.declared.hash.FoldHasher.{FoldHasher}
 use Rattle.std.specs.declared.hash.BuildHasherDefault.{BuildHasherDefault}
-use Rattle.resolver_report.specs.declared.parts.ConflictNode.{ConflictNode}
+use Rattle.resolver_report.specs.declared.graph.ConflictNode.{ConflictNode}
 use Rattle.resolver_report.specs.Same.{same_node}
 use Rattle.resolver_report.specs.Graphs.{place_in}
 

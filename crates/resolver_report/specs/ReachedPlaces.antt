@@ -1,8 +1,8 @@
 -- How the edges of a graph lead from the root to its nodes.
 use Rattle.std.specs.Prelude.{◌≡◌, ℕ, ◌<◌, length, Contains, Some, None}
 use Rattle.resolver_clause_store.specs.declared.Requirement.{Requirement}
-use Rattle.resolver_report.specs.declared.parts.Edge.{Edge}
-use Rattle.resolver_report.specs.declared.parts.ConflictEdge.TheVariants.{Requires as Required}
+use Rattle.resolver_report.specs.declared.graph.Edge.{Edge}
+use Rattle.resolver_report.specs.declared.graph.ConflictEdge.TheVariants.{Requires as Required}
 use Rattle.resolver_report.specs.Shapes.{ConflictShape, solvable_at}
 
 -- the place is the root's, or that of a solvable to which edges that require lead from the root, over solvables alone

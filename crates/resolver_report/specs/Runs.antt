@@ -1,10 +1,10 @@
 -- Neighbouring edges that require one thing.
 use Rattle.std.specs.Prelude.{if◌then◌else◌, List, [], ◌∷◌}
 use Rattle.resolver_clause_store.specs.declared.Requirement.{Requirement}
-use Rattle.resolver_report.specs.declared.parts.NodeId.{NodeId}
-use Rattle.resolver_report.specs.declared.parts.ConflictEdge.{ConflictEdge}
-use Rattle.resolver_report.specs.declared.parts.ConflictEdge.TheVariants.{Requires, Conflict}
-use Rattle.resolver_report.specs.declared.parts.Edge.{Edge}
+use Rattle.resolver_report.specs.declared.graph.NodeId.{NodeId}
+use Rattle.resolver_report.specs.declared.graph.ConflictEdge.{ConflictEdge}
+use Rattle.resolver_report.specs.declared.graph.ConflictEdge.TheVariants.{Requires, Conflict}
+use Rattle.resolver_report.specs.declared.graph.Edge.{Edge}
 use Rattle.resolver_report.specs.Same.{same_requirement}
 
 -- neighbouring edges with one requirement, and where they lead

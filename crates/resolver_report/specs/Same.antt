@@ -2,8 +2,8 @@
 use Rattle.std.specs.Prelude.{Bool, true, false, ◌==◌}
 use Rattle.resolver_clause_store.specs.declared.Requirement.{Requirement}
 use Rattle.resolver_clause_store.specs.declared.Requirement.TheVariants.{Single, Union}
-use Rattle.resolver_report.specs.declared.parts.ConflictNode.{ConflictNode}
-use Rattle.resolver_report.specs.declared.parts.ConflictNode.TheVariants.{Root, Solvable, UnresolvedDependency, Excluded}
+use Rattle.resolver_report.specs.declared.graph.ConflictNode.{ConflictNode}
+use Rattle.resolver_report.specs.declared.graph.ConflictNode.TheVariants.{Root, Solvable, UnresolvedDependency, Excluded}
 
 abbrev pub same_requirement : Requirement → Requirement → Bool
 same_requirement (Single v) (Single w) = v.0 == w.0

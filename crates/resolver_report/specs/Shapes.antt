@@ -3,11 +3,11 @@ use Rattle.std.specs.Prelude.{ℕ, ◌<◌, ◌==◌, List, length, filter, reve
 use Rattle.std.specs.List.{range_with_len}
 use Rattle.resolver_clause_store.specs.Lists.{HasNoRepeats}
 use Rattle.resolver_clause_store.specs.declared.Requirement.{Requirement}
-use Rattle.resolver_report.specs.declared.parts.ConflictNode.{ConflictNode}
-use Rattle.resolver_report.specs.declared.parts.ConflictNode.TheVariants.{Root, Solvable, UnresolvedDependency, Excluded}
-use Rattle.resolver_report.specs.declared.parts.ConflictEdge.{ConflictEdge}
-use Rattle.resolver_report.specs.declared.parts.ConflictEdge.TheVariants.{Requires, Conflict}
-use Rattle.resolver_report.specs.declared.parts.Edge.{Edge}
+use Rattle.resolver_report.specs.declared.graph.ConflictNode.{ConflictNode}
+use Rattle.resolver_report.specs.declared.graph.ConflictNode.TheVariants.{Root, Solvable, UnresolvedDependency, Excluded}
+use Rattle.resolver_report.specs.declared.graph.ConflictEdge.{ConflictEdge}
+use Rattle.resolver_report.specs.declared.graph.ConflictEdge.TheVariants.{Requires, Conflict}
+use Rattle.resolver_report.specs.declared.graph.Edge.{Edge}
 
 pub record Shape (S : Type 0) : Type 0 where
   pub nodes : List (ConflictNode S)

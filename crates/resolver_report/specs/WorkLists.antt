@@ -3,7 +3,7 @@ use Rattle.std.specs.Prelude.{◌≡◌, ◌≢◌, ◌⊎◌, ℕ, zero, suc, �
 use Rattle.std.specs.Prelude.{length, slice_index_or, slice_set}
 use Rattle.resolver_report.specs.declared.implications.Marking.{Marking}
 use Rattle.resolver_report.specs.declared.implications.Waiting.{Waiting}
-use Rattle.resolver_report.specs.declared.parts.NodeId.{NodeId}
+use Rattle.resolver_report.specs.declared.graph.NodeId.{NodeId}
 use Rattle.resolver_report.specs.EdgePlaces.{appended, lists_in}
 use Rattle.resolver_report.specs.Implications.{Implied, each_marked, follows}
 use Rattle.resolver_report.specs.Marks.{IsClosed, is_marked, some_marked}

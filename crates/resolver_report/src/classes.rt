@@ -7,9 +7,9 @@ ghost use Rattle.resolver_report.specs.Classes.{HasClasses, has_key};
 ghost use Rattle.resolver_report.specs.Keys.{AreKeysOf, key_view};
 ghost use Rattle.resolver_report.specs.Merging.{Key, class_in};
 
+use crate::graph::Side;
 use crate::keys::NodeKey;
 use crate::listed::extend_at;
-use crate::parts::Side;
 use resolver_clause_store::Exhausted;
 use std::alloc::Global;
 use std::collections::HashMap;

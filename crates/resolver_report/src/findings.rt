@@ -9,11 +9,10 @@ ghost use Rattle.resolver_report.specs.Places.{HasPlaces};
 ghost use Rattle.resolver_report.specs.Simplified.{IsGroupOf, IsSimplified};
 ghost use Rattle.resolver_report.specs.Outlines.{groups_in, group_at};
 
-use crate::graph::ConflictGraph;
+use crate::graph::{ConflictGraph, ConflictNode};
 use crate::marks::installable;
 use crate::outline::Findings;
-use crate::parts::ConflictNode;
-use crate::places::{place, places_of};
+use crate::rule_graph::{place, places_of};
 use crate::simplify::{MergedConflictNode, solvable_at};
 use resolver_clause_store::{Exhausted, Interner};
 use std::alloc::Global;

@@ -1,17 +1,180 @@
-//! The graph of a list of rules.
+//! Graphs: nodes, edges, and where the edges of each node stand.
 
-ghost use Rattle.std.specs.Prelude.{◌≡◌, ◌<◌, All, IfOk, IfErr, length};
+ghost use Rattle.std.specs.Prelude.{◌≡◌, ◌+◌, ◌<◌, All, IfOk, IfErr, OnOk, length, slice_get};
+ghost use Rattle.resolver_report.specs.EdgePlaces.{AreEmpty, HasPlacesOfEdges, HasPlacesBefore, appended, lists_in};
+ghost use Rattle.std.specs.Iterator.{YieldsFirstRef, item_count};
+ghost use Rattle.std.specs.Option.{option_copied, ForSome};
 ghost use Rattle.resolver_clause_store.specs.Lists.{HasNoRepeats};
-ghost use Rattle.std.specs.Option.{ForSome};
-ghost use Rattle.resolver_report.specs.EdgePlaces.{HasPlacesOfEdges};
 ghost use Rattle.resolver_report.specs.Shapes.{incoming, IsShape, outgoing, Shape};
 
-use crate::edge_places::{EdgePlaces, edge_places};
-use crate::edges::{Incoming, Outgoing};
-use crate::parts::{ConflictNode, Edge, NodeId};
-use resolver_clause_store::Exhausted;
+use resolver_clause_store::{Exhausted, Requirement, StringId, VersionSetId};
 use std::alloc::Global;
 use std::marker::Model;
+
+/// Stands for the root, a solvable, what has no candidates, or a reason.
+#[derive(Clone, Copy, PartialEq, Eq, Hash)]
+pub enum ConflictNode<S> {
+    Root,
+    Solvable(S),
+    UnresolvedDependency,
+    Excluded(StringId),
+}
+
+/// Why two nodes do not go together.
+#[derive(Clone, Copy, PartialEq, Eq, PartialOrd, Ord, Hash)]
+pub enum ConflictCause<S> {
+    Locked(S),
+    Constrains(VersionSetId),
+    ForbidMultipleInstances,
+    Excluded,
+}
+
+/// What an edge says.
+#[derive(Clone, Copy, PartialEq, Eq, PartialOrd, Ord, Hash)]
+pub enum ConflictEdge<S> {
+    Requires(Requirement),
+    Conflict(ConflictCause<S>),
+}
+
+/// The place of a node among the nodes.
+#[derive(Clone, Copy, PartialEq, Eq, PartialOrd, Ord, Hash)]
+pub struct NodeId(pub usize);
+
+/// From one node to another.
+#[derive(Clone, Copy, PartialEq, Eq)]
+pub struct Edge<S> {
+    pub source: NodeId,
+    pub target: NodeId,
+    pub weight: ConflictEdge<S>,
+}
+
+/// An edge whose ends are nodes and not yet their places.
+#[derive(Clone, Copy, PartialEq, Eq)]
+pub struct Link<S> {
+    pub source: ConflictNode<S>,
+    pub target: ConflictNode<S>,
+    pub weight: ConflictEdge<S>,
+}
+
+/// What an edge requires, if it does, and its other end.
+#[derive(Clone, Copy, PartialEq, Eq, PartialOrd, Ord, Hash)]
+pub struct Side {
+    pub required: Option<Requirement>,
+    pub other: NodeId,
+}
+
+/// For each node the places of the edges from it, and of those to it, oldest first.
+#[derive(Drop)]
+pub struct EdgePlaces {
+    pub(crate) from: Vec<Vec<usize>>,
+    pub(crate) to: Vec<Vec<usize>>,
+}
+
+/// So many empty lists.
+pub fn empty_lists<X: Drop>(alloc: Global, count: usize) -> Result<Vec<Vec<X>>, Exhausted>
+    ensures value { IfOk result (λ v. AreEmpty count (lists_in v.items)) }
+    ensures memory { IfErr result (λ e. e ≡ Exhausted.Memory) }
+{
+    let mut lists = Vec::new(alloc);
+    for _n in 0..count {
+        lists.push(Vec::new(alloc))?;
+    }
+    Ok(lists)
+}
+
+/// Appends an item to one of the lists.
+pub fn push_at<X: Drop>(lists: &mut Vec<Vec<X>>, place: usize, item: X) -> Result<(), Exhausted>
+    requires { place < length lists.old.items }
+    ensures ok { OnOk result (lists_in lists.new.items ≡ appended (lists_in lists.old.items) place item) }
+    ensures memory { IfErr result (λ e. e ≡ Exhausted.Memory) }
+{
+    lists[place].push(item)?;
+    Ok(())
+}
+
+/// Where the edges of each node stand, of so many nodes.
+pub fn edge_places<S>(
+    alloc: Global,
+    count: usize,
+    edges: &[Edge<S>],
+) -> Result<EdgePlaces, Exhausted>
+    requires sources { All (λ e. e.source.0 < count) edges.now }
+    requires targets { All (λ e. e.target.0 < count) edges.now }
+    ensures value { IfOk result (HasPlacesOfEdges count edges.now) }
+    ensures memory { IfErr result (λ e. e ≡ Exhausted.Memory) }
+{
+    let mut from = empty_lists(alloc, count)?;
+    let mut to = empty_lists(alloc, count)?;
+    for place in 0..edges.len() {
+        let edge = &edges[place];
+        push_at(&mut from, edge.source.0, place)?;
+        push_at(&mut to, edge.target.0, place)?;
+    }
+    Ok(EdgePlaces { from, to })
+}
+
+/// The edge at a place.
+fn edge_at<'a, S>(edges: &'a [Edge<S>], place: usize) -> Option<&'a Edge<S>>
+    ensures { option_copied result ≡ slice_get edges.now place }
+{
+    edges.get(place)
+}
+
+/// The edges from a node, newest first.
+#[derive(Drop)]
+pub struct Outgoing<'a, S> {
+    pub(crate) edges: &'a [Edge<S>],
+    pub(crate) rest: &'a [usize],
+}
+
+impl<'a, S> Iterator for Outgoing<'a, S> {
+    ghost use Rattle.resolver_report.specs.Edges.{outgoing_left};
+
+    type Item = &'a Edge<S>;
+
+    ghost next_gives = { YieldsFirstRef outgoing_left };
+
+    ghost remaining = { item_count outgoing_left };
+
+    fn next(&mut self) -> Option<&'a Edge<S>> {
+        while let Some((last, before)) = self.rest.split_last() {
+            let found = edge_at(self.edges, *last);
+            self.rest = before;
+            if let Some(edge) = found {
+                return Some(edge);
+            }
+        }
+        None
+    }
+}
+
+/// The edges to a node, newest first.
+#[derive(Drop)]
+pub struct Incoming<'a, S> {
+    pub(crate) edges: &'a [Edge<S>],
+    pub(crate) rest: &'a [usize],
+}
+
+impl<'a, S> Iterator for Incoming<'a, S> {
+    ghost use Rattle.resolver_report.specs.Edges.{incoming_left};
+
+    type Item = &'a Edge<S>;
+
+    ghost next_gives = { YieldsFirstRef incoming_left };
+
+    ghost remaining = { item_count incoming_left };
+
+    fn next(&mut self) -> Option<&'a Edge<S>> {
+        while let Some((last, before)) = self.rest.split_last() {
+            let found = edge_at(self.edges, *last);
+            self.rest = before;
+            if let Some(edge) = found {
+                return Some(edge);
+            }
+        }
+        None
+    }
+}
 
 /// Nodes, and edges between them. No solvable stands on two nodes.
 #[derive(Drop)]

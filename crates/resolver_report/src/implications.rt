@@ -7,9 +7,8 @@ ghost use Rattle.resolver_report.specs.Marks.{is_marked as is_marked_in};
 ghost use Rattle.resolver_report.specs.WorkLists.{AreTended, IsReady, IsRight, IsSameWork, KeepsOthersTended, KeepsTended, advanced, after_mark, after_waits};
 ghost use Rattle.resolver_report.specs.WorkLists.{has_mark as has_mark_in, is_ready as is_ready_in, left_at, up_to_unmarked as up_to_unmarked_in, work_view};
 
-use crate::edge_places::{empty_lists, push_at};
+use crate::graph::{NodeId, empty_lists, push_at};
 use crate::marks::some_marked;
-use crate::parts::NodeId;
 use resolver_clause_store::Exhausted;
 use std::alloc::Global;
 

@@ -6,8 +6,7 @@ ghost use Rattle.resolver_report.specs.Shapes.{as_solvable, required as required
 ghost use Rattle.resolver_report.specs.Merging.{key_of, keys, sides_in as sides_in_by, sides_out as sides_out_by};
 ghost use Rattle.resolver_report.specs.Keys.{AreKeysOf, IsInOrder, IsKeyOf};
 
-use crate::graph::Graph;
-use crate::parts::{ConflictEdge, ConflictNode, NodeId, Side};
+use crate::graph::{ConflictEdge, ConflictNode, Graph, NodeId, Side};
 use itertools::Itertools;
 use resolver_clause_store::{Exhausted, Interner, Requirement};
 use std::alloc::Global;

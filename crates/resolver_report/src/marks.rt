@@ -13,9 +13,8 @@ ghost use Rattle.resolver_report.specs.Marks.{some_marked as some_marked_in};
 ghost use Rattle.resolver_report.specs.NodeImplications.{all_of_run, each_alone, installable_by, missing_by, of_each_node};
 ghost use Rattle.resolver_report.specs.Shapes.{ConflictShape, incoming};
 
-use crate::graph::{ConflictGraph, Graph};
+use crate::graph::{ConflictGraph, Graph, NodeId};
 use crate::implications::{Implication, least_marks};
-use crate::parts::NodeId;
 use crate::runs::{EdgeRun, has_conflict, is_exclusion, outgoing, runs_of};
 use resolver_clause_store::Exhausted;
 use std::alloc::Global;

@@ -8,10 +8,9 @@ ghost use Rattle.resolver_report.specs.Picks.{has_mark};
 ghost use Rattle.resolver_report.specs.Tellings.{IsOutline, graph_in, keys_in, marks_in};
 
 use crate::findings::findings_of;
-use crate::graph::ConflictGraph;
+use crate::graph::{ConflictGraph, Edge};
 use crate::marks::{is_marked, missing};
 use crate::outline::node_stories;
-use crate::parts::Edge;
 use crate::runs::outgoing;
 use crate::texts::write_conflicts;
 use crate::tree::{Outline, tell_edges, write_end};

@@ -11,9 +11,8 @@ ghost use Rattle.resolver_report.specs.Messages.{same_group_as, told_of, told_of
 ghost use Rattle.resolver_report.specs.Shapes.{places};
 ghost use Rattle.resolver_report.specs.Outlines.{HasGroupsOf, group_at as group_at_in, groups_in, has_viability, node_told, node_view, run_told_view};
 
-use crate::graph::ConflictGraph;
+use crate::graph::{ConflictGraph, ConflictNode, Edge, NodeId};
 use crate::marks::{is_marked, is_place, some_marked};
-use crate::parts::{ConflictNode, Edge, NodeId};
 use crate::runs::{EdgeRun, outgoing, runs_of};
 use crate::verdict::{Verdict, verdict_of};
 use itertools::Itertools;

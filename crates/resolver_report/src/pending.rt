@@ -6,9 +6,9 @@ ghost use Rattle.std.specs.Prelude.{◌≡◌, IfErr, IfOk, OnOk, map, not, slic
 ghost use Rattle.resolver_report.specs.PendingTexts.{HasLevels, entered, is_none, left, pending_view, whole_tree};
 ghost use Rattle.resolver_report.specs.Outlines.{run_told_view};
 
+use crate::graph::NodeId;
 use crate::indenter::Indenter;
 use crate::outline::RunOutline;
-use crate::parts::NodeId;
 use resolver_clause_store::Exhausted;
 use std::alloc::Global;
 

@@ -8,8 +8,7 @@ ghost use Rattle.resolver_report.specs.EdgeRuns.{and_then, new_run, run_view};
 ghost use Rattle.resolver_report.specs.Same.{same_requirement};
 ghost use Rattle.resolver_report.specs.Shapes.{outgoing as outgoing_in};
 
-use crate::graph::Graph;
-use crate::parts::{ConflictCause, ConflictEdge, Edge, NodeId};
+use crate::graph::{ConflictCause, ConflictEdge, Edge, Graph, NodeId};
 use itertools::Itertools;
 use resolver_clause_store::{Exhausted, Requirement};
 use std::alloc::Global;

@@ -7,9 +7,8 @@ ghost use Rattle.resolver_report.specs.Shapes.{solvable_at as solvable_at_place}
 ghost use Rattle.resolver_report.specs.Simplified.{IsGroupOf, IsMadeAt, IsSimplified, IsSimplifiedBefore};
 
 use crate::classes::{class_at, classes_of};
-use crate::graph::{ConflictGraph, Graph};
+use crate::graph::{ConflictGraph, ConflictNode, Graph};
 use crate::keys::keys_of;
-use crate::parts::ConflictNode;
 use itertools::Itertools;
 use resolver_clause_store::{Exhausted, Interner};
 use std::alloc::Global;

@@ -1,7 +1,7 @@
 //! Rules as tests list them.
 
-use crate::build::graph_of;
 use crate::graph::ConflictGraph;
+use crate::rule_graph::graph_of;
 use resolver_clause_store::{By, Exhausted, Requirement, Rule, StringId, VersionSetId};
 use std::alloc::{AllocError, Global};
 

@@ -8,8 +8,8 @@ ghost use Rattle.resolver_report.specs.Messages.{conflict_text, constraint_text,
 ghost use Rattle.resolver_report.specs.Messages.{run_after as after_run, run_before as before_run, run_text as run_text_of};
 ghost use Rattle.resolver_report.specs.Messages.{version_set_text as version_set_text_in};
 
+use crate::graph::{ConflictCause, ConflictEdge, ConflictNode, Edge};
 use crate::indenter::{ChildOrder, write_branch};
-use crate::parts::{ConflictCause, ConflictEdge, ConflictNode, Edge};
 use resolver_clause_store::{Exhausted, Interner, Requirement, VersionSetId};
 
 /// Writes the name of a version set's package, and the version set.

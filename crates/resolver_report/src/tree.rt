@@ -13,10 +13,10 @@ ghost use Rattle.resolver_report.specs.Shapes.{solvable_at as solvable_at_place}
 ghost use Rattle.resolver_report.specs.Verdicts.{verdict_view};
 
 use crate::findings::group_at_node;
+use crate::graph::{Edge, NodeId};
 use crate::indenter::{ChildOrder, Indenter};
 use crate::marks::is_marked;
 use crate::outline::{Findings, NodeOutline, RunOutline, outlines_of};
-use crate::parts::{Edge, NodeId};
 use crate::pending::{Pending, set_mark};
 use crate::simplify::{MergedConflictNode, solvable_at};
 use crate::texts::{write_reason, write_run_text, write_version, write_version_set};

@@ -5,7 +5,7 @@ ghost use Rattle.resolver_report.specs.Causes.{constraint as constraint_in};
 ghost use Rattle.resolver_report.specs.Messages.{constraints as constraints_in, once_each as each_once, reasons, verdict_of as verdict_by_edges};
 ghost use Rattle.resolver_report.specs.Verdicts.{verdict_view};
 
-use crate::parts::{ConflictCause, ConflictEdge, Edge, NodeId};
+use crate::graph::{ConflictCause, ConflictEdge, Edge, NodeId};
 use crate::runs::{has_second_instance, is_exclusion};
 use itertools::Itertools;
 use resolver_clause_store::{Exhausted, VersionSetId};

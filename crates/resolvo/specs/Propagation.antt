@@ -11,8 +11,8 @@ use Rattle.resolver_clause_store.specs.Slots.{is_decided}
 use Rattle.resolver_clause_store.specs.TrailView.{slot_of, literal_value}
 use Rattle.resolver_clause_store.specs.Outcomes.{IsFalsified, IsSatisfied, IsForcing, IsChosen}
 use Rattle.resolver_clause_store.specs.Settled.{IsOpen}
-use Rattle.resolvo.specs.declared.propagate.State.{State}
-use Rattle.resolvo.specs.declared.propagate.State.TheVariants.{Satisfied, Falsified, Unit, Open}
+use Rattle.resolvo.specs.declared.clause_state.State.{State}
+use Rattle.resolvo.specs.declared.clause_state.State.TheVariants.{Satisfied, Falsified, Unit, Open}
 
 -- each literal but this one is false
 abbrev pub IsUnit : Trail → Literal → List Literal → Type 0

@@ -24,8 +24,8 @@ ghost use Rattle.resolver_clause_store.specs.Queues.{IsQueued};
 ghost use Rattle.resolvo.specs.Resolvents.{IsLearnt, level_in};
 
 use crate::analyze::{Analysis, BlankMarks, Learnt, analyze, asserted_level};
+use crate::clause_state::{State, examine};
 use crate::contradiction::{Source, core};
-use crate::propagate::{State, examine};
 use crate::propagator::{Propagator, apply_all_pending, begins_level, propagate};
 use resolver_clause_store::{
     Activity, Choice, DecideQueue, DependencyProvider, Exhausted, Interrupted, Literal,

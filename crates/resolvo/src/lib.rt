@@ -3,6 +3,7 @@
 
 mod analyze;
 mod clause_search;
+mod clause_state;
 mod conflict;
 mod contradiction;
 #[cfg(test)]
@@ -10,7 +11,6 @@ mod encoding_tests;
 mod minimal;
 mod owners;
 mod problem;
-mod propagate;
 mod propagator;
 mod rounds;
 #[cfg(test)]

@@ -5,7 +5,7 @@ ghost use Rattle.resolver_clause_store.specs.Formula.{AreBelow, IsBelow};
 ghost use Rattle.resolver_clause_store.specs.TrailView.{variable_count};
 ghost use Rattle.resolver_clause_store.specs.declared.RequirementClause.{RequirementClause as RequirementClauseOf};
 
-use crate::propagate::{State, examine};
+use crate::clause_state::{State, examine};
 use resolver_clause_store::{Literal, RequirementClause, Trail, clause};
 use std::alloc::AllocError;
 

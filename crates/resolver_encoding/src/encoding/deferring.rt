@@ -1,15 +1,20 @@
-//! Disjuncts that are put off until they hold.
+//! Disjuncts that are put off until they hold, and what they ask for then.
 
-ghost use Rattle.std.specs.Prelude.{◌≡◌, IfErr, IfSome, IfNone, OnErr, OnOk, Some, slice_get};
+ghost use Rattle.std.specs.Prelude.{◌≡◌, IfErr, IfSome, IfNone, OnErr, OnOk, Some, slice_get, ◌≤◌, All, IfOk, MatchBool, drop, length, true, ⊤};
 ghost use Rattle.resolver_clause_store.specs.Variables.{AreDistinct};
-ghost use Rattle.resolver_encoding.specs.Encodings.{KeepsLimits};
+ghost use Rattle.resolver_encoding.specs.Encodings.{KeepsLimits, IsEncodingOf, IsFull};
 ghost use Rattle.resolver_encoding.specs.ReadState.{Deferred};
-ghost use Rattle.resolver_encoding.specs.SoFar.{IsDeferral, IsIndexing, IsTakenOut, left_count};
+ghost use Rattle.resolver_encoding.specs.SoFar.{IsDeferral, IsIndexing, IsTakenOut, left_count, HasFired, HasMet, IsFiring, IsQuietAt, IsQuietUnder};
+ghost use Rattle.resolver_clause_store.specs.Caches.{IsTrueCache};
+ghost use Rattle.resolver_encoding.specs.Groups.{AreGroups};
+ghost use Rattle.resolver_encoding.specs.Led.{Brings, IsFired, NoneOwn};
+ghost use Rattle.resolver_encoding.specs.Refusals.{IsStop};
 
 use super::Encoding;
-use crate::entries::Entry;
+use crate::disjuncts::{Entry, is_met};
+use indexmap::IndexSet;
 use resolver_clause_store::{
-    By, DependencyProvider, Exhausted, Interner, Requirement, VersionSetId,
+    By, Cache, DependencyProvider, Exhausted, Interner, Interrupted, Requirement, VersionSetId,
 };
 use std::hash::Hash;
 
@@ -93,5 +98,186 @@ impl<N: Copy + Eq + Hash + Drop, S: Copy + Eq + Hash + Drop> Encoding<N, S> {
             }
         }
         count
+    }
+}
+
+impl<N: Copy + Eq + Hash + Drop, S: Copy + Eq + Hash + Drop> Encoding<N, S> {
+    ghost use Rattle.resolver_encoding.specs.Notes.{IsBounded, notes_in};
+
+    /// Whether a disjunct is put off and is met in the set.
+    fn is_due<D: DependencyProvider<NameId = N, SolvableId = S>>(
+        &self,
+        provider: &D,
+        cache: &mut Cache<N, S>,
+        chosen: &IndexSet<S>,
+        number: usize,
+    ) -> Result<bool, Interrupted<D::Cancel>>
+        requires is_true { IsTrueCache (D.universe provider.now) cache.old }
+        ensures is_true { IsTrueCache (D.universe provider.now) cache.new }
+        ensures due { IfOk result (λ due.
+            MatchBool due (HasMet (D.universe provider.now) chosen.now.keys (notes_in self.now) number)
+            (IsQuietAt (D.universe provider.now) chosen.now.keys (notes_in self.now) number)) }
+        ensures refusal { IfErr result (IsStop (D.may_cancel provider.now) (IsFull (notes_in self.now))) }
+    {
+        match self.deferred.get(number) {
+            Some(Some(entry)) => {
+                let met = is_met(provider, cache, chosen, &entry.disjunct)?;
+                Ok(met)
+            }
+            Some(None) => Ok(false),
+            None => Ok(false),
+        }
+    }
+
+    /// Takes a disjunct out that is met in the set, and encodes its requirement.
+    fn fire<D: DependencyProvider<NameId = N, SolvableId = S>>(
+        &mut self,
+        provider: &D,
+        cache: &mut Cache<N, S>,
+        chosen: &IndexSet<S>,
+        number: usize,
+    ) -> Result<(), Interrupted<D::Cancel>>
+        requires bounded { IsBounded self.old }
+        requires is_true { IsTrueCache (D.universe provider.now) cache.old }
+        requires encoding { IsEncodingOf (D.universe provider.now) (λ root. ⊤) (notes_in self.old) }
+        requires met { HasMet (D.universe provider.now) chosen.now.keys (notes_in self.old) number }
+        ensures bounded { IsBounded self.new }
+        ensures is_true { IsTrueCache (D.universe provider.now) cache.new }
+        ensures firing { OnOk result (IsFiring (D.universe provider.now) chosen.now.keys (notes_in self.old) (notes_in self.new)) }
+        ensures quiet { OnOk result (IsQuietAt (D.universe provider.now) chosen.now.keys (notes_in self.new) number) }
+        ensures fired { OnOk result (HasFired (notes_in self.old) (notes_in self.new) true) }
+        ensures brings { Brings (D.universe provider.now) (IsFired (D.universe provider.now) chosen.now.keys (notes_in self.old)) NoneOwn
+            (notes_in self.old) (notes_in self.new) }
+        ensures limits { KeepsLimits (notes_in self.old) (notes_in self.new) }
+        ensures refusal { IfErr result (IsStop (D.may_cancel provider.now) (IsFull (notes_in self.new))) }
+    {
+        match self.take_out(number) {
+            Some(entry) => {
+                let Entry {
+                    by,
+                    disjunct,
+                    requirement,
+                } = entry;
+                self.encode_disjunct(provider, cache, by, disjunct, requirement)?;
+                Ok(())
+            }
+            None => Ok(()),
+        }
+    }
+
+    /// Takes a disjunct out and encodes its requirement, if it is put off and met in the set. Answers whether it was.
+    fn fire_if_due<D: DependencyProvider<NameId = N, SolvableId = S>>(
+        &mut self,
+        provider: &D,
+        cache: &mut Cache<N, S>,
+        chosen: &IndexSet<S>,
+        number: usize,
+    ) -> Result<bool, Interrupted<D::Cancel>>
+        requires bounded { IsBounded self.old }
+        requires is_true { IsTrueCache (D.universe provider.now) cache.old }
+        requires encoding { IsEncodingOf (D.universe provider.now) (λ root. ⊤) (notes_in self.old) }
+        ensures bounded { IsBounded self.new }
+        ensures is_true { IsTrueCache (D.universe provider.now) cache.new }
+        ensures firing { OnOk result (IsFiring (D.universe provider.now) chosen.now.keys (notes_in self.old) (notes_in self.new)) }
+        ensures quiet { OnOk result (IsQuietAt (D.universe provider.now) chosen.now.keys (notes_in self.new) number) }
+        ensures fired { IfOk result (HasFired (notes_in self.old) (notes_in self.new)) }
+        ensures brings { Brings (D.universe provider.now) (IsFired (D.universe provider.now) chosen.now.keys (notes_in self.old)) NoneOwn
+            (notes_in self.old) (notes_in self.new) }
+        ensures limits { KeepsLimits (notes_in self.old) (notes_in self.new) }
+        ensures refusal { IfErr result (IsStop (D.may_cancel provider.now) (IsFull (notes_in self.new))) }
+    {
+        if !self.is_due(provider, cache, chosen, number)? {
+            return Ok(false);
+        }
+        self.fire(provider, cache, chosen, number)?;
+        Ok(true)
+    }
+
+    /// Fires each of these that is due. Answers whether there was one.
+    fn fire_each<D: DependencyProvider<NameId = N, SolvableId = S>>(
+        &mut self,
+        provider: &D,
+        cache: &mut Cache<N, S>,
+        chosen: &IndexSet<S>,
+        numbers: &[usize],
+    ) -> Result<bool, Interrupted<D::Cancel>>
+        requires bounded { IsBounded self.old }
+        requires is_true { IsTrueCache (D.universe provider.now) cache.old }
+        requires encoding { IsEncodingOf (D.universe provider.now) (λ root. ⊤) (notes_in self.old) }
+        ensures bounded { IsBounded self.new }
+        ensures is_true { IsTrueCache (D.universe provider.now) cache.new }
+        ensures firing { OnOk result (IsFiring (D.universe provider.now) chosen.now.keys (notes_in self.old) (notes_in self.new)) }
+        ensures quiet { OnOk result (All (IsQuietAt (D.universe provider.now) chosen.now.keys (notes_in self.new)) numbers.now) }
+        ensures fired { IfOk result (HasFired (notes_in self.old) (notes_in self.new)) }
+        ensures brings { Brings (D.universe provider.now) (IsFired (D.universe provider.now) chosen.now.keys (notes_in self.old)) NoneOwn
+            (notes_in self.old) (notes_in self.new) }
+        ensures limits { KeepsLimits (notes_in self.old) (notes_in self.new) }
+        ensures refusal { IfErr result (IsStop (D.may_cancel provider.now) (IsFull (notes_in self.new))) }
+    {
+        let mut any = false;
+        for number in numbers {
+            any |= self.fire_if_due(provider, cache, chosen, *number)?;
+        }
+        Ok(any)
+    }
+
+    /// Fires each disjunct that waits for the package of a solvable and is due. Answers whether there was one.
+    fn fire_waiting<D: DependencyProvider<NameId = N, SolvableId = S>>(
+        &mut self,
+        provider: &D,
+        cache: &mut Cache<N, S>,
+        chosen: &IndexSet<S>,
+        solvable: S,
+    ) -> Result<bool, Interrupted<D::Cancel>>
+        requires bounded { IsBounded self.old }
+        requires is_true { IsTrueCache (D.universe provider.now) cache.old }
+        requires encoding { IsEncodingOf (D.universe provider.now) (λ root. ⊤) (notes_in self.old) }
+        ensures bounded { IsBounded self.new }
+        ensures is_true { IsTrueCache (D.universe provider.now) cache.new }
+        ensures firing { OnOk result (IsFiring (D.universe provider.now) chosen.now.keys (notes_in self.old) (notes_in self.new)) }
+        ensures quiet { OnOk result (AreGroups (notes_in self.old).waiting →
+            IsQuietUnder (D.universe provider.now) chosen.now.keys (notes_in self.new) ((D.universe provider.now).name solvable)) }
+        ensures fired { IfOk result (HasFired (notes_in self.old) (notes_in self.new)) }
+        ensures brings { Brings (D.universe provider.now) (IsFired (D.universe provider.now) chosen.now.keys (notes_in self.old)) NoneOwn
+            (notes_in self.old) (notes_in self.new) }
+        ensures limits { KeepsLimits (notes_in self.old) (notes_in self.new) }
+        ensures refusal { IfErr result (IsStop (D.may_cancel provider.now) (IsFull (notes_in self.new))) }
+    {
+        let name = provider.solvable_name(solvable);
+        let numbers = Vec::from_slice(self.alloc, self.waiting.named(name))?;
+        let any = self.fire_each(provider, cache, chosen, &numbers)?;
+        Ok(any)
+    }
+
+    /// Fires each disjunct that is due because of a solvable from this place of the set on. Answers whether there was one.
+    pub(super) fn fire_deferred<D: DependencyProvider<NameId = N, SolvableId = S>>(
+        &mut self,
+        provider: &D,
+        cache: &mut Cache<N, S>,
+        chosen: &IndexSet<S>,
+        from: usize,
+    ) -> Result<bool, Interrupted<D::Cancel>>
+        requires bounded { IsBounded self.old }
+        requires is_true { IsTrueCache (D.universe provider.now) cache.old }
+        requires encoding { IsEncodingOf (D.universe provider.now) (λ root. ⊤) (notes_in self.old) }
+        requires within { from ≤ length chosen.now.keys }
+        ensures bounded { IsBounded self.new }
+        ensures is_true { IsTrueCache (D.universe provider.now) cache.new }
+        ensures firing { OnOk result (IsFiring (D.universe provider.now) chosen.now.keys (notes_in self.old) (notes_in self.new)) }
+        ensures quiet { OnOk result (AreGroups (notes_in self.old).waiting →
+            All (λ s. IsQuietUnder (D.universe provider.now) chosen.now.keys (notes_in self.new) ((D.universe provider.now).name s))
+            (drop from chosen.now.keys)) }
+        ensures fired { IfOk result (HasFired (notes_in self.old) (notes_in self.new)) }
+        ensures brings { Brings (D.universe provider.now) (IsFired (D.universe provider.now) chosen.now.keys (notes_in self.old)) NoneOwn
+            (notes_in self.old) (notes_in self.new) }
+        ensures limits { KeepsLimits (notes_in self.old) (notes_in self.new) }
+        ensures refusal { IfErr result (IsStop (D.may_cancel provider.now) (IsFull (notes_in self.new))) }
+    {
+        let mut any = false;
+        for place in from..chosen.len() {
+            let solvable = chosen.as_slice()[place];
+            any |= self.fire_waiting(provider, cache, chosen, solvable)?;
+        }
+        Ok(any)
     }
 }

@@ -17,9 +17,8 @@ ghost use Rattle.resolver_encoding.specs.Refusals.{IsShortage, IsStop};
 
 use super::Encoding;
 use crate::choices::{Choices, choices_of, places_behind};
-use crate::disjuncts::{disjuncts_of, without_repeats};
+use crate::disjuncts::{disjuncts_of, is_met, without_repeats};
 use crate::literals::{origin_of, push_candidates, push_helpers, push_literal};
-use crate::met::is_met;
 use indexmap::IndexSet;
 use resolver_clause_store::{
     By, Cache, ClauseKind, ConditionId, ConditionalRequirement, DependencyProvider, Exhausted,

@@ -3,7 +3,7 @@
 //! The tests own nothing: what they call makes the rules and the graph, and says whether its marks are the wanted ones.
 
 use super::*;
-use crate::build::graph_of;
+use crate::rule_graph::graph_of;
 use crate::test_rules::{Row, graph_of_rows, required, required_in, rule_of};
 use resolver_clause_store::{By, Rule};
 

@@ -17,7 +17,7 @@ ghost use Rattle.resolver_clause_store.specs.Watches.{IsWatching, pair_at};
 ghost use Rattle.resolver_clause_store.specs.WatchesView.{lists_of, pairs_of};
 
 use super::{Late, Propagator};
-use crate::propagate::{State, examine};
+use crate::clause_state::{State, examine};
 use resolver_clause_store::{Literal, Trail, WatchedPair, Watches, clause};
 use std::alloc::{AllocError, Global};
 

@@ -1,10 +1,10 @@
 use Rattle.std.proofs.Common.{◌≡◌, rules, ap, ◌∙◌}
 use Rattle.resolver_report.specs.Merging.{same_side}
 use Rattle.resolver_report.specs.Listed.{items_at}
-use Rattle.resolver_report.specs.contracts.parts.SideOrd.TheImpl.Laws.{total-law, matches_eq-law}
-use Rattle.resolver_report.specs.contracts.parts.SideOrd.TheImpl.{cmp-value}
-use Rattle.resolver_report.specs.contracts.parts.SidePartialEq.TheImpl.{eq-value}
-use Rattle.resolver_report.specs.declared.parts.Side.{Side}
+use Rattle.resolver_report.specs.contracts.graph.SideOrd.TheImpl.Laws.{total-law, matches_eq-law}
+use Rattle.resolver_report.specs.contracts.graph.SideOrd.TheImpl.{cmp-value}
+use Rattle.resolver_report.specs.contracts.graph.SidePartialEq.TheImpl.{eq-value}
+use Rattle.resolver_report.specs.declared.graph.Side.{Side}
 use Rattle.std.specs.Ordering.{is_eq}
 use Rattle.resolver_report.proofs.KeyLemmas.{class_of_key, class_of_none}
 use Rattle.resolver_report.proofs.classes.class_at.Goals as goal

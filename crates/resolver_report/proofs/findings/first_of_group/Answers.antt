@@ -1,6 +1,6 @@
 use Rattle.std.proofs.Common.{◌≡◌, ◌∙◌, sym, ap, arith, length, get_or}
 use Rattle.std.specs.Prelude.{Some}
-use Rattle.resolver_report.specs.declared.parts.ConflictNode.TheVariants.{Solvable}
+use Rattle.resolver_report.specs.declared.graph.ConflictNode.TheVariants.{Solvable}
 use Rattle.resolver_report.specs.Graphs.{place_in}
 use Rattle.resolver_report.specs.Merging.{group_in, keys}
 use Rattle.resolver_report.proofs.GroupLemmas.{some_first, found_first}

@@ -1,7 +1,7 @@
 use Rattle.std.proofs.lemmas.Grind.{common_steps}
 use Rattle.std.proofs.Common.{◌≡◌, ap, arith, length}
 use Rattle.resolver_report.proofs.KeyLemmas.{keys_told}
-use Rattle.resolver_report.specs.contracts.parts.SideOrd.TheImpl.{cmp-value}
+use Rattle.resolver_report.specs.contracts.graph.SideOrd.TheImpl.{cmp-value}
 use Rattle.resolver_report.proofs.keys.keys_of.Goals as goal
 
 pub returns-clause-value : goal.returns-clause-value

@@ -3,7 +3,7 @@ use Rattle.std.proofs.lemmas.Iterator.{YieldsList-from_map}
 use Rattle.std.proofs.lemmas.Iterator.Consumers.{YieldsList-at, YieldsList-from_first}
 use Rattle.resolver_report.specs.Edges.{outgoing_left}
 use Rattle.resolver_report.specs.Merging.{side_out, sides_out}
-use Rattle.resolver_report.specs.contracts.parts.SideOrd.TheImpl.{cmp-value}
+use Rattle.resolver_report.specs.contracts.graph.SideOrd.TheImpl.{cmp-value}
 use Rattle.resolver_report.proofs.ItemLemmas.{items_of_run, items_of_vec, sides_in_order}
 use Rattle.resolver_report.proofs.keys.sides_out.Goals as goal
 

@@ -1,6 +1,6 @@
 use Rattle.std.proofs.Common.{◌∙◌, ◌++◌, ◌∷◌, [], List, ap, map, subst, sym}
 use Rattle.std.specs.Prelude.{◌==◌, string_bytes}
-use Rattle.resolver_report.specs.declared.parts.NodeId.{NodeId}
+use Rattle.resolver_report.specs.declared.graph.NodeId.{NodeId}
 use Rattle.resolver_report.specs.Forests.{indent_from}
 use Rattle.resolver_report.specs.Indents.{is_last_child, levels_in}
 use Rattle.resolver_report.specs.Messages.{requirement_text, run_text}

@@ -1,7 +1,7 @@
 use Rattle.std.proofs.Common.{Option, List, Some, ap, refl, sym, ◌∙◌}
 use Rattle.std.specs.Prelude.{slice_get}
 use Rattle.std.proofs.lemmas.Option.{slice_get_past, slice_get_read}
-use Rattle.resolver_encoding.specs.declared.entries.Entry.{Entry}
+use Rattle.resolver_encoding.specs.declared.disjuncts.Entry.{Entry}
 use Rattle.resolver_encoding.specs.Notes.{notes_in}
 use Rattle.resolver_encoding.proofs.FiringLemmas.{due_of, quiet_past, quiet_taken}
 use Rattle.resolver_encoding.proofs.encoding.Encoding.is_due.Goals as goal

@@ -1,5 +1,0 @@
-use Rattle.resolver_report.specs.EdgePlaces.{AreEmpty, lists_in}
-use Rattle.resolver_report.proofs.edge_places.empty_lists.Given as goal
-
-abbrev pub invariant-loop-n : goal.invariant-loop-n
-invariant-loop-n g l = AreEmpty l._n (lists_in l.lists.items)

@@ -1,0 +1,9 @@
+use Rattle.std.proofs.Common.{◌≡◌, length}
+use Rattle.resolver_report.specs.Edges.{incoming_left}
+use Rattle.resolver_report.proofs.graph.IncomingIterator.next.Given as goal
+
+abbrev pub invariant-loop-last : goal.invariant-loop-last
+invariant-loop-last g l = incoming_left l.self ≡ incoming_left l.initial.self
+
+abbrev pub decreases-loop-last : goal.decreases-loop-last
+decreases-loop-last g l = length l.self.rest.now
