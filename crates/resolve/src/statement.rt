@@ -112,14 +112,41 @@ fn first_byte(line: &[u8]) -> Option<u8>
     line.iter().copied().find(|byte| *byte != b' ')
 }
 
+/// Whether a statement lists the alternatives of a requirement, and whose requirement it is.
+enum StatementList {
+    None,
+    Requirement,
+    RequirementOfSolvable,
+}
+
 fn parse_statement<'a>(alloc: Global, mut words: Words<'a>) -> Result<Statement<'a>, LineError>
     ensures statement { IfOk result IsWellFormed }
     ensures refused { IfErr result IsRefusal }
 {
-    match words.next() {
-        Some(b"require") => parse_require(alloc, words),
-        Some(b"requires") => parse_requires(alloc, words),
-        Some(keyword) => parse_short_statement(keyword, words).ok_or(LineError::Bad),
+    let keyword = words.next().ok_or(LineError::Bad)?;
+    match list_of(keyword) {
+        StatementList::Requirement => parse_require(alloc, words),
+        StatementList::RequirementOfSolvable => parse_requires(alloc, words),
+        StatementList::None => parse_listless(keyword, words),
+    }
+}
+
+/// What list a statement with this keyword holds.
+fn list_of(keyword: &[u8]) -> StatementList {
+    match keyword {
+        b"require" => StatementList::Requirement,
+        b"requires" => StatementList::RequirementOfSolvable,
+        _ => StatementList::None,
+    }
+}
+
+/// Reads a statement that holds no list.
+fn parse_listless<'a>(keyword: &[u8], words: Words<'a>) -> Result<Statement<'a>, LineError>
+    ensures statement { IfOk result IsWellFormed }
+    ensures refused { IfErr result IsRefusal }
+{
+    match parse_short_statement(keyword, words) {
+        Some(statement) => Ok(statement),
         None => Err(LineError::Bad),
     }
 }
