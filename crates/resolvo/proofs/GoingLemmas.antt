@@ -1,6 +1,6 @@
 -- The turns of soft requirements.
-use Rattle.std.proofs.Common.{◌≡◌, ℕ, zero, suc, ◌+◌, ◌-◌, ◌<◌, ◌≤◌, ◌⊎◌, List, [], ◌∷◌, rules, true, false, ◌++◌, length, length-append, take, arith, inl, inr}
-use Rattle.std.proofs.Common.{refl, sym, ap, ◌∙◌, subst, ⊎_elim, All, Contains, get_or, Option, Some, None, Vec, Global}
+use Rattle.std.proofs.Common.{◌≡◌, ℕ, ◌<◌, ◌≤◌, ◌⊎◌, List, [], rules, true, false, length, take, arith, inl, inr}
+use Rattle.std.proofs.Common.{refl, sym, ap, ◌∙◌, subst, ⊎_elim, All, Contains, get_or, Some, Vec, Global}
 use Rattle.std.specs.Prelude.{map}
 use Rattle.std.specs.Option.{option_map, option_map_or}
 use Rattle.resolver_clause_store.specs.FirstChoice.{TakesFirstChoices}
@@ -9,11 +9,11 @@ use Rattle.resolver_clause_store.specs.Lists.{HasNoRepeats, IsWithin}
 use Rattle.resolver_clause_store.specs.Outcomes.{IsFinished}
 use Rattle.resolver_clause_store.specs.declared.RequirementClause.{RequirementClause}
 use Rattle.resolver_clause_store.specs.Near.{IsNear}
-use Rattle.resolver_clause_store.specs.TrailView.{KeepsPlaces, length_of, level_of, slot_of, variable_at, variable_count}
+use Rattle.resolver_clause_store.specs.TrailView.{KeepsPlaces, length_of, slot_of, variable_at, variable_count}
 use Rattle.resolver_clause_store.specs.Universe.{Universe, Demands}
 use Rattle.resolver_clause_store.specs.declared.Literal.{Literal}
 use Rattle.resolver_clause_store.specs.declared.Origin.{Origin}
-use Rattle.resolver_clause_store.specs.declared.Origin.TheVariants.{Root, Solvable}
+use Rattle.resolver_clause_store.specs.declared.Origin.TheVariants.{Solvable}
 use Rattle.resolver_clause_store.specs.declared.Reason.{Reason}
 use Rattle.resolver_clause_store.specs.declared.Reason.TheVariants.{Assumed, Decided, Forced}
 use Rattle.resolver_clause_store.specs.declared.Slot.{Slot}
@@ -118,6 +118,12 @@ module _ {N S : Type 0} where
         let value : value_of trail v ≡ true = ap (λ (a : Atom N S). a.positive) w.2 in
         near_at v p.0 s p.1 (ap (λ (a : Atom N S). a.origin) w.2) (sym (ap (λ o. option_map_or (λ (q : Slot). q.value) o false) p.1) ∙ value)
 
+    pub all_chosen_near : (keys : List S) → keys ≡ solvables_before notes.origins trail (length_of trail) → All (IsNear u root done) keys
+    all_chosen_near keys is = λ k d below.
+        let s : S = get_or keys k d in
+        let Has : List S → Type 0 = λ list. Contains list s in
+        chosen_near s (subst Has is (Contains-get_or keys k d below))
+
   -- what is assumed stays so
   pub assumed_still : (origins more : List (Origin N S)) (old new : Trail) (taken refused : List S) → Keeps origins more → variable_count old ≤ length origins →
       ((variable : ℕ) (slot : Slot) → slot_of new variable ≡ Some slot → slot.reason ≡ Assumed → slot_of old variable ≡ Some slot) →
@@ -187,13 +193,9 @@ module _ {N S : Type 0} where
     keeps_near : KeepsNear u old (record mid { encoding = encoding })
     keeps_near root done taken refused packages so within assumed near =
         let Near : Encoding N S → Type 0 = λ e. AreNear u root done packages (notes_in e) in
-        let Among : List S → S → Type 0 = λ list s. Contains list s in
         near_after root done packages (read_first u root old mid from keys following is so) (subst Near (sym following.encoding) near)
-        (λ k d below. let s : S = get_or keys k d in
-        let h : Contains keys s = Contains-get_or keys k d below in
-        let Has : List S → Type 0 = λ list. Among list s in
-        chosen_near u root (notes_of old) (trail_of old.search) up.variables drawn
-        (positives root so.half.encoding) done taken refused packages within assumed near s (subst Has (is ∙ followed.chosen) h))
+        (all_chosen_near u root (notes_of old) (trail_of old.search) up.variables drawn
+        (positives root so.half.encoding) done taken refused packages within assumed near keys (is ∙ followed.chosen))
 
     pub goes_read : GoesOn u old (record mid { encoding = encoding })
     goes_read =

@@ -23,6 +23,7 @@ pub mod GoingLemmas
 pub mod RefusingLemmas
 pub mod SoftLemmas
 pub mod SoftTurnLemmas
+pub mod LeadingLemmas
 pub mod OutcomeLemmas
 pub mod FirstChoiceExamples
 pub mod ReadInTurnLemmas

@@ -1,20 +1,20 @@
 -- What the rounds found, and what the solver answers then.
-use Rattle.std.proofs.Common.{◌≡◌, ◌≤◌, ◌^◌, List, [], Vec, Global, arith, refl, ◌∙◌, subst, sym, inl, inr, ⊎_elim}
+use Rattle.std.proofs.Common.{◌≡◌, ◌≤◌, ◌^◌, ℕ, List, [], Vec, Global, arith, get_or, length, ◌∙◌, subst, sym, inl, inr, ⊎_elim}
 use Rattle.std.specs.Prelude.{IfOk, OnOk, Result, Ok, Err}
+use Rattle.std.proofs.lemmas.List.Elements.{Contains-get_or}
 use Rattle.resolver_clause_store.specs.Universe.{Universe, Demands}
 use Rattle.resolver_clause_store.specs.declared.ConditionalRequirement.{ConditionalRequirement}
-use Rattle.resolver_clause_store.specs.declared.Interrupted.{Interrupted}
-use Rattle.resolver_clause_store.specs.declared.Interrupted.TheVariants.{Cancelled as IsCancelled, Exhausted as IsExhausted}
 use Rattle.resolver_clause_store.specs.declared.SoftRequirement.{SoftRequirement}
 use Rattle.resolver_clause_store.specs.declared.VersionSetId.{VersionSetId}
 use Rattle.resolver_clause_store.specs.Lists.{HasNoRepeats}
 use Rattle.resolver_clause_store.specs.SoftRun.{SoftRun}
+use Rattle.resolver_clause_store.specs.Variables.{AreDistinct}
 use Rattle.resolvo.specs.Answers.{IsSoftAnswer}
-use Rattle.resolver_encoding.specs.Refusals.{IsStop}
-use Rattle.resolvo.specs.RoundStates.{IsBetween, IsStuck, KeepsRoom, chosen_of, notes_of}
+use Rattle.resolvo.specs.RoundStates.{IsBetween, IsLedBy, IsStuck, KeepsRoom, chosen_of, notes_of}
+use Rattle.resolvo.specs.Refusals.{AreUsedUp, IsRefusal}
 use Rattle.resolver_clause_store.specs.Caches.{IsTrueCache}
 use Rattle.resolver_clause_store.specs.declared.Cache.{Cache}
-use Rattle.resolvo.specs.Solvers.{HasCounted, IsAtLimit, IsSound, KeepsAllButCounts}
+use Rattle.resolvo.specs.Solvers.{HasCounted, IsAtLimit, IsSound, KeepsAllButCounts, KeepsCounts, KeepsLimits}
 use Rattle.resolvo.specs.declared.rounds.Rounds.{Rounds}
 use Rattle.resolvo.specs.declared.solver.Solver.{Solver}
 use Rattle.resolvo.specs.declared.solver.UnsolvableOrCancelled.{UnsolvableOrCancelled}
@@ -29,13 +29,27 @@ pub same_demands : (d : Demands) (rs : List ConditionalRequirement) (vs : List V
     record { requirements = rs; constraints = vs } ≡ d
 same_demands d rs vs r v = λ i. record { requirements = r i; constraints = v i }
 
+-- as many variables as there may be, where the problem leads to whatever there is
+used_up : {N S : Type 0} (u : Universe N S) (root : Demands) (done : List (SoftRequirement S)) (r : Rounds N S) (limit : ℕ) →
+    AreDistinct (notes_of r).origins → length (notes_of r).origins ≡ limit → IsLedBy u root done r → AreUsedUp u root done limit
+used_up u root done r limit distinct count led = record {
+  origins = (notes_of r).origins;
+  distinct = distinct;
+  count = count;
+  led = λ k d below. led (get_or (notes_of r).origins k d) (inl (Contains-get_or (notes_of r).origins k d below));
+}
+
 -- a count of the rounds at its limit is one of the solver's
-pub at_limit : {D C N S : Type 0} (old new : Rounds N S) (s : Solver D C N S) → KeepsRoom old new → (notes_of old).variable_limit ≡ s.variable_limit →
+pub at_limit : {D C N S : Type 0} (u : Universe N S) (root : Demands) (Begun : List (SoftRequirement S) → Type 0) (old new : Rounds N S)
+    (s : Solver D C N S) → KeepsRoom old new → (notes_of old).variable_limit ≡ s.variable_limit →
     (notes_of old).clause_limit ≡ s.clause_limit → old.clause_limit ≡ s.clause_limit → old.learnt_limit ≡ s.learnt_limit → HasCounted new s →
-    IsStuck new → IsAtLimit s
-at_limit old new s room variables kinds clauses learnt counts stuck = ⊎_elim
+    (done : List (SoftRequirement S)) → Begun done → IsLedBy u root done new → IsStuck new → IsAtLimit u root Begun s
+at_limit u root Begun old new s room variables kinds clauses learnt counts done begun led stuck = ⊎_elim
     (λ full. ⊎_elim
-    (λ all. inl (omega (arith, all.0, room.notes.variables, variables, counts.variables)))
+    (λ all. inl (
+      counts.variables ∙ all.0 ∙ room.notes.variables ∙ variables,
+      (done, begun, used_up u root done new s.variable_limit all.1 (all.0 ∙ room.notes.variables ∙ variables) led),
+    ))
     (λ most. inr (inl (omega (arith, most, room.notes.clauses, kinds, counts.read))))
     full)
     (λ searched. ⊎_elim
@@ -44,10 +58,26 @@ at_limit old new s room variables kinds clauses learnt counts stuck = ⊎_elim
     searched)
     stuck
 
-pub stop_weaker : {C : Type 0} (may_cancel : C → Type 0) (at other : Type 0) → (at → other) → (e : Interrupted C) → IsStop may_cancel at e →
-    IsStop may_cancel other e
-stop_weaker may_cancel at other follows (IsCancelled value) h = h
-stop_weaker may_cancel at other follows (IsExhausted e) h = shortage_weaker at other follows e h
+-- a count at its limit stays there
+pub still_at_limit : {D C N S : Type 0} (u : Universe N S) (root : Demands) (Begun : List (SoftRequirement S) → Type 0) (old new : Solver D C N S) →
+    KeepsLimits old new → KeepsCounts old new → IsAtLimit u root Begun old → IsAtLimit u root Begun new
+still_at_limit {D} {C} {N} {S} u root Begun old new limits counts at = ⊎_elim
+    (λ (all : (old.variable_count ≡ old.variable_limit) × ((soft : List (SoftRequirement S)) × Begun soft × AreUsedUp u root soft old.variable_limit)).
+    let used = all.1 in
+    let UsedUp : ℕ → Type 0 = λ n. AreUsedUp u root used.0 n in
+    inl (counts.variables ∙ all.0 ∙ sym limits.variables, (used.0, used.1, subst UsedUp (sym limits.variables) used.2)))
+    (λ rest. inr (⊎_elim
+    (λ (many : old.clause_limit ≤ old.clause_count). inl (omega (arith, many, limits.clauses, counts.clauses)))
+    (λ (much : old.learnt_limit ≤ old.learnt_count). inr (omega (arith, much, limits.learnt, counts.learnt)))
+    rest))
+    at
+
+-- what stops the search may be told of by what a limit means
+pub refusal_weaker : {D N S C : Type 0} (u : Universe N S) (may_cancel : C → Type 0) (root : Demands) (at other : Type 0) → (at → other) →
+    (e : UnsolvableOrCancelled D C N S) → IsRefusal u may_cancel root at e → IsRefusal u may_cancel root other e
+refusal_weaker u may_cancel root at other follows (Unsolvable conflict) h = h
+refusal_weaker u may_cancel root at other follows (Cancelled value) h = h
+refusal_weaker u may_cancel root at other follows (Exhausted e) h = shortage_weaker at other follows e h
 
 -- what is kept of a provider's answers stays true where the counts alone change
 pub still_sound : {D C N S : Type 0} (universe : D → Universe N S) (old new : Solver D C N S) → IsTrueCache (universe old.provider) old.cache →

@@ -1,13 +1,13 @@
 -- What a soft requirement's turn does to the rounds.
-use Rattle.std.proofs.Common.{◌≡◌, ◌≢◌, ℕ, suc, ◌+◌, ◌-◌, ◌<◌, ◌≤◌, ◌⊎◌, List, [], ◌∷◌, rules, Bool, true, false, ◌++◌, append-nil, length, length-append, take}
-use Rattle.std.proofs.Common.{arith, inl, inr, refl, sym, ap, ◌∙◌, subst, ⊎_elim, Contains, Option, Some, None, Vec, Global}
+use Rattle.std.proofs.Common.{◌≡◌, ◌≢◌, ℕ, suc, ◌+◌, ◌-◌, ◌<◌, ◌≤◌, ◌⊎◌, List, [], ◌∷◌, Bool, true, false, ◌++◌, append-nil, length, take}
+use Rattle.std.proofs.Common.{arith, inl, inr, refl, sym, ap, ◌∙◌, subst, ⊎_elim, Contains, Some, None, Vec, Global}
 use Rattle.std.specs.List.{flat_map}
 use Rattle.std.specs.Prelude.{slice_get}
 use Rattle.std.specs.Option.{option_map, option_map_or}
 use Rattle.std.proofs.Math.Seq.{take-append_seam}
 use Rattle.std.proofs.lemmas.Bool.{cases_Bool, cases_eq, cases_lt, false≢true}
 use Rattle.std.proofs.lemmas.Option.{same_Some, none-some, get_or_from_slice_get}
-use Rattle.std.proofs.lemmas.List.Elements.{Contains-append_cases, Contains-append_left, Contains-append_right}
+use Rattle.std.proofs.lemmas.List.Elements.{Contains-append_cases, Contains-append_left}
 use Rattle.resolver_clause_store.specs.Laws.{IsIdentity}
 use Rattle.resolver_clause_store.specs.Lists.{HasNoRepeats, IsWithin}
 use Rattle.resolver_clause_store.specs.Near.{IsNamed, IsNear}
@@ -30,12 +30,13 @@ use Rattle.resolver_clause_store.proofs.SlotLemmas.{slot-within}
 use Rattle.resolver_clause_store.proofs.TrailLemmas.{gains-cases, keeps-gains}
 use Rattle.resolver_encoding.specs.Atoms.{Atom, atom}
 use Rattle.resolver_encoding.specs.Encodings.{Extends, Notes}
+use Rattle.resolver_encoding.specs.Led.{AreLed}
 use Rattle.resolver_encoding.specs.LeftOut.{IsLeftOut}
 use Rattle.resolver_encoding.specs.Notes.{IsBounded, notes_in}
 use Rattle.resolver_encoding.specs.Reach.{AreNear}
 use Rattle.resolver_encoding.specs.ReadState.{AreSeeds}
 use Rattle.resolver_encoding.specs.SoFar.{IsReadSoFar}
-use Rattle.resolver_encoding.specs.Trails.{AreAssumed, Follows, atoms_before, chosen_in, origin_at, solvable_if, solvables_before, value_of}
+use Rattle.resolver_encoding.specs.Trails.{AreAssumed, Follows, atoms_before, origin_at, solvable_if, solvables_before, value_of}
 use Rattle.resolver_encoding.specs.Truth.{HasLawfulSolvables, Spares}
 use Rattle.resolver_encoding.specs.Turns.{AsksOnly, IsRegistered, IsTurnEnd}
 use Rattle.resolver_encoding.specs.declared.chosen.Chosen.{Chosen}
@@ -46,11 +47,12 @@ use Rattle.resolver_encoding.proofs.LeftOutLemmas.{left_out_more, left_out_nowhe
 use Rattle.resolver_encoding.proofs.TrailLemmas.{before_extends, follows_still, none_at, same_before, same_origin}
 use Rattle.resolvo.specs.ClauseSearches.{IsConsistent, IsRootTurn, KeepsLoaded, KeepsMark, KeepsTurn, base_of, held_of, kept_of, trail_of}
 use Rattle.resolvo.specs.RoundStates.{AreRounds, GoesOn, HasAssumed, HasMark, HasTurned, IsAnswering, IsFollowing, IsBetween, IsRefusing, IsSearchOf}
-use Rattle.resolvo.specs.RoundStates.{IsStanding, IsStill, IsTurned, IsUnanswered, is_accepted, is_refused, was_chosen, chosen_of, notes_of}
+use Rattle.resolvo.specs.RoundStates.{IsStanding, IsStill, IsTurned, IsUnanswered, LeadsOn, StaysLed, is_accepted, is_refused, was_chosen, chosen_of}
+use Rattle.resolvo.specs.RoundStates.{notes_of}
 use Rattle.resolvo.specs.declared.clause_search.ClauseSearch.{ClauseSearch}
 use Rattle.resolvo.specs.declared.rounds.Rounds.{Rounds}
 use Rattle.resolvo.proofs.RoundLemmas.{Keeps-longer, keeps_itself, so_far_less}
-use Rattle.resolver_encoding.proofs.ReachLemmas.{AreNear-more, asked_named}
+use Rattle.resolver_encoding.proofs.ReachLemmas.{asked_named}
 use Rattle.resolvo.proofs.GoingLemmas.{assumed_still}
 use Rattle.resolvo.proofs.RefusingLemmas.{trail_agrees}
 use Rattle.resolver_clause_store.proofs.ListLemmas.{Contains-cons_cases as cons_cases, Contains-here as here, Contains-none as none_in, Contains-there as there}
@@ -499,6 +501,14 @@ module _ {N S : Type 0} where
     within_now : IsWithin taken_now seeds
     within_now t h = ⊎_elim (λ was. b.within t was) (λ e. let Has : S → Type 0 = λ x. Contains seeds x in subst Has e seed) (pushed_cases taken s t h)
 
+    -- the problem leads to what there is when the turn begins, and to what there is while it goes on
+    pub led_begun : AreLed u root seeds packages (notes_of old) → AreLed u root seeds packages (notes_in encoding)
+    led_begun led = let Led : Notes N S → Type 0 = λ n. AreLed u root seeds packages n in subst Led (sym only) led
+
+    pub led_tried : (rest : Rounds N S) → LeadsOn u begun rest → AreLed u root seeds packages (notes_of old) → AreLed u root seeds packages (notes_of rest)
+    led_tried rest leads led =
+        leads root seeds taken_now refused packages (stays root (chosen_of old) b.read) within_now begun_assumed begun_near (led_begun led)
+
     module _ (rest : Rounds N S) (goes : GoesOn u begun rest) where
       abbrev t2 : Trail
       t2 = trail_of rest.search
@@ -527,6 +537,11 @@ module _ {N S : Type 0} where
 
       rest_near : AreNear u root seeds packages (notes_of rest)
       rest_near = goes.near root seeds taken_now refused packages (stays root (chosen_of old) b.read) within_now begun_assumed begun_near
+
+      -- and to what there is once it was undone
+      pub led_refused : (after : Rounds N S) → LeadsOn u begun rest → StaysLed u rest after → AreLed u root seeds packages (notes_of old) →
+          AreLed u root seeds packages (notes_of after)
+      led_refused after leads stays_led led = stays_led root seeds packages rest_near (led_tried rest leads led)
 
       asked_rest : IsWithin (notes_of old).asked (notes_of rest).asked
       asked_rest n h = let Has : List N → Type 0 = λ list. Contains list n in goes.asked n (subst Has (sym same_asked) h)
@@ -949,15 +964,18 @@ just_assumed old new v gains base held =
     let place : held_of new - 1 ≡ length_of (trail_of old) = omega (arith, held, gains.count) in
     record { base = omega (arith, base); place = ap (variable_at (trail_of new)) place ∙ ((trail_of new).listed v made gains.here).1 }
 
+-- in the root's turn nothing is assumed
+pub root_assumed : {N S : Type 0} (origins : List (Origin N S)) (it : ClauseSearch) → IsRootTurn it → AreAssumed origins [] [] (trail_of it)
+root_assumed origins it turn = record {
+  taken = λ v slot at reason value. absurd (turn.none v slot at reason);
+  left_out = λ v slot at reason value. absurd (turn.none v slot at reason);
+}
+
 -- the root's turn ended with an answer: no soft requirement had its turn yet
 pub between_begun : {N S : Type 0} (u : Universe N S) (root : Demands) (old rest : Rounds N S) → IsReadSoFar u root (chosen_of old) (notes_of old) →
     AreNear u root [] [] (notes_of old) → (notes_of old).exempt ≡ [] → IsRootTurn old.search → GoesOn u old rest → IsAnswering u rest → IsBetween u root [] rest
 between_begun {N} {S} u root old rest read near exempt turn goes answering =
-    let none_old : AreAssumed (notes_of old).origins [] [] (trail_of old.search) =
-    record {
-      taken = λ v slot at reason value. absurd (turn.none v slot at reason);
-      left_out = λ v slot at reason value. absurd (turn.none v slot at reason);
-    } in
+    let none_old : AreAssumed (notes_of old).origins [] [] (trail_of old.search) = root_assumed (notes_of old).origins old.search turn in
     let none : AreAssumed (notes_of rest).origins [] [] (trail_of rest.search) =
     record {
       taken = λ v slot at reason value. absurd (turn.none v slot (goes.turn.assumed.was v slot at reason) reason);

@@ -19,6 +19,7 @@ use Rattle.resolver_clause_store.specs.declared.Reason.TheVariants.{Assumed}
 use Rattle.resolver_clause_store.specs.declared.Slot.{Slot}
 use Rattle.resolver_clause_store.specs.declared.Trail.{Trail}
 use Rattle.resolver_encoding.specs.Encodings.{Extends, IsFull, IsUnread, KeepsLimits, Notes}
+use Rattle.resolver_encoding.specs.Led.{AreLed}
 use Rattle.resolver_encoding.specs.LeftOut.{IsLeftOut}
 use Rattle.resolver_encoding.specs.Notes.{IsBounded, notes_in}
 use Rattle.resolver_encoding.specs.SoFar.{IsReading, IsReadSoFar, left_count}
@@ -140,6 +141,13 @@ module _ {N S : Type 0} where
       IsWithin taken seeds → AreAssumed (notes_of old).origins taken refused (trail_of old.search) →
       AreNear u root seeds packages (notes_of old) → AreNear u root seeds packages (notes_of new)
 
+  -- These taken and refused ones alone are assumed, and what was registered, read and asked for is near the seeds. Then the problem leads to
+  -- whatever there is, if it led to whatever there was.
+  abbrev pub LeadsOn : Universe N S → Rounds N S → Rounds N S → Type 0
+  LeadsOn u old new = (root : Demands) (seeds taken refused : List S) (packages : List N) → IsReadSoFar u root (chosen_of old) (notes_of old) →
+      IsWithin taken seeds → AreAssumed (notes_of old).origins taken refused (trail_of old.search) →
+      AreNear u root seeds packages (notes_of old) → AreLed u root seeds packages (notes_of old) → AreLed u root seeds packages (notes_of new)
+
   -- a later state of the same turn
   pub record GoesOn (u : Universe N S) (old new : Rounds N S) : Type 0 where
     pub read : KeepsRead u old new
@@ -169,6 +177,21 @@ module _ {N S : Type 0} where
     pub exempt : IsWithin (notes_of r).exempt taken
     pub near : AreNear u root seeds packages (notes_of r)
 
+  -- The problem leads to whatever there is, if it led to whatever there was, and what was registered, read and asked for was near.
+  abbrev pub StaysLed : Universe N S → Rounds N S → Rounds N S → Type 0
+  StaysLed u old new = (root : Demands) (seeds : List S) (packages : List N) → AreNear u root seeds packages (notes_of old) →
+      AreLed u root seeds packages (notes_of old) → AreLed u root seeds packages (notes_of new)
+
+  -- the same, where the solvables had their turns and are among the seeds
+  abbrev pub LeadsTurns : Universe N S → List S → Rounds N S → Rounds N S → Type 0
+  LeadsTurns u solvables old new = (root : Demands) (taken refused seeds : List S) (packages : List N) → IsWithin solvables seeds →
+      IsStanding u root taken refused seeds packages old → AreLed u root seeds packages (notes_of old) → AreLed u root seeds packages (notes_of new)
+
+  -- the same, where the package was asked and is one of those
+  abbrev pub LeadsAsked : Universe N S → N → Rounds N S → Rounds N S → Type 0
+  LeadsAsked u n old new = (root : Demands) (taken refused seeds : List S) (packages : List N) → Contains packages n →
+      IsStanding u root taken refused seeds packages old → AreLed u root seeds packages (notes_of old) → AreLed u root seeds packages (notes_of new)
+
   -- A solvable had its turn: it was chosen before, it is accepted, or it is refused.
   pub record HasTurned (u : Universe N S) (root : Demands) (taken refused seeds : List S) (packages : List N) (s : S) (old new : Rounds N S)
       (is_chosen : Bool) : Type 0 where
@@ -197,6 +220,15 @@ module _ {N S : Type 0} where
     pub run : SoftRun u root first done taken (chosen_of r) (notes_of r).exempt (notes_of r).asked
     pub standing : IsStanding u root taken refused (flat_map (options u) done) (flat_map (own_packages u) done) r
 
+  -- the problem, with what these soft requirements ask for, leads to whatever there is
+  abbrev pub IsLedBy : Universe N S → Demands → List (SoftRequirement S) → Rounds N S → Type 0
+  IsLedBy u root soft r = AreLed u root (flat_map (options u) soft) (flat_map (own_packages u) soft) (notes_of r)
+
+  -- the turn of one more began, and the problem leads to whatever there is, if it led to whatever there was
+  abbrev pub LeadsOver : Universe N S → SoftRequirement S → Rounds N S → Rounds N S → Type 0
+  LeadsOver u requirement old new = (root : Demands) (done : List (SoftRequirement S)) → IsBetween u root done old → IsLedBy u root done old →
+      IsLedBy u root (done ++ requirement ∷ []) new
+
   -- The turn that began with this variable is undone, and then the variable is assumed to be false. So many are exempt as before it.
   pub record IsRefusing (u : Universe N S) (variable count : ℕ) (old new : Rounds N S) : Type 0 where
     pub ended : IsTurnEnd u (notes_of old) (notes_of new)
@@ -221,6 +253,10 @@ module _ {N S : Type 0} where
     pub turn : KeepsTurn old.search new.search
     pub marked : kept_of new.search ≡ length_of (trail_of new.search)
     pub chosen : chosen_of new ≡ solvables_before (notes_of old).origins (trail_of old.search) (length_of (trail_of old.search))
+
+  -- nothing was read
+  abbrev pub KeepsEncoding : Rounds N S → Rounds N S → Type 0
+  KeepsEncoding old new = new.encoding ≡ old.encoding
 
   -- so it is, the trail is marked, and the first ones of the chosen were chosen before
   pub record IsFollowing (old new : Rounds N S) (from : ℕ) : Type 0 where

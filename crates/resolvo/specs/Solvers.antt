@@ -1,9 +1,11 @@
 -- What callers see of a solver.
 use Rattle.std.specs.Prelude.{◌≡◌, ◌+◌, ◌≤◌, ◌^◌, ◌⊎◌, ℕ, List, length}
-use Rattle.resolver_clause_store.specs.Universe.{Universe}
+use Rattle.resolver_clause_store.specs.Universe.{Universe, Demands}
 use Rattle.resolver_clause_store.specs.Caches.{IsTrueCache}
+use Rattle.resolver_clause_store.specs.declared.SoftRequirement.{SoftRequirement}
 use Rattle.resolver_encoding.specs.SoFar.{left_count}
 use Rattle.resolvo.specs.ClauseSearches.{clause_count_of, learnt_count_of}
+use Rattle.resolvo.specs.Refusals.{AreUsedUp}
 use Rattle.resolvo.specs.RoundStates.{HasAllClauses, notes_of, search_of}
 use Rattle.resolvo.specs.declared.rounds.Rounds.{Rounds}
 use Rattle.resolvo.specs.declared.solver.Solver.{Solver}
@@ -72,9 +74,12 @@ module _ {D C N S : Type 0} where
     pub learnt : s.learnt_count ≡ learnt_count_of (search_of r)
     pub deferred : s.deferred_count ≡ left_count (notes_of r)
 
-  -- one of the counts stands at its limit
-  abbrev pub IsAtLimit : Solver D C N S → Type 0
-  IsAtLimit s = (s.variable_count ≡ s.variable_limit) ⊎ ((s.clause_limit ≤ s.clause_count) ⊎ (s.learnt_limit ≤ s.learnt_count))
+  -- One of the counts stands at its limit. That of variables does so only where the problem leads to as many things as there may be variables,
+  -- with what those soft requirements ask for whose turns began.
+  abbrev pub IsAtLimit : Universe N S → Demands → (List (SoftRequirement S) → Type 0) → Solver D C N S → Type 0
+  IsAtLimit u root Begun s =
+      ((s.variable_count ≡ s.variable_limit) × ((soft : List (SoftRequirement S)) × Begun soft × AreUsedUp u root soft s.variable_limit))
+      ⊎ ((s.clause_limit ≤ s.clause_count) ⊎ (s.learnt_limit ≤ s.learnt_count))
 
   -- what the solver keeps of its provider's answers is true, and a variable's number fits
   pub record IsSound (u : Universe N S) (s : Solver D C N S) : Type 0 where

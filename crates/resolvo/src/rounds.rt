@@ -7,12 +7,14 @@ ghost use Rattle.std.specs.Prelude.{◌≡◌, ◌+◌, ◌++◌, ◌∷◌, ◌
 ghost use Rattle.std.specs.Prelude.{slice_get, true};
 ghost use Rattle.resolver_clause_store.specs.TrailView.{slot_of};
 ghost use Rattle.resolver_clause_store.specs.Universe.{Demands};
+ghost use Rattle.resolver_clause_store.specs.declared.SoftRequirement.{SoftRequirement as SoftRequirementOf};
 ghost use Rattle.resolver_clause_store.specs.declared.SoftRequirement.TheVariants.{Solvable as SoftSolvable};
 ghost use Rattle.resolver_clause_store.specs.declared.Origin.TheVariants.{Solvable as SolvableOrigin};
-ghost use Rattle.resolvo.specs.Problems.{AreItems};
+ghost use Rattle.resolvo.specs.Problems.{AreItems, HaveBegun};
 ghost use Rattle.resolver_clause_store.specs.Caches.{IsTrueCache};
 ghost use Rattle.resolver_clause_store.specs.Laws.{IsIdentity};
 ghost use Rattle.resolver_clause_store.specs.Variables.{AreDistinct};
+ghost use Rattle.resolver_encoding.specs.Led.{AreLed};
 ghost use Rattle.resolver_encoding.specs.Refusals.{IsStop};
 ghost use Rattle.resolver_encoding.specs.SoFar.{IsProgress, IsReadSoFar};
 ghost use Rattle.resolver_encoding.specs.Reach.{AreNear};
@@ -66,7 +68,8 @@ pub struct Rounds<N: Copy + Eq + Hash + Drop, S: Copy + Eq + Hash + Drop> {
 impl<N: Copy + Eq + Hash + Drop, S: Copy + Eq + Hash + Drop> Rounds<N, S> {
     ghost use Rattle.resolvo.specs.RoundStates.{AreRounds, GoesOn, HasAllClauses, HasFollowed, HasMark, HasAssumed, HasTurned, IsAnswering, IsDone, IsStanding};
     ghost use Rattle.resolvo.specs.RoundStates.{IsFollowing, IsRefusing, IsFound, IsFresh, IsStill, IsRound, IsSearchOf, IsStuck, IsUnanswered, IsUpToDate};
-    ghost use Rattle.resolvo.specs.RoundStates.{KeepsRead, KeepsRoom, chosen_of, clause_limit_of, learnt_limit_of, notes_of, search_of};
+    ghost use Rattle.resolvo.specs.RoundStates.{IsLedBy, KeepsEncoding, KeepsRead, KeepsRoom, LeadsOn, LeadsTurns, StaysLed};
+    ghost use Rattle.resolvo.specs.RoundStates.{chosen_of, clause_limit_of, learnt_limit_of, notes_of, search_of};
 
     /// Nothing read yet. There may be as many variables, clauses and learnt clauses as the limits say, and scores grow and fade
     /// as the activity says.
@@ -131,6 +134,8 @@ impl<N: Copy + Eq + Hash + Drop, S: Copy + Eq + Hash + Drop> Rounds<N, S> {
             (notes_of self.new)) }
         ensures exempt { OnOk result ((notes_of self.new).exempt ≡ []) }
         ensures turn { OnOk result (IsRootTurn (search_of self.new)) }
+        ensures led { (seeds : List S) (packages : List N) → AreLed (D.universe provider.now)
+            (record { requirements = requirements.now; constraints = constraints.now }) seeds packages (notes_of self.new) }
         ensures limits { KeepsRoom self.old self.new }
         ensures refusal { IfErr result (IsStop (D.may_cancel provider.now) (IsStuck self.new)) }
     {
@@ -197,6 +202,7 @@ impl<N: Copy + Eq + Hash + Drop, S: Copy + Eq + Hash + Drop> Rounds<N, S> {
         requires mark { HasMark self.old }
         ensures following { IfOk result (IsFollowing self.old self.new) }
         ensures followed { OnOk result (HasFollowed self.old self.new) }
+        ensures same { KeepsEncoding self.old self.new }
         ensures limits { KeepsRoom self.old self.new }
         ensures memory { IfErr result (λ e. e ≡ Exhausted.Memory) }
     {
@@ -223,6 +229,7 @@ impl<N: Copy + Eq + Hash + Drop, S: Copy + Eq + Hash + Drop> Rounds<N, S> {
         ensures followed { OnOk result (HasFollowed self.old self.new) }
         ensures progress { IfOk result (IsProgress (notes_of self.old) (notes_of self.new)) }
         ensures fit { OnOk result (length (notes_of self.new).read ≤ (notes_of self.new).variable_limit) }
+        ensures led { LeadsOn (D.universe provider.now) self.old self.new }
         ensures limits { KeepsRoom self.old self.new }
         ensures refusal { IfErr result (IsStop (D.may_cancel provider.now) (IsStuck self.new)) }
     {
@@ -245,6 +252,7 @@ impl<N: Copy + Eq + Hash + Drop, S: Copy + Eq + Hash + Drop> Rounds<N, S> {
         ensures rounds { OnOk result (AreRounds (D.universe provider.now) self.new) }
         ensures keeps { OnOk result (GoesOn (D.universe provider.now) self.old self.new) }
         ensures round { IfOk result (IsRound (D.universe provider.now) self.old self.new) }
+        ensures led { LeadsOn (D.universe provider.now) self.old self.new }
         ensures limits { KeepsRoom self.old self.new }
         ensures refusal { IfErr result (IsStop (D.may_cancel provider.now) (IsStuck self.new)) }
     {
@@ -274,6 +282,7 @@ impl<N: Copy + Eq + Hash + Drop, S: Copy + Eq + Hash + Drop> Rounds<N, S> {
         ensures counted { IfOk result (λ answer. IfSome answer (λ _. HasAllClauses self.new)) }
         ensures read { IfOk result (λ answer. IfNone answer (length (notes_of self.old).read < length (notes_of self.new).read)) }
         ensures fit { IfOk result (λ answer. IfNone answer (length (notes_of self.new).read ≤ (notes_of self.new).variable_limit)) }
+        ensures led { LeadsOn (D.universe provider.now) self.old self.new }
         ensures limits { KeepsRoom self.old self.new }
         ensures refusal { IfErr result (IsStop (D.may_cancel provider.now) (IsStuck self.new)) }
     {
@@ -299,6 +308,7 @@ impl<N: Copy + Eq + Hash + Drop, S: Copy + Eq + Hash + Drop> Rounds<N, S> {
         ensures keeps { OnOk result (GoesOn (D.universe provider.now) self.old self.new) }
         ensures found { IfOk result (IsFound (D.universe provider.now) self.new) }
         ensures counted { OnOk result (HasAllClauses self.new) }
+        ensures led { LeadsOn (D.universe provider.now) self.old self.new }
         ensures limits { KeepsRoom self.old self.new }
         ensures refusal { IfErr result (IsStop (D.may_cancel provider.now) (IsStuck self.new)) }
     {
@@ -328,6 +338,7 @@ impl<N: Copy + Eq + Hash + Drop, S: Copy + Eq + Hash + Drop> Rounds<N, S> {
         ensures still { OnOk result (IsStill self.new) }
         ensures counted { OnOk result (HasAllClauses self.new) }
         ensures refused { OnOk result (IsRefusing (D.universe provider.now) variable exempt self.old self.new) }
+        ensures led { StaysLed (D.universe provider.now) self.old self.new }
         ensures limits { KeepsRoom self.old self.new }
         ensures refusal { IfErr result (IsStop (D.may_cancel provider.now) (IsStuck self.new)) }
     {
@@ -356,6 +367,7 @@ impl<N: Copy + Eq + Hash + Drop, S: Copy + Eq + Hash + Drop> Rounds<N, S> {
         ensures counted { OnOk result (HasAllClauses self.new) }
         ensures answer { IfOk result (λ answered. answered ≡ true → IsAnswering (D.universe provider.now) self.new) }
         ensures unanswered { IfOk result (λ answered. answered ≡ false → IsUnanswered self.new) }
+        ensures led { LeadsOn (D.universe provider.now) self.old self.new }
         ensures limits { KeepsRoom self.old self.new }
         ensures refusal { IfErr result (IsStop (D.may_cancel provider.now) (IsStuck self.new)) }
     {
@@ -389,6 +401,7 @@ impl<N: Copy + Eq + Hash + Drop, S: Copy + Eq + Hash + Drop> Rounds<N, S> {
             (root : Demands) (taken refused seeds : List S) (packages : List N) → Contains (notes_of self.old).seen solvable → Contains seeds solvable →
             IsStanding (D.universe provider.now) root taken refused seeds packages self.old →
             HasTurned (D.universe provider.now) root taken refused seeds packages solvable self.old self.new is_chosen) }
+        ensures led { Contains (notes_of self.old).seen solvable → LeadsTurns (D.universe provider.now) (solvable ∷ []) self.old self.new }
         ensures limits { KeepsRoom self.old self.new }
         ensures refusal { IfErr result (IsStop (D.may_cancel provider.now) (IsStuck self.new)) }
     {
@@ -425,6 +438,7 @@ impl<N: Copy + Eq + Hash + Drop, S: Copy + Eq + Hash + Drop> Rounds<N, S> {
             (root : Demands) (taken refused seeds : List S) (packages : List N) → Contains seeds solvable →
             IsStanding (D.universe provider.now) root taken refused seeds packages self.old →
             HasTurned (D.universe provider.now) root taken refused seeds packages solvable self.old self.new is_chosen) }
+        ensures led { LeadsTurns (D.universe provider.now) (solvable ∷ []) self.old self.new }
         ensures limits { KeepsRoom self.old self.new }
         ensures refusal { IfErr result (IsStop (D.may_cancel provider.now) (IsStuck self.new)) }
     {
@@ -460,6 +474,8 @@ impl<N: Copy + Eq + Hash + Drop, S: Copy + Eq + Hash + Drop> Rounds<N, S> {
             (map SoftSolvable items ++ list.now) self.new found) }
         ensures counted { OnOk result (HasAllClauses self.new) }
         ensures table { OnOk result (length (notes_of self.new).table ≡ length (notes_of self.new).kinds) }
+        ensures led { (done : List (SoftRequirementOf S)) × HaveBegun I.next_gives soft list.now done × IsLedBy (D.universe provider.now)
+            (record { requirements = requirements.now; constraints = constraints.now }) done self.new }
         ensures limits { KeepsRoom self.old self.new }
         ensures refusal { IfErr result (IsStop (D.may_cancel provider.now) (IsStuck self.new)) }
     {

@@ -12,14 +12,14 @@ ghost use Rattle.resolvo.specs.Answers.{IsSoftAnswer};
 ghost use Rattle.resolvo.specs.Conflicts.{rules_in};
 ghost use Rattle.resolvo.specs.Explanations.{Explains};
 ghost use Rattle.resolvo.specs.declared.rounds.Found.TheVariants.{Answer as FoundAnswer};
-ghost use Rattle.resolvo.specs.Problems.{AreItems, demands_in, list_in, soft_in};
+ghost use Rattle.resolvo.specs.Problems.{AreItems, HaveBegun, demands_in, list_in, soft_in};
 ghost use Rattle.resolver_clause_store.specs.declared.SoftRequirement.{SoftRequirement as SoftRequirementOf};
 ghost use Rattle.resolver_clause_store.specs.declared.SoftRequirement.TheVariants.{Solvable as SoftSolvable};
 ghost use Rattle.std.specs.Iterator.{IsFinite};
 ghost use Rattle.resolvo.specs.declared.solver.UnsolvableOrCancelled.TheVariants.{Exhausted as ExhaustedError};
 ghost use Rattle.resolver_clause_store.specs.declared.Exhausted.TheVariants.{Memory};
 ghost use Rattle.resolvo.specs.Refusals.{IsRefusal};
-ghost use Rattle.resolvo.specs.RoundStates.{IsDone, IsSomeDone, chosen_of, notes_of};
+ghost use Rattle.resolvo.specs.RoundStates.{IsDone, IsSomeDone, IsStuck, chosen_of, notes_of};
 ghost use Rattle.resolvo.specs.Solvers.{HasActivity, HasCounted, HasLimits, IsAtLimit, IsSound, KeepsActivity, KeepsAllButCounts, KeepsCounts, KeepsLimits};
 ghost use Rattle.resolvo.specs.Solvers.{clause_count_in, deferred_count_in, exempt_in, provider_in};
 
@@ -187,7 +187,7 @@ impl<D: DependencyProvider> Solver<D> {
         ensures exempt { exempt_in self.new ≡ exempt_in self.old }
         ensures refusal { (root : Demands) (notes : Notes D.NameId D.SolvableId) → notes.kinds ≡ kinds.now →
             IsEncoding (D.universe (provider_in self.old)) root notes → IsCore notes.table core.now →
-            IsRefusal (D.universe (provider_in self.old)) (D.may_cancel (provider_in self.old)) root (IsAtLimit self.new) result }
+            IsRefusal (D.universe (provider_in self.old)) (D.may_cancel (provider_in self.old)) root ⊥ result }
     {
         match explain(self.alloc, &self.provider, &mut self.cache, kinds, core) {
             Err(Interrupted::Cancelled(value)) => UnsolvableOrCancelled::Cancelled(value),
@@ -235,11 +235,12 @@ impl<D: DependencyProvider> Solver<D> {
         requires none { exempt_in self.old ≡ [] }
         requires done { IfOk found (IsSomeDone (D.universe (provider_in self.old)) rounds.now) }
         requires table { OnOk found (length (notes_of rounds.now).table ≡ length (notes_of rounds.now).kinds) }
-        requires stop { IfErr found (IsStop (D.may_cancel (provider_in self.old)) (IsAtLimit self.old)) }
+        requires stop { IfErr found (IsStop (D.may_cancel (provider_in self.old)) (IsStuck rounds.now)) }
         ensures sound { IsSound (D.universe (provider_in self.new)) self.new }
         ensures provider { provider_in self.new ≡ provider_in self.old }
         ensures limits { KeepsLimits self.old self.new }
         ensures activity { KeepsActivity self.old self.new }
+        ensures counts { KeepsCounts self.old self.new }
         ensures none { OnErr result (exempt_in self.new ≡ []) }
         ensures found { OnOk result (found ≡ Ok FoundAnswer) }
         ensures answer { IfOk result (λ chosen.
@@ -247,7 +248,7 @@ impl<D: DependencyProvider> Solver<D> {
             IsSoftAnswer (D.universe (provider_in self.old)) root soft chosen.items (exempt_in self.new)) }
         ensures refusal { IfErr result (λ e.
             (root : Demands) (soft : List (SoftRequirementOf D.SolvableId)) → IfOk found (IsDone (D.universe (provider_in self.old)) root soft rounds.now) →
-            IsRefusal (D.universe (provider_in self.old)) (D.may_cancel (provider_in self.old)) root (IsAtLimit self.new) e) }
+            IsRefusal (D.universe (provider_in self.old)) (D.may_cancel (provider_in self.old)) root (IsStuck rounds.now) e) }
     {
         match found {
             Err(Interrupted::Cancelled(value)) => Err(UnsolvableOrCancelled::Cancelled(value)),
@@ -282,7 +283,8 @@ impl<D: DependencyProvider> Solver<D> {
             (exempt_in self.new)) }
         ensures none { OnErr result (exempt_in self.new ≡ []) }
         ensures refusal { IfErr result
-            (IsRefusal (D.universe (provider_in self.old)) (D.may_cancel (provider_in self.old)) (demands_in problem) (IsAtLimit self.new)) }
+            (IsRefusal (D.universe (provider_in self.old)) (D.may_cancel (provider_in self.old)) (demands_in problem)
+            (IsAtLimit (D.universe (provider_in self.old)) (demands_in problem) (HaveBegun S.next_gives (soft_in problem) (list_in problem)) self.new)) }
     {
         let mut rounds = Rounds::new(
             self.alloc,

@@ -9,9 +9,10 @@ ghost use Rattle.resolver_clause_store.specs.Lists.{IsWithin, Meets};
 ghost use Rattle.resolver_clause_store.specs.Universe.{Demands};
 ghost use Rattle.resolver_clause_store.specs.declared.SoftRequirement.{SoftRequirement as SoftRequirementOf};
 ghost use Rattle.resolver_clause_store.specs.declared.SoftRequirement.TheVariants.{Matching, Solvable as SoftSolvable};
+ghost use Rattle.resolver_encoding.specs.Encodings.{Extends};
 ghost use Rattle.resolver_encoding.specs.Refusals.{IsStop};
 ghost use Rattle.resolver_encoding.specs.Turns.{AsksOnly};
-ghost use Rattle.resolvo.specs.Problems.{AreItems};
+ghost use Rattle.resolvo.specs.Problems.{AreFirstItems, AreItems, GivesFirst, HaveBegun};
 
 use super::Rounds;
 use indexmap::IndexSet;
@@ -35,8 +36,8 @@ fn has_any<T: Eq + Hash>(set: &IndexSet<T>, list: &[T]) -> bool
 }
 
 impl<N: Copy + Eq + Hash + Drop, S: Copy + Eq + Hash + Drop> Rounds<N, S> {
-    ghost use Rattle.resolvo.specs.RoundStates.{AreRounds, HasAllClauses, HaveTurned, IsBetween, IsStanding, IsStill, IsStuck, IsUpToDate, KeepsRoom};
-    ghost use Rattle.resolvo.specs.RoundStates.{chosen_of, notes_of};
+    ghost use Rattle.resolvo.specs.RoundStates.{AreRounds, HasAllClauses, HaveTurned, IsBetween, IsLedBy, IsStanding, IsStill, IsStuck, IsUpToDate};
+    ghost use Rattle.resolvo.specs.RoundStates.{KeepsRoom, LeadsAsked, LeadsOver, LeadsTurns, chosen_of, notes_of};
 
     /// The turns of candidates, of packages that were asked, until one is accepted. Answers whether one is.
     fn take_first<D: DependencyProvider<NameId = N, SolvableId = S>>(
@@ -59,6 +60,7 @@ impl<N: Copy + Eq + Hash + Drop, S: Copy + Eq + Hash + Drop> Rounds<N, S> {
             (root : Demands) (taken refused seeds : List S) (packages : List N) → IsWithin candidates.now seeds →
             IsStanding (D.universe provider.now) root taken refused seeds packages self.old →
             HaveTurned (D.universe provider.now) root taken seeds packages candidates.now self.old self.new is_chosen) }
+        ensures led { LeadsTurns (D.universe provider.now) candidates.now self.old self.new }
         ensures limits { KeepsRoom self.old self.new }
         ensures refusal { IfErr result (IsStop (D.may_cancel provider.now) (IsStuck self.new)) }
     {
@@ -91,6 +93,7 @@ impl<N: Copy + Eq + Hash + Drop, S: Copy + Eq + Hash + Drop> Rounds<N, S> {
             ((root : Demands) (taken refused seeds : List S) (packages : List N) → Contains packages ((D.universe provider.now).version_set_name version_set) →
             IsStanding (D.universe provider.now) root taken refused seeds packages self.old →
             IsStanding (D.universe provider.now) root taken refused seeds packages self.new) }
+        ensures led { LeadsAsked (D.universe provider.now) ((D.universe provider.now).version_set_name version_set) self.old self.new }
         ensures limits { KeepsRoom self.old self.new }
         ensures refusal { IfErr result (IsStop (D.may_cancel provider.now) (IsStuck self.new)) }
     {
@@ -117,6 +120,7 @@ impl<N: Copy + Eq + Hash + Drop, S: Copy + Eq + Hash + Drop> Rounds<N, S> {
         ensures counted { OnOk result (HasAllClauses self.new) }
         ensures between { OnOk result ((root : Demands) (done : List (SoftRequirementOf S)) → IsBetween (D.universe provider.now) root done self.old →
             IsBetween (D.universe provider.now) root (done ++ Matching version_set ∷ []) self.new) }
+        ensures led { LeadsOver (D.universe provider.now) (Matching version_set) self.old self.new }
         ensures limits { KeepsRoom self.old self.new }
         ensures refusal { IfErr result (IsStop (D.may_cancel provider.now) (IsStuck self.new)) }
     {
@@ -146,6 +150,7 @@ impl<N: Copy + Eq + Hash + Drop, S: Copy + Eq + Hash + Drop> Rounds<N, S> {
         ensures counted { OnOk result (HasAllClauses self.new) }
         ensures between { OnOk result ((root : Demands) (done : List (SoftRequirementOf S)) → IsBetween (D.universe provider.now) root done self.old →
             IsBetween (D.universe provider.now) root (done ++ requirement ∷ []) self.new) }
+        ensures led { LeadsOver (D.universe provider.now) requirement self.old self.new }
         ensures limits { KeepsRoom self.old self.new }
         ensures refusal { IfErr result (IsStop (D.may_cancel provider.now) (IsStuck self.new)) }
     {
@@ -182,7 +187,10 @@ impl<N: Copy + Eq + Hash + Drop, S: Copy + Eq + Hash + Drop> Rounds<N, S> {
         ensures still { OnOk result (IsStill self.new) }
         ensures counted { OnOk result (HasAllClauses self.new) }
         ensures between { OnOk result ((root : Demands) → IsBetween (D.universe provider.now) root [] self.old → (items : List S) ×
-            Drains I.next_gives soft items × IsBetween (D.universe provider.now) root (map SoftSolvable items) self.new) }
+            Drains I.next_gives soft items × IsBetween (D.universe provider.now) root (map SoftSolvable items) self.new ×
+            (IsLedBy (D.universe provider.now) root [] self.old → IsLedBy (D.universe provider.now) root (map SoftSolvable items) self.new)) }
+        ensures led { (root : Demands) → IsBetween (D.universe provider.now) root [] self.old → IsLedBy (D.universe provider.now) root [] self.old →
+            (items : List S) × GivesFirst I.next_gives soft items × IsLedBy (D.universe provider.now) root (map SoftSolvable items) self.new }
         ensures limits { KeepsRoom self.old self.new }
         ensures refusal { IfErr result (IsStop (D.may_cancel provider.now) (IsStuck self.new)) }
     {
@@ -208,6 +216,9 @@ impl<N: Copy + Eq + Hash + Drop, S: Copy + Eq + Hash + Drop> Rounds<N, S> {
         ensures counted { OnOk result (HasAllClauses self.new) }
         ensures between { OnOk result ((root : Demands) (done : List (SoftRequirementOf S)) → IsBetween (D.universe provider.now) root done self.old →
             IsBetween (D.universe provider.now) root (done ++ list.now) self.new) }
+        ensures led { (root : Demands) (done : List (SoftRequirementOf S)) → IsBetween (D.universe provider.now) root done self.old →
+            IsLedBy (D.universe provider.now) root done self.old →
+            (first : List (SoftRequirementOf S)) × Extends first list.now × IsLedBy (D.universe provider.now) root (done ++ first) self.new }
         ensures limits { KeepsRoom self.old self.new }
         ensures refusal { IfErr result (IsStop (D.may_cancel provider.now) (IsStuck self.new)) }
     {
@@ -235,7 +246,10 @@ impl<N: Copy + Eq + Hash + Drop, S: Copy + Eq + Hash + Drop> Rounds<N, S> {
         ensures still { OnOk result (IsStill self.new) }
         ensures counted { OnOk result (HasAllClauses self.new) }
         ensures between { OnOk result ((root : Demands) → IsBetween (D.universe provider.now) root [] self.old → (items : List S) ×
-            AreItems I.next_gives soft items × IsBetween (D.universe provider.now) root (map SoftSolvable items) self.new) }
+            AreItems I.next_gives soft items × IsBetween (D.universe provider.now) root (map SoftSolvable items) self.new ×
+            (IsLedBy (D.universe provider.now) root [] self.old → IsLedBy (D.universe provider.now) root (map SoftSolvable items) self.new)) }
+        ensures led { (root : Demands) → IsBetween (D.universe provider.now) root [] self.old → IsLedBy (D.universe provider.now) root [] self.old →
+            (items : List S) × AreFirstItems I.next_gives soft items × IsLedBy (D.universe provider.now) root (map SoftSolvable items) self.new }
         ensures limits { KeepsRoom self.old self.new }
         ensures refusal { IfErr result (IsStop (D.may_cancel provider.now) (IsStuck self.new)) }
     {
@@ -270,6 +284,8 @@ impl<N: Copy + Eq + Hash + Drop, S: Copy + Eq + Hash + Drop> Rounds<N, S> {
         ensures counted { OnOk result (HasAllClauses self.new) }
         ensures between { OnOk result ((root : Demands) → IsBetween (D.universe provider.now) root [] self.old → (items : List S) ×
             AreItems I.next_gives soft items × IsBetween (D.universe provider.now) root (map SoftSolvable items ++ list.now) self.new) }
+        ensures led { (root : Demands) → IsBetween (D.universe provider.now) root [] self.old → IsLedBy (D.universe provider.now) root [] self.old →
+            (done : List (SoftRequirementOf S)) × HaveBegun I.next_gives soft list.now done × IsLedBy (D.universe provider.now) root done self.new }
         ensures limits { KeepsRoom self.old self.new }
         ensures refusal { IfErr result (IsStop (D.may_cancel provider.now) (IsStuck self.new)) }
     {

@@ -1,5 +1,6 @@
 use Rattle.resolvo.proofs.RoundLemmas.{room_trans}
 use Rattle.resolvo.proofs.GoingLemmas.{goes_trans}
+use Rattle.resolvo.proofs.LeadingLemmas.{leads_trans}
 use Rattle.resolvo.proofs.rounds.Rounds.all_rounds.Goals as goal
 
 pub returns-in-Some-clause-keeps : goal.returns-in-Some-clause-keeps
@@ -13,5 +14,17 @@ rounds-preserved g c = record {
   rounds = c.in_ok-found.ensures.rounds;
   keeps = goes_trans (g.D.Interner.universe c.args.provider.now) c.args.self.now c.rounds.self c.rounds_until_read.new.self c.requires.rounds.variables
       c.rounds.invariant.keeps c.in_ok-found.ensures.keeps;
+  led = leads_trans (g.D.Interner.universe c.args.provider.now) c.args.self.now c.rounds.self c.rounds_until_read.new.self c.requires.rounds.variables
+      c.rounds.invariant.keeps c.rounds.invariant.led c.rounds_until_read.ensures.led;
   room = room_trans c.args.self.now c.rounds.self c.rounds_until_read.new.self c.rounds.invariant.room c.in_ok-found.ensures.limits;
 }
+
+pub returns-in_err-found-clause-led : goal.returns-in_err-found-clause-led
+returns-in_err-found-clause-led g c =
+    leads_trans (g.D.Interner.universe c.args.provider.now) c.args.self.now c.rounds.self c.rounds_until_read.new.self c.requires.rounds.variables
+    c.rounds.invariant.keeps c.rounds.invariant.led c.rounds_until_read.ensures.led
+
+pub returns-in-Some-clause-led : goal.returns-in-Some-clause-led
+returns-in-Some-clause-led g c =
+    leads_trans (g.D.Interner.universe c.args.provider.now) c.args.self.now c.rounds.self c.rounds_until_read.new.self c.requires.rounds.variables
+    c.rounds.invariant.keeps c.rounds.invariant.led c.rounds_until_read.ensures.led

@@ -5,6 +5,8 @@ use Rattle.resolver_encoding.specs.Turns.{AsksOnly}
 use Rattle.resolver_encoding.specs.declared.encoding.Encoding.{Encoding}
 use Rattle.resolvo.specs.RoundStates.{notes_of}
 use Rattle.resolvo.proofs.SoftLemmas.{asking_adds, rounds_added, standing_asked, standing_loaded, still_added}
+use Rattle.resolver_encoding.proofs.LedReading.{led_package}
+use Rattle.resolvo.proofs.LeadingLemmas.{led_same}
 use Rattle.resolvo.proofs.rounds.Rounds.ask.Goals as goal
 
 pub load-requires : goal.load-requires
@@ -45,3 +47,25 @@ returns-clause-standing g c = λ root taken refused seeds packages own b.
     (rounds_added u old e c.requires.rounds c.ask.ensures.bounded adds).variables c.in_ok-load.ensures.same c.in_ok-load.ensures.turn
     (standing_asked u root taken refused seeds packages old e c.requires.rounds adds alone.exempt b n
     (subst Own (sym c.version_set_name-name.ensures) own) alone)
+
+pub returns-in_err-ask-clause-led : goal.returns-in_err-ask-clause-led
+returns-in_err-ask-clause-led g c = λ root taken refused seeds packages own b led.
+    let Own : g.row.N.Denot → Type 0 = λ m. Contains packages m in
+    led_package (g.D.Interner.universe c.args.provider.now) root seeds packages c.version_set_name-name.result (notes_of c.args.self.now)
+    (notes_in c.ask.new.self) (subst Own (sym c.version_set_name-name.ensures) own) b.near c.ask.ensures.adds led
+
+pub returns-in_err-load-clause-led : goal.returns-in_err-load-clause-led
+returns-in_err-load-clause-led g c = λ root taken refused seeds packages own b led.
+    let u = g.D.Interner.universe c.args.provider.now in
+    let Own : g.row.N.Denot → Type 0 = λ m. Contains packages m in
+    led_same u root seeds packages c.ask.new.self c.load.new.self.encoding c.load.ensures.same.encoding
+    (led_package u root seeds packages c.version_set_name-name.result (notes_of c.args.self.now) (notes_in c.ask.new.self)
+    (subst Own (sym c.version_set_name-name.ensures) own) b.near c.ask.ensures.adds led)
+
+pub returns-clause-led : goal.returns-clause-led
+returns-clause-led g c = λ root taken refused seeds packages own b led.
+    let u = g.D.Interner.universe c.args.provider.now in
+    let Own : g.row.N.Denot → Type 0 = λ m. Contains packages m in
+    led_same u root seeds packages c.ask.new.self c.load.new.self.encoding c.load.ensures.same.encoding
+    (led_package u root seeds packages c.version_set_name-name.result (notes_of c.args.self.now) (notes_in c.ask.new.self)
+    (subst Own (sym c.version_set_name-name.ensures) own) b.near c.ask.ensures.adds led)

@@ -1,12 +1,13 @@
 use Rattle.std.proofs.Common.{arith}
 use Rattle.std.proofs.lemmas.Grind.{common_steps}
-use Rattle.std.proofs.Common.{ap, length, refl, true, ◌≡◌, ◌∙◌}
-use Rattle.resolver_encoding.specs.Notes.{notes_in}
-use Rattle.resolvo.specs.ClauseSearches.{trail_of}
-use Rattle.resolvo.specs.RoundStates.{HasAssumed, notes_of}
+use Rattle.std.proofs.Common.{[], ap, length, refl, subst, sym, true}
 use Rattle.resolvo.proofs.GoingLemmas.{still_all}
 use Rattle.resolvo.proofs.SoftLemmas.{accepted, just_assumed, not_accepted, rounds_assumed, rounds_held, still_assumed, turned_held}
 use Rattle.resolver_encoding.proofs.SoFarLemmas.{lawful_solvables}
+use Rattle.resolver_encoding.specs.Encodings.{Notes}
+use Rattle.resolver_encoding.specs.Led.{AreLed}
+use Rattle.resolver_clause_store.proofs.ListLemmas.{Contains-here as here}
+use Rattle.resolvo.proofs.SoftLemmas.{led_refused, led_tried}
 use Rattle.resolvo.proofs.rounds.Rounds.attempt.Goals as goal
 
 pub is_answered-requires-clause-rounds : goal.is_answered-requires-clause-rounds
@@ -83,3 +84,49 @@ returns-then-answered-clause-limits g c = grind (arith, common_steps)
 
 pub returns-then-answered-clause-refusal : goal.returns-then-answered-clause-refusal
 returns-then-answered-clause-refusal g c = grind (arith, common_steps)
+
+pub returns-in_err-begin_turn-clause-led : goal.returns-in_err-begin_turn-clause-led
+returns-in_err-begin_turn-clause-led g c = λ seen root taken refused seeds packages within b led.
+    let Led : Notes g.row.N.Denot g.row.S.Denot → Type 0 = λ n. AreLed (g.D.Interner.universe c.args.provider.now) root seeds packages n in
+    subst Led (sym c.begin_turn.ensures.only) led
+
+pub returns-in_err-assume-clause-led : goal.returns-in_err-assume-clause-led
+returns-in_err-assume-clause-led g c = λ seen root taken refused seeds packages within b led.
+    let Led : Notes g.row.N.Denot g.row.S.Denot → Type 0 = λ n. AreLed (g.D.Interner.universe c.args.provider.now) root seeds packages n in
+    subst Led (sym c.begin_turn.ensures.only) led
+
+pub returns-in_err-answered-clause-led : goal.returns-in_err-answered-clause-led
+returns-in_err-answered-clause-led g c = λ seen root taken refused seeds packages within b led.
+    let u = g.D.Interner.universe c.args.provider.now in
+    led_tried u root taken refused seeds packages c.args.solvable c.args.variable c.args.self.now c.begin_turn.new.self c.assume.new.self
+    c.requires.loaded.variables c.requires.rounds.reading.so_far.half.encoding.distinct c.requires.still c.requires.stands c.requires.free seen
+    (within c.args.solvable (here c.args.solvable [])) c.begin_turn.ensures.only c.in_ok-begin_turn.ensures.exempts c.in_ok-begin_turn.ensures.stays.so_far
+    c.in_ok-assume.ensures.gains c.in_ok-assume.ensures.held b
+    c.is_answered.new.self c.is_answered.ensures.led led
+
+pub returns-then-answered-clause-led : goal.returns-then-answered-clause-led
+returns-then-answered-clause-led g c = λ seen root taken refused seeds packages within b led.
+    let u = g.D.Interner.universe c.args.provider.now in
+    led_tried u root taken refused seeds packages c.args.solvable c.args.variable c.args.self.now c.begin_turn.new.self c.assume.new.self
+    c.requires.loaded.variables c.requires.rounds.reading.so_far.half.encoding.distinct c.requires.still c.requires.stands c.requires.free seen
+    (within c.args.solvable (here c.args.solvable [])) c.begin_turn.ensures.only c.in_ok-begin_turn.ensures.exempts c.in_ok-begin_turn.ensures.stays.so_far
+    c.in_ok-assume.ensures.gains c.in_ok-assume.ensures.held b
+    c.is_answered.new.self c.is_answered.ensures.led led
+
+pub returns-in_err-refuse-clause-led : goal.returns-in_err-refuse-clause-led
+returns-in_err-refuse-clause-led g c = λ seen root taken refused seeds packages within b led.
+    let u = g.D.Interner.universe c.args.provider.now in
+    led_refused u root taken refused seeds packages c.args.solvable c.args.variable c.args.self.now c.begin_turn.new.self c.assume.new.self
+    c.requires.loaded.variables c.requires.rounds.reading.so_far.half.encoding.distinct c.requires.still c.requires.stands c.requires.free seen
+    (within c.args.solvable (here c.args.solvable [])) c.begin_turn.ensures.only c.in_ok-begin_turn.ensures.exempts c.in_ok-begin_turn.ensures.stays.so_far
+    c.in_ok-assume.ensures.gains c.in_ok-assume.ensures.held b
+    c.is_answered.new.self c.in_ok-answered.ensures.keeps c.refuse.new.self c.is_answered.ensures.led c.refuse.ensures.led led
+
+pub returns-clause-led : goal.returns-clause-led
+returns-clause-led g c = λ seen root taken refused seeds packages within b led.
+    let u = g.D.Interner.universe c.args.provider.now in
+    led_refused u root taken refused seeds packages c.args.solvable c.args.variable c.args.self.now c.begin_turn.new.self c.assume.new.self
+    c.requires.loaded.variables c.requires.rounds.reading.so_far.half.encoding.distinct c.requires.still c.requires.stands c.requires.free seen
+    (within c.args.solvable (here c.args.solvable [])) c.begin_turn.ensures.only c.in_ok-begin_turn.ensures.exempts c.in_ok-begin_turn.ensures.stays.so_far
+    c.in_ok-assume.ensures.gains c.in_ok-assume.ensures.held b
+    c.is_answered.new.self c.in_ok-answered.ensures.keeps c.refuse.new.self c.is_answered.ensures.led c.refuse.ensures.led led

@@ -28,3 +28,9 @@ returns-clause-refusal g c = grind (arith, common_steps)
 
 pub returns-clause-turn : goal.returns-clause-turn
 returns-clause-turn g c = grind (arith, common_steps)
+
+pub returns-in_err-read_root-clause-led : goal.returns-in_err-read_root-clause-led
+returns-in_err-read_root-clause-led g c = c.read_root.ensures.led
+
+pub returns-clause-led : goal.returns-clause-led
+returns-clause-led g c = c.read_root.ensures.led

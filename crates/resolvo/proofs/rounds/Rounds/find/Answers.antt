@@ -1,13 +1,12 @@
 use Rattle.std.proofs.lemmas.Grind.{common_steps}
-use Rattle.std.proofs.Common.{[], arith, refl, ◌≡◌, ◌<◌, ◌∙◌}
+use Rattle.std.proofs.Common.{[], arith, refl}
 use Rattle.resolver_clause_store.specs.Outcomes.{IsCore}
 use Rattle.resolver_clause_store.specs.Universe.{Demands}
 use Rattle.resolvo.specs.ClauseSearches.{IsRefused, base_of, trail_of}
 use Rattle.resolvo.specs.RoundStates.{IsAnswering, IsFound, notes_of}
-use Rattle.resolvo.specs.declared.rounds.Found.{Found}
-use Rattle.resolvo.specs.declared.rounds.Found.TheVariants.{Answer, Contradiction, Refused}
 use Rattle.resolvo.proofs.GoingLemmas.{still_all}
 use Rattle.resolvo.proofs.SoftLemmas.{between_begun, between_held, rounds_held}
+use Rattle.resolvo.proofs.LeadingLemmas.{led_root_turn, none_begun}
 use Rattle.resolvo.proofs.rounds.Rounds.find.Goals as goal
 
 pub soft_turns-requires-clause-rounds : goal.soft_turns-requires-clause-rounds
@@ -63,3 +62,60 @@ returns-in_ok-soft_turns-in-Answer-clause-refusal g c = grind (arith, common_ste
 
 pub returns-in_ok-soft_turns-in-Answer-clause-table : goal.returns-in_ok-soft_turns-in-Answer-clause-table
 returns-in_ok-soft_turns-in-Answer-clause-table g c = grind (arith, common_steps)
+
+pub returns-in_err-begin-clause-led : goal.returns-in_err-begin-clause-led
+returns-in_err-begin-clause-led g c = ([], none_begun g.I.Iterator.next_gives c.args.soft c.args.list.now, c.begin.ensures.led [] [])
+
+pub returns-in_err-all_rounds-clause-led : goal.returns-in_err-all_rounds-clause-led
+returns-in_err-all_rounds-clause-led g c =
+    let root : Demands = record { requirements = c.args.requirements.now; constraints = c.args.constraints.now } in
+    let begun = c.in_ok-begin.ensures in (
+      [],
+      none_begun g.I.Iterator.next_gives c.args.soft c.args.list.now,
+      led_root_turn (g.D.Interner.universe c.args.provider.now) root c.begin.new.self c.all_rounds.new.self begun.read begun.near begun.turn
+          c.all_rounds.ensures.led (c.begin.ensures.led [] []),
+    )
+
+pub returns-in-Contradiction-clause-led : goal.returns-in-Contradiction-clause-led
+returns-in-Contradiction-clause-led g c =
+    let root : Demands = record { requirements = c.args.requirements.now; constraints = c.args.constraints.now } in
+    let begun = c.in_ok-begin.ensures in (
+      [],
+      none_begun g.I.Iterator.next_gives c.args.soft c.args.list.now,
+      led_root_turn (g.D.Interner.universe c.args.provider.now) root c.begin.new.self c.all_rounds.new.self begun.read begun.near begun.turn
+          c.all_rounds.ensures.led (c.begin.ensures.led [] []),
+    )
+
+pub returns-in-Refused-clause-led : goal.returns-in-Refused-clause-led
+returns-in-Refused-clause-led g c =
+    let root : Demands = record { requirements = c.args.requirements.now; constraints = c.args.constraints.now } in
+    let begun = c.in_ok-begin.ensures in (
+      [],
+      none_begun g.I.Iterator.next_gives c.args.soft c.args.list.now,
+      led_root_turn (g.D.Interner.universe c.args.provider.now) root c.begin.new.self c.all_rounds.new.self begun.read begun.near begun.turn
+          c.all_rounds.ensures.led (c.begin.ensures.led [] []),
+    )
+
+pub returns-in_err-soft_turns-in-Answer-clause-led : goal.returns-in_err-soft_turns-in-Answer-clause-led
+returns-in_err-soft_turns-in-Answer-clause-led g c =
+    let u = g.D.Interner.universe c.args.provider.now in
+    let root : Demands = record { requirements = c.args.requirements.now; constraints = c.args.constraints.now } in
+    let rest = c.all_rounds.new.self in
+    let found : IsFound u rest c.in_ok-all_rounds.field-0 = c.in_ok-all_rounds.ensures.found in
+    let answering : IsAnswering u rest = rw c.in-Answer.is at found in
+    let begun = c.in_ok-begin.ensures in
+    let first = between_begun u root c.begin.new.self rest begun.read begun.near begun.exempt begun.turn c.in_ok-all_rounds.ensures.keeps answering in
+    c.soft_turns.ensures.led root (between_held u rest c.hold.new.self c.hold.ensures.trail c.hold.ensures.count root [] first)
+    (led_root_turn u root c.begin.new.self rest begun.read begun.near begun.turn c.all_rounds.ensures.led (c.begin.ensures.led [] []))
+
+pub returns-in_ok-soft_turns-in-Answer-clause-led : goal.returns-in_ok-soft_turns-in-Answer-clause-led
+returns-in_ok-soft_turns-in-Answer-clause-led g c =
+    let u = g.D.Interner.universe c.args.provider.now in
+    let root : Demands = record { requirements = c.args.requirements.now; constraints = c.args.constraints.now } in
+    let rest = c.all_rounds.new.self in
+    let found : IsFound u rest c.in_ok-all_rounds.field-0 = c.in_ok-all_rounds.ensures.found in
+    let answering : IsAnswering u rest = rw c.in-Answer.is at found in
+    let begun = c.in_ok-begin.ensures in
+    let first = between_begun u root c.begin.new.self rest begun.read begun.near begun.exempt begun.turn c.in_ok-all_rounds.ensures.keeps answering in
+    c.soft_turns.ensures.led root (between_held u rest c.hold.new.self c.hold.ensures.trail c.hold.ensures.count root [] first)
+    (led_root_turn u root c.begin.new.self rest begun.read begun.near begun.turn c.all_rounds.ensures.led (c.begin.ensures.led [] []))

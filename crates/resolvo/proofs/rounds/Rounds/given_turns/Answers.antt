@@ -1,14 +1,20 @@
 use Rattle.std.proofs.Common.{arith}
 use Rattle.std.proofs.lemmas.Grind.{common_steps}
-use Rattle.std.proofs.Common.{Option, subst, sym}
-use Rattle.resolvo.specs.Problems.{AreItems}
+use Rattle.std.proofs.Common.{[], Option, refl, subst, sym}
+use Rattle.resolvo.specs.Problems.{AreFirstItems, AreItems}
+use Rattle.resolvo.proofs.LeadingLemmas.{none_first}
 use Rattle.resolvo.proofs.rounds.Rounds.given_turns.Goals as goal
 
 pub returns-in_ok-solvable_turns-in-Some-clause-between : goal.returns-in_ok-solvable_turns-in-Some-clause-between
 returns-in_ok-solvable_turns-in-Some-clause-between g c = λ root b.
     let w = c.in_ok-solvable_turns-in-Some.ensures.between root b in
     let Items : Option g.row.I.Denot → Type 0 = λ soft. AreItems g.I.Iterator.next_gives soft w.0 in
-    (w.0, subst Items (sym c.in-Some.is) w.1, w.2)
+    (w.0, subst Items (sym c.in-Some.is) w.1, w.2, w.3)
+
+pub returns-in-None-clause-between : goal.returns-in-None-clause-between
+returns-in-None-clause-between g c = λ root b.
+    let Items : Option g.row.I.Denot → Type 0 = λ soft. AreItems g.I.Iterator.next_gives soft [] in
+    ([], subst Items (sym c.in-None.is) refl, b, λ led. led)
 
 pub returns-in_ok-solvable_turns-in-Some-clause-counted : goal.returns-in_ok-solvable_turns-in-Some-clause-counted
 returns-in_ok-solvable_turns-in-Some-clause-counted g c = grind (arith, common_steps)
@@ -24,3 +30,18 @@ returns-in_ok-solvable_turns-in-Some-clause-refusal g c = grind (arith, common_s
 
 pub returns-in_ok-solvable_turns-in-Some-clause-rounds : goal.returns-in_ok-solvable_turns-in-Some-clause-rounds
 returns-in_ok-solvable_turns-in-Some-clause-rounds g c = grind (arith, common_steps)
+
+pub returns-in_err-solvable_turns-in-Some-clause-led : goal.returns-in_err-solvable_turns-in-Some-clause-led
+returns-in_err-solvable_turns-in-Some-clause-led g c = λ root b led.
+    let w = c.solvable_turns.ensures.led root b led in
+    let Items : Option g.row.I.Denot → Type 0 = λ soft. AreFirstItems g.I.Iterator.next_gives soft w.0 in
+    (w.0, subst Items (sym c.in-Some.is) w.1, w.2)
+
+pub returns-in_ok-solvable_turns-in-Some-clause-led : goal.returns-in_ok-solvable_turns-in-Some-clause-led
+returns-in_ok-solvable_turns-in-Some-clause-led g c = λ root b led.
+    let w = c.solvable_turns.ensures.led root b led in
+    let Items : Option g.row.I.Denot → Type 0 = λ soft. AreFirstItems g.I.Iterator.next_gives soft w.0 in
+    (w.0, subst Items (sym c.in-Some.is) w.1, w.2)
+
+pub returns-in-None-clause-led : goal.returns-in-None-clause-led
+returns-in-None-clause-led g c = λ root b led. ([], none_first g.I.Iterator.next_gives c.args.soft, led)

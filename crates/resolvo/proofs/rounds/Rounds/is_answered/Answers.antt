@@ -23,3 +23,9 @@ returns-clause-is_true g c = grind (arith, common_steps)
 
 pub returns-clause-limits : goal.returns-clause-limits
 returns-clause-limits g c = grind (arith, common_steps)
+
+pub returns-in_err-all_rounds-clause-led : goal.returns-in_err-all_rounds-clause-led
+returns-in_err-all_rounds-clause-led g c = c.all_rounds.ensures.led
+
+pub returns-clause-led : goal.returns-clause-led
+returns-clause-led g c = c.all_rounds.ensures.led

@@ -1,8 +1,9 @@
-use Rattle.std.proofs.Common.{◌≡◌, ◌+◌, [], ◌∷◌, ◌++◌, ◌∙◌, List, ap, append-nil, arith, get_or, subst, sym, take}
+use Rattle.std.proofs.Common.{◌≡◌, ◌+◌, [], ◌∷◌, ◌++◌, ◌∙◌, List, ap, append-nil, arith, subst, sym, take}
 use Rattle.std.proofs.lemmas.List.{append_assoc, take_all, take_more}
 use Rattle.resolver_clause_store.specs.declared.SoftRequirement.{SoftRequirement}
-use Rattle.resolvo.specs.RoundStates.{IsBetween}
+use Rattle.resolvo.specs.RoundStates.{IsBetween, IsLedBy}
 use Rattle.resolvo.proofs.RoundLemmas.{room_same, room_trans}
+use Rattle.resolvo.proofs.LeadingLemmas.{Extends-take}
 use Rattle.resolvo.proofs.rounds.Rounds.list_turns.Goals as goal
 
 pub loop-requirement-init : goal.loop-requirement-init
@@ -15,6 +16,9 @@ loop-requirement-init g c = record {
   between = λ root done b.
       let Between : List (SoftRequirement g.row.S.Denot) → Type 0 = λ list. IsBetween (g.D.Interner.universe c.args.provider.now) root list c.args.self.now in
       subst Between (sym (append-nil done)) b;
+  led = λ root done b led.
+      let Led : List (SoftRequirement g.row.S.Denot) → Type 0 = λ list. IsLedBy (g.D.Interner.universe c.args.provider.now) root list c.args.self.now in
+      subst Led (sym (append-nil done)) led;
 }
 
 pub loop-requirement-preserved : goal.loop-requirement-preserved
@@ -35,6 +39,12 @@ loop-requirement-preserved g c =
           let more : take (i + 1) all ≡ take i all ++ r ∷ [] = take_more all i r (omega arith) ∙ ap (λ x. take i all ++ x ∷ []) (sym c.requirement-item.is) in
           let is : (done ++ take i all) ++ r ∷ [] ≡ done ++ take (i + 1) all = append_assoc done (take i all) (r ∷ []) ∙ ap (λ x. done ++ x) (sym more) in
           subst Between is (c.in_ok-soft_turn.ensures.between root (done ++ take i all) (before.between root done b));
+      led = λ root done b led.
+          let Led : List (SoftRequirement g.row.S.Denot) → Type 0 =
+          λ list. IsLedBy (g.D.Interner.universe c.args.provider.now) root list c.soft_turn.new.self in
+          let more : take (i + 1) all ≡ take i all ++ r ∷ [] = take_more all i r (omega arith) ∙ ap (λ x. take i all ++ x ∷ []) (sym c.requirement-item.is) in
+          let is : (done ++ take i all) ++ r ∷ [] ≡ done ++ take (i + 1) all = append_assoc done (take i all) (r ∷ []) ∙ ap (λ x. done ++ x) (sym more) in
+          subst Led is (c.soft_turn.ensures.led root (done ++ take i all) (before.between root done b) (before.led root done b led));
     }
 
 pub returns-clause-between : goal.returns-clause-between
@@ -43,3 +53,23 @@ returns-clause-between g c = λ root done b.
     let Between : List (SoftRequirement g.row.S.Denot) → Type 0 =
     λ list. IsBetween (g.D.Interner.universe c.args.provider.now) root (done ++ list) c.loop-requirement.self in
     subst Between (take_all c.loop-requirement.requirement-index all (omega arith)) (c.loop-requirement.invariant.between root done b)
+
+pub returns-in_err-soft_turn-clause-led : goal.returns-in_err-soft_turn-clause-led
+returns-in_err-soft_turn-clause-led g c = λ root done b led.
+    let i = c.loop-requirement.requirement-index in
+    let all = c.args.list.now in
+    let r = c.requirement-item.result in
+    let before = c.loop-requirement.invariant in
+    let Led : List (SoftRequirement g.row.S.Denot) → Type 0 = λ list. IsLedBy (g.D.Interner.universe c.args.provider.now) root list c.soft_turn.new.self in
+    let more : take (i + 1) all ≡ take i all ++ r ∷ [] = take_more all i r (omega arith) ∙ ap (λ x. take i all ++ x ∷ []) (sym c.requirement-item.is) in
+    let is : (done ++ take i all) ++ r ∷ [] ≡ done ++ take (i + 1) all = append_assoc done (take i all) (r ∷ []) ∙ ap (λ x. done ++ x) (sym more) in (
+      take (i + 1) all,
+      Extends-take (i + 1) all,
+      subst Led is (c.soft_turn.ensures.led root (done ++ take i all) (before.between root done b) (before.led root done b led)),
+    )
+
+pub returns-clause-led : goal.returns-clause-led
+returns-clause-led g c = λ root done b led.
+    let i = c.loop-requirement.requirement-index in
+    let all = c.args.list.now in
+    (take i all, Extends-take i all, c.loop-requirement.invariant.led root done b led)

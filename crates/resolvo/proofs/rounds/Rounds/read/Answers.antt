@@ -7,6 +7,7 @@ use Rattle.resolvo.specs.RoundStates.{notes_of}
 use Rattle.resolvo.proofs.RoundLemmas.{chosen_known, read_first, read_more, reading_first}
 use Rattle.resolvo.proofs.GoingLemmas.{drawn_or_assumed, goes_read}
 use Rattle.resolver_encoding.proofs.ReachLemmas.{positives_seen}
+use Rattle.resolvo.proofs.LeadingLemmas.{leads_read, leads_same}
 use Rattle.resolvo.proofs.rounds.Rounds.read.Goals as goal
 
 pub read_chosen-requires-clause-reading : goal.read_chosen-requires-clause-reading
@@ -38,3 +39,25 @@ returns-clause-keeps g c =
     c.solvables.result.now.keys c.in_ok-from.ensures.following c.solvables.ensures c.requires.rounds.reading.so_far)).stays
     (drawn_or_assumed old.search (notes_of old).table (notes_of old).requirements c.requires.rounds.consistent c.requires.loaded.loaded)
     (λ root encoding. positives_seen (g.D.Interner.universe c.args.provider.now) root (notes_of old) encoding)
+
+pub returns-in_err-from-clause-led : goal.returns-in_err-from-clause-led
+returns-in_err-from-clause-led g c =
+    leads_same (g.D.Interner.universe c.args.provider.now) c.args.self.now c.follow.new.self c.follow.ensures.same
+
+pub returns-in_err-progress-clause-led : goal.returns-in_err-progress-clause-led
+returns-in_err-progress-clause-led g c =
+    let u = g.D.Interner.universe c.args.provider.now in
+    let old = c.args.self.now in
+    leads_read u old c.follow.new.self c.in_ok-from.from c.solvables.result.now.keys c.read_chosen.new.self c.requires.loaded
+    c.in_ok-from.ensures.following c.in_ok-from.ensures.followed c.solvables.ensures c.read_chosen.ensures.led
+    (drawn_or_assumed old.search (notes_of old).table (notes_of old).requirements c.requires.rounds.consistent c.requires.loaded.loaded)
+    (λ root encoding. positives_seen u root (notes_of old) encoding)
+
+pub returns-clause-led : goal.returns-clause-led
+returns-clause-led g c =
+    let u = g.D.Interner.universe c.args.provider.now in
+    let old = c.args.self.now in
+    leads_read u old c.follow.new.self c.in_ok-from.from c.solvables.result.now.keys c.read_chosen.new.self c.requires.loaded
+    c.in_ok-from.ensures.following c.in_ok-from.ensures.followed c.solvables.ensures c.read_chosen.ensures.led
+    (drawn_or_assumed old.search (notes_of old).table (notes_of old).requirements c.requires.rounds.consistent c.requires.loaded.loaded)
+    (λ root encoding. positives_seen u root (notes_of old) encoding)

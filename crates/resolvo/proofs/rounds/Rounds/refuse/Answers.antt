@@ -1,16 +1,17 @@
 use Rattle.std.proofs.lemmas.Grind.{common_steps}
 use Rattle.std.proofs.Common.{ap, arith, false, refl, subst, sym, ◌≡◌, ◌∙◌, ◌+◌, ◌-◌, ℕ}
-use Rattle.std.specs.Prelude.{None, length, take}
+use Rattle.std.specs.Prelude.{length}
 use Rattle.resolvo.proofs.GoingLemmas.{still_all}
-use Rattle.resolver_clause_store.specs.TrailView.{Gains, IsCut, level_of, slot_of, variable_at}
+use Rattle.resolver_clause_store.specs.TrailView.{Gains, IsCut, level_of, slot_of}
 use Rattle.resolver_clause_store.specs.declared.Reason.TheVariants.{Assumed}
 use Rattle.resolver_clause_store.specs.declared.Trail.{Trail}
 use Rattle.resolver_encoding.specs.Notes.{notes_in}
 use Rattle.resolver_encoding.specs.Turns.{IsTurnEnd}
 use Rattle.resolver_encoding.specs.declared.encoding.Encoding.{Encoding}
-use Rattle.resolvo.specs.ClauseSearches.{held_of, trail_of}
+use Rattle.resolvo.specs.ClauseSearches.{trail_of}
 use Rattle.resolvo.specs.RoundStates.{HasAssumed, notes_of}
 use Rattle.resolvo.proofs.SoftLemmas.{assumed_inside, ended_adds, refused_within, rounds_added, rounds_followed, still_assumed}
+use Rattle.resolvo.proofs.LeadingLemmas.{stays_paid}
 use Rattle.resolvo.proofs.rounds.Rounds.refuse.Goals as goal
 
 pub load-requires : goal.load-requires
@@ -113,3 +114,33 @@ returns-clause-refusal g c = grind (arith, common_steps)
 
 pub returns-clause-still : goal.returns-clause-still
 returns-clause-still g c = grind (arith, common_steps)
+
+pub returns-in_err-end_turn-clause-led : goal.returns-in_err-end_turn-clause-led
+returns-in_err-end_turn-clause-led g c =
+    let e = c.end_turn.new.self in
+    stays_paid (g.D.Interner.universe c.args.provider.now) c.args.self.now (record c.args.self.now { encoding = e }) e refl c.end_turn.ensures.adds
+
+pub returns-in_err-load-clause-led : goal.returns-in_err-load-clause-led
+returns-in_err-load-clause-led g c =
+    stays_paid (g.D.Interner.universe c.args.provider.now) c.args.self.now c.load.new.self c.end_turn.new.self c.load.ensures.same.encoding
+    c.end_turn.ensures.adds
+
+pub returns-in_err-retract-clause-led : goal.returns-in_err-retract-clause-led
+returns-in_err-retract-clause-led g c =
+    stays_paid (g.D.Interner.universe c.args.provider.now) c.args.self.now c.load.new.self c.end_turn.new.self c.load.ensures.same.encoding
+    c.end_turn.ensures.adds
+
+pub returns-in_err-assume-clause-led : goal.returns-in_err-assume-clause-led
+returns-in_err-assume-clause-led g c =
+    stays_paid (g.D.Interner.universe c.args.provider.now) c.args.self.now c.load.new.self c.end_turn.new.self c.load.ensures.same.encoding
+    c.end_turn.ensures.adds
+
+pub returns-in_err-follow-clause-led : goal.returns-in_err-follow-clause-led
+returns-in_err-follow-clause-led g c =
+    stays_paid (g.D.Interner.universe c.args.provider.now) c.args.self.now c.follow.new.self c.end_turn.new.self
+    (c.follow.ensures.same ∙ c.load.ensures.same.encoding) c.end_turn.ensures.adds
+
+pub returns-clause-led : goal.returns-clause-led
+returns-clause-led g c =
+    stays_paid (g.D.Interner.universe c.args.provider.now) c.args.self.now c.follow.new.self c.end_turn.new.self
+    (c.follow.ensures.same ∙ c.load.ensures.same.encoding) c.end_turn.ensures.adds

@@ -1,12 +1,13 @@
 use Rattle.std.proofs.Common.{List, ap, length, refl, ◌≡◌}
 use Rattle.resolver_encoding.specs.Encodings.{Notes}
-use Rattle.resolver_clause_store.specs.Outcomes.{IsCore, IsFinished}
+use Rattle.resolver_clause_store.specs.Outcomes.{IsFinished}
 use Rattle.resolver_clause_store.specs.declared.RequirementClause.{RequirementClause}
 use Rattle.resolver_encoding.specs.SoFar.{IsProgress}
 use Rattle.resolvo.specs.ClauseSearches.{OutcomeIs, base_of, numbers_of, trail_of}
 use Rattle.resolvo.specs.RoundStates.{notes_of}
 use Rattle.resolvo.proofs.GoingLemmas.{all_clauses, answering, goes_searched, goes_trans, still_all}
 use Rattle.resolver_encoding.proofs.SoFarLemmas.{lawful_solvables}
+use Rattle.resolvo.proofs.LeadingLemmas.{leads_same, leads_trans}
 use Rattle.resolvo.proofs.rounds.Rounds.round.Goals as goal
 
 pub returns-in-Contradiction-clause-keeps : goal.returns-in-Contradiction-clause-keeps
@@ -72,3 +73,51 @@ returns-in-Read-clause-keeps g c =
     goes_trans (g.D.Interner.universe c.args.provider.now) c.args.self.now c.search.new.self c.read.new.self c.requires.rounds.variables
     (goes_searched (g.D.Interner.universe c.args.provider.now) c.args.self.now c.search.new.self c.in_ok-core.ensures.same c.in_ok-core.ensures.turn)
     c.in_ok-read-in-Finished.ensures.keeps
+
+pub returns-in_err-core-clause-led : goal.returns-in_err-core-clause-led
+returns-in_err-core-clause-led g c =
+    leads_same (g.D.Interner.universe c.args.provider.now) c.args.self.now c.search.new.self c.search.ensures.same.encoding
+
+pub returns-in-Contradiction-clause-led : goal.returns-in-Contradiction-clause-led
+returns-in-Contradiction-clause-led g c =
+    leads_same (g.D.Interner.universe c.args.provider.now) c.args.self.now c.search.new.self c.search.ensures.same.encoding
+
+pub returns-in-Refused-clause-led : goal.returns-in-Refused-clause-led
+returns-in-Refused-clause-led g c =
+    leads_same (g.D.Interner.universe c.args.provider.now) c.args.self.now c.search.new.self c.search.ensures.same.encoding
+
+pub returns-in_err-read-in-Finished-clause-led : goal.returns-in_err-read-in-Finished-clause-led
+returns-in_err-read-in-Finished-clause-led g c =
+    let u = g.D.Interner.universe c.args.provider.now in
+    let old = c.args.self.now in
+    let mid = c.search.new.self in
+    leads_trans u old mid c.read.new.self c.requires.rounds.variables
+    (goes_searched u old mid c.search.ensures.same c.in_ok-core.ensures.turn)
+    (leads_same u old mid c.search.ensures.same.encoding) c.read.ensures.led
+
+pub returns-in-Nothing-clause-led : goal.returns-in-Nothing-clause-led
+returns-in-Nothing-clause-led g c =
+    let u = g.D.Interner.universe c.args.provider.now in
+    let old = c.args.self.now in
+    let mid = c.search.new.self in
+    leads_trans u old mid c.read.new.self c.requires.rounds.variables
+    (goes_searched u old mid c.search.ensures.same c.in_ok-core.ensures.turn)
+    (leads_same u old mid c.search.ensures.same.encoding) c.read.ensures.led
+
+pub returns-in-Fired-clause-led : goal.returns-in-Fired-clause-led
+returns-in-Fired-clause-led g c =
+    let u = g.D.Interner.universe c.args.provider.now in
+    let old = c.args.self.now in
+    let mid = c.search.new.self in
+    leads_trans u old mid c.read.new.self c.requires.rounds.variables
+    (goes_searched u old mid c.search.ensures.same c.in_ok-core.ensures.turn)
+    (leads_same u old mid c.search.ensures.same.encoding) c.read.ensures.led
+
+pub returns-in-Read-clause-led : goal.returns-in-Read-clause-led
+returns-in-Read-clause-led g c =
+    let u = g.D.Interner.universe c.args.provider.now in
+    let old = c.args.self.now in
+    let mid = c.search.new.self in
+    leads_trans u old mid c.read.new.self c.requires.rounds.variables
+    (goes_searched u old mid c.search.ensures.same c.in_ok-core.ensures.turn)
+    (leads_same u old mid c.search.ensures.same.encoding) c.read.ensures.led

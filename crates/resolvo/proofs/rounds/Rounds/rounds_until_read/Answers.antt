@@ -2,6 +2,7 @@ use Rattle.std.proofs.Common.{◌∙◌}
 use Rattle.resolvo.specs.RoundStates.{IsRound}
 use Rattle.resolvo.proofs.RoundLemmas.{room_trans}
 use Rattle.resolvo.proofs.GoingLemmas.{goes_trans}
+use Rattle.resolvo.proofs.LeadingLemmas.{leads_trans}
 use Rattle.resolvo.proofs.rounds.Rounds.rounds_until_read.Goals as goal
 
 pub returns-in-Last-clause-keeps : goal.returns-in-Last-clause-keeps
@@ -23,6 +24,23 @@ rounds-preserved g c =
       rounds = c.in_ok-found.ensures.rounds;
       keeps = goes_trans (g.D.Interner.universe c.args.provider.now) c.args.self.now c.rounds.self c.round.new.self c.requires.rounds.variables
           c.rounds.invariant.keeps c.in_ok-found.ensures.keeps;
+      led = leads_trans (g.D.Interner.universe c.args.provider.now) c.args.self.now c.rounds.self c.round.new.self c.requires.rounds.variables
+          c.rounds.invariant.keeps c.rounds.invariant.led c.round.ensures.led;
       room = room_trans c.args.self.now c.rounds.self c.round.new.self c.rounds.invariant.room c.in_ok-found.ensures.limits;
       read = fired.0 ∙ c.rounds.invariant.read;
     }
+
+pub returns-in_err-found-clause-led : goal.returns-in_err-found-clause-led
+returns-in_err-found-clause-led g c =
+    leads_trans (g.D.Interner.universe c.args.provider.now) c.args.self.now c.rounds.self c.round.new.self c.requires.rounds.variables
+    c.rounds.invariant.keeps c.rounds.invariant.led c.round.ensures.led
+
+pub returns-in-Last-clause-led : goal.returns-in-Last-clause-led
+returns-in-Last-clause-led g c =
+    leads_trans (g.D.Interner.universe c.args.provider.now) c.args.self.now c.rounds.self c.round.new.self c.requires.rounds.variables
+    c.rounds.invariant.keeps c.rounds.invariant.led c.round.ensures.led
+
+pub returns-in-Read-clause-led : goal.returns-in-Read-clause-led
+returns-in-Read-clause-led g c =
+    leads_trans (g.D.Interner.universe c.args.provider.now) c.args.self.now c.rounds.self c.round.new.self c.requires.rounds.variables
+    c.rounds.invariant.keeps c.rounds.invariant.led c.round.ensures.led

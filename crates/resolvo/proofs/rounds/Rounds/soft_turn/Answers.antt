@@ -3,9 +3,10 @@ use Rattle.std.specs.List.{flat_map}
 use Rattle.resolver_clause_store.specs.SoftRun.{options, own_packages}
 use Rattle.resolver_clause_store.specs.declared.SoftRequirement.{SoftRequirement}
 use Rattle.resolver_clause_store.specs.declared.SoftRequirement.TheVariants.{Solvable}
-use Rattle.resolvo.specs.RoundStates.{IsBetween}
+use Rattle.resolvo.specs.RoundStates.{IsBetween, IsLedBy}
 use Rattle.resolvo.proofs.SoftTurnLemmas.{between_solvable, gathered_last, standing_for}
 use Rattle.resolver_clause_store.proofs.ListLemmas.{Contains-here as here}
+use Rattle.resolvo.proofs.LeadingLemmas.{led_wider}
 use Rattle.resolvo.proofs.rounds.Rounds.soft_turn.Goals as goal
 
 pub returns-in_ok-turn-in-Solvable-clause-between : goal.returns-in_ok-turn-in-Solvable-clause-between
@@ -23,3 +24,35 @@ returns-in_ok-version_set_turn-in-Matching-clause-between g c = λ root done b.
     let u = g.D.Interner.universe c.args.provider.now in
     let Between : SoftRequirement g.row.S.Denot → Type 0 = λ q. IsBetween u root (done ++ q ∷ []) c.version_set_turn.new.self in
     subst Between (sym c.in-Matching.is) (c.in_ok-version_set_turn-in-Matching.ensures.between root done b)
+
+pub returns-in_err-turn-in-Solvable-clause-led : goal.returns-in_err-turn-in-Solvable-clause-led
+returns-in_err-turn-in-Solvable-clause-led g c = λ root done b led.
+    let u = g.D.Interner.universe c.args.provider.now in
+    let r : SoftRequirement g.row.S.Denot = Solvable c.in-Solvable.solvable in
+    let Led : SoftRequirement g.row.S.Denot → Type 0 = λ q. IsLedBy u root (done ++ q ∷ []) c.turn.new.self in
+    subst Led (sym c.in-Solvable.is)
+    (c.turn.ensures.led root b.taken b.refused (flat_map (options u) (done ++ r ∷ [])) (flat_map (own_packages u) (done ++ r ∷ []))
+    (gathered_last (options u) done r) (standing_for u root done r b.taken b.refused c.args.self.now b.standing)
+    (led_wider u root done r c.args.self.now led))
+
+pub returns-in_ok-turn-in-Solvable-clause-led : goal.returns-in_ok-turn-in-Solvable-clause-led
+returns-in_ok-turn-in-Solvable-clause-led g c = λ root done b led.
+    let u = g.D.Interner.universe c.args.provider.now in
+    let r : SoftRequirement g.row.S.Denot = Solvable c.in-Solvable.solvable in
+    let Led : SoftRequirement g.row.S.Denot → Type 0 = λ q. IsLedBy u root (done ++ q ∷ []) c.turn.new.self in
+    subst Led (sym c.in-Solvable.is)
+    (c.turn.ensures.led root b.taken b.refused (flat_map (options u) (done ++ r ∷ [])) (flat_map (own_packages u) (done ++ r ∷ []))
+    (gathered_last (options u) done r) (standing_for u root done r b.taken b.refused c.args.self.now b.standing)
+    (led_wider u root done r c.args.self.now led))
+
+pub returns-in_err-version_set_turn-in-Matching-clause-led : goal.returns-in_err-version_set_turn-in-Matching-clause-led
+returns-in_err-version_set_turn-in-Matching-clause-led g c = λ root done b led.
+    let u = g.D.Interner.universe c.args.provider.now in
+    let Led : SoftRequirement g.row.S.Denot → Type 0 = λ q. IsLedBy u root (done ++ q ∷ []) c.version_set_turn.new.self in
+    subst Led (sym c.in-Matching.is) (c.version_set_turn.ensures.led root done b led)
+
+pub returns-in_ok-version_set_turn-in-Matching-clause-led : goal.returns-in_ok-version_set_turn-in-Matching-clause-led
+returns-in_ok-version_set_turn-in-Matching-clause-led g c = λ root done b led.
+    let u = g.D.Interner.universe c.args.provider.now in
+    let Led : SoftRequirement g.row.S.Denot → Type 0 = λ q. IsLedBy u root (done ++ q ∷ []) c.version_set_turn.new.self in
+    subst Led (sym c.in-Matching.is) (c.version_set_turn.ensures.led root done b led)

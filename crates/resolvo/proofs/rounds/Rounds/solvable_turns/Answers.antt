@@ -3,9 +3,10 @@ use Rattle.std.specs.Prelude.{map}
 use Rattle.std.proofs.lemmas.List.{map-append}
 use Rattle.resolver_clause_store.specs.declared.SoftRequirement.{SoftRequirement}
 use Rattle.resolver_clause_store.specs.declared.SoftRequirement.TheVariants.{Solvable}
-use Rattle.resolvo.specs.RoundStates.{IsBetween}
+use Rattle.resolvo.specs.RoundStates.{IsBetween, IsLedBy}
 use Rattle.resolvo.proofs.RoundLemmas.{room_trans}
 use Rattle.std.proofs.lemmas.Grind.{common_steps}
+use Rattle.resolvo.proofs.LeadingLemmas.{gives_all, gives_more, gives_these}
 use Rattle.resolvo.proofs.rounds.Rounds.solvable_turns.Goals as goal
 
 pub returns-clause-counted : goal.returns-clause-counted
@@ -38,4 +39,40 @@ loop-solvable-preserved g c =
           λ list. IsBetween (g.D.Interner.universe c.args.provider.now) root list c.soft_turn.new.self in
           subst Between (sym (map-append Solvable c.loop-solvable.yielded (s ∷ [])))
           (c.in_ok-soft_turn.ensures.between root (map Solvable c.loop-solvable.yielded) (before.between root b));
+      led = λ root b led.
+          let Led : List (SoftRequirement g.row.S.Denot) → Type 0 =
+          λ list. IsLedBy (g.D.Interner.universe c.args.provider.now) root list c.soft_turn.new.self in
+          subst Led (sym (map-append Solvable c.loop-solvable.yielded (s ∷ [])))
+          (c.soft_turn.ensures.led root (map Solvable c.loop-solvable.yielded) (before.between root b) (before.led root b led));
     }
+
+pub returns-clause-between : goal.returns-clause-between
+returns-clause-between g c = λ root b.
+    let it = c.loop-solvable.invariant in (
+      c.loop-solvable.yielded,
+      gives_all g.I.Iterator.next_gives c.args.soft c.into_iter-solvable-iterator.result _ c.into_iter-solvable-iterator.ensures.into_iter_gives
+          c.loop-solvable.yielded c.loop-solvable.yielded_by c.next.result _ c.in-None.is c.next.ensures.steps,
+      it.between root b,
+      it.led root b,
+    )
+
+pub returns-in_err-soft_turn-clause-led : goal.returns-in_err-soft_turn-clause-led
+returns-in_err-soft_turn-clause-led g c = λ root b led.
+    let before = c.loop-solvable.invariant in
+    let s = c.in-Some.solvable in
+    let xs = c.loop-solvable.yielded in
+    let Led : List (SoftRequirement g.row.S.Denot) → Type 0 = λ list. IsLedBy (g.D.Interner.universe c.args.provider.now) root list c.soft_turn.new.self in (
+      xs ++ s ∷ [],
+      gives_more g.I.Iterator.next_gives c.args.soft c.into_iter-solvable-iterator.result _ c.into_iter-solvable-iterator.ensures.into_iter_gives
+          xs c.loop-solvable.yielded_by s c.next.result _ c.in-Some.is c.next.ensures.steps,
+      subst Led (sym (map-append Solvable xs (s ∷ []))) (c.soft_turn.ensures.led root (map Solvable xs) (before.between root b) (before.led root b led)),
+    )
+
+pub returns-clause-led : goal.returns-clause-led
+returns-clause-led g c = λ root b led.
+    let xs = c.loop-solvable.yielded in (
+      xs,
+      gives_these g.I.Iterator.next_gives c.args.soft c.into_iter-solvable-iterator.result _ c.into_iter-solvable-iterator.ensures.into_iter_gives
+          xs c.loop-solvable.yielded_by,
+      c.loop-solvable.invariant.led root b led,
+    )

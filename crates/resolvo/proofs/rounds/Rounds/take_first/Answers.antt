@@ -1,12 +1,11 @@
-use Rattle.std.proofs.Common.{Bool, Contains, List, true, ◌⊎◌, ◌≡◌, [], ◌∷◌, ◌++◌, ◌+◌, ◌∙◌, ap, false, arith, inl, inr, refl, subst, sym, take, get_or, All}
+use Rattle.std.proofs.Common.{Bool, Contains, List, ◌⊎◌, ◌≡◌, [], ◌∷◌, ◌++◌, ◌+◌, ◌∙◌, ap, false, arith, subst, sym, take}
 use Rattle.std.proofs.lemmas.List.{take_more, take_all}
 use Rattle.std.proofs.lemmas.List.Elements.{All-contains}
 use Rattle.resolver_clause_store.proofs.SetLemmas.{Contains-item}
-use Rattle.resolver_clause_store.specs.Lists.{IsWithin}
 use Rattle.resolvo.specs.RoundStates.{HasTurned, HaveTurned, notes_of}
 use Rattle.resolvo.proofs.RoundLemmas.{room_same, room_trans}
 use Rattle.resolvo.proofs.SoftLemmas.{pushed_cases}
-use Rattle.resolvo.proofs.SoftTurnLemmas.{none_tried, tried_last, tried_more}
+use Rattle.resolvo.proofs.SoftTurnLemmas.{none_tried, only_one, tried_last, tried_more}
 use Rattle.resolvo.proofs.rounds.Rounds.take_first.Goals as goal
 
 pub loop-candidate-init : goal.loop-candidate-init
@@ -18,6 +17,7 @@ loop-candidate-init g c = record {
   room = room_same c.args.self.now;
   turned = λ root taken refused seeds packages within b. none_tried
       (g.D.Interner.universe c.args.provider.now) root taken seeds packages c.args.self.now refused b;
+  led = λ root taken refused seeds packages within b led. led;
 }
 
 pub returns-then-branch-clause-turned : goal.returns-then-branch-clause-turned
@@ -59,6 +59,11 @@ loop-candidate-preserved g c =
           tried_more u root taken seeds packages c.args.self.now (take i all) mid new s h asked (take (i + 1) all)
           (subst Cases (sym more) (λ t k. pushed_cases (take i all) s t k))
           (subst Turned c.if-branch.false (c.in_ok-turn.ensures.turned root h.taken_now h.refused_now seeds packages (within s listed) h.standing));
+      led = λ root taken refused seeds packages within b led.
+          let h = before.turned root taken refused seeds packages within b in
+          let listed = Contains-item all i s (omega arith) c.candidate-item.is in
+          c.turn.ensures.led root h.taken_now h.refused_now seeds packages (only_one s seeds (within s listed)) h.standing
+          (before.led root taken refused seeds packages within b led);
     }
 
 pub returns-clause-turned : goal.returns-clause-turned
@@ -67,3 +72,24 @@ returns-clause-turned g c = λ root taken refused seeds packages within b.
     let all = c.args.candidates.now in
     let Turned : List g.row.S.Denot → Type 0 = λ list. HaveTurned u root taken seeds packages list c.args.self.now c.loop-candidate.self false in
     subst Turned (take_all c.loop-candidate.candidate-index all (omega arith)) (c.loop-candidate.invariant.turned root taken refused seeds packages within b)
+
+pub returns-in_err-turn-clause-led : goal.returns-in_err-turn-clause-led
+returns-in_err-turn-clause-led g c = λ root taken refused seeds packages within b led.
+    let s = c.candidate-item.result in
+    let before = c.loop-candidate.invariant in
+    let h = before.turned root taken refused seeds packages within b in
+    let listed = Contains-item c.args.candidates.now c.loop-candidate.candidate-index s (omega arith) c.candidate-item.is in
+    c.turn.ensures.led root h.taken_now h.refused_now seeds packages (only_one s seeds (within s listed)) h.standing
+    (before.led root taken refused seeds packages within b led)
+
+pub returns-then-branch-clause-led : goal.returns-then-branch-clause-led
+returns-then-branch-clause-led g c = λ root taken refused seeds packages within b led.
+    let s = c.candidate-item.result in
+    let before = c.loop-candidate.invariant in
+    let h = before.turned root taken refused seeds packages within b in
+    let listed = Contains-item c.args.candidates.now c.loop-candidate.candidate-index s (omega arith) c.candidate-item.is in
+    c.turn.ensures.led root h.taken_now h.refused_now seeds packages (only_one s seeds (within s listed)) h.standing
+    (before.led root taken refused seeds packages within b led)
+
+pub returns-clause-led : goal.returns-clause-led
+returns-clause-led g c = c.loop-candidate.invariant.led

@@ -1,5 +1,5 @@
 use Rattle.std.proofs.lemmas.Grind.{common_steps}
-use Rattle.std.proofs.Common.{ap, arith, List, Some, subst, sym, ◌+◌, ◌<◌, ◌∙◌, ◌≡◌}
+use Rattle.std.proofs.Common.{[], ap, arith, Some, subst, sym, ◌<◌, ◌∙◌, ◌≡◌}
 use Rattle.std.specs.Prelude.{Contains, length, slice_get}
 use Rattle.std.proofs.lemmas.Option.{slice_get_within}
 use Rattle.resolver_clause_store.specs.TrailView.{slot_of, variable_count}
@@ -8,10 +8,11 @@ use Rattle.resolver_clause_store.specs.declared.Trail.{Trail}
 use Rattle.resolver_encoding.specs.Notes.{notes_in}
 use Rattle.resolver_encoding.specs.Trails.{chosen_in}
 use Rattle.resolver_encoding.specs.declared.encoding.Encoding.{Encoding}
-use Rattle.resolvo.specs.ClauseSearches.{trail_of}
-use Rattle.resolvo.specs.RoundStates.{IsStill, notes_of}
+use Rattle.resolvo.specs.RoundStates.{notes_of}
 use Rattle.resolvo.proofs.SoftLemmas.{registered_adds, rounds_added, skipped, standing_loaded, standing_registered, still_added, turned_from}
 use Rattle.resolver_encoding.proofs.SoFarLemmas.{lawful_solvables}
+use Rattle.resolver_clause_store.proofs.ListLemmas.{Contains-here as here}
+use Rattle.resolvo.proofs.LeadingLemmas.{led_same, led_seed, standing_seed}
 use Rattle.resolvo.proofs.rounds.Rounds.turn.Goals as goal
 
 pub load-requires : goal.load-requires
@@ -104,3 +105,57 @@ returns-in_ok-is_chosen-in-None-clause-rounds g c = grind (arith, common_steps)
 
 pub returns-in_ok-is_chosen-in-None-clause-still : goal.returns-in_ok-is_chosen-in-None-clause-still
 returns-in_ok-is_chosen-in-None-clause-still g c = grind (arith, common_steps)
+
+pub returns-in_err-variable-clause-led : goal.returns-in_err-variable-clause-led
+returns-in_err-variable-clause-led g c = λ root taken refused seeds packages within b led.
+    let s = c.args.solvable in
+    led_seed (g.D.Interner.universe c.args.provider.now) root taken refused seeds packages s c.args.self.now c.register.new.self
+    (within s (here s [])) b c.register.ensures.brings led
+
+pub returns-in_err-load-clause-led : goal.returns-in_err-load-clause-led
+returns-in_err-load-clause-led g c = λ root taken refused seeds packages within b led.
+    let u = g.D.Interner.universe c.args.provider.now in
+    let s = c.args.solvable in
+    led_same u root seeds packages c.register.new.self c.load.new.self.encoding c.load.ensures.same.encoding
+    (led_seed u root taken refused seeds packages s c.args.self.now c.register.new.self (within s (here s [])) b c.register.ensures.brings led)
+
+pub returns-in-Some-clause-led : goal.returns-in-Some-clause-led
+returns-in-Some-clause-led g c = λ root taken refused seeds packages within b led.
+    let u = g.D.Interner.universe c.args.provider.now in
+    let s = c.args.solvable in
+    led_same u root seeds packages c.register.new.self c.load.new.self.encoding c.load.ensures.same.encoding
+    (led_seed u root taken refused seeds packages s c.args.self.now c.register.new.self (within s (here s [])) b c.register.ensures.brings led)
+
+pub returns-in_err-is_chosen-in-None-clause-led : goal.returns-in_err-is_chosen-in-None-clause-led
+returns-in_err-is_chosen-in-None-clause-led g c = λ root taken refused seeds packages within b led.
+    let u = g.D.Interner.universe c.args.provider.now in
+    let s = c.args.solvable in
+    let old = c.args.self.now in
+    let e = c.register.new.self in
+    let mid = c.load.new.self in
+    let seed = within s (here s []) in
+    let registered = c.in_ok-variable.ensures.registered in
+    let same = c.load.ensures.same in
+    let Seen : Encoding g.row.N.Denot g.row.S.Denot → Type 0 = λ x. Contains (notes_in x).seen s in
+    c.attempt.ensures.led (subst Seen (sym same.encoding) registered.here) root taken refused seeds packages within
+    (standing_seed u root taken refused seeds packages s old e mid c.requires.rounds c.register.ensures.bounded registered same
+    c.in_ok-load.ensures.turn seed b)
+    (led_same u root seeds packages e mid.encoding same.encoding
+    (led_seed u root taken refused seeds packages s old e seed b c.register.ensures.brings led))
+
+pub returns-in_ok-is_chosen-in-None-clause-led : goal.returns-in_ok-is_chosen-in-None-clause-led
+returns-in_ok-is_chosen-in-None-clause-led g c = λ root taken refused seeds packages within b led.
+    let u = g.D.Interner.universe c.args.provider.now in
+    let s = c.args.solvable in
+    let old = c.args.self.now in
+    let e = c.register.new.self in
+    let mid = c.load.new.self in
+    let seed = within s (here s []) in
+    let registered = c.in_ok-variable.ensures.registered in
+    let same = c.load.ensures.same in
+    let Seen : Encoding g.row.N.Denot g.row.S.Denot → Type 0 = λ x. Contains (notes_in x).seen s in
+    c.attempt.ensures.led (subst Seen (sym same.encoding) registered.here) root taken refused seeds packages within
+    (standing_seed u root taken refused seeds packages s old e mid c.requires.rounds c.register.ensures.bounded registered same
+    c.in_ok-load.ensures.turn seed b)
+    (led_same u root seeds packages e mid.encoding same.encoding
+    (led_seed u root taken refused seeds packages s old e seed b c.register.ensures.brings led))

@@ -11,6 +11,7 @@ use Rattle.resolvo.specs.RoundStates.{chosen_of, notes_of}
 use Rattle.resolvo.proofs.SoftTurnLemmas.{between_met, between_tried, gathered_last, sorted_has, standing_for}
 use Rattle.resolver_clause_store.proofs.ListLemmas.{Contains-here as here}
 use Rattle.resolver_encoding.proofs.SoFarLemmas.{lawful_solvables}
+use Rattle.resolvo.proofs.LeadingLemmas.{led_wider}
 use Rattle.resolvo.proofs.rounds.Rounds.version_set_turn.Goals as goal
 
 pub returns-then-has_any-clause-between : goal.returns-then-has_any-clause-between
@@ -85,3 +86,64 @@ returns-clause-between g c = λ root done b.
     (alone.asked.all (u.version_set_name v) refl)
     (c.in_ok-take_first.ensures.turned root b.taken b.refused seeds packages (λ s h. gathered_last (options u) done r s (match s h))
     (c.in_ok-ask.ensures.standing root b.taken b.refused seeds packages own (standing_for u root done r b.taken b.refused old b.standing)))
+
+pub returns-in_err-candidates-clause-led : goal.returns-in_err-candidates-clause-led
+returns-in_err-candidates-clause-led g c = λ root done b led.
+    led_wider (g.D.Interner.universe c.args.provider.now) root done (Matching c.args.version_set) c.args.self.now led
+
+pub returns-then-has_any-clause-led : goal.returns-then-has_any-clause-led
+returns-then-has_any-clause-led g c = λ root done b led.
+    led_wider (g.D.Interner.universe c.args.provider.now) root done (Matching c.args.version_set) c.args.self.now led
+
+pub returns-in_err-ask-clause-led : goal.returns-in_err-ask-clause-led
+returns-in_err-ask-clause-led g c = λ root done b led.
+    let u = g.D.Interner.universe c.args.provider.now in
+    let v = c.args.version_set in
+    let r : SoftRequirement g.row.S.Denot = Matching v in
+    let old = c.args.self.now in
+    let seeds : List g.row.S.Denot = flat_map (options u) (done ++ r ∷ []) in
+    let packages : List g.row.N.Denot = flat_map (own_packages u) (done ++ r ∷ []) in
+    let own : Contains packages (u.version_set_name v) = gathered_last (own_packages u) done r (u.version_set_name v) (here (u.version_set_name v) []) in
+    let standing = standing_for u root done r b.taken b.refused old b.standing in
+    let asked = c.ask.ensures.led root b.taken b.refused seeds packages own standing (led_wider u root done r old led) in
+    asked
+
+pub returns-in_err-take_first-clause-led : goal.returns-in_err-take_first-clause-led
+returns-in_err-take_first-clause-led g c = λ root done b led.
+    let u = g.D.Interner.universe c.args.provider.now in
+    let v = c.args.version_set in
+    let r : SoftRequirement g.row.S.Denot = Matching v in
+    let old = c.args.self.now in
+    let seeds : List g.row.S.Denot = flat_map (options u) (done ++ r ∷ []) in
+    let packages : List g.row.N.Denot = flat_map (own_packages u) (done ++ r ∷ []) in
+    let own : Contains packages (u.version_set_name v) = gathered_last (own_packages u) done r (u.version_set_name v) (here (u.version_set_name v) []) in
+    let standing = standing_for u root done r b.taken b.refused old b.standing in
+    let asked = c.ask.ensures.led root b.taken b.refused seeds packages own standing (led_wider u root done r old led) in
+    let laws = g.met.D.DependencyProvider.lawful_packages c.args.provider.now in
+    let lawful = lawful_solvables u g.S.PartialEq.eq (g.met.D.Interner.lawful_ids c.args.provider.now)
+    (g.met.D.Interner.solvables_compare c.args.provider.now) g.met.D.Interner.solvables_are_values in
+    let same : c.deref-2.result.now ≡ sorted_candidates u v = c.deref-2.ensures.value ∙ c.in_ok-candidates.ensures.value in
+    let within : IsWithin c.deref-2.result.now seeds = λ s h. let Has : List g.row.S.Denot → Type 0 = λ list. Contains list s in
+    gathered_last (options u) done r s (sorted_matches u laws lawful.same_solvable v s (subst Has same h)) in
+    c.take_first.ensures.led root b.taken b.refused seeds packages within
+    (c.in_ok-ask.ensures.standing root b.taken b.refused seeds packages own standing) asked
+
+pub returns-clause-led : goal.returns-clause-led
+returns-clause-led g c = λ root done b led.
+    let u = g.D.Interner.universe c.args.provider.now in
+    let v = c.args.version_set in
+    let r : SoftRequirement g.row.S.Denot = Matching v in
+    let old = c.args.self.now in
+    let seeds : List g.row.S.Denot = flat_map (options u) (done ++ r ∷ []) in
+    let packages : List g.row.N.Denot = flat_map (own_packages u) (done ++ r ∷ []) in
+    let own : Contains packages (u.version_set_name v) = gathered_last (own_packages u) done r (u.version_set_name v) (here (u.version_set_name v) []) in
+    let standing = standing_for u root done r b.taken b.refused old b.standing in
+    let asked = c.ask.ensures.led root b.taken b.refused seeds packages own standing (led_wider u root done r old led) in
+    let laws = g.met.D.DependencyProvider.lawful_packages c.args.provider.now in
+    let lawful = lawful_solvables u g.S.PartialEq.eq (g.met.D.Interner.lawful_ids c.args.provider.now)
+    (g.met.D.Interner.solvables_compare c.args.provider.now) g.met.D.Interner.solvables_are_values in
+    let same : c.deref-2.result.now ≡ sorted_candidates u v = c.deref-2.ensures.value ∙ c.in_ok-candidates.ensures.value in
+    let within : IsWithin c.deref-2.result.now seeds = λ s h. let Has : List g.row.S.Denot → Type 0 = λ list. Contains list s in
+    gathered_last (options u) done r s (sorted_matches u laws lawful.same_solvable v s (subst Has same h)) in
+    c.take_first.ensures.led root b.taken b.refused seeds packages within
+    (c.in_ok-ask.ensures.standing root b.taken b.refused seeds packages own standing) asked

@@ -1,16 +1,16 @@
 use Rattle.std.proofs.Common.{List, refl, subst, sym, ◌∙◌, ◌≡◌, ◌++◌}
-use Rattle.std.specs.Prelude.{IfOk, Ok, Option, map}
+use Rattle.std.specs.Prelude.{IfErr, IfOk, Ok, Option, map}
 use Rattle.resolver_clause_store.specs.declared.SoftRequirement.{SoftRequirement}
 use Rattle.resolver_clause_store.specs.declared.SoftRequirement.TheVariants.{Solvable}
 use Rattle.resolver_clause_store.specs.Universe.{Demands}
 use Rattle.resolver_encoding.specs.Refusals.{IsStop}
 use Rattle.resolvo.specs.Answers.{IsSoftAnswer}
-use Rattle.resolvo.specs.Problems.{AreItems, demands_in, list_in, soft_in}
+use Rattle.resolvo.specs.Problems.{AreItems, HaveBegun, demands_in, list_in, soft_in}
 use Rattle.resolvo.specs.Refusals.{IsRefusal}
-use Rattle.resolvo.specs.RoundStates.{IsDone, IsStuck}
+use Rattle.resolvo.specs.RoundStates.{IsDone, IsLedBy, IsStuck}
 use Rattle.resolvo.specs.Solvers.{IsAtLimit, exempt_in}
 use Rattle.resolvo.specs.declared.rounds.Found.TheVariants.{Answer}
-use Rattle.resolvo.proofs.OutcomeLemmas.{IfOk-both, at_limit, found_at, same_demands, soft_given, still_sound, stop_weaker}
+use Rattle.resolvo.proofs.OutcomeLemmas.{IfOk-both, at_limit, found_at, refusal_weaker, same_demands, soft_given, still_at_limit, still_sound}
 use Rattle.resolvo.proofs.RefusalLemmas.{IfErr-weaker}
 use Rattle.resolvo.proofs.solver.Solver.solve.Goals as goal
 
@@ -20,18 +20,9 @@ outcome-answer-requires-clause-sound g c =
 
 pub outcome-answer-requires-clause-stop : goal.outcome-answer-requires-clause-stop
 outcome-answer-requires-clause-stop g c =
-    let p : g.row.D.Denot = c.args.self.now.provider in
-    let s = c.count.new.self in
     let rounds = c.find-found.new.self in
-    let made = c.new-rounds.ensures in
-    let limits = c.count.ensures.rest.limits in
-    IfErr-weaker (IsStop (g.D.DependencyProvider.may_cancel p) (IsStuck rounds)) (IsStop (g.D.DependencyProvider.may_cancel s.provider) (IsAtLimit s))
-    (λ e h. let Stops : g.row.D.Denot → Type 0 = λ q. IsStop (g.D.DependencyProvider.may_cancel q) (IsAtLimit s) e in
-    subst Stops (sym c.count.ensures.rest.provider)
-    (stop_weaker (g.D.DependencyProvider.may_cancel p) (IsStuck rounds) (IsAtLimit s)
-    (at_limit c.new-rounds.result rounds s c.find-found.ensures.limits (made.variables ∙ sym limits.variables) (made.clauses ∙ sym limits.clauses)
-    (made.all_clauses ∙ sym limits.clauses) (made.learnt ∙ sym limits.learnt) c.count.ensures.counted) e h))
-    c.find-found.result c.find-found.ensures.refusal
+    let Stops : g.row.D.Denot → Type 0 = λ q. IfErr c.find-found.result (IsStop (g.D.DependencyProvider.may_cancel q) (IsStuck rounds)) in
+    subst Stops (sym c.count.ensures.rest.provider) c.find-found.ensures.refusal
 
 pub returns-clause-answer : goal.returns-clause-answer
 returns-clause-answer g c =
@@ -91,11 +82,29 @@ returns-clause-refusal g c =
     λ q d. IfOk c.find-found.result (IsDone (g.D.Interner.universe q) d (map Solvable w.0 ++ c.listed_soft_requirements.result.now) rounds) in
     let DoneBy : g.row.D.Denot → Type 0 = λ q. DoneFor q root in
     let done : DoneFor s.provider root = subst DoneBy (sym provider) (subst (DoneFor p) same w.2) in
+    let list = c.listed_soft_requirements.result.now in
+    let gives = g.S.Iterator.next_gives in
+    let led = c.find-found.ensures.led in
+    let new = c.outcome-answer.new.self in
+    let u = g.D.Interner.universe p in
+    let Begun : List (SoftRequirement g.row.D-SolvableId.Denot) → Type 0 = HaveBegun gives (soft_in c.args.problem) (list_in c.args.problem) in
+    let BegunIn : Option g.row.S.Denot → Type 0 = λ o. HaveBegun gives o list led.0 in
+    let BegunOf : List (SoftRequirement g.row.D-SolvableId.Denot) → Type 0 = λ l. HaveBegun gives (soft_in c.args.problem) l led.0 in
+    let begun : Begun led.0 = subst BegunOf c.listed_soft_requirements.ensures (subst BegunIn c.take-soft.ensures.value led.1) in
+    let LedBy : Demands → Type 0 = λ d. IsLedBy u d led.0 rounds in
+    let made = c.new-rounds.ensures in
+    let limits = c.count.ensures.rest.limits in
+    let follows : IsStuck rounds → IsAtLimit u root Begun new =
+    λ stuck. still_at_limit u root Begun s new c.outcome-answer.ensures.limits c.outcome-answer.ensures.counts
+    (at_limit u root Begun c.new-rounds.result rounds s c.find-found.ensures.limits (made.variables ∙ sym limits.variables)
+    (made.clauses ∙ sym limits.clauses) (made.all_clauses ∙ sym limits.clauses) (made.learnt ∙ sym limits.learnt) c.count.ensures.counted
+    led.0 begun (subst LedBy same led.2) stuck) in
     IfErr-weaker (λ e. (d : Demands) (xs : List (SoftRequirement g.row.D-SolvableId.Denot)) →
     IfOk c.find-found.result (IsDone (g.D.Interner.universe s.provider) d xs rounds) →
-    IsRefusal (g.D.Interner.universe s.provider) (g.D.DependencyProvider.may_cancel s.provider) d (IsAtLimit c.outcome-answer.new.self) e)
-    (λ e. IsRefusal (g.D.Interner.universe p) (g.D.DependencyProvider.may_cancel p) root (IsAtLimit c.outcome-answer.new.self) e)
+    IsRefusal (g.D.Interner.universe s.provider) (g.D.DependencyProvider.may_cancel s.provider) d (IsStuck rounds) e)
+    (λ e. IsRefusal u (g.D.DependencyProvider.may_cancel p) root (IsAtLimit u root Begun new) e)
     (λ e h. let For : g.row.D.Denot →
-    Type 0 = λ q. IsRefusal (g.D.Interner.universe q) (g.D.DependencyProvider.may_cancel q) root (IsAtLimit c.outcome-answer.new.self) e in
-    subst For provider (h root (map Solvable w.0 ++ c.listed_soft_requirements.result.now) done))
+    Type 0 = λ q. IsRefusal (g.D.Interner.universe q) (g.D.DependencyProvider.may_cancel q) root (IsStuck rounds) e in
+    refusal_weaker u (g.D.DependencyProvider.may_cancel p) root (IsStuck rounds) (IsAtLimit u root Begun new) follows e
+    (subst For provider (h root (map Solvable w.0 ++ list) done)))
     c.outcome-answer.result c.outcome-answer.ensures.refusal
