@@ -1,7 +1,7 @@
 -- What a request comes to.
 use Rattle.std.specs.Prelude.{◌≡◌, ◌==◌, ℕ, Bool, List, Option, ⊤, string_bytes}
 use Rattle.std.specs.Io.KnownBytes.{Appends}
-use Rattle.resolver_clause_store.specs.Universe.{Demands}
+use Rattle.resolver_clause_store.specs.Universe.{Demands, Universe}
 use Rattle.resolver_clause_store.specs.declared.Rule.{Rule}
 use Rattle.resolver_report.specs.Graphs.{graph_of}
 use Rattle.resolver_report.specs.Messages.{message}
@@ -23,6 +23,12 @@ same_name_ids a b = a.0 == b.0
 -- the message of the graph of some rules, in the texts of a catalog
 abbrev pub conflict_message : Catalog → List (Rule NameId SolvableId) → List ℕ
 conflict_message it rules = message (catalog_universe it) (graph_of same_name_ids same_solvable_ids rules)
+
+-- the text is the message of some rules, and these explain whatever the given rules explain
+pub record IsMessageFrom (it : Catalog) (given : List (Rule NameId SolvableId)) (text : List ℕ) : Type 0 where
+  pub rules : List (Rule NameId SolvableId)
+  pub explain : (u : Universe NameId SolvableId) (root : Demands) → Explains u root given → Explains u root rules
+  pub is : text ≡ conflict_message it rules
 
 -- what a request asks for
 abbrev pub demands_of : Request → Demands

@@ -1,13 +1,13 @@
 //! From an input to an answer, with the streams of a program.
 
-ghost use Rattle.std.specs.Prelude.{◌≡◌, ◌≢◌, ◌<◌, ◌≤◌, IfErr, IfOk, OnOk, string_bytes};
+ghost use Rattle.std.specs.Prelude.{◌≡◌, ◌≢◌, ◌<◌, ◌≤◌, IfErr, IfOk, IfSome, OnOk, string_bytes};
 ghost use Rattle.std.specs.Io.KnownBytes.{Appends};
 ghost use Rattle.resolver_clause_store.specs.declared.data.Exhausted.TheVariants.{Memory};
 ghost use Rattle.resolve.specs.declared.run.Fault.TheVariants.{Exhausted as RanOut};
 ghost use Rattle.resolvo.specs.Conflicts.{rules_in};
 ghost use Rattle.resolvo.specs.Solvers.{provider_in};
 ghost use Rattle.resolve.specs.Faults.{exhausted_text, fault_of, status_of};
-ghost use Rattle.resolve.specs.Outcomes.{IsConflictWritten, IsExplained, IsOutcomeOf, IsSomeOutcome, conflict_message};
+ghost use Rattle.resolve.specs.Outcomes.{IsConflictWritten, IsExplained, IsOutcomeOf, IsSomeOutcome, IsMessageFrom, conflict_message};
 ghost use Rattle.resolve.specs.declared.request.Request.{Request};
 
 use crate::catalog::Catalog;
@@ -258,8 +258,22 @@ fn refusal_of(
     }
 }
 
-/// The message of a conflict.
+/// The message of a conflict, or of one that was refined from it, if that has fewer rules and its message is shorter.
 fn conflict_text(
+    solver: &Solver<Catalog>,
+    conflict: &Conflict<NameId, SolvableId>,
+) -> Result<String, Fault>
+    ensures { IfOk result (λ text. IsMessageFrom (provider_in solver.now) (rules_in conflict.now) (string_bytes text)) }
+{
+    let text = whole_text(solver, conflict)?;
+    match refined_text(solver, conflict, text.len())? {
+        Some(shorter) => Ok(shorter),
+        None => Ok(text),
+    }
+}
+
+/// The message of a conflict.
+fn whole_text(
     solver: &Solver<Catalog>,
     conflict: &Conflict<NameId, SolvableId>,
 ) -> Result<String, Fault>
@@ -267,6 +281,39 @@ fn conflict_text(
 {
     let message = conflict.display_user_friendly(solver)?;
     let text = message.text();
+    drop(message);
+    Ok(text?)
+}
+
+/// The message of the conflict that is refined from this one, if that has fewer rules and its message has fewer bytes than this.
+fn refined_text(
+    solver: &Solver<Catalog>,
+    conflict: &Conflict<NameId, SolvableId>,
+    length: usize,
+) -> Result<Option<String>, Fault>
+    ensures { IfOk result (λ answer. IfSome answer (λ text. IsMessageFrom (provider_in solver.now) (rules_in conflict.now) (string_bytes text))) }
+{
+    let refined = conflict.refined()?;
+    let text = smaller_text(solver, conflict, &refined, length);
+    drop(refined);
+    Ok(text?)
+}
+
+/// The message of a conflict, if it has fewer rules than another one and its message has fewer bytes than this.
+fn smaller_text(
+    solver: &Solver<Catalog>,
+    other: &Conflict<NameId, SolvableId>,
+    conflict: &Conflict<NameId, SolvableId>,
+    length: usize,
+) -> Result<Option<String>, Fault>
+    ensures { IfOk result (λ answer.
+        IfSome answer (λ text. string_bytes text ≡ conflict_message (provider_in solver.now) (rules_in conflict.now))) }
+{
+    if conflict.rules().len() >= other.rules().len() {
+        return Ok(None);
+    }
+    let message = conflict.display_user_friendly(solver)?;
+    let text = message.text_within(length.saturating_sub(1));
     drop(message);
     Ok(text?)
 }

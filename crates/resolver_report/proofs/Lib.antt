@@ -31,3 +31,4 @@ pub mod ImpliedLemmas
 pub mod MessageExamples
 pub mod PendingLemmas
 pub mod ChoiceLemmas
+pub mod CountLemmas

@@ -30,6 +30,7 @@ pub mod Verdicts
 pub mod Outlines
 pub mod Tellings
 pub mod Displays
+pub mod MessageParts
 pub mod Picks
 pub mod Indents
 pub mod ConflictTexts

@@ -1,7 +1,8 @@
 //! The message of a graph.
 
-ghost use Rattle.std.specs.Prelude.{◌≡◌, ◌++◌, ◌∷◌, [], true, Some, IfOk, IfErr, OnOk, codes, filter, string_bytes};
+ghost use Rattle.std.specs.Prelude.{◌≡◌, ◌++◌, ◌∷◌, ◌<◌, ◌≤◌, [], true, Some, IfOk, IfErr, IfNone, IfSome, IsTrue, OnOk, codes, filter, length, string_bytes};
 ghost use Rattle.resolver_report.specs.ConflictGraphs.{shape_of};
+ghost use Rattle.resolver_report.specs.MessageParts.{message_in};
 ghost use Rattle.resolver_report.specs.Messages.{conflict_part, conflict_text, message, missing_part, tree};
 ghost use Rattle.resolver_report.specs.Forests.{text_of};
 ghost use Rattle.resolver_report.specs.Picks.{has_mark};
@@ -13,7 +14,7 @@ use crate::marks::{is_marked, missing};
 use crate::outline::node_stories;
 use crate::runs::outgoing;
 use crate::texts::write_conflicts;
-use crate::tree::{Outline, tell_edges, write_end};
+use crate::tree::{Outline, count_edges, tell_edges, write_end};
 use itertools::Itertools;
 use resolver_clause_store::{Exhausted, Interner};
 use std::alloc::Global;
@@ -117,12 +118,25 @@ fn write_conflict_part<I: Interner>(
     Ok(())
 }
 
-/// The text of a graph's message.
-fn message_text<I: Interner>(
-    interner: &I,
-    graph: &ConflictGraph<I::SolvableId>,
-) -> Result<String, Exhausted>
-    ensures value { IfOk result (λ s. string_bytes s ≡ message (I.universe interner.now) (shape_of graph.now)) }
+/// What a message is written from.
+#[derive(Drop)]
+struct MessageParts<'i, I: Interner> {
+    outline: Outline<'i, I>,
+    /// The edges of the root, newest first.
+    root_edges: Vec<Edge<I::SolvableId>>,
+    /// Those that lead to what cannot be had at all.
+    lost: Vec<Edge<I::SolvableId>>,
+    /// The others.
+    left: Vec<Edge<I::SolvableId>>,
+}
+
+/// What the message of a graph is written from.
+fn parts_of<'i, I: Interner>(
+    interner: &'i I,
+    graph: &'i ConflictGraph<I::SolvableId>,
+) -> Result<MessageParts<'i, I>, Exhausted>
+    ensures outline { IfOk result (λ parts. IsOutline I.universe parts.outline I.SolvableId.eq) }
+    ensures message { IfOk result (λ parts. message_in I.universe parts ≡ message (I.universe interner.now) (shape_of graph.now)) }
     ensures memory { IfErr result (λ e. e ≡ Exhausted.Memory) }
 {
     let alloc = graph.graph.allocator();
@@ -131,10 +145,65 @@ fn message_text<I: Interner>(
     let lost = edges_by_mark(alloc, &root_edges, &missing, true)?;
     let left = edges_by_mark(alloc, &root_edges, &missing, false)?;
     let outline = outline_of(interner, graph)?;
+    Ok(MessageParts {
+        outline,
+        root_edges,
+        lost,
+        left,
+    })
+}
+
+/// The text of a message.
+fn message_text<I: Interner>(
+    alloc: Global,
+    parts: &MessageParts<'_, I>,
+) -> Result<String, Exhausted>
+    requires { IsOutline I.universe parts.now.outline I.SolvableId.eq }
+    ensures value { IfOk result (λ text. string_bytes text ≡ message_in I.universe parts.now) }
+    ensures memory { IfErr result (λ e. e ≡ Exhausted.Memory) }
+{
     let mut text = String::new(alloc);
-    write_missing_part(&outline, &lost, &mut text)?;
-    write_conflict_part(&outline, &root_edges, &left, &mut text)?;
+    write_missing_part(&parts.outline, &parts.lost, &mut text)?;
+    write_conflict_part(&parts.outline, &parts.root_edges, &parts.left, &mut text)?;
     Ok(text)
+}
+
+/// Whether the two trees of a message have more bytes than a limit. They are counted no further than that.
+fn has_longer_trees<I: Interner>(
+    alloc: Global,
+    parts: &MessageParts<'_, I>,
+    limit: usize,
+) -> Result<bool, Exhausted>
+    requires { IsOutline I.universe parts.now.outline I.SolvableId.eq }
+    ensures longer { IfOk result (λ longer. IsTrue longer → limit < length (message_in I.universe parts.now)) }
+    ensures memory { IfErr result (λ e. e ≡ Exhausted.Memory) }
+{
+    let lost = count_edges(alloc, &parts.outline, &parts.lost, false, limit)?;
+    let left = count_edges(alloc, &parts.outline, &parts.left, true, limit)?;
+    let both = lost.saturating_add(left);
+    Ok(both > limit)
+}
+
+/// The text of a message, or `None` where it has more bytes than a limit.
+fn message_text_within<I: Interner>(
+    alloc: Global,
+    parts: &MessageParts<'_, I>,
+    limit: usize,
+) -> Result<Option<String>, Exhausted>
+    requires { IsOutline I.universe parts.now.outline I.SolvableId.eq }
+    ensures value { IfOk result (λ answer. IfSome answer (λ text. string_bytes text ≡ message_in I.universe parts.now)) }
+    ensures within { IfOk result (λ answer. IfSome answer (λ text. length (string_bytes text) ≤ limit)) }
+    ensures longer { IfOk result (λ answer. IfNone answer (limit < length (message_in I.universe parts.now))) }
+    ensures memory { IfErr result (λ e. e ≡ Exhausted.Memory) }
+{
+    if has_longer_trees(alloc, parts, limit)? {
+        return Ok(None);
+    }
+    let text = message_text(alloc, parts)?;
+    if text.len() > limit {
+        return Ok(None);
+    }
+    Ok(Some(text))
 }
 
 /// The message of a conflict's graph: which packages are missing or do not go together, as a tree of lines.
@@ -166,8 +235,26 @@ impl<'i, I: Interner> DisplayUnsat<'i, I> {
         ensures value { IfOk result (λ text. string_bytes text ≡ displayed I.universe self.now) }
         ensures memory { IfErr result (λ e. e ≡ Exhausted.Memory) }
     {
-        let text = message_text(self.interner, &self.graph)?;
-        Ok(text)
+        let parts = parts_of(self.interner, &self.graph)?;
+        let text = message_text(self.graph.graph.allocator(), &parts);
+        drop(parts);
+        Ok(text?)
+    }
+
+    /// The message as a text, if that has at most so many bytes, and `None` if it is longer.
+    ///
+    /// The error is [`Exhausted::Memory`] alone. The bytes are counted first, and no further than beyond the limit, so a message
+    /// that is much longer takes neither the memory nor the time to write it.
+    pub fn text_within(&self, limit: usize) -> Result<Option<String>, Exhausted>
+        ensures value { IfOk result (λ answer. IfSome answer (λ text. string_bytes text ≡ displayed I.universe self.now)) }
+        ensures within { IfOk result (λ answer. IfSome answer (λ text. length (string_bytes text) ≤ limit)) }
+        ensures longer { IfOk result (λ answer. IfNone answer (limit < length (displayed I.universe self.now))) }
+        ensures memory { IfErr result (λ e. e ≡ Exhausted.Memory) }
+    {
+        let parts = parts_of(self.interner, &self.graph)?;
+        let text = message_text_within(self.graph.graph.allocator(), &parts, limit);
+        drop(parts);
+        Ok(text?)
     }
 }
 

@@ -29,6 +29,7 @@ pub mod FirstChoiceExamples
 pub mod ReadInTurnLemmas
 pub mod SameLemmas
 pub mod MinimalLemmas
+pub mod RefinedLemmas
 pub mod LineLemmas
 pub mod CompleteLemmas
 pub mod SoundLemmas

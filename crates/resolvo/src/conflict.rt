@@ -15,7 +15,7 @@ ghost use Rattle.resolvo.specs.Explanations.{Explains};
 ghost use Rattle.resolvo.specs.Minimal.{CopiesLeft, CopiesPart};
 ghost use Rattle.resolvo.specs.Solvers.{provider_in};
 
-use crate::minimal::{copies_of, left_in_turn};
+use crate::minimal::{copies_of, left_in_turn, marks_used_again};
 use crate::solver::Solver;
 use resolver_clause_store::{DependencyProvider, Exhausted, Interner};
 use resolver_report::{
@@ -66,6 +66,29 @@ impl<N: Copy + Eq + Ord + Hash + Drop, S: Copy + Eq + Ord + Hash + Drop> Conflic
     {
         let alloc = *self.rules.allocator();
         let marks = left_in_turn(alloc, self.rules())?;
+        let copies = copies_of(alloc, self.rules(), &marks)?;
+        let rules = keep_reached(alloc, copies)?;
+        Ok(Conflict { rules })
+    }
+
+    /// A conflict of the rules that a new search over these alone uses. It often has fewer rules, and never more, and what is left
+    /// stands in its order. Nothing is promised of how small it is: [`Conflict::minimal`] leaves no rule that can go, and takes far
+    /// longer.
+    ///
+    /// There are three searches at most, each over the rules that the one before it used, and no further one where less than a
+    /// tenth of them went. One that would learn more than 2,000 clauses is given up, and what the searches before it used is
+    /// answered. The error is [`Exhausted::Memory`] alone.
+    pub fn refined(&self) -> Result<Conflict<N, S>, Exhausted>
+        requires names { IsIdentity N.eq }
+        requires solvables { IsIdentity S.eq }
+        ensures part { IfOk result (λ refined. CopiesPart (rules_in self.now) (rules_in refined)) }
+        ensures refuted { IfOk result (λ refined. IsRefuted (rules_in self.now) → IsRefuted (rules_in refined)) }
+        ensures explains { IfOk result (λ refined.
+            (u : Universe N S) (root : Demands) → Explains u root (rules_in self.now) → Explains u root (rules_in refined)) }
+        ensures memory { IfErr result (λ e. e ≡ Exhausted.Memory) }
+    {
+        let alloc = *self.rules.allocator();
+        let marks = marks_used_again(alloc, self.rules())?;
         let copies = copies_of(alloc, self.rules(), &marks)?;
         let rules = keep_reached(alloc, copies)?;
         Ok(Conflict { rules })

@@ -2,6 +2,7 @@
 
 mod decision;
 mod no_packages;
+mod refining;
 mod rotation;
 mod rule_clauses;
 mod rule_codes;
@@ -17,6 +18,7 @@ ghost use Rattle.resolvo.specs.Minimal.{IsUnderway, LeavesInTurn, marked, others
 ghost use Rattle.resolvo.specs.Rotations.{AreNeeded, AreUnderway};
 
 use decision::{Verdict, decide};
+pub use refining::marks_used_again;
 use resolver_clause_store::{Exhausted, Rule};
 use resolver_report::find;
 use rotation::rotate;
@@ -80,12 +82,14 @@ fn clauses_within<N: Copy + Eq + Hash + Drop, S: Copy + Eq + Hash + Drop>(
     }
 }
 
-/// What the clauses of the rules, where there are any, decide of the marked ones.
+/// What the clauses of the rules, where there are any, decide of the marked ones, or `None` where the search would learn more
+/// clauses than the limit allows, or ids run out.
 fn verdict_of<N, S>(
     alloc: Global,
     rules: &[Rule<N, S>],
     form: &Option<RuleClauses>,
     marks: &[bool],
+    learnt_limit: usize,
 ) -> Result<Option<Verdict>, Exhausted>
     requires size { length marks.now ≡ length rules.now }
     requires form { IfSome form.now (λ form. DecideRules rules.now form.variables form.clauses.items) }
@@ -94,7 +98,7 @@ fn verdict_of<N, S>(
 {
     match form {
         Some(form) => {
-            let verdict = decide(alloc, rules, form, marks)?;
+            let verdict = decide(alloc, rules, form, marks, learnt_limit)?;
             Ok(verdict)
         }
         None => Ok(None),
@@ -137,7 +141,7 @@ fn verdict_on<N: Copy + Eq + Drop, S: Copy + Eq + Drop>(
     ensures verdict { IfOk result (VerdictIs rules.now marks.now) }
     ensures memory { IfErr result (λ e. e ≡ Exhausted.Memory) }
 {
-    match verdict_of(alloc, rules, form, marks)? {
+    match verdict_of(alloc, rules, form, marks, usize::MAX)? {
         Some(verdict) => Ok(verdict),
         None => {
             let verdict = decide_plainly(alloc, rules, marks)?;

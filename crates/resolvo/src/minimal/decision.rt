@@ -155,8 +155,12 @@ fn values_of(alloc: Global, trail: &Trail, variables: usize) -> Result<Vec<bool>
     Ok(values)
 }
 
-/// Searches to the end, or answers `Refused` where ids run out.
-fn search_on(alloc: Global, search: &mut ClauseSearch) -> Result<Outcome, Exhausted>
+/// Searches to the end, or answers `Refused` where as many clauses are learnt as the limit allows, or ids run out.
+fn search_on(
+    alloc: Global,
+    search: &mut ClauseSearch,
+    learnt_limit: usize,
+) -> Result<Outcome, Exhausted>
     requires consistent { IsConsistent search.old }
     requires root { IsRootTurn search.old }
     ensures outcome { IfOk result (λ outcome.
@@ -164,7 +168,7 @@ fn search_on(alloc: Global, search: &mut ClauseSearch) -> Result<Outcome, Exhaus
     ensures variables { IfOk result (λ outcome. outcome ≡ Outcome.Finished → variable_count (trail_of search.new) ≡ variable_count (trail_of search.old)) }
     ensures memory { IfErr result (λ e. e ≡ Exhausted.Memory) }
 {
-    match search.run(alloc, &NoPackages { alloc }, usize::MAX, usize::MAX) {
+    match search.run(alloc, &NoPackages { alloc }, learnt_limit, usize::MAX) {
         Ok(outcome) => Ok(outcome),
         Err(Interrupted::Exhausted(Exhausted::Memory)) => Err(Exhausted::Memory),
         Err(_) => Ok(Outcome::Refused),
@@ -179,6 +183,7 @@ fn decide_by<N, S>(
     form: &RuleClauses,
     marks: &[bool],
     marked: &MarkedClauses,
+    learnt_limit: usize,
 ) -> Result<Option<Verdict>, Exhausted>
     requires consistent { IsConsistent search.old }
     requires blank { IsLoaded [] [] search.old }
@@ -192,7 +197,7 @@ fn decide_by<N, S>(
     ensures memory { IfErr result (λ e. e ≡ Exhausted.Memory) }
 {
     search.load(form.variables, &marked.clauses, &marked.requirements, &[])?;
-    match search_on(alloc, search)? {
+    match search_on(alloc, search, learnt_limit)? {
         Outcome::Finished => {
             let values = values_of(alloc, search.trail(), form.variables)?;
             Ok(Some(Verdict::Obeyed(values)))
@@ -205,12 +210,13 @@ fn decide_by<N, S>(
     }
 }
 
-/// What a search decides of the marked rules, or `None` where ids run out.
+/// What a search decides of the marked rules, or `None` where it would learn more clauses than the limit allows, or ids run out.
 pub fn decide<N, S>(
     alloc: Global,
     rules: &[Rule<N, S>],
     form: &RuleClauses,
     marks: &[bool],
+    learnt_limit: usize,
 ) -> Result<Option<Verdict>, Exhausted>
     requires size { length marks.now ≡ length rules.now }
     requires form { DecideRules rules.now form.now.variables form.now.clauses.items }
@@ -219,7 +225,15 @@ pub fn decide<N, S>(
 {
     let marked = marked_clauses(alloc, &form.clauses, marks)?;
     let mut search = ClauseSearch::new(alloc, Activity::standard());
-    let verdict = decide_by(alloc, &mut search, rules, form, marks, &marked);
+    let verdict = decide_by(
+        alloc,
+        &mut search,
+        rules,
+        form,
+        marks,
+        &marked,
+        learnt_limit,
+    );
     drop(search);
     drop(marked);
     Ok(verdict?)

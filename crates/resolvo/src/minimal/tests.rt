@@ -278,7 +278,7 @@ fn is_irreducible(alloc: Global, rules: &[Rule<u32, u32>]) -> Result<bool, Exhau
 fn is_seen_obeyed(alloc: Global, rules: &[Rule<u32, u32>]) -> Result<bool, Exhausted> {
     let form = clauses_within(alloc, rules)?;
     let all = vec![in alloc; true; rules.len()]?;
-    let verdict = verdict_of(alloc, rules, &form, &all)?;
+    let verdict = verdict_of(alloc, rules, &form, &all, usize::MAX)?;
     Ok(matches!(verdict, Some(Verdict::Obeyed(_))))
 }
 
@@ -329,6 +329,87 @@ fn random_conflicts_become_irreducible(rt: HostRuntime) -> Result<(), Fail> {
         Ok((minimal, wrong)) => {
             assert!(rt; wrong == 0);
             assert!(rt; minimal >= 300);
+        }
+        Err(_) => return Err(Fail::from("refused")),
+    }
+    Ok(())
+}
+
+/// How many rules the refined conflict of these has, if the plain search finds no set that obeys those either.
+fn refined_count(alloc: Global, rules: Vec<Rule<u32, u32>>) -> Result<Option<usize>, Exhausted> {
+    let conflict = Conflict { rules };
+    let refined = conflict.refined()?;
+    if find(alloc, refined.rules())?.is_some() {
+        return Ok(None);
+    }
+    Ok(Some(refined.rules().len()))
+}
+
+fn refined_count_of(alloc: Global, stated: &[Stated<'_>]) -> Result<Option<usize>, Fail> {
+    let rules = rules_of(alloc, stated)?;
+    match refined_count(alloc, rules) {
+        Ok(count) => Ok(count),
+        Err(_) => Err(Fail::from("refused")),
+    }
+}
+
+#[test]
+fn what_a_new_search_does_not_use_is_left_out(rt: HostRuntime) -> Result<(), Fail> {
+    let twice_excluded = [
+        Stated::Requires(By::Root, &[11], &[]),
+        Stated::Excluded(11),
+        Stated::Excluded(11),
+    ];
+    assert!(rt; refined_count_of(rt.alloc(), &twice_excluded)? == Some(2));
+    assert!(rt; refined_count_of(rt.alloc(), &CLASH[..8])? == Some(8));
+    Ok(())
+}
+
+/// What came of refining random rules.
+#[derive(Clone, Copy, PartialEq)]
+enum Refined {
+    /// Some set obeys the rules.
+    Obeyed,
+    /// No set obeys what is left of them, which is fewer rules.
+    Fewer,
+    /// No set obeys what is left of them, which is as many rules.
+    AsMany,
+    Wrong,
+}
+
+fn refine_rules(alloc: Global, rules: Vec<Rule<u32, u32>>) -> Result<Refined, Exhausted> {
+    let count = rules.len();
+    if find(alloc, &rules)?.is_some() {
+        return Ok(Refined::Obeyed);
+    }
+    match refined_count(alloc, rules)? {
+        Some(left) if left < count => Ok(Refined::Fewer),
+        Some(left) if left == count => Ok(Refined::AsMany),
+        _ => Ok(Refined::Wrong),
+    }
+}
+
+/// Of how many lists of random rules some are left out, and of how many something is wrong.
+fn refined_counts(alloc: Global) -> Result<(u32, u32), Exhausted> {
+    let mut fewer: u32 = 0;
+    let mut wrong: u32 = 0;
+    for seed in 0..300 {
+        let rules = draw_rules(alloc, seed)?;
+        match refine_rules(alloc, rules)? {
+            Refined::Obeyed | Refined::AsMany => (),
+            Refined::Fewer => fewer = fewer.saturating_add(1),
+            Refined::Wrong => wrong = wrong.saturating_add(1),
+        }
+    }
+    Ok((fewer, wrong))
+}
+
+#[test]
+fn random_conflicts_are_refined(rt: HostRuntime) -> Result<(), Fail> {
+    match refined_counts(rt.alloc()) {
+        Ok((fewer, wrong)) => {
+            assert!(rt; wrong == 0);
+            assert!(rt; fewer >= 100);
         }
         Err(_) => return Err(Fail::from("refused")),
     }

@@ -1,35 +1,18 @@
-use Rattle.std.proofs.Common.{◌≡◌, ◌∙◌, ◌++◌, ap, true, false, filter}
-use Rattle.resolver_report.specs.ConflictGraphs.{shape_of}
-use Rattle.resolver_report.specs.Marks.{installable, missing}
-use Rattle.resolver_report.specs.Merging.{keys}
+use Rattle.std.proofs.Common.{◌∙◌, ◌++◌, ap}
 use Rattle.resolver_report.specs.Messages.{conflict_part, missing_part}
-use Rattle.resolver_report.specs.Picks.{has_mark}
-use Rattle.resolver_report.specs.Shapes.{outgoing}
+use Rattle.resolver_report.specs.Tellings.{graph_in, keys_in, marks_in, meaning}
 use Rattle.resolver_report.proofs.message.message_text.Goals as goal
 
 pub returns-clause-value : goal.returns-clause-value
 returns-clause-value g c =
-    let U = g.I.Interner.universe in
-    let shape = shape_of c.args.graph.now in
-    let out = outgoing shape.shape.edges shape.root in
-    let marks : c.in_ok-missing.missing.items ≡ missing shape = c.in_ok-missing.ensures.value in
-    let edges : c.in_ok-root_edges.root_edges.items ≡ out = c.in_ok-root_edges.ensures.value in
-    let lost : c.deref-5.result.now ≡ filter (has_mark (missing shape) true) out =
-    c.deref-5.ensures.value ∙ c.in_ok-lost.ensures.value ∙
-    (λ i. filter (has_mark ((c.deref-2.ensures.value ∙ marks) i) true) ((c.deref.ensures.value ∙ edges) i)) in
-    let left : c.deref-7.result.now ≡ filter (has_mark (missing shape) false) out =
-    c.deref-7.ensures.value ∙ c.in_ok-left.ensures.value ∙
-    (λ i. filter (has_mark ((c.deref-4.ensures.value ∙ marks) i) false) ((c.deref-3.ensures.value ∙ edges) i)) in
-    let it = c.in_ok-outline.ensures.interner in
-    let graph = c.in_ok-outline.ensures.graph in
+    let universe = g.I.Interner.universe in
+    let parts = c.args.parts.now in
+    let u = meaning universe parts.outline in
+    let graph = graph_in universe parts.outline in
+    let ks = keys_in universe parts.outline in
+    let marks = marks_in universe parts.outline in
     c.in_ok-write_conflict_part.ensures.ok
-    ∙ ap (λ z. z ++ conflict_part (U c.in_ok-outline.outline.interner.now) (shape_of c.in_ok-outline.outline.findings.graph.now)
-    (keys (U c.in_ok-outline.outline.interner.now) c.in_ok-outline.outline.findings.graph.now.graph)
-    (installable (shape_of c.in_ok-outline.outline.findings.graph.now)) c.deref-6.result.now c.deref-7.result.now)
-    (c.in_ok-write_missing_part.ensures.ok ∙
-    ap (λ z. z ++ missing_part (U c.in_ok-outline.outline.interner.now) (shape_of c.in_ok-outline.outline.findings.graph.now)
-    (keys (U c.in_ok-outline.outline.interner.now) c.in_ok-outline.outline.findings.graph.now.graph)
-    (installable (shape_of c.in_ok-outline.outline.findings.graph.now)) c.deref-5.result.now) c.new-text.ensures.bytes)
-    ∙ (λ i. missing_part (U (it i)) (shape_of (graph i)) (keys (U (it i)) (graph i).graph) (installable (shape_of (graph i))) (lost i) ++
-    conflict_part (U (it i)) (shape_of (graph i)) (keys (U (it i)) (graph i).graph) (installable (shape_of (graph i))) ((c.deref-6.ensures.value ∙ edges) i)
-    (left i))
+    ∙ ap (λ z. z ++ conflict_part u graph ks marks c.deref-2.result.now c.deref-3.result.now)
+    (c.in_ok-write_missing_part.ensures.ok ∙ ap (λ z. z ++ missing_part u graph ks marks c.deref.result.now) c.new-text.ensures.bytes)
+    ∙ (λ i. missing_part u graph ks marks (c.deref.ensures.value i) ++
+    conflict_part u graph ks marks (c.deref-2.ensures.value i) (c.deref-3.ensures.value i))

@@ -1,0 +1,9 @@
+use Rattle.std.proofs.Common.{◌≡◌, ℕ, List, IfSome, string_bytes, subst}
+use Rattle.resolver_report.specs.Messages.{message}
+use Rattle.resolve.specs.Catalogs.{catalog_universe}
+use Rattle.resolve.proofs.run.smaller_text.Goals as goal
+
+pub returns : goal.returns
+returns c =
+    let Tells : List ℕ → Type 0 = λ told. IfSome c.in_ok-text.field-0 (λ text. string_bytes text ≡ told) in
+    subst Tells (λ i. message (catalog_universe (c.in_ok-message.ensures.provider i)) (c.in_ok-message.ensures.graph i)) c.in_ok-text.ensures.value

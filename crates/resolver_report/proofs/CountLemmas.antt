@@ -1,0 +1,59 @@
+-- Bytes of a message that are counted and not written.
+use Rattle.std.proofs.Common.{◌≡◌, ℕ, ◌+◌, ◌-◌, ◌<◌, ◌≤◌, Bool, true, false, List, [], ◌∷◌, ◌++◌, length, length-append, append-nil, replicate, ap, arith, ◌∙◌}
+use Rattle.std.specs.Prelude.{codes, min}
+use Rattle.std.proofs.Math.Nat.{min-le_left}
+use Rattle.resolver_clause_store.specs.Universe.{Universe}
+use Rattle.resolver_report.specs.declared.graph.Edge.{Edge}
+use Rattle.resolver_report.specs.Forests.{text_of}
+use Rattle.resolver_report.specs.Merging.{Key}
+use Rattle.resolver_report.specs.PendingTexts.{pending_text, whole_tree}
+use Rattle.resolver_report.specs.Tellings.{tree_in}
+use Rattle.resolver_report.specs.declared.tree.Outline.{Outline}
+use Rattle.resolver_report.specs.Messages.{RunTold, conflict_part, conflict_text, missing_part, tree}
+use Rattle.resolver_report.specs.Shapes.{ConflictShape}
+
+-- what one step wrote is what is less to tell
+pub counted_step : (line rest all : List ℕ) (count : ℕ) → count ≡ length line → line ++ rest ≡ all → count + length rest ≡ length all
+counted_step line rest all count is same = omega (arith, is, length-append line rest, ap length same)
+
+-- a sum that stops at the largest number is no larger than the sum
+pub counted_more : (count more most sum rest before all : ℕ) → sum ≡ min (count + more) most → more + rest ≡ before → count + before ≤ all → sum + rest ≤ all
+counted_more count more most sum rest before all is step fit = omega (arith, is, min-le_left (count + more) most, step, fit)
+
+pub sum_above : (a b most sum limit : ℕ) → sum ≡ min (a + b) most → limit < sum → limit < a + b
+sum_above a b most sum limit is above = omega (arith, is, min-le_left (a + b) most, above)
+
+-- all that is to be told of a whole tree is its text
+pub whole_told : {I N S : Type 0} (universe : I → Universe N S) (outline : Outline I N S) (top_indent : Bool) (limit : ℕ) (runs : List RunTold) →
+    pending_text universe outline (whole_tree top_indent limit runs) ≡
+    text_of top_indent [] (tree_in universe outline limit (replicate limit false) true runs (replicate limit false)).value
+whole_told universe outline top_indent limit runs =
+    let text : ℕ → List ℕ = λ depth. text_of top_indent [] (tree_in universe outline depth (replicate limit false) true runs (replicate limit false)).value in
+    let none_above : limit - 0 ≡ limit = omega arith in
+    append-nil (text (limit - 0)) ∙ ap text none_above
+
+at_most_itself : (n : ℕ) → n ≤ n
+at_most_itself n = omega arith
+
+in_between : (front : List ℕ) (end : ℕ) (text back : List ℕ) → length text ≤ length (front ++ end ∷ (text ++ back))
+in_between front end text back = omega (arith, length-append front (end ∷ (text ++ back)), length-append text back)
+
+module _ {N S : Type 0} (u : Universe N S) (g : ConflictShape S) (ks : List Key) (marks : List Bool) where
+  abbrev tree_length : Bool → List (Edge S) → ℕ
+  tree_length top edges = length (text_of top [] (tree u g ks marks edges))
+
+  -- each part has at least its tree
+  missing_has_tree : (lost : List (Edge S)) → tree_length false lost ≤ length (missing_part u g ks marks lost)
+  missing_has_tree [] = omega arith
+  missing_has_tree (e ∷ es) = at_most_itself (length (missing_part u g ks marks (e ∷ es)))
+
+  conflict_has_tree : (out left : List (Edge S)) → tree_length true left ≤ length (conflict_part u g ks marks out left)
+  conflict_has_tree out [] = omega arith
+  conflict_has_tree out (e ∷ es) =
+      in_between (codes "The following packages are incompatible") 10 (text_of true [] (tree u g ks marks (e ∷ es))) (conflict_text u out)
+
+  pub longer_trees : (lost left out : List (Edge S)) (a b most sum limit : ℕ) → a ≤ tree_length false lost → b ≤ tree_length true left →
+      sum ≡ min (a + b) most → limit < sum → limit < length (missing_part u g ks marks lost ++ conflict_part u g ks marks out left)
+  longer_trees lost left out a b most sum limit first second is above =
+      let both = length-append (missing_part u g ks marks lost) (conflict_part u g ks marks out left) in
+      omega (arith, sum_above a b most sum limit is above, first, second, missing_has_tree lost, conflict_has_tree out left, both)

@@ -1,0 +1,50 @@
+-- What is left of rules where new searches over them alone were made.
+use Rattle.std.proofs.Common.{◌≡◌, List, [], ◌∷◌, Bool, true, false, All, length, replicate, ap, sym, subst, ◌∙◌}
+use Rattle.std.specs.List.{AllZip}
+use Rattle.resolver_clause_store.specs.Lists.{IsCut, cut_none, cut_left, cut_right}
+use Rattle.resolver_clause_store.specs.Statements.{StatesTheSame}
+use Rattle.resolver_clause_store.specs.Rules.{IsRefuted}
+use Rattle.resolver_clause_store.specs.TrueRules.{IsTrueRule}
+use Rattle.resolver_clause_store.specs.declared.Rule.{Rule}
+use Rattle.resolver_clause_store.specs.Universe.{Demands, Universe}
+use Rattle.resolver_report.proofs.ReachedRuleLemmas.{All-left}
+use Rattle.resolver_report.specs.ReachedRules.{IsKept, LeavesKept}
+use Rattle.resolvo.proofs.MinimalLemmas.{all_marked, cut_again, cut_zip}
+use Rattle.resolvo.proofs.SameLemmas.{AllTrue-same, IsRefuted-same}
+use Rattle.resolvo.specs.Explanations.{Explains}
+use Rattle.resolvo.specs.Minimal.{CopiesPart, marked}
+
+-- what is marked is a part, in its order
+marked_cut : {X : Type 0} (marks : List Bool) (xs : List X) → (dropped : List X) × IsCut xs (marked marks xs) dropped
+marked_cut [] [] = ([], cut_none)
+marked_cut [] (x ∷ xs) = let w = marked_cut [] xs in (x ∷ w.0, cut_right w.1)
+marked_cut (b ∷ marks) [] = ([], cut_none)
+marked_cut (true ∷ marks) (x ∷ xs) = let w = marked_cut marks xs in (w.0, cut_left w.1)
+marked_cut (false ∷ marks) (x ∷ xs) = let w = marked_cut marks xs in (x ∷ w.0, cut_right w.1)
+
+-- where all is marked
+pub all_used : {N S : Type 0} (rules : List (Rule N S)) (marks : List Bool) → marks ≡ replicate (length rules) true → IsRefuted rules →
+    IsRefuted (marked marks rules)
+all_used {N} {S} rules marks is refuted = let P : List (Rule N S) → Type 0 = λ q. IsRefuted q in
+    subst P (sym (ap (λ q. marked q rules) is ∙ all_marked rules)) refuted
+
+-- copies of what is marked, of which those about what is not reached went
+module _ {N S : Type 0} (rules : List (Rule N S)) (marks : List Bool) (copies kept : List (Rule N S))
+    (same : AllZip StatesTheSame (marked marks rules) copies) (leaves : LeavesKept copies kept) where
+  pub refined_part : CopiesPart rules kept
+  refined_part =
+      let first = marked_cut marks rules in
+      let second = cut_zip StatesTheSame (marked marks rules) leaves.cut same in
+      let whole = cut_again first.1 second.2 in
+      record { left = second.0; dropped = whole.0; cut = whole.1; same = second.3 }
+
+  pub refined_refuted : (IsRefuted rules → IsRefuted (marked marks rules)) → (IsRefuted copies → IsRefuted kept) → IsRefuted rules → IsRefuted kept
+  refined_refuted used stays refuted = stays (IsRefuted-same (marked marks rules) copies same (used refuted))
+
+  pub refined_explains : (IsRefuted rules → IsRefuted (marked marks rules)) → (IsRefuted copies → IsRefuted kept) → All (IsKept kept) kept →
+      (u : Universe N S) (root : Demands) → Explains u root rules → Explains u root kept
+  refined_explains used stays again u root explains = record {
+    each_true = AllTrue-same u root refined_part.left kept refined_part.same (All-left (IsTrueRule u root) refined_part.cut explains.each_true);
+    refuted = refined_refuted used stays explains.refuted;
+    each_reached = again;
+  }

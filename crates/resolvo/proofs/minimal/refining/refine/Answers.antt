@@ -1,0 +1,20 @@
+use Rattle.std.proofs.Common.{◌∙◌, ap, length, true}
+use Rattle.std.proofs.lemmas.List.{length-replicate}
+use Rattle.resolvo.proofs.RefinedLemmas.{all_used}
+use Rattle.resolvo.proofs.minimal.refining.refine.Goals as goal
+
+pub searches-init : goal.searches-init
+searches-init g c =
+    let all = c.in_ok-marks.ensures.items_if_clones_equal (λ y is. is) in record {
+      size = ap length all ∙ length-replicate _ true;
+      refuted = all_used c.args.rules.now c.in_ok-marks.marks.items all;
+    }
+
+pub searches-preserved : goal.searches-preserved
+searches-preserved g c = record {
+  size = c.in_ok-search_again.ensures.size;
+  refuted = λ all. c.in_ok-search_again.ensures.refuted (c.searches.invariant.refuted all);
+}
+
+pub returns-then-not-branch-clause-refuted : goal.returns-then-not-branch-clause-refuted
+returns-then-not-branch-clause-refuted g c = λ all. c.in_ok-search_again.ensures.refuted (c.searches.invariant.refuted all)

@@ -1,0 +1,11 @@
+use Rattle.std.proofs.Common.{◌≡◌, length}
+use Rattle.resolver_clause_store.specs.Rules.{IsRefuted}
+use Rattle.resolvo.specs.Minimal.{marked}
+use Rattle.resolvo.proofs.minimal.refining.refine.Given as goal
+
+-- the marked rules are refuted where all are
+abbrev pub invariant-searches : goal.invariant-searches
+invariant-searches g l = record {
+  size : length l.marks.items ≡ length l.rules;
+  refuted : IsRefuted l.rules → IsRefuted (marked l.marks.items l.rules);
+}

@@ -1,0 +1,97 @@
+//! Which rules of a list are used by new searches over them alone.
+
+ghost use Rattle.std.specs.Prelude.{◌≡◌, IfErr, IfOk, IfSome, OnOk, length};
+ghost use Rattle.resolver_clause_store.specs.Laws.{IsIdentity};
+ghost use Rattle.resolver_clause_store.specs.Rules.{IsRefuted};
+ghost use Rattle.resolvo.specs.Minimal.{marked};
+ghost use Rattle.resolvo.specs.RuleClauses.{DecideRules};
+
+use super::decision::Verdict;
+use super::rule_clauses::RuleClauses;
+use super::{clauses_within, verdict_of};
+use resolver_clause_store::{Exhausted, Rule};
+use std::alloc::Global;
+use std::hash::Hash;
+use std::mem::drop;
+
+/// How many searches there are at most, each over the rules that the one before it used.
+const SEARCHES: usize = 3;
+
+/// How many clauses each of them may learn.
+const LEARNT_LIMIT: usize = 2000;
+
+/// How many marks are true.
+fn marked_count(marks: &[bool]) -> usize {
+    marks.iter().filter(|mark| **mark).count()
+}
+
+/// Whether at least a tenth of the marks that were true is not true any more.
+fn are_far_fewer(before: &[bool], after: &[bool]) -> bool {
+    let count = marked_count(before);
+    count.saturating_sub(marked_count(after)).saturating_mul(10) >= count
+}
+
+/// Searches over the clauses of the marked rules, and leaves the marks of those that the search used. Where it finds a set or
+/// gives up, the marks stay. Whether a further search may be worth its time.
+fn search_again<N, S>(
+    alloc: Global,
+    rules: &[Rule<N, S>],
+    form: &Option<RuleClauses>,
+    marks: &mut Vec<bool>,
+) -> Result<bool, Exhausted>
+    requires size { length marks.old.items ≡ length rules.now }
+    requires form { IfSome form.now (λ form. DecideRules rules.now form.variables form.clauses.items) }
+    ensures size { OnOk result (length marks.new.items ≡ length rules.now) }
+    ensures refuted { OnOk result (IsRefuted (marked marks.old.items rules.now) → IsRefuted (marked marks.new.items rules.now)) }
+    ensures memory { IfErr result (λ e. e ≡ Exhausted.Memory) }
+{
+    let Some(verdict) = verdict_of(alloc, rules, form, marks, LEARNT_LIMIT)? else {
+        return Ok(false);
+    };
+    match verdict {
+        Verdict::Refuted(part) => {
+            let goes_on = are_far_fewer(marks, &part);
+            *marks = part;
+            Ok(goes_on)
+        }
+        Verdict::Obeyed(_) => Ok(false),
+    }
+}
+
+/// Marks of the rules that are left by a few searches over their clauses, each over what the one before it used.
+fn refine<N, S>(
+    alloc: Global,
+    rules: &[Rule<N, S>],
+    form: &Option<RuleClauses>,
+) -> Result<Vec<bool>, Exhausted>
+    requires form { IfSome form.now (λ form. DecideRules rules.now form.variables form.clauses.items) }
+    ensures size { IfOk result (λ marks. length marks.items ≡ length rules.now) }
+    ensures refuted { IfOk result (λ marks. IsRefuted rules.now → IsRefuted (marked marks.items rules.now)) }
+    ensures memory { IfErr result (λ e. e ≡ Exhausted.Memory) }
+{
+    let mut marks = vec![in alloc; true; rules.len()]?;
+    'searches: for _search in 0..SEARCHES {
+        if !search_again(alloc, rules, form, &mut marks)? {
+            return Ok(marks);
+        }
+    }
+    Ok(marks)
+}
+
+/// Marks of the rules that new searches over these alone use: three at most, as long as a tenth of the rules goes. Where a search
+/// would learn more than 2,000 clauses, it is given up, and what the searches before it used is marked.
+pub fn marks_used_again<N: Copy + Eq + Hash + Drop, S: Copy + Eq + Hash + Drop>(
+    alloc: Global,
+    rules: &[Rule<N, S>],
+) -> Result<Vec<bool>, Exhausted>
+    requires names { IsIdentity N.eq }
+    requires solvables { IsIdentity S.eq }
+    ensures size { IfOk result (λ marks. length marks.items ≡ length rules.now) }
+    ensures refuted { IfOk result (λ marks. IsRefuted rules.now → IsRefuted (marked marks.items rules.now)) }
+    ensures memory { IfErr result (λ e. e ≡ Exhausted.Memory) }
+{
+    let form = clauses_within(alloc, rules)?;
+    let marks = refine(alloc, rules, &form);
+    drop(form);
+    Ok(marks?)
+}
