@@ -103,14 +103,16 @@ module _ {N S : Type 0} where
   -- one more soft requirement leads to no less
   pub led_wider : (u : Universe N S) (root : Demands) (done : List (SoftRequirement S)) (requirement : SoftRequirement S) (r : Rounds N S) →
       IsLedBy u root done r → IsLedBy u root (done ++ requirement ∷ []) r
-  led_wider u root done requirement r led =
-      AreLed-more u root (flat_map (options u) done) (flat_map (own_packages u) done) (flat_map (options u) (done ++ requirement ∷ []))
-      (flat_map (own_packages u) (done ++ requirement ∷ [])) (gathered_before (options u) done requirement) (gathered_before (own_packages u) done requirement)
-      (notes_of r) led
+  led_wider u root done requirement r led = record {
+    all = AreLed-more u root (flat_map (options u) done) (flat_map (own_packages u) done) (flat_map (options u) (done ++ requirement ∷ []))
+        (flat_map (own_packages u) (done ++ requirement ∷ [])) (gathered_before (options u) done requirement)
+        (gathered_before (own_packages u) done requirement) (notes_of r) led.all;
+  }
 
   -- the root's turn
   pub led_root_turn : (u : Universe N S) (root : Demands) (old rest : Rounds N S) → IsReadSoFar u root (chosen_of old) (notes_of old) →
-      AreNear u root [] [] (notes_of old) → IsRootTurn old.search → LeadsOn u old rest → AreLed u root [] [] (notes_of old) → IsLedBy u root [] rest
+      AreNear u root [] [] (notes_of old) → IsRootTurn old.search → LeadsOn u old rest → AreLed u root [] [] (notes_of old) →
+      AreLed u root [] [] (notes_of rest)
   led_root_turn u root old rest read near turn leads led =
       leads root [] [] [] [] read (λ s h. h) (root_assumed (notes_of old).origins old.search turn) near led
 

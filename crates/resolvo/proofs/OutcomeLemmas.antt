@@ -36,7 +36,7 @@ used_up u root done r limit distinct count led = record {
   origins = (notes_of r).origins;
   distinct = distinct;
   count = count;
-  led = λ k d below. led (get_or (notes_of r).origins k d) (inl (Contains-get_or (notes_of r).origins k d below));
+  led = λ k d below. led.all (get_or (notes_of r).origins k d) (inl (Contains-get_or (notes_of r).origins k d below));
 }
 
 -- a count of the rounds at its limit is one of the solver's

@@ -221,8 +221,8 @@ module _ {N S : Type 0} where
     pub standing : IsStanding u root taken refused (flat_map (options u) done) (flat_map (own_packages u) done) r
 
   -- the problem, with what these soft requirements ask for, leads to whatever there is
-  abbrev pub IsLedBy : Universe N S → Demands → List (SoftRequirement S) → Rounds N S → Type 0
-  IsLedBy u root soft r = AreLed u root (flat_map (options u) soft) (flat_map (own_packages u) soft) (notes_of r)
+  pub record IsLedBy (u : Universe N S) (root : Demands) (soft : List (SoftRequirement S)) (r : Rounds N S) : Type 0 where
+    pub all : AreLed u root (flat_map (options u) soft) (flat_map (own_packages u) soft) (notes_of r)
 
   -- the turn of one more began, and the problem leads to whatever there is, if it led to whatever there was
   abbrev pub LeadsOver : Universe N S → SoftRequirement S → Rounds N S → Rounds N S → Type 0

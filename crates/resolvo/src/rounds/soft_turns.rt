@@ -187,8 +187,11 @@ impl<N: Copy + Eq + Hash + Drop, S: Copy + Eq + Hash + Drop> Rounds<N, S> {
         ensures still { OnOk result (IsStill self.new) }
         ensures counted { OnOk result (HasAllClauses self.new) }
         ensures between { OnOk result ((root : Demands) → IsBetween (D.universe provider.now) root [] self.old → (items : List S) ×
-            Drains I.next_gives soft items × IsBetween (D.universe provider.now) root (map SoftSolvable items) self.new ×
-            (IsLedBy (D.universe provider.now) root [] self.old → IsLedBy (D.universe provider.now) root (map SoftSolvable items) self.new)) }
+            Drains I.next_gives soft items × IsBetween (D.universe provider.now) root (map SoftSolvable items) self.new) }
+        ensures over { OnOk result ((root : Demands) → IsBetween (D.universe provider.now) root [] self.old →
+            IsLedBy (D.universe provider.now) root [] self.old → (items : List S) × Drains I.next_gives soft items ×
+            IsBetween (D.universe provider.now) root (map SoftSolvable items) self.new ×
+            IsLedBy (D.universe provider.now) root (map SoftSolvable items) self.new) }
         ensures led { (root : Demands) → IsBetween (D.universe provider.now) root [] self.old → IsLedBy (D.universe provider.now) root [] self.old →
             (items : List S) × GivesFirst I.next_gives soft items × IsLedBy (D.universe provider.now) root (map SoftSolvable items) self.new }
         ensures limits { KeepsRoom self.old self.new }
@@ -246,8 +249,11 @@ impl<N: Copy + Eq + Hash + Drop, S: Copy + Eq + Hash + Drop> Rounds<N, S> {
         ensures still { OnOk result (IsStill self.new) }
         ensures counted { OnOk result (HasAllClauses self.new) }
         ensures between { OnOk result ((root : Demands) → IsBetween (D.universe provider.now) root [] self.old → (items : List S) ×
-            AreItems I.next_gives soft items × IsBetween (D.universe provider.now) root (map SoftSolvable items) self.new ×
-            (IsLedBy (D.universe provider.now) root [] self.old → IsLedBy (D.universe provider.now) root (map SoftSolvable items) self.new)) }
+            AreItems I.next_gives soft items × IsBetween (D.universe provider.now) root (map SoftSolvable items) self.new) }
+        ensures over { OnOk result ((root : Demands) → IsBetween (D.universe provider.now) root [] self.old →
+            IsLedBy (D.universe provider.now) root [] self.old → (items : List S) × AreItems I.next_gives soft items ×
+            IsBetween (D.universe provider.now) root (map SoftSolvable items) self.new ×
+            IsLedBy (D.universe provider.now) root (map SoftSolvable items) self.new) }
         ensures led { (root : Demands) → IsBetween (D.universe provider.now) root [] self.old → IsLedBy (D.universe provider.now) root [] self.old →
             (items : List S) × AreFirstItems I.next_gives soft items × IsLedBy (D.universe provider.now) root (map SoftSolvable items) self.new }
         ensures limits { KeepsRoom self.old self.new }

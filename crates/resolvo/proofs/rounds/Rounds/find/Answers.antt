@@ -64,7 +64,7 @@ pub returns-in_ok-soft_turns-in-Answer-clause-table : goal.returns-in_ok-soft_tu
 returns-in_ok-soft_turns-in-Answer-clause-table g c = grind (arith, common_steps)
 
 pub returns-in_err-begin-clause-led : goal.returns-in_err-begin-clause-led
-returns-in_err-begin-clause-led g c = ([], none_begun g.I.Iterator.next_gives c.args.soft c.args.list.now, c.begin.ensures.led [] [])
+returns-in_err-begin-clause-led g c = ([], none_begun g.I.Iterator.next_gives c.args.soft c.args.list.now, record { all = c.begin.ensures.led [] [] })
 
 pub returns-in_err-all_rounds-clause-led : goal.returns-in_err-all_rounds-clause-led
 returns-in_err-all_rounds-clause-led g c =
@@ -72,8 +72,10 @@ returns-in_err-all_rounds-clause-led g c =
     let begun = c.in_ok-begin.ensures in (
       [],
       none_begun g.I.Iterator.next_gives c.args.soft c.args.list.now,
-      led_root_turn (g.D.Interner.universe c.args.provider.now) root c.begin.new.self c.all_rounds.new.self begun.read begun.near begun.turn
-          c.all_rounds.ensures.led (c.begin.ensures.led [] []),
+      record {
+        all = led_root_turn (g.D.Interner.universe c.args.provider.now) root c.begin.new.self c.all_rounds.new.self begun.read begun.near begun.turn
+            c.all_rounds.ensures.led (c.begin.ensures.led [] []);
+      },
     )
 
 pub returns-in-Contradiction-clause-led : goal.returns-in-Contradiction-clause-led
@@ -82,8 +84,10 @@ returns-in-Contradiction-clause-led g c =
     let begun = c.in_ok-begin.ensures in (
       [],
       none_begun g.I.Iterator.next_gives c.args.soft c.args.list.now,
-      led_root_turn (g.D.Interner.universe c.args.provider.now) root c.begin.new.self c.all_rounds.new.self begun.read begun.near begun.turn
-          c.all_rounds.ensures.led (c.begin.ensures.led [] []),
+      record {
+        all = led_root_turn (g.D.Interner.universe c.args.provider.now) root c.begin.new.self c.all_rounds.new.self begun.read begun.near begun.turn
+            c.all_rounds.ensures.led (c.begin.ensures.led [] []);
+      },
     )
 
 pub returns-in-Refused-clause-led : goal.returns-in-Refused-clause-led
@@ -92,8 +96,10 @@ returns-in-Refused-clause-led g c =
     let begun = c.in_ok-begin.ensures in (
       [],
       none_begun g.I.Iterator.next_gives c.args.soft c.args.list.now,
-      led_root_turn (g.D.Interner.universe c.args.provider.now) root c.begin.new.self c.all_rounds.new.self begun.read begun.near begun.turn
-          c.all_rounds.ensures.led (c.begin.ensures.led [] []),
+      record {
+        all = led_root_turn (g.D.Interner.universe c.args.provider.now) root c.begin.new.self c.all_rounds.new.self begun.read begun.near begun.turn
+            c.all_rounds.ensures.led (c.begin.ensures.led [] []);
+      },
     )
 
 pub returns-in_err-soft_turns-in-Answer-clause-led : goal.returns-in_err-soft_turns-in-Answer-clause-led
@@ -106,7 +112,9 @@ returns-in_err-soft_turns-in-Answer-clause-led g c =
     let begun = c.in_ok-begin.ensures in
     let first = between_begun u root c.begin.new.self rest begun.read begun.near begun.exempt begun.turn c.in_ok-all_rounds.ensures.keeps answering in
     c.soft_turns.ensures.led root (between_held u rest c.hold.new.self c.hold.ensures.trail c.hold.ensures.count root [] first)
-    (led_root_turn u root c.begin.new.self rest begun.read begun.near begun.turn c.all_rounds.ensures.led (c.begin.ensures.led [] []))
+    (record {
+      all = led_root_turn u root c.begin.new.self rest begun.read begun.near begun.turn c.all_rounds.ensures.led (c.begin.ensures.led [] []);
+    })
 
 pub returns-in_ok-soft_turns-in-Answer-clause-led : goal.returns-in_ok-soft_turns-in-Answer-clause-led
 returns-in_ok-soft_turns-in-Answer-clause-led g c =
@@ -118,4 +126,6 @@ returns-in_ok-soft_turns-in-Answer-clause-led g c =
     let begun = c.in_ok-begin.ensures in
     let first = between_begun u root c.begin.new.self rest begun.read begun.near begun.exempt begun.turn c.in_ok-all_rounds.ensures.keeps answering in
     c.soft_turns.ensures.led root (between_held u rest c.hold.new.self c.hold.ensures.trail c.hold.ensures.count root [] first)
-    (led_root_turn u root c.begin.new.self rest begun.read begun.near begun.turn c.all_rounds.ensures.led (c.begin.ensures.led [] []))
+    (record {
+      all = led_root_turn u root c.begin.new.self rest begun.read begun.near begun.turn c.all_rounds.ensures.led (c.begin.ensures.led [] []);
+    })

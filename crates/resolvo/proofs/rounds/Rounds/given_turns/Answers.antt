@@ -9,12 +9,13 @@ pub returns-in_ok-solvable_turns-in-Some-clause-between : goal.returns-in_ok-sol
 returns-in_ok-solvable_turns-in-Some-clause-between g c = λ root b.
     let w = c.in_ok-solvable_turns-in-Some.ensures.between root b in
     let Items : Option g.row.I.Denot → Type 0 = λ soft. AreItems g.I.Iterator.next_gives soft w.0 in
-    (w.0, subst Items (sym c.in-Some.is) w.1, w.2, w.3)
+    (w.0, subst Items (sym c.in-Some.is) w.1, w.2)
 
-pub returns-in-None-clause-between : goal.returns-in-None-clause-between
-returns-in-None-clause-between g c = λ root b.
-    let Items : Option g.row.I.Denot → Type 0 = λ soft. AreItems g.I.Iterator.next_gives soft [] in
-    ([], subst Items (sym c.in-None.is) refl, b, λ led. led)
+pub returns-in_ok-solvable_turns-in-Some-clause-over : goal.returns-in_ok-solvable_turns-in-Some-clause-over
+returns-in_ok-solvable_turns-in-Some-clause-over g c = λ root b led.
+    let w = c.in_ok-solvable_turns-in-Some.ensures.over root b led in
+    let Items : Option g.row.I.Denot → Type 0 = λ soft. AreItems g.I.Iterator.next_gives soft w.0 in
+    (w.0, subst Items (sym c.in-Some.is) w.1, w.2, w.3)
 
 pub returns-in_ok-solvable_turns-in-Some-clause-counted : goal.returns-in_ok-solvable_turns-in-Some-clause-counted
 returns-in_ok-solvable_turns-in-Some-clause-counted g c = grind (arith, common_steps)
@@ -42,6 +43,3 @@ returns-in_ok-solvable_turns-in-Some-clause-led g c = λ root b led.
     let w = c.solvable_turns.ensures.led root b led in
     let Items : Option g.row.I.Denot → Type 0 = λ soft. AreFirstItems g.I.Iterator.next_gives soft w.0 in
     (w.0, subst Items (sym c.in-Some.is) w.1, w.2)
-
-pub returns-in-None-clause-led : goal.returns-in-None-clause-led
-returns-in-None-clause-led g c = λ root b led. ([], none_first g.I.Iterator.next_gives c.args.soft, led)

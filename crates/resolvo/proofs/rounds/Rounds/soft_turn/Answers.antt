@@ -30,20 +30,22 @@ returns-in_err-turn-in-Solvable-clause-led g c = λ root done b led.
     let u = g.D.Interner.universe c.args.provider.now in
     let r : SoftRequirement g.row.S.Denot = Solvable c.in-Solvable.solvable in
     let Led : SoftRequirement g.row.S.Denot → Type 0 = λ q. IsLedBy u root (done ++ q ∷ []) c.turn.new.self in
-    subst Led (sym c.in-Solvable.is)
-    (c.turn.ensures.led root b.taken b.refused (flat_map (options u) (done ++ r ∷ [])) (flat_map (own_packages u) (done ++ r ∷ []))
-    (gathered_last (options u) done r) (standing_for u root done r b.taken b.refused c.args.self.now b.standing)
-    (led_wider u root done r c.args.self.now led))
+    subst Led (sym c.in-Solvable.is) (record {
+      all = c.turn.ensures.led root b.taken b.refused (flat_map (options u) (done ++ r ∷ [])) (flat_map (own_packages u) (done ++ r ∷ []))
+          (gathered_last (options u) done r) (standing_for u root done r b.taken b.refused c.args.self.now b.standing)
+          (led_wider u root done r c.args.self.now led).all;
+    })
 
 pub returns-in_ok-turn-in-Solvable-clause-led : goal.returns-in_ok-turn-in-Solvable-clause-led
 returns-in_ok-turn-in-Solvable-clause-led g c = λ root done b led.
     let u = g.D.Interner.universe c.args.provider.now in
     let r : SoftRequirement g.row.S.Denot = Solvable c.in-Solvable.solvable in
     let Led : SoftRequirement g.row.S.Denot → Type 0 = λ q. IsLedBy u root (done ++ q ∷ []) c.turn.new.self in
-    subst Led (sym c.in-Solvable.is)
-    (c.turn.ensures.led root b.taken b.refused (flat_map (options u) (done ++ r ∷ [])) (flat_map (own_packages u) (done ++ r ∷ []))
-    (gathered_last (options u) done r) (standing_for u root done r b.taken b.refused c.args.self.now b.standing)
-    (led_wider u root done r c.args.self.now led))
+    subst Led (sym c.in-Solvable.is) (record {
+      all = c.turn.ensures.led root b.taken b.refused (flat_map (options u) (done ++ r ∷ [])) (flat_map (own_packages u) (done ++ r ∷ []))
+          (gathered_last (options u) done r) (standing_for u root done r b.taken b.refused c.args.self.now b.standing)
+          (led_wider u root done r c.args.self.now led).all;
+    })
 
 pub returns-in_err-version_set_turn-in-Matching-clause-led : goal.returns-in_err-version_set_turn-in-Matching-clause-led
 returns-in_err-version_set_turn-in-Matching-clause-led g c = λ root done b led.

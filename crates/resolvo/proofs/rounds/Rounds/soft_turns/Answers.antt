@@ -15,12 +15,12 @@ returns-in_err-given_turns-clause-led g c = λ root b led.
 
 pub returns-in_err-list_turns-clause-led : goal.returns-in_err-list_turns-clause-led
 returns-in_err-list_turns-clause-led g c = λ root b led.
-    let w = c.in_ok-given_turns.ensures.between root b in
-    let x = c.list_turns.ensures.led root (map Solvable w.0) w.2 (w.3 led) in
+    let w = c.in_ok-given_turns.ensures.over root b led in
+    let x = c.list_turns.ensures.led root (map Solvable w.0) w.2 w.3 in
     (map Solvable w.0 ++ x.0, all_given w.0 x.0 w.1 x.1, x.2)
 
 pub returns-clause-led : goal.returns-clause-led
 returns-clause-led g c = λ root b led.
-    let w = c.in_ok-given_turns.ensures.between root b in
-    let x = c.list_turns.ensures.led root (map Solvable w.0) w.2 (w.3 led) in
+    let w = c.in_ok-given_turns.ensures.over root b led in
+    let x = c.list_turns.ensures.led root (map Solvable w.0) w.2 w.3 in
     (map Solvable w.0 ++ x.0, all_given w.0 x.0 w.1 x.1, x.2)

@@ -105,8 +105,8 @@ returns-in_err-ask-clause-led g c = λ root done b led.
     let packages : List g.row.N.Denot = flat_map (own_packages u) (done ++ r ∷ []) in
     let own : Contains packages (u.version_set_name v) = gathered_last (own_packages u) done r (u.version_set_name v) (here (u.version_set_name v) []) in
     let standing = standing_for u root done r b.taken b.refused old b.standing in
-    let asked = c.ask.ensures.led root b.taken b.refused seeds packages own standing (led_wider u root done r old led) in
-    asked
+    let asked = c.ask.ensures.led root b.taken b.refused seeds packages own standing (led_wider u root done r old led).all in
+    record { all = asked }
 
 pub returns-in_err-take_first-clause-led : goal.returns-in_err-take_first-clause-led
 returns-in_err-take_first-clause-led g c = λ root done b led.
@@ -118,15 +118,17 @@ returns-in_err-take_first-clause-led g c = λ root done b led.
     let packages : List g.row.N.Denot = flat_map (own_packages u) (done ++ r ∷ []) in
     let own : Contains packages (u.version_set_name v) = gathered_last (own_packages u) done r (u.version_set_name v) (here (u.version_set_name v) []) in
     let standing = standing_for u root done r b.taken b.refused old b.standing in
-    let asked = c.ask.ensures.led root b.taken b.refused seeds packages own standing (led_wider u root done r old led) in
+    let asked = c.ask.ensures.led root b.taken b.refused seeds packages own standing (led_wider u root done r old led).all in
     let laws = g.met.D.DependencyProvider.lawful_packages c.args.provider.now in
     let lawful = lawful_solvables u g.S.PartialEq.eq (g.met.D.Interner.lawful_ids c.args.provider.now)
     (g.met.D.Interner.solvables_compare c.args.provider.now) g.met.D.Interner.solvables_are_values in
     let same : c.deref-2.result.now ≡ sorted_candidates u v = c.deref-2.ensures.value ∙ c.in_ok-candidates.ensures.value in
     let within : IsWithin c.deref-2.result.now seeds = λ s h. let Has : List g.row.S.Denot → Type 0 = λ list. Contains list s in
     gathered_last (options u) done r s (sorted_matches u laws lawful.same_solvable v s (subst Has same h)) in
-    c.take_first.ensures.led root b.taken b.refused seeds packages within
-    (c.in_ok-ask.ensures.standing root b.taken b.refused seeds packages own standing) asked
+    record {
+      all = c.take_first.ensures.led root b.taken b.refused seeds packages within
+          (c.in_ok-ask.ensures.standing root b.taken b.refused seeds packages own standing) asked;
+    }
 
 pub returns-clause-led : goal.returns-clause-led
 returns-clause-led g c = λ root done b led.
@@ -138,12 +140,14 @@ returns-clause-led g c = λ root done b led.
     let packages : List g.row.N.Denot = flat_map (own_packages u) (done ++ r ∷ []) in
     let own : Contains packages (u.version_set_name v) = gathered_last (own_packages u) done r (u.version_set_name v) (here (u.version_set_name v) []) in
     let standing = standing_for u root done r b.taken b.refused old b.standing in
-    let asked = c.ask.ensures.led root b.taken b.refused seeds packages own standing (led_wider u root done r old led) in
+    let asked = c.ask.ensures.led root b.taken b.refused seeds packages own standing (led_wider u root done r old led).all in
     let laws = g.met.D.DependencyProvider.lawful_packages c.args.provider.now in
     let lawful = lawful_solvables u g.S.PartialEq.eq (g.met.D.Interner.lawful_ids c.args.provider.now)
     (g.met.D.Interner.solvables_compare c.args.provider.now) g.met.D.Interner.solvables_are_values in
     let same : c.deref-2.result.now ≡ sorted_candidates u v = c.deref-2.ensures.value ∙ c.in_ok-candidates.ensures.value in
     let within : IsWithin c.deref-2.result.now seeds = λ s h. let Has : List g.row.S.Denot → Type 0 = λ list. Contains list s in
     gathered_last (options u) done r s (sorted_matches u laws lawful.same_solvable v s (subst Has same h)) in
-    c.take_first.ensures.led root b.taken b.refused seeds packages within
-    (c.in_ok-ask.ensures.standing root b.taken b.refused seeds packages own standing) asked
+    record {
+      all = c.take_first.ensures.led root b.taken b.refused seeds packages within
+          (c.in_ok-ask.ensures.standing root b.taken b.refused seeds packages own standing) asked;
+    }
