@@ -1,16 +1,15 @@
 -- What a refusal explains.
 use Rattle.std.proofs.Common.{◌≡◌, subst}
-use Rattle.std.specs.Prelude.{IfErr, IfSome, List, Option, None, Some, Result, Ok, Err, String, Vec, string_bytes}
+use Rattle.std.specs.Prelude.{IfErr, Result, Ok, Err, Vec}
 use Rattle.std.specs.declared.alloc.Global.{Global}
-use Rattle.resolver_clause_store.specs.Universe.{Demands, Universe}
-use Rattle.resolver_clause_store.specs.declared.Rule.{Rule}
+use Rattle.resolver_clause_store.specs.Universe.{Demands}
 use Rattle.resolvo.specs.Conflicts.{rules_in}
 use Rattle.resolvo.specs.Explanations.{Explains}
 use Rattle.resolvo.specs.Refusals.{IsRefusal}
 use Rattle.resolvo.specs.declared.solver.UnsolvableOrCancelled.{UnsolvableOrCancelled}
 use Rattle.resolvo.specs.declared.solver.UnsolvableOrCancelled.TheVariants.{Unsolvable, Cancelled, Exhausted}
 use Rattle.resolve.specs.Catalogs.{catalog_universe}
-use Rattle.resolve.specs.Outcomes.{IsExplained, IsMessageFrom, conflict_message, demands_of}
+use Rattle.resolve.specs.Outcomes.{IsExplained, demands_of}
 use Rattle.resolve.specs.declared.catalog.Catalog.{Catalog}
 use Rattle.resolve.specs.declared.ids.NameId.{NameId}
 use Rattle.resolve.specs.declared.ids.SolvableId.{SolvableId}
@@ -25,10 +24,3 @@ explained_by request it root may_cancel at_limit (Err (Unsolvable conflict)) sam
     subst (Given request.catalog) asked (let At : Catalog → Type 0 = λ it. Given it root in subst At same refusal)
 explained_by request it root may_cancel at_limit (Err (Cancelled value)) same asked refusal = tt
 explained_by request it root may_cancel at_limit (Err (Exhausted e)) same asked refusal = tt
-
--- the message of rules that explain whatever others do
-pub message_from : (it : Catalog) (given told : List (Rule NameId SolvableId)) (answer : Option (String Global)) →
-    ((u : Universe NameId SolvableId) (root : Demands) → Explains u root given → Explains u root told) →
-    IfSome answer (λ text. string_bytes text ≡ conflict_message it told) → IfSome answer (λ text. IsMessageFrom it given (string_bytes text))
-message_from it given told None explain is = tt
-message_from it given told (Some text) explain is = record { rules = told; explain = explain; is = is }

@@ -20,6 +20,9 @@ use std::alloc::{AllocError, AllocFailed, Global};
 use std::io;
 use std::io::{Read, Write};
 
+/// How many clauses a search may learn that looks for a conflict with a shorter message.
+const LEARNT_LIMIT: usize = 100;
+
 /// Why nothing was answered.
 #[derive(Clone, Copy, PartialEq, Eq)]
 pub(crate) enum Fault {
@@ -293,7 +296,7 @@ fn refined_text(
 ) -> Result<Option<String>, Fault>
     ensures { IfOk result (λ answer. IfSome answer (λ text. IsMessageFrom (provider_in solver.now) (rules_in conflict.now) (string_bytes text))) }
 {
-    let refined = conflict.refined()?;
+    let refined = conflict.refined_within(LEARNT_LIMIT)?;
     let text = smaller_text(solver, conflict, &refined, length);
     drop(refined);
     Ok(text?)

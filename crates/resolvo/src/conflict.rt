@@ -24,6 +24,9 @@ use resolver_report::{
 };
 use std::hash::Hash;
 
+/// How many clauses a search of [`Conflict::refined`] may learn.
+const LEARNT_LIMIT: usize = 2000;
+
 /// Rules that no set of solvables obeys together.
 ///
 /// They name no solvable as asker, forbidden or marked that their requirements do not reach from the root on.
@@ -73,11 +76,9 @@ impl<N: Copy + Eq + Ord + Hash + Drop, S: Copy + Eq + Ord + Hash + Drop> Conflic
 
     /// A conflict of the rules that a new search over these alone uses. It often has fewer rules, and never more, and what is left
     /// stands in its order. Nothing is promised of how small it is: [`Conflict::minimal`] leaves no rule that can go, and takes far
-    /// longer.
+    /// longer. A search may learn 2,000 clauses here; [`Conflict::refined_within`] takes another number.
     ///
-    /// There are three searches at most, each over the rules that the one before it used, and no further one where less than a
-    /// tenth of them went. One that would learn more than 2,000 clauses is given up, and what the searches before it used is
-    /// answered. The error is [`Exhausted::Memory`] alone.
+    /// The error is [`Exhausted::Memory`] alone.
     pub fn refined(&self) -> Result<Conflict<N, S>, Exhausted>
         requires names { IsIdentity N.eq }
         requires solvables { IsIdentity S.eq }
@@ -87,8 +88,26 @@ impl<N: Copy + Eq + Ord + Hash + Drop, S: Copy + Eq + Ord + Hash + Drop> Conflic
             (u : Universe N S) (root : Demands) → Explains u root (rules_in self.now) → Explains u root (rules_in refined)) }
         ensures memory { IfErr result (λ e. e ≡ Exhausted.Memory) }
     {
+        let refined = self.refined_within(LEARNT_LIMIT)?;
+        Ok(refined)
+    }
+
+    /// A conflict of the rules that a new search over these alone uses, if that learns no more clauses than the limit.
+    ///
+    /// There are three searches at most, each over the rules that the one before it used, and no further one where less than a
+    /// tenth of them went. One that would learn more clauses is given up, and what the searches before it used is answered: all
+    /// rules, if it was the first. The error is [`Exhausted::Memory`] alone.
+    pub fn refined_within(&self, learnt_limit: usize) -> Result<Conflict<N, S>, Exhausted>
+        requires names { IsIdentity N.eq }
+        requires solvables { IsIdentity S.eq }
+        ensures part { IfOk result (λ refined. CopiesPart (rules_in self.now) (rules_in refined)) }
+        ensures refuted { IfOk result (λ refined. IsRefuted (rules_in self.now) → IsRefuted (rules_in refined)) }
+        ensures explains { IfOk result (λ refined.
+            (u : Universe N S) (root : Demands) → Explains u root (rules_in self.now) → Explains u root (rules_in refined)) }
+        ensures memory { IfErr result (λ e. e ≡ Exhausted.Memory) }
+    {
         let alloc = *self.rules.allocator();
-        let marks = marks_used_again(alloc, self.rules())?;
+        let marks = marks_used_again(alloc, self.rules(), learnt_limit)?;
         let copies = copies_of(alloc, self.rules(), &marks)?;
         let rules = keep_reached(alloc, copies)?;
         Ok(Conflict { rules })

@@ -106,6 +106,24 @@ fn a_constraint_on_its_own_package(rt: HostRuntime) {
     );
 }
 
+/// The search comes to each version of a by another requirement. The message is that of a search over what it used, which leaves out
+/// that version 2 needs b: then both are told of together.
+#[test]
+fn what_a_search_over_the_conflict_leaves_out_is_not_told(rt: HostRuntime) {
+    let input =
+        "package a=1\npackage a=2\npackage b=1\npackage b=2\npackage c=1\npackage c=2\nrequires a=1 c@2\nrequires a=2 b@1\nrequires a=2 c@2\nconstrains b=1 c@2\nconstrains b=2 c@1\nrequires c=2 b@2\nrequire a\nrequire c\n";
+    let message = "The following packages are incompatible
+└─ a * cannot be installed because there are no viable options:
+   └─ a 1 | 2 would require
+      └─ c >=2, <3, which cannot be installed because there are no viable options:
+         └─ c 2 would require
+            └─ b >=2, <3, which cannot be installed because there are no viable options:
+               └─ b 2 would constrain
+                  └─ c >=1, <2, which conflicts with any installable versions previously reported
+";
+    expect_conflict(&rt, rt.alloc(), input, message);
+}
+
 #[test]
 fn a_shared_requirement_takes_the_best_version_that_can_be(rt: HostRuntime) {
     let input =

@@ -17,9 +17,6 @@ use std::mem::drop;
 /// How many searches there are at most, each over the rules that the one before it used.
 const SEARCHES: usize = 3;
 
-/// How many clauses each of them may learn.
-const LEARNT_LIMIT: usize = 2000;
-
 /// How many marks are true.
 fn marked_count(marks: &[bool]) -> usize {
     marks.iter().filter(|mark| **mark).count()
@@ -38,6 +35,7 @@ fn search_again<N, S>(
     rules: &[Rule<N, S>],
     form: &Option<RuleClauses>,
     marks: &mut Vec<bool>,
+    learnt_limit: usize,
 ) -> Result<bool, Exhausted>
     requires size { length marks.old.items ≡ length rules.now }
     requires form { IfSome form.now (λ form. DecideRules rules.now form.variables form.clauses.items) }
@@ -45,7 +43,7 @@ fn search_again<N, S>(
     ensures refuted { OnOk result (IsRefuted (marked marks.old.items rules.now) → IsRefuted (marked marks.new.items rules.now)) }
     ensures memory { IfErr result (λ e. e ≡ Exhausted.Memory) }
 {
-    let Some(verdict) = verdict_of(alloc, rules, form, marks, LEARNT_LIMIT)? else {
+    let Some(verdict) = verdict_of(alloc, rules, form, marks, learnt_limit)? else {
         return Ok(false);
     };
     match verdict {
@@ -63,6 +61,7 @@ fn refine<N, S>(
     alloc: Global,
     rules: &[Rule<N, S>],
     form: &Option<RuleClauses>,
+    learnt_limit: usize,
 ) -> Result<Vec<bool>, Exhausted>
     requires form { IfSome form.now (λ form. DecideRules rules.now form.variables form.clauses.items) }
     ensures size { IfOk result (λ marks. length marks.items ≡ length rules.now) }
@@ -71,7 +70,7 @@ fn refine<N, S>(
 {
     let mut marks = vec![in alloc; true; rules.len()]?;
     'searches: for _search in 0..SEARCHES {
-        if !search_again(alloc, rules, form, &mut marks)? {
+        if !search_again(alloc, rules, form, &mut marks, learnt_limit)? {
             return Ok(marks);
         }
     }
@@ -79,10 +78,11 @@ fn refine<N, S>(
 }
 
 /// Marks of the rules that new searches over these alone use: three at most, as long as a tenth of the rules goes. Where a search
-/// would learn more than 2,000 clauses, it is given up, and what the searches before it used is marked.
+/// would learn more clauses than the limit allows, it is given up, and what the searches before it used is marked.
 pub fn marks_used_again<N: Copy + Eq + Hash + Drop, S: Copy + Eq + Hash + Drop>(
     alloc: Global,
     rules: &[Rule<N, S>],
+    learnt_limit: usize,
 ) -> Result<Vec<bool>, Exhausted>
     requires names { IsIdentity N.eq }
     requires solvables { IsIdentity S.eq }
@@ -91,7 +91,7 @@ pub fn marks_used_again<N: Copy + Eq + Hash + Drop, S: Copy + Eq + Hash + Drop>(
     ensures memory { IfErr result (λ e. e ≡ Exhausted.Memory) }
 {
     let form = clauses_within(alloc, rules)?;
-    let marks = refine(alloc, rules, &form);
+    let marks = refine(alloc, rules, &form, learnt_limit);
     drop(form);
     Ok(marks?)
 }

@@ -1,16 +1,14 @@
-use Rattle.resolve.specs.CatalogLaws.{same_names, same_solvables}
+use Rattle.std.proofs.lemmas.Option.{IfSome_then}
 use Rattle.resolvo.specs.Conflicts.{rules_in}
-use Rattle.resolvo.specs.Solvers.{provider_in}
-use Rattle.resolve.proofs.OutcomeLemmas.{message_from}
+use Rattle.resolve.specs.CatalogLaws.{same_names, same_solvables}
 use Rattle.resolve.proofs.run.refined_text.Goals as goal
 
-pub refined-requires-clause-names : goal.refined-requires-clause-names
-refined-requires-clause-names c = same_names
+pub refined_within-requires-clause-names : goal.refined_within-requires-clause-names
+refined_within-requires-clause-names c = same_names
 
-pub refined-requires-clause-solvables : goal.refined-requires-clause-solvables
-refined-requires-clause-solvables c = same_solvables
+pub refined_within-requires-clause-solvables : goal.refined_within-requires-clause-solvables
+refined_within-requires-clause-solvables c = same_solvables
 
 pub returns : goal.returns
-returns c =
-    message_from (provider_in c.args.solver.now) (rules_in c.args.conflict.now) (rules_in c.in_ok-refined.refined) c.in_ok-text.field-0
-    c.in_ok-refined.ensures.explains c.in_ok-text.ensures
+returns c = IfSome_then c.in_ok-text.field-0 c.in_ok-text.ensures (λ text is.
+    record { rules = rules_in c.in_ok-refined.refined; explain = c.in_ok-refined.ensures.explains; is = is })

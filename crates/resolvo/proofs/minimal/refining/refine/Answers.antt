@@ -1,4 +1,4 @@
-use Rattle.std.proofs.Common.{◌∙◌, ap, length, true}
+use Rattle.std.proofs.Common.{◌∙◌, ap, length}
 use Rattle.std.proofs.lemmas.List.{length-replicate}
 use Rattle.resolvo.proofs.RefinedLemmas.{all_used}
 use Rattle.resolvo.proofs.minimal.refining.refine.Goals as goal
@@ -6,7 +6,7 @@ use Rattle.resolvo.proofs.minimal.refining.refine.Goals as goal
 pub searches-init : goal.searches-init
 searches-init g c =
     let all = c.in_ok-marks.ensures.items_if_clones_equal (λ y is. is) in record {
-      size = ap length all ∙ length-replicate _ true;
+      size = ap length all ∙ length-replicate _ _;
       refuted = all_used c.args.rules.now c.in_ok-marks.marks.items all;
     }
 
