@@ -1,23 +1,16 @@
 -- The requirement that is decided next.
-use Rattle.std.proofs.Common.{◌≡◌, ℕ, ◌+◌, ◌<◌, ◌≤◌, ◌⊎◌, List, length, get_or, take, Option, Some, None, Bool, true, false, arith, inl, inr, refl, sym, ap}
-use Rattle.std.proofs.Common.{◌∙◌, subst, ⊎_elim}
-use Rattle.std.specs.Prelude.{Vec, MatchOption, IfNone}
-use Rattle.std.proofs.lemmas.List.Elements.{All-more}
-use Rattle.resolver_clause_store.proofs.SetLemmas.{All-done}
-use Rattle.std.specs.List.{All, Any}
-use Rattle.std.specs.declared.alloc.Global.{Global}
+use Rattle.std.proofs.Common.{◌≡◌, ℕ, ◌+◌, ◌<◌, ◌≤◌, List, length, get_or, Option, Some, None, Bool, true, false, arith, inl, inr, refl, sym, ap}
+use Rattle.std.proofs.Common.{◌∙◌, ⊎_elim}
+use Rattle.std.specs.List.{Any}
 use Rattle.std.proofs.lemmas.Bool.{both_ways, cases_lt, false≢true}
 use Rattle.std.proofs.lemmas.List.{get_or_default}
 use Rattle.std.proofs.lemmas.Option.{same_Some, none-some}
 use Rattle.resolver_clause_store.specs.declared.literals.Literal.{Literal}
-use Rattle.resolver_clause_store.specs.declared.clauses.RequirementClause.{RequirementClause}
 use Rattle.resolver_clause_store.specs.declared.trail.Trail.{Trail}
-use Rattle.resolver_clause_store.specs.Formula.{clause_at}
 use Rattle.resolver_clause_store.specs.TrailView.{literal_value}
-use Rattle.resolver_clause_store.specs.Outcomes.{IsMet, IsSatisfied}
-use Rattle.resolver_clause_store.specs.declared.decisions.Choice.{Choice}
+use Rattle.resolver_clause_store.specs.Outcomes.{IsSatisfied}
 use Rattle.resolver_clause_store.specs.Settled.{IsSettled}
-use Rattle.resolver_clause_store.specs.Decisions.{IsFirst, HasPassed, IsChoiceOf, IsChoice}
+use Rattle.resolver_clause_store.specs.Decisions.{IsFirst, HasPassed}
 use Rattle.resolver_clause_store.proofs.SettledLemmas.{propagated}
 
 some-none : (T : Type 0) (x : T) → Some x ≡ None → ⊥

@@ -3,7 +3,6 @@ use Rattle.std.specs.Prelude.{◌≡◌, ℕ, ◌<◌, List, Contains, remove, l
 use Rattle.std.proofs.Common.{Global}
 use Rattle.resolver_clause_store.specs.Statements.{lists_of, statement_of, AllMeet, ObeysAlone}
 use Rattle.resolver_clause_store.specs.declared.data.Requirement.{Requirement}
-use Rattle.resolver_clause_store.specs.declared.data.By.{By}
 use Rattle.resolver_clause_store.specs.declared.data.By.TheVariants.{Root, Solvable}
 use Rattle.resolver_clause_store.specs.declared.rules.Rule.{Rule}
 use Rattle.resolver_clause_store.specs.declared.rules.Rule.TheVariants.{Requires, OnePerPackage}

@@ -36,7 +36,7 @@ use Rattle.resolver_encoding.specs.Encodings.{AreDemandsRead, AreNeedsRead, Asks
 use Rattle.resolver_encoding.specs.Read.{IsForbidden, IsSettled}
 use Rattle.resolver_encoding.specs.ReadState.{AreSeeds, HasClause, has_direct, has_gate, IsRead, IsReadRequirement}
 use Rattle.resolver_encoding.specs.SoFar.{IsHalfRead, IsReadSoFar}
-use Rattle.resolver_encoding.specs.Truth.{AreDue, HasLawfulSolvables}
+use Rattle.resolver_encoding.specs.Truth.{HasLawfulSolvables}
 use Rattle.resolver_encoding.specs.TrailAtoms.{CoversReached, IsAnswerBy, IsChosen as IsChosenBy, Takes, IsEntailed, IsFirstOpen, IsBecause, needed}
 use Rattle.resolver_encoding.specs.TrailAtoms.{needed_gate, seeded, left_out, forced, IsTrail, begun, went_on}
 use Rattle.resolver_encoding.specs.Trails.{AreAssumed, solvable_if, solvables_before, origin_at, value_of, entry_at, atoms_before, atoms_by}

@@ -1,21 +1,18 @@
 -- The rules that a core's clauses state are true and refuted.
 use Rattle.resolver_encoding.specs.Truth.{HasLawfulSolvables}
-use Rattle.std.proofs.Common.{◌∷◌, get_or, ◌≡◌, ℕ, List, [], Bool, true, refl, sym, subst, Contains, All, Vec, Global}
-use Rattle.std.specs.Prelude.{Option, Some, None, map}
+use Rattle.std.proofs.Common.{get_or, ◌≡◌, ℕ, List, [], Bool, true, refl, sym, subst, Contains, All, Vec, Global}
+use Rattle.std.specs.Prelude.{Option}
 use Rattle.std.proofs.lemmas.List.Elements.{All-contains, Contains-get_or, All-map}
 use Rattle.std.proofs.lemmas.Map.Views.{Contains-from_any}
 use Rattle.resolver_clause_store.specs.Laws.{IsIdentity}
-use Rattle.resolver_clause_store.specs.Lists.{Meets}
 use Rattle.resolver_clause_store.specs.Universe.{Universe, Demands}
 use Rattle.resolver_clause_store.specs.Candidates.{others}
 use Rattle.resolver_clause_store.specs.Valid.{demands_of}
 use Rattle.resolver_clause_store.specs.declared.ConditionId.{ConditionId}
 use Rattle.resolver_clause_store.specs.declared.Rule.{Rule}
-use Rattle.resolver_clause_store.specs.declared.Rule.TheVariants.{Requires as RuleRequires, Constrains as RuleConstrains, Lock as RuleLock}
-use Rattle.resolver_clause_store.specs.declared.Rule.TheVariants.{Excluded as RuleExcluded, OnePerPackage}
-use Rattle.resolver_clause_store.specs.Statements.{Statement, AllMeet, statement_of}
+use Rattle.resolver_clause_store.specs.Statements.{Statement, statement_of}
 use Rattle.resolver_clause_store.specs.Rules.{IsRefuted}
-use Rattle.resolver_clause_store.specs.TrueRules.{IsTrueRule, Implies, IsTrueStatement}
+use Rattle.resolver_clause_store.specs.TrueRules.{Implies, IsTrueStatement}
 use Rattle.resolver_clause_store.specs.declared.Origin.{Origin}
 use Rattle.resolver_clause_store.specs.declared.Origin.TheVariants.{Bit, Gate, ConstraintHelper}
 use Rattle.resolver_clause_store.specs.declared.ClauseKind.{ClauseKind}

@@ -1,5 +1,5 @@
 -- What is left out fits into no answer.
-use Rattle.std.proofs.Common.{◌≡◌, ℕ, ◌⊎◌, List, [], ◌∷◌, ◌++◌, arith, length-append, Bool, true, false, inl, inr, refl, sym, ap, ◌∙◌, subst, ⊎_elim, Contains}
+use Rattle.std.proofs.Common.{◌≡◌, ℕ, List, [], ◌∷◌, ◌++◌, arith, length-append, Bool, true, false, inl, inr, refl, sym, ap, ◌∙◌, subst, ⊎_elim, Contains}
 use Rattle.std.proofs.Common.{Some, Vec, Global}
 use Rattle.std.specs.Prelude.{map, slice_get}
 use Rattle.std.specs.Option.{option_map_or}

@@ -1,8 +1,8 @@
 -- Where first choices are promised, a trail on which nothing was assumed takes them and nothing else.
-use Rattle.std.proofs.Common.{ℕ, ◌≡◌, ◌⊎◌, List, [], ◌∷◌, ◌++◌, length, Bool, true, false, inl, inr, refl, sym, ap, ◌∙◌, subst, ⊎_elim, Contains, All}
-use Rattle.std.specs.Prelude.{not, map, Option, Some, slice_get}
+use Rattle.std.proofs.Common.{ℕ, ◌≡◌, ◌⊎◌, List, [], ◌∷◌, ◌++◌, length, Bool, true, inl, inr, refl, sym, ap, ◌∙◌, subst, ⊎_elim, Contains, All}
+use Rattle.std.specs.Prelude.{map, Option, Some, slice_get}
 use Rattle.std.specs.Bool.{beq}
-use Rattle.std.proofs.lemmas.Bool.{both_ways, false≢true}
+use Rattle.std.proofs.lemmas.Bool.{both_ways}
 use Rattle.std.proofs.lemmas.Option.{same_Some}
 use Rattle.std.proofs.lemmas.List.Elements.{All-contains, All-map}
 use Rattle.resolver_clause_store.specs.Candidates.{matching, sorted_candidates, first_choice, requirement_candidates}
@@ -20,7 +20,7 @@ use Rattle.resolver_clause_store.specs.declared.ClauseKind.TheVariants.{Requires
 use Rattle.resolver_clause_store.specs.declared.ConditionId.{ConditionId}
 use Rattle.resolver_clause_store.specs.declared.ConditionalRequirement.{ConditionalRequirement}
 use Rattle.resolver_clause_store.specs.declared.Origin.{Origin}
-use Rattle.resolver_clause_store.specs.declared.Origin.TheVariants.{Solvable, Gate, ConditionHelper}
+use Rattle.resolver_clause_store.specs.declared.Origin.TheVariants.{Solvable, Gate}
 use Rattle.resolver_clause_store.specs.declared.Requirement.{Requirement}
 use Rattle.resolver_clause_store.specs.declared.Requirement.TheVariants.{Single, Union}
 use Rattle.resolver_clause_store.specs.declared.RequirementClause.{RequirementClause}
@@ -32,7 +32,7 @@ use Rattle.resolver_encoding.specs.Encodings.{Notes}
 use Rattle.resolver_encoding.specs.ReadState.{AreSeeds}
 use Rattle.resolver_encoding.specs.SoFar.{IsReadSoFar}
 use Rattle.resolver_clause_store.specs.Statements.{AllMeet}
-use Rattle.resolver_encoding.specs.TrailAtoms.{IsEntailed, IsFirstOpen, IsBecause, needed, needed_gate, seeded, left_out, forced, IsTrail, begun, went_on}
+use Rattle.resolver_encoding.specs.TrailAtoms.{IsFirstOpen, IsBecause, needed, needed_gate, seeded, left_out, forced, IsTrail, begun, went_on}
 use Rattle.resolver_encoding.specs.TrailAtoms.{IsChosen}
 use Rattle.resolver_encoding.specs.Trails.{AreAssumed, atoms_before, solvables_before}
 use Rattle.resolver_encoding.specs.Truth.{AreCodes, HasLawfulSolvables, is_plain, follows, IsTrueClause, Spares}

@@ -1,9 +1,9 @@
 -- What a finished trail makes true is an answer, and each of it is there by need.
 use Rattle.resolver_encoding.specs.Truth.{HasLawfulSolvables}
-use Rattle.std.proofs.Common.{ℕ, ◌≡◌, List, ◌∷◌, Bool, true, false, inl, inr, sym, ◌∙◌, subst, ⊎_elim, Contains, All}
-use Rattle.std.specs.Prelude.{not, map, Option}
+use Rattle.std.proofs.Common.{ℕ, ◌≡◌, List, ◌∷◌, Bool, true, inl, inr, sym, ◌∙◌, subst, ⊎_elim, Contains, All}
+use Rattle.std.specs.Prelude.{map, Option}
 use Rattle.std.specs.Bool.{beq}
-use Rattle.std.proofs.lemmas.Bool.{cases_Bool, false≢true}
+use Rattle.std.proofs.lemmas.Bool.{cases_Bool}
 use Rattle.std.proofs.lemmas.List.Elements.{Contains-append_right, All-contains, All-map}
 use Rattle.resolver_clause_store.specs.Lists.{Meets, IsWithin}
 use Rattle.resolver_clause_store.specs.Universe.{Universe, Demands}

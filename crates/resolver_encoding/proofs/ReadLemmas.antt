@@ -30,8 +30,6 @@ use Rattle.resolver_clause_store.specs.TrueRules.{demands_by}
 use Rattle.resolver_encoding.specs.Atoms.{atom}
 use Rattle.resolver_encoding.specs.Encodings.{AsksForCandidates, AreDemandsRead, AreNeedsRead, Extends, HasProperHelper, IsConstraintRead, IsEncoding, IsLeft}
 use Rattle.resolver_encoding.specs.Encodings.{IsUnread, Notes}
-use Rattle.resolver_encoding.specs.Groups.{IsAt, IsNamed, group_at}
-use Rattle.resolver_encoding.specs.declared.groups.Groups.{Groups}
 use Rattle.resolver_encoding.specs.Read.{IsForbidden}
 use Rattle.resolver_encoding.specs.ReadState.{Deferred, HasClause, has_direct, has_gate, IsRead, IsReadRequirement}
 use Rattle.resolver_encoding.specs.SoFar.{IsHalfRead}
@@ -44,7 +42,6 @@ use Rattle.resolver_encoding.proofs.CodeLemmas.{apart_of_digits}
 use Rattle.resolver_encoding.proofs.NoteLemmas.{All-grown, asks_not}
 use Rattle.resolver_clause_store.proofs.ListLemmas.{Contains-cons_cases as cons_cases, Contains-here as here, Contains-none as none_in, Contains-there as there}
 use Rattle.resolver_encoding.proofs.GroupLemmas.{named_of_number as IsNamed-at}
-use Rattle.resolver_encoding.proofs.Lists.{Contains-slice}
 
 module _ {N S : Type 0} (u : Universe N S) (kinds more : List (ClauseKind N S)) (within : IsWithin kinds more) where
   pub HasClause-within : (by : By S) (list : List VersionSetId) (r : Requirement) → HasClause kinds by list r → HasClause more by list r

@@ -1,13 +1,11 @@
 -- What was read covers what is there by need.
 use Rattle.resolver_encoding.specs.Truth.{HasLawfulSolvables}
-use Rattle.std.proofs.Common.{◌≡◌, ◌⊎◌, List, [], ◌∷◌, Bool, cond, not, inr, sym, ◌∙◌, subst, ⊎_elim, Contains}
-use Rattle.std.specs.Prelude.{map, Option, Some, None, filter}
-use Rattle.std.specs.List.{list_any}
-use Rattle.std.proofs.lemmas.Bool.{cases_Bool}
+use Rattle.std.proofs.Common.{◌≡◌, ◌⊎◌, List, [], ◌∷◌, inr, sym, subst, ⊎_elim, Contains}
+use Rattle.std.specs.Prelude.{map, Option, Some, None}
 use Rattle.std.proofs.lemmas.List.Elements.{Contains-append_cases, All-weaker}
 use Rattle.std.proofs.lemmas.List.Sorted.{Contains-permutation, IsPermutation-sym}
-use Rattle.resolver_clause_store.specs.Laws.{IsIdentity, HasLawfulPackages}
-use Rattle.resolver_clause_store.specs.Lists.{Meets, IsWithin, IsCut, cut_none, cut_left, cut_right, without_repeats, moved_to_front}
+use Rattle.resolver_clause_store.specs.Laws.{HasLawfulPackages}
+use Rattle.resolver_clause_store.specs.Lists.{Meets, IsWithin}
 use Rattle.resolver_clause_store.specs.Universe.{Universe, Demands}
 use Rattle.resolver_clause_store.specs.Candidates.{matching, favored_first, sorted_candidates, sorted_in_order, requirement_candidates, version_sets}
 use Rattle.resolver_clause_store.specs.Conditions.{IsActive}
@@ -23,8 +21,7 @@ use Rattle.resolver_clause_store.specs.TrueRules.{demands_by}
 use Rattle.resolver_clause_store.specs.declared.ClauseKind.{ClauseKind}
 use Rattle.resolver_encoding.specs.Read.{IsMade, made_direct, made_gated}
 use Rattle.resolver_encoding.specs.ReadState.{Deferred, HasClause, has_direct, has_gate, IsRead, AreSeeds, NoneFires}
-use Rattle.resolver_clause_store.proofs.ListLemmas.{Contains-cons_cases as cons_cases, Contains-here as here, Contains-none as none_in, Contains-there as there}
-use Rattle.resolver_clause_store.proofs.ListLemmas.{list_any-witness}
+use Rattle.resolver_clause_store.proofs.ListLemmas.{Contains-here as here, Contains-none as none_in, Contains-there as there}
 use Rattle.resolver_clause_store.proofs.RequirementLemmas.{Contains-cut_left as Contains-cut, Contains-moved_to_front as Contains-front}
 use Rattle.resolver_clause_store.proofs.RequirementLemmas.{Contains-without_repeats as Contains-repeats}
 use Rattle.resolver_encoding.specs.TrailAtoms.{CoversReached}

@@ -1,29 +1,25 @@
 -- What true clauses and listed rules say of a set.
-use Rattle.std.proofs.Common.{ℕ, ◌≡◌, List, Bool, true, false, inl, inr, refl, sym, ap, ◌∙◌, subst, ⊎_elim, Contains, All, Vec, Global}
-use Rattle.std.specs.Prelude.{Option, Some, None, map, is_none, ◌&&◌, nat_eq}
-use Rattle.std.proofs.lemmas.List.Elements.{All-contains, Contains-get_or}
+use Rattle.std.proofs.Common.{ℕ, ◌≡◌, List, Bool, true, refl, sym, ap, ◌∙◌, subst, ⊎_elim, Contains, All}
+use Rattle.std.specs.Prelude.{Option, Some, None, is_none, nat_eq}
+use Rattle.std.proofs.lemmas.List.Elements.{All-contains}
 use Rattle.std.proofs.lemmas.Bool.{eqb-true, eq-eqb}
 use Rattle.std.proofs.lemmas.Map.Views.{Contains-from_any}
 use Rattle.resolver_clause_store.specs.Laws.{IsIdentity}
 use Rattle.resolver_clause_store.specs.Lists.{Meets}
-use Rattle.resolver_clause_store.specs.Universe.{Universe, Demands, Needs, unknown}
+use Rattle.resolver_clause_store.specs.Universe.{Universe, Demands}
 use Rattle.resolver_clause_store.specs.Candidates.{matching, others, requirement_candidates}
 use Rattle.resolver_clause_store.specs.Conditions.{OptionalConditionHolds}
-use Rattle.resolver_clause_store.specs.Valid as valid
-use Rattle.resolver_clause_store.specs.Valid.{IsValid, IsKnown, demands_of}
+use Rattle.resolver_clause_store.specs.Valid.{IsValid, demands_of}
 use Rattle.resolver_clause_store.specs.declared.ConditionId.{ConditionId}
 use Rattle.resolver_clause_store.specs.declared.ConditionalRequirement.{ConditionalRequirement}
-use Rattle.resolver_clause_store.specs.declared.VersionSetId.{VersionSetId}
 use Rattle.resolver_clause_store.specs.declared.Requirement.{Requirement}
 use Rattle.resolver_clause_store.specs.declared.Requirement.TheVariants.{Single, Union}
-use Rattle.resolver_clause_store.specs.declared.By.{By}
-use Rattle.resolver_clause_store.specs.declared.By.TheVariants.{Root as ByRoot, Solvable as BySolvable}
+use Rattle.resolver_clause_store.specs.declared.By.TheVariants.{Solvable as BySolvable}
 use Rattle.resolver_clause_store.specs.declared.Rule.{Rule}
 use Rattle.resolver_clause_store.specs.declared.Rule.TheVariants.{Requires as RuleRequires, Constrains as RuleConstrains, Lock as RuleLock}
 use Rattle.resolver_clause_store.specs.declared.Rule.TheVariants.{Excluded as RuleExcluded, OnePerPackage}
-use Rattle.resolver_clause_store.specs.Statements.{IsPresent, Statement, one_per_package, AllMeet, ObeysAlone, ObeysAll, statement_of}
+use Rattle.resolver_clause_store.specs.Statements.{Statement, one_per_package, ObeysAlone, ObeysAll, statement_of}
 use Rattle.resolver_clause_store.specs.Rules.{Obeys}
-use Rattle.resolver_clause_store.specs.TrueRules.{demands_by, Implies}
 use Rattle.resolver_clause_store.specs.declared.Origin.{Origin}
 use Rattle.resolver_clause_store.specs.declared.ClauseKind.{ClauseKind}
 use Rattle.resolver_clause_store.specs.declared.ClauseKind.TheVariants.{Requires, AnyOf, Constrains, ConstrainsExcluded, ConstrainsParent, HasBit, Lock}
@@ -32,7 +28,7 @@ use Rattle.resolver_encoding.specs.Atoms.{IsStated, states_requires, states_cons
 use Rattle.resolver_encoding.specs.Atoms.{states_excluded, Defines}
 use Rattle.resolver_clause_store.proofs.BoolLemmas.{and_left, and_right}
 use Rattle.resolver_clause_store.proofs.DemandLemmas.{active_by, constrains_by, not_unknown, requires_by}
-use Rattle.resolver_clause_store.proofs.ListLemmas.{Contains-map, list_any-contains, list_any-witness}
+use Rattle.resolver_clause_store.proofs.ListLemmas.{list_any-contains, list_any-witness}
 use Rattle.resolver_encoding.specs.Truth.{same_requirement, is_plain, AreCodes, follows, IsTrueClause, Spares, AreListed}
 
 pub same_requirement-true : (r q : Requirement) → same_requirement r q ≡ true → r ≡ q

@@ -15,7 +15,7 @@ use Rattle.resolver_clause_store.specs.declared.StringId.{StringId}
 use Rattle.resolver_clause_store.proofs.PlaceLemmas.{Keeps-same}
 use Rattle.resolver_encoding.specs.Atoms.{Atom}
 use Rattle.resolver_encoding.specs.Called.{IsAsking, IsSeeing, to_ask}
-use Rattle.resolver_encoding.specs.Encodings.{AddsClause, IsEncoding, IsEncodingWhile, IsLeft, IsStep, IsStepWhile, Notes, owing_for, IsAskStep}
+use Rattle.resolver_encoding.specs.Encodings.{AddsClause, IsEncoding, IsEncodingWhile, IsLeft, IsStepWhile, Notes, owing_for, IsAskStep}
 use Rattle.resolver_encoding.specs.ReadState.{Deferred}
 use Rattle.resolver_encoding.specs.SoFar.{IsHalfRead}
 use Rattle.resolver_encoding.specs.Truth.{AreDue}

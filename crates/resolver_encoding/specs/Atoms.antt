@@ -1,5 +1,5 @@
 -- What clauses say of sets of solvables. An atom is what a variable stands for, and whether it is to be true.
-use Rattle.std.specs.Prelude.{ℕ, ◌≡◌, ◌≢◌, Bool, true, false, List, [], ◌∷◌, ◌++◌, Contains, map, ⊤}
+use Rattle.std.specs.Prelude.{ℕ, ◌≡◌, Bool, true, false, List, [], ◌∷◌, ◌++◌, Contains, map, ⊤}
 use Rattle.std.specs.List.{list_any}
 use Rattle.std.specs.Bool.{beq}
 use Rattle.resolver_clause_store.specs.Universe.{Universe}
