@@ -16,11 +16,8 @@ use Rattle.resolver_report.specs.Shapes.{ConflictShape}
 pub counted_step : (line rest all : List ℕ) (count : ℕ) → count ≡ length line → line ++ rest ≡ all → count + length rest ≡ length all
 counted_step line rest all count is same = omega (arith, is, length-append line rest, ap length same)
 
--- a sum that stops at the largest number is no larger than the sum
-pub counted_more : (count more most sum rest before all : ℕ) → sum ≡ min (count + more) most → more + rest ≡ before → count + before ≤ all → sum + rest ≤ all
-counted_more count more most sum rest before all is step fit = omega (arith, is, min-le_left (count + more) most, step, fit)
-
-pub sum_above : (a b most sum limit : ℕ) → sum ≡ min (a + b) most → limit < sum → limit < a + b
+-- a sum that stops at the largest number, and is above a limit
+sum_above : (a b most sum limit : ℕ) → sum ≡ min (a + b) most → limit < sum → limit < a + b
 sum_above a b most sum limit is above = omega (arith, is, min-le_left (a + b) most, above)
 
 -- all that is to be told of a whole tree is its text
