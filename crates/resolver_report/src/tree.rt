@@ -1,6 +1,7 @@
 //! The tree of a message.
 
-ghost use Rattle.std.specs.Prelude.{◌≡◌, ◌∷◌, ◌++◌, ◌+◌, ◌<◌, ◌≤◌, ◌==◌, [], false, true, IfErr, IfOk, IfSome, IsFalse, IsTrue, OnOk, IsSome, MatchOption, length, map};
+ghost use Rattle.std.specs.Prelude.{◌≡◌, ◌∷◌, ◌++◌, ◌+◌, ◌<◌, ◌≤◌, ◌==◌, [], false, true, length, map};
+ghost use Rattle.std.specs.Prelude.{IfErr, IfOk, IfSome, IsFalse, IsTrue, OnOk, IsSome, MatchOption};
 ghost use Rattle.std.specs.Prelude.{slice_get, slice_set, string_bytes};
 ghost use Rattle.resolver_report.specs.Forests.{indent_from, text_of};
 ghost use Rattle.resolver_report.specs.Indents.{is_last_child, levels_in};
@@ -544,7 +545,8 @@ fn count_next<'s, I: Interner>(
     ensures empty { IfOk result (λ next. IfSome next (λ _. string_bytes line.new ≡ [])) }
     ensures levels { IfOk result (λ next. IfSome next (λ _. HasLevels pending.new)) }
     ensures counted { IfOk result (λ next. IfSome next (λ count.
-        count + length (pending_text I.universe outline.now (pending_view pending.new)) ≡ length (pending_text I.universe outline.now (pending_view pending.old)))) }
+        count + length (pending_text I.universe outline.now (pending_view pending.new)) ≡
+        length (pending_text I.universe outline.now (pending_view pending.old)))) }
     ensures less { IfOk result (λ next. IfSome next (λ _.
         pending_work I.universe outline.now (pending_view pending.new) < pending_work I.universe outline.now (pending_view pending.old))) }
     ensures memory { IfErr result (λ e. e ≡ Exhausted.Memory) }

@@ -1,5 +1,4 @@
 use Rattle.std.proofs.Common.{◌∙◌, ap, subst}
-use Rattle.resolver_clause_store.specs.Universe.{Demands}
 use Rattle.resolve.specs.Catalogs.{catalog_universe}
 use Rattle.resolve.specs.Outcomes.{IsExplained, conflict_message, demands_of}
 use Rattle.resolve.proofs.run.refusal_of.Goals as goal

@@ -1,8 +1,7 @@
 use Rattle.std.proofs.Common.{arith}
 use Rattle.std.proofs.lemmas.Grind.{common_steps}
-use Rattle.std.proofs.Common.{[], Option, refl, subst, sym}
+use Rattle.std.proofs.Common.{Option, subst, sym}
 use Rattle.resolvo.specs.Problems.{AreFirstItems, AreItems}
-use Rattle.resolvo.proofs.LeadingLemmas.{none_first}
 use Rattle.resolvo.proofs.rounds.Rounds.given_turns.Goals as goal
 
 pub returns-in_ok-solvable_turns-in-Some-clause-between : goal.returns-in_ok-solvable_turns-in-Some-clause-between
