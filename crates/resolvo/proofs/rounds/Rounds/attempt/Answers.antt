@@ -2,7 +2,7 @@ use Rattle.std.proofs.Common.{arith}
 use Rattle.std.proofs.lemmas.Grind.{common_steps}
 use Rattle.std.proofs.Common.{[], ap, length, refl, subst, sym, true}
 use Rattle.resolvo.proofs.GoingLemmas.{still_all}
-use Rattle.resolvo.proofs.SoftLemmas.{accepted, just_assumed, not_accepted, rounds_assumed, rounds_held, still_assumed, turned_held}
+use Rattle.resolvo.proofs.SoftLemmas.{accepted, just_assumed, not_accepted, rounds_assumed, rounds_held, still_assumed, still_held, turned_held}
 use Rattle.resolver_encoding.proofs.SoFarLemmas.{lawful_solvables}
 use Rattle.resolver_encoding.specs.Encodings.{Notes}
 use Rattle.resolver_encoding.specs.Led.{AreLed}
@@ -130,3 +130,9 @@ returns-clause-led g c = λ seen root taken refused seeds packages within b led.
     (within c.args.solvable (here c.args.solvable [])) c.begin_turn.ensures.only c.in_ok-begin_turn.ensures.exempts c.in_ok-begin_turn.ensures.stays.so_far
     c.in_ok-assume.ensures.gains c.in_ok-assume.ensures.held b
     c.is_answered.new.self c.in_ok-answered.ensures.keeps c.refuse.new.self c.is_answered.ensures.led c.refuse.ensures.led led
+
+pub returns-then-answered-clause-still : goal.returns-then-answered-clause-still
+returns-then-answered-clause-still g c =
+    let answering = c.in_ok-answered.ensures.answer c.if-answered.true in
+    still_held (g.D.Interner.universe c.args.provider.now) c.is_answered.new.self c.hold.new.self c.hold.ensures.trail c.hold.ensures.count
+    c.hold.ensures.held answering.marked answering.chosen

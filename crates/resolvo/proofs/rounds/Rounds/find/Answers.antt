@@ -5,7 +5,7 @@ use Rattle.resolver_clause_store.specs.Universe.{Demands}
 use Rattle.resolvo.specs.ClauseSearches.{IsRefused, base_of, trail_of}
 use Rattle.resolvo.specs.RoundStates.{IsAnswering, IsFound, notes_of}
 use Rattle.resolvo.proofs.GoingLemmas.{still_all}
-use Rattle.resolvo.proofs.SoftLemmas.{between_begun, between_held, rounds_held}
+use Rattle.resolvo.proofs.SoftLemmas.{between_begun, between_held, rounds_held, still_held}
 use Rattle.resolvo.proofs.LeadingLemmas.{led_root_turn, none_begun}
 use Rattle.resolvo.proofs.rounds.Rounds.find.Goals as goal
 
@@ -13,6 +13,14 @@ pub soft_turns-requires-clause-rounds : goal.soft_turns-requires-clause-rounds
 soft_turns-requires-clause-rounds g c =
     rounds_held (g.D.Interner.universe c.args.provider.now) c.all_rounds.new.self c.hold.new.self c.hold.ensures.trail c.hold.ensures.count
     c.in_ok-all_rounds.ensures.rounds c.hold.ensures.consistent c.hold.ensures.loaded
+
+pub soft_turns-requires-clause-still : goal.soft_turns-requires-clause-still
+soft_turns-requires-clause-still g c =
+    let u = g.D.Interner.universe c.args.provider.now in
+    let rest = c.all_rounds.new.self in
+    let found : IsFound u rest c.in_ok-all_rounds.field-0 = c.in_ok-all_rounds.ensures.found in
+    let answering : IsAnswering u rest = rw c.in-Answer.is at found in
+    still_held u rest c.hold.new.self c.hold.ensures.trail c.hold.ensures.count c.hold.ensures.held answering.marked answering.chosen
 
 pub returns-in_ok-soft_turns-in-Answer-clause-done : goal.returns-in_ok-soft_turns-in-Answer-clause-done
 returns-in_ok-soft_turns-in-Answer-clause-done g c =

@@ -29,3 +29,41 @@ returns-in_err-all_rounds-clause-led g c = c.all_rounds.ensures.led
 
 pub returns-clause-led : goal.returns-clause-led
 returns-clause-led g c = c.all_rounds.ensures.led
+
+pub returns-clause-answer : goal.returns-clause-answer
+returns-clause-answer g c =
+    let u = g.D.Interner.universe c.args.provider.now in
+    let found : IsFound u c.all_rounds.new.self c.in_ok-all_rounds.field-0 = c.in_ok-all_rounds.ensures.found in
+    elim c.match-branch-2.branch [
+      | in-Answer w ↦ rw w.result-is (λ on. rw w.in-Answer.is at found)
+      | in-Contradiction w ↦ rw w.result-is (λ on. absurd (false≢true on))
+      | in-Refused w ↦ rw w.result-is (λ on. absurd (false≢true on))
+    ]
+
+pub returns-clause-counted : goal.returns-clause-counted
+returns-clause-counted g c = elim c.match-branch-2.branch [
+  | in-Answer w ↦ rw w.result-is c.in_ok-all_rounds.ensures.counted
+  | in-Contradiction w ↦ rw w.result-is c.in_ok-all_rounds.ensures.counted
+  | in-Refused w ↦ rw w.result-is c.in_ok-all_rounds.ensures.counted
+]
+
+pub returns-clause-keeps : goal.returns-clause-keeps
+returns-clause-keeps g c = elim c.match-branch-2.branch [
+  | in-Answer w ↦ rw w.result-is c.in_ok-all_rounds.ensures.keeps
+  | in-Contradiction w ↦ rw w.result-is c.in_ok-all_rounds.ensures.keeps
+  | in-Refused w ↦ rw w.result-is c.in_ok-all_rounds.ensures.keeps
+]
+
+pub returns-clause-rounds : goal.returns-clause-rounds
+returns-clause-rounds g c = elim c.match-branch-2.branch [
+  | in-Answer w ↦ rw w.result-is c.in_ok-all_rounds.ensures.rounds
+  | in-Contradiction w ↦ rw w.result-is c.in_ok-all_rounds.ensures.rounds
+  | in-Refused w ↦ rw w.result-is c.in_ok-all_rounds.ensures.rounds
+]
+
+pub returns-clause-refusal : goal.returns-clause-refusal
+returns-clause-refusal g c = elim c.match-branch-2.branch [
+  | in-Answer w ↦ rw w.result-is tt
+  | in-Contradiction w ↦ rw w.result-is tt
+  | in-Refused w ↦ rw w.result-is tt
+]

@@ -61,3 +61,27 @@ returns-clause-led g c =
     c.in_ok-from.ensures.following c.in_ok-from.ensures.followed c.solvables.ensures c.read_chosen.ensures.led
     (drawn_or_assumed old.search (notes_of old).table (notes_of old).requirements c.requires.rounds.consistent c.requires.loaded.loaded)
     (λ root encoding. positives_seen u root (notes_of old) encoding)
+
+pub returns-clause-fit : goal.returns-clause-fit
+returns-clause-fit g c = c.in_ok-progress.ensures.fit
+
+pub returns-clause-followed : goal.returns-clause-followed
+returns-clause-followed g c =
+    let it = c.in_ok-from.ensures.followed in
+    record { trail = it.trail; clauses = it.clauses; learnt = it.learnt; turn = it.turn; marked = it.marked; chosen = it.chosen }
+
+pub returns-clause-is_true : goal.returns-clause-is_true
+returns-clause-is_true g c = c.read_chosen.ensures.is_true
+
+pub returns-clause-limits : goal.returns-clause-limits
+returns-clause-limits g c =
+    let mid = c.follow.ensures.limits in
+    let kept = c.read_chosen.ensures.limits in
+    record {
+      notes = record { variables = kept.variables ∙ mid.notes.variables; clauses = kept.clauses ∙ mid.notes.clauses };
+      clauses = mid.clauses;
+      learnt = mid.learnt;
+    }
+
+pub returns-clause-refusal : goal.returns-clause-refusal
+returns-clause-refusal g c = tt

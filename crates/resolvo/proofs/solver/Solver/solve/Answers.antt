@@ -108,3 +108,21 @@ returns-clause-refusal g c =
     refusal_weaker u (g.D.DependencyProvider.may_cancel p) root (IsStuck rounds) (IsAtLimit u root Begun new) follows e
     (subst For provider (h root (map Solvable w.0 ++ list) done)))
     c.outcome-answer.result c.outcome-answer.ensures.refusal
+
+pub returns-clause-activity : goal.returns-clause-activity
+returns-clause-activity g c = c.outcome-answer.ensures.activity ∙ c.count.ensures.rest.activity
+
+pub returns-clause-limits : goal.returns-clause-limits
+returns-clause-limits g c =
+    let kept = c.outcome-answer.ensures.limits in
+    let before = c.count.ensures.rest.limits in
+    record { variables = kept.variables ∙ before.variables; clauses = kept.clauses ∙ before.clauses; learnt = kept.learnt ∙ before.learnt }
+
+pub returns-clause-none : goal.returns-clause-none
+returns-clause-none g c = c.outcome-answer.ensures.none
+
+pub returns-clause-provider : goal.returns-clause-provider
+returns-clause-provider g c = c.outcome-answer.ensures.provider ∙ c.count.ensures.rest.provider
+
+pub returns-clause-sound : goal.returns-clause-sound
+returns-clause-sound g c = c.outcome-answer.ensures.sound
