@@ -69,3 +69,15 @@ returns-clause-led g c = λ root taken refused seeds packages own b led.
     led_same u root seeds packages c.ask.new.self c.load.new.self.encoding c.load.ensures.same.encoding
     (led_package u root seeds packages c.version_set_name-name.result (notes_of c.args.self.now) (notes_in c.ask.new.self)
     (subst Own (sym c.version_set_name-name.ensures) own) b.near c.ask.ensures.adds led)
+
+pub returns-clause-counted : goal.returns-clause-counted
+returns-clause-counted g c = c.in_ok-load.ensures.counted
+
+pub returns-clause-rounds : goal.returns-clause-rounds
+returns-clause-rounds g c = c.in_ok-load.ensures.rounds
+
+pub returns-clause-is_true : goal.returns-clause-is_true
+returns-clause-is_true g c = c.ask.ensures.is_true
+
+pub returns-clause-refusal : goal.returns-clause-refusal
+returns-clause-refusal g c = tt

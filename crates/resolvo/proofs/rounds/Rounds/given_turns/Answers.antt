@@ -42,3 +42,6 @@ returns-in_ok-solvable_turns-in-Some-clause-led g c = λ root b led.
     let w = c.solvable_turns.ensures.led root b led in
     let Items : Option g.row.I.Denot → Type 0 = λ soft. AreFirstItems g.I.Iterator.next_gives soft w.0 in
     (w.0, subst Items (sym c.in-Some.is) w.1, w.2)
+
+pub returns-in_ok-solvable_turns-in-Some-clause-still : goal.returns-in_ok-solvable_turns-in-Some-clause-still
+returns-in_ok-solvable_turns-in-Some-clause-still g c = c.in_ok-solvable_turns-in-Some.ensures.still

@@ -73,3 +73,18 @@ returns-clause-led g c = λ root done b led.
     let i = c.loop-requirement.requirement-index in
     let all = c.args.list.now in
     (take i all, Extends-take i all, c.loop-requirement.invariant.led root done b led)
+
+pub returns-clause-counted : goal.returns-clause-counted
+returns-clause-counted g c = c.loop-requirement.invariant.counted
+
+pub returns-clause-rounds : goal.returns-clause-rounds
+returns-clause-rounds g c = c.loop-requirement.invariant.rounds
+
+pub returns-clause-is_true : goal.returns-clause-is_true
+returns-clause-is_true g c = c.loop-requirement.invariant.is_true
+
+pub returns-clause-limits : goal.returns-clause-limits
+returns-clause-limits g c = c.loop-requirement.invariant.room
+
+pub returns-clause-refusal : goal.returns-clause-refusal
+returns-clause-refusal g c = tt

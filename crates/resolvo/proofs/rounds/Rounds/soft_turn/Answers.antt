@@ -58,3 +58,39 @@ returns-in_ok-version_set_turn-in-Matching-clause-led g c = λ root done b led.
     let u = g.D.Interner.universe c.args.provider.now in
     let Led : SoftRequirement g.row.S.Denot → Type 0 = λ q. IsLedBy u root (done ++ q ∷ []) c.version_set_turn.new.self in
     subst Led (sym c.in-Matching.is) (c.version_set_turn.ensures.led root done b led)
+
+pub returns-in_ok-turn-in-Solvable-clause-counted : goal.returns-in_ok-turn-in-Solvable-clause-counted
+returns-in_ok-turn-in-Solvable-clause-counted g c = c.in_ok-turn-in-Solvable.ensures.counted
+
+pub returns-in_ok-turn-in-Solvable-clause-rounds : goal.returns-in_ok-turn-in-Solvable-clause-rounds
+returns-in_ok-turn-in-Solvable-clause-rounds g c = c.in_ok-turn-in-Solvable.ensures.rounds
+
+pub returns-in_ok-turn-in-Solvable-clause-still : goal.returns-in_ok-turn-in-Solvable-clause-still
+returns-in_ok-turn-in-Solvable-clause-still g c = c.in_ok-turn-in-Solvable.ensures.still
+
+pub returns-in_ok-turn-in-Solvable-clause-is_true : goal.returns-in_ok-turn-in-Solvable-clause-is_true
+returns-in_ok-turn-in-Solvable-clause-is_true g c = c.turn.ensures.is_true
+
+pub returns-in_ok-turn-in-Solvable-clause-limits : goal.returns-in_ok-turn-in-Solvable-clause-limits
+returns-in_ok-turn-in-Solvable-clause-limits g c = c.turn.ensures.limits
+
+pub returns-in_ok-turn-in-Solvable-clause-refusal : goal.returns-in_ok-turn-in-Solvable-clause-refusal
+returns-in_ok-turn-in-Solvable-clause-refusal g c = tt
+
+pub returns-in_ok-version_set_turn-in-Matching-clause-counted : goal.returns-in_ok-version_set_turn-in-Matching-clause-counted
+returns-in_ok-version_set_turn-in-Matching-clause-counted g c = c.in_ok-version_set_turn-in-Matching.ensures.counted
+
+pub returns-in_ok-version_set_turn-in-Matching-clause-rounds : goal.returns-in_ok-version_set_turn-in-Matching-clause-rounds
+returns-in_ok-version_set_turn-in-Matching-clause-rounds g c = c.in_ok-version_set_turn-in-Matching.ensures.rounds
+
+pub returns-in_ok-version_set_turn-in-Matching-clause-still : goal.returns-in_ok-version_set_turn-in-Matching-clause-still
+returns-in_ok-version_set_turn-in-Matching-clause-still g c = c.in_ok-version_set_turn-in-Matching.ensures.still
+
+pub returns-in_ok-version_set_turn-in-Matching-clause-is_true : goal.returns-in_ok-version_set_turn-in-Matching-clause-is_true
+returns-in_ok-version_set_turn-in-Matching-clause-is_true g c = c.version_set_turn.ensures.is_true
+
+pub returns-in_ok-version_set_turn-in-Matching-clause-limits : goal.returns-in_ok-version_set_turn-in-Matching-clause-limits
+returns-in_ok-version_set_turn-in-Matching-clause-limits g c = c.version_set_turn.ensures.limits
+
+pub returns-in_ok-version_set_turn-in-Matching-clause-refusal : goal.returns-in_ok-version_set_turn-in-Matching-clause-refusal
+returns-in_ok-version_set_turn-in-Matching-clause-refusal g c = tt

@@ -76,3 +76,6 @@ returns-clause-led g c = λ root b led.
           xs c.loop-solvable.yielded_by,
       c.loop-solvable.invariant.led root b led,
     )
+
+pub returns-clause-still : goal.returns-clause-still
+returns-clause-still g c = c.loop-solvable.invariant.still

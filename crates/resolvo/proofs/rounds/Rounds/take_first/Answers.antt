@@ -93,3 +93,39 @@ returns-then-branch-clause-led g c = λ root taken refused seeds packages within
 
 pub returns-clause-led : goal.returns-clause-led
 returns-clause-led g c = c.loop-candidate.invariant.led
+
+pub returns-clause-counted : goal.returns-clause-counted
+returns-clause-counted g c = c.loop-candidate.invariant.counted
+
+pub returns-clause-rounds : goal.returns-clause-rounds
+returns-clause-rounds g c = c.loop-candidate.invariant.rounds
+
+pub returns-clause-still : goal.returns-clause-still
+returns-clause-still g c = c.loop-candidate.invariant.still
+
+pub returns-clause-is_true : goal.returns-clause-is_true
+returns-clause-is_true g c = c.loop-candidate.invariant.is_true
+
+pub returns-clause-limits : goal.returns-clause-limits
+returns-clause-limits g c = c.loop-candidate.invariant.room
+
+pub returns-clause-refusal : goal.returns-clause-refusal
+returns-clause-refusal g c = tt
+
+pub returns-then-branch-clause-counted : goal.returns-then-branch-clause-counted
+returns-then-branch-clause-counted g c = c.in_ok-turn.ensures.counted
+
+pub returns-then-branch-clause-rounds : goal.returns-then-branch-clause-rounds
+returns-then-branch-clause-rounds g c = c.in_ok-turn.ensures.rounds
+
+pub returns-then-branch-clause-still : goal.returns-then-branch-clause-still
+returns-then-branch-clause-still g c = c.in_ok-turn.ensures.still
+
+pub returns-then-branch-clause-is_true : goal.returns-then-branch-clause-is_true
+returns-then-branch-clause-is_true g c = c.turn.ensures.is_true
+
+pub returns-then-branch-clause-limits : goal.returns-then-branch-clause-limits
+returns-then-branch-clause-limits g c = room_trans c.args.self.now c.loop-candidate.self c.turn.new.self c.loop-candidate.invariant.room c.turn.ensures.limits
+
+pub returns-then-branch-clause-refusal : goal.returns-then-branch-clause-refusal
+returns-then-branch-clause-refusal g c = tt

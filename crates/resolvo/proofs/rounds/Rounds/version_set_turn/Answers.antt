@@ -12,6 +12,7 @@ use Rattle.resolvo.proofs.SoftTurnLemmas.{between_met, between_tried, gathered_l
 use Rattle.resolver_clause_store.proofs.ListLemmas.{Contains-here as here}
 use Rattle.resolver_encoding.proofs.SoFarLemmas.{lawful_solvables}
 use Rattle.resolvo.proofs.LeadingLemmas.{led_wider}
+use Rattle.resolvo.proofs.RoundLemmas.{room_same, room_trans}
 use Rattle.resolvo.proofs.rounds.Rounds.version_set_turn.Goals as goal
 
 pub returns-then-has_any-clause-between : goal.returns-then-has_any-clause-between
@@ -151,3 +152,36 @@ returns-clause-led g c = λ root done b led.
       all = c.take_first.ensures.led root b.taken b.refused seeds packages within
           (c.in_ok-ask.ensures.standing root b.taken b.refused seeds packages own standing) asked;
     }
+
+pub returns-clause-counted : goal.returns-clause-counted
+returns-clause-counted g c = c.in_ok-take_first.ensures.counted
+
+pub returns-clause-rounds : goal.returns-clause-rounds
+returns-clause-rounds g c = c.in_ok-take_first.ensures.rounds
+
+pub returns-clause-still : goal.returns-clause-still
+returns-clause-still g c = c.in_ok-take_first.ensures.still
+
+pub returns-clause-is_true : goal.returns-clause-is_true
+returns-clause-is_true g c = c.take_first.ensures.is_true
+
+pub returns-clause-limits : goal.returns-clause-limits
+returns-clause-limits g c = room_trans c.args.self.now c.ask.new.self c.take_first.new.self c.ask.ensures.limits c.take_first.ensures.limits
+
+pub returns-clause-refusal : goal.returns-clause-refusal
+returns-clause-refusal g c = tt
+
+pub returns-then-has_any-clause-counted : goal.returns-then-has_any-clause-counted
+returns-then-has_any-clause-counted g c = c.requires.counted
+
+pub returns-then-has_any-clause-rounds : goal.returns-then-has_any-clause-rounds
+returns-then-has_any-clause-rounds g c = c.requires.rounds
+
+pub returns-then-has_any-clause-still : goal.returns-then-has_any-clause-still
+returns-then-has_any-clause-still g c = c.requires.still
+
+pub returns-then-has_any-clause-limits : goal.returns-then-has_any-clause-limits
+returns-then-has_any-clause-limits g c = room_same c.args.self.now
+
+pub returns-then-has_any-clause-refusal : goal.returns-then-has_any-clause-refusal
+returns-then-has_any-clause-refusal g c = tt
