@@ -8,6 +8,7 @@ use Rattle.resolvo.specs.RoundStates.{notes_of}
 use Rattle.resolvo.proofs.GoingLemmas.{all_clauses, answering, goes_searched, goes_trans, still_all}
 use Rattle.resolver_encoding.proofs.SoFarLemmas.{lawful_solvables}
 use Rattle.resolvo.proofs.LeadingLemmas.{leads_same, leads_trans}
+use Rattle.resolvo.proofs.RoundLemmas.{room_same, room_trans}
 use Rattle.resolvo.proofs.rounds.Rounds.round.Goals as goal
 
 pub returns-in-Contradiction-clause-keeps : goal.returns-in-Contradiction-clause-keeps
@@ -121,3 +122,63 @@ returns-in-Read-clause-led g c =
     leads_trans u old mid c.read.new.self c.requires.rounds.variables
     (goes_searched u old mid c.search.ensures.same c.in_ok-core.ensures.turn)
     (leads_same u old mid c.search.ensures.same.encoding) c.read.ensures.led
+
+pub returns-in-Contradiction-clause-rounds : goal.returns-in-Contradiction-clause-rounds
+returns-in-Contradiction-clause-rounds g c = c.in_ok-core.ensures.rounds
+
+pub returns-in-Contradiction-clause-is_true : goal.returns-in-Contradiction-clause-is_true
+returns-in-Contradiction-clause-is_true g c = c.requires.is_true
+
+pub returns-in-Contradiction-clause-limits : goal.returns-in-Contradiction-clause-limits
+returns-in-Contradiction-clause-limits g c = c.search.ensures.limits
+
+pub returns-in-Contradiction-clause-refusal : goal.returns-in-Contradiction-clause-refusal
+returns-in-Contradiction-clause-refusal g c = tt
+
+pub returns-in-Refused-clause-rounds : goal.returns-in-Refused-clause-rounds
+returns-in-Refused-clause-rounds g c = c.in_ok-core.ensures.rounds
+
+pub returns-in-Refused-clause-is_true : goal.returns-in-Refused-clause-is_true
+returns-in-Refused-clause-is_true g c = c.requires.is_true
+
+pub returns-in-Refused-clause-limits : goal.returns-in-Refused-clause-limits
+returns-in-Refused-clause-limits g c = c.search.ensures.limits
+
+pub returns-in-Refused-clause-refusal : goal.returns-in-Refused-clause-refusal
+returns-in-Refused-clause-refusal g c = tt
+
+pub returns-in-Nothing-clause-rounds : goal.returns-in-Nothing-clause-rounds
+returns-in-Nothing-clause-rounds g c = c.in_ok-read-in-Finished.ensures.rounds
+
+pub returns-in-Nothing-clause-is_true : goal.returns-in-Nothing-clause-is_true
+returns-in-Nothing-clause-is_true g c = c.read.ensures.is_true
+
+pub returns-in-Nothing-clause-refusal : goal.returns-in-Nothing-clause-refusal
+returns-in-Nothing-clause-refusal g c = tt
+
+pub returns-in-Nothing-clause-limits : goal.returns-in-Nothing-clause-limits
+returns-in-Nothing-clause-limits g c = room_trans c.args.self.now c.search.new.self c.read.new.self c.search.ensures.limits c.read.ensures.limits
+
+pub returns-in-Fired-clause-rounds : goal.returns-in-Fired-clause-rounds
+returns-in-Fired-clause-rounds g c = c.in_ok-read-in-Finished.ensures.rounds
+
+pub returns-in-Fired-clause-is_true : goal.returns-in-Fired-clause-is_true
+returns-in-Fired-clause-is_true g c = c.read.ensures.is_true
+
+pub returns-in-Fired-clause-refusal : goal.returns-in-Fired-clause-refusal
+returns-in-Fired-clause-refusal g c = tt
+
+pub returns-in-Fired-clause-limits : goal.returns-in-Fired-clause-limits
+returns-in-Fired-clause-limits g c = room_trans c.args.self.now c.search.new.self c.read.new.self c.search.ensures.limits c.read.ensures.limits
+
+pub returns-in-Read-clause-rounds : goal.returns-in-Read-clause-rounds
+returns-in-Read-clause-rounds g c = c.in_ok-read-in-Finished.ensures.rounds
+
+pub returns-in-Read-clause-is_true : goal.returns-in-Read-clause-is_true
+returns-in-Read-clause-is_true g c = c.read.ensures.is_true
+
+pub returns-in-Read-clause-refusal : goal.returns-in-Read-clause-refusal
+returns-in-Read-clause-refusal g c = tt
+
+pub returns-in-Read-clause-limits : goal.returns-in-Read-clause-limits
+returns-in-Read-clause-limits g c = room_trans c.args.self.now c.search.new.self c.read.new.self c.search.ensures.limits c.read.ensures.limits

@@ -1,6 +1,6 @@
 use Rattle.std.proofs.Common.{◌∙◌}
 use Rattle.resolvo.specs.RoundStates.{IsRound}
-use Rattle.resolvo.proofs.RoundLemmas.{room_trans}
+use Rattle.resolvo.proofs.RoundLemmas.{room_trans, room_same}
 use Rattle.resolvo.proofs.GoingLemmas.{goes_trans}
 use Rattle.resolvo.proofs.LeadingLemmas.{leads_trans}
 use Rattle.resolvo.proofs.rounds.Rounds.rounds_until_read.Goals as goal
@@ -44,3 +44,27 @@ pub returns-in-Read-clause-led : goal.returns-in-Read-clause-led
 returns-in-Read-clause-led g c =
     leads_trans (g.D.Interner.universe c.args.provider.now) c.args.self.now c.rounds.self c.round.new.self c.requires.rounds.variables
     c.rounds.invariant.keeps c.rounds.invariant.led c.round.ensures.led
+
+pub returns-in-Last-clause-rounds : goal.returns-in-Last-clause-rounds
+returns-in-Last-clause-rounds g c = c.in_ok-found.ensures.rounds
+
+pub returns-in-Last-clause-is_true : goal.returns-in-Last-clause-is_true
+returns-in-Last-clause-is_true g c = c.in_ok-found.ensures.is_true
+
+pub returns-in-Last-clause-refusal : goal.returns-in-Last-clause-refusal
+returns-in-Last-clause-refusal g c = tt
+
+pub returns-in-Last-clause-limits : goal.returns-in-Last-clause-limits
+returns-in-Last-clause-limits g c = room_trans c.args.self.now c.rounds.self c.round.new.self c.rounds.invariant.room c.in_ok-found.ensures.limits
+
+pub returns-in-Read-clause-rounds : goal.returns-in-Read-clause-rounds
+returns-in-Read-clause-rounds g c = c.in_ok-found.ensures.rounds
+
+pub returns-in-Read-clause-is_true : goal.returns-in-Read-clause-is_true
+returns-in-Read-clause-is_true g c = c.in_ok-found.ensures.is_true
+
+pub returns-in-Read-clause-refusal : goal.returns-in-Read-clause-refusal
+returns-in-Read-clause-refusal g c = tt
+
+pub returns-in-Read-clause-limits : goal.returns-in-Read-clause-limits
+returns-in-Read-clause-limits g c = room_trans c.args.self.now c.rounds.self c.round.new.self c.rounds.invariant.room c.in_ok-found.ensures.limits

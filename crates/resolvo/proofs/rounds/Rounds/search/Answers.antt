@@ -35,3 +35,8 @@ returns-clause-refusal g c = grind (arith, common_steps)
 
 pub returns-clause-same : goal.returns-clause-same
 returns-clause-same g c = grind (arith, common_steps)
+
+pub returns-clause-outcome : goal.returns-clause-outcome
+returns-clause-outcome g c =
+    let mid = c.load.new.self in
+    c.in_ok-outcome.ensures.outcome (notes_of mid).table (notes_of mid).requirements c.in_ok-load.ensures.loaded.loaded

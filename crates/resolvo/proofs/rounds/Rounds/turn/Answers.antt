@@ -159,3 +159,15 @@ returns-in_ok-is_chosen-in-None-clause-led g c = λ root taken refused seeds pac
     c.in_ok-load.ensures.turn seed b)
     (led_same u root seeds packages e mid.encoding same.encoding
     (led_seed u root taken refused seeds packages s old e seed b c.register.ensures.brings led))
+
+pub returns-in-Some-clause-rounds : goal.returns-in-Some-clause-rounds
+returns-in-Some-clause-rounds g c = c.in_ok-load.ensures.rounds
+
+pub returns-in-Some-clause-counted : goal.returns-in-Some-clause-counted
+returns-in-Some-clause-counted g c = c.in_ok-load.ensures.counted
+
+pub returns-in-Some-clause-is_true : goal.returns-in-Some-clause-is_true
+returns-in-Some-clause-is_true g c = c.requires.is_true
+
+pub returns-in-Some-clause-refusal : goal.returns-in-Some-clause-refusal
+returns-in-Some-clause-refusal g c = tt
