@@ -1,11 +1,9 @@
 -- The reasons stay right when a literal is set.
-use Rattle.std.proofs.Common.{◌≡◌, ℕ, ◌<◌, ◌⊎◌, List, length, get_or, Option, Some, None, Bool, true, false, inl, inr, refl, sym, ap, ◌∙◌, subst, ⊎_elim}
+use Rattle.std.proofs.Common.{◌≡◌, ℕ, ◌<◌, ◌⊎◌, List, length, get_or, None, inl, inr, refl, sym, ap, ◌∙◌, subst, ⊎_elim}
 use Rattle.std.specs.Prelude.{Vec}
 use Rattle.std.specs.List.{Contains}
 use Rattle.std.specs.declared.alloc.Global.{Global}
-use Rattle.std.proofs.lemmas.Bool.{both_ways, false≢true}
-use Rattle.std.proofs.lemmas.List.Elements.{All-contains}
-use Rattle.std.proofs.lemmas.Option.{same_Some, none-some}
+use Rattle.std.proofs.lemmas.Bool.{both_ways}
 use Rattle.resolver_clause_store.specs.declared.Literal.{Literal}
 use Rattle.resolver_clause_store.specs.declared.RequirementClause.{RequirementClause}
 use Rattle.resolver_clause_store.specs.declared.Slot.{Slot}
@@ -14,11 +12,10 @@ use Rattle.resolver_clause_store.specs.declared.Reason.TheVariants.{Assumed, Dec
 use Rattle.resolver_clause_store.specs.declared.Trail.{Trail}
 use Rattle.resolver_clause_store.specs.Formula.{clause_at}
 use Rattle.resolver_clause_store.specs.Slots.{is_decided}
-use Rattle.resolver_clause_store.specs.TrailView.{slot_of, length_of, literal_value, Gains, IsSame}
-use Rattle.resolver_clause_store.specs.Outcomes.{IsSatisfied, IsForcing, IsChosen, IsPropagated}
+use Rattle.resolver_clause_store.specs.TrailView.{slot_of, length_of, Gains, IsSame}
+use Rattle.resolver_clause_store.specs.Outcomes.{IsForcing, IsChosen}
 use Rattle.resolver_clause_store.proofs.TrailLemmas.{Keeps, keeps-gains, false_before-kept, forcing-kept, false-before, gains-cases}
 use Rattle.resolvo.specs.Propagation.{IsUnit, IsJustified, AreChosen, Extends}
-use Rattle.resolver_clause_store.specs.Settled.{IsOpen, IsSettled}
 
 pub forcing-unit : (old new : Trail) (literal : Literal) (clause : List Literal) → Keeps old new → IsUnit old literal clause →
     IsForcing new (length_of old) literal clause

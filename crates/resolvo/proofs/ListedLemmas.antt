@@ -1,14 +1,11 @@
 -- Marked variables that are listed.
-use Rattle.std.proofs.Common.{◌≡◌, ◌≢◌, ℕ, ◌+◌, ◌<◌, ◌≤◌, List, [], ◌∷◌, ◌++◌, length, get_or, set, take, Some, None, Bool, true, false, arith, refl, sym, ap}
-use Rattle.std.proofs.Common.{◌∙◌, subst, ⊎_elim, length-set, get_or-set_same, get_or-set_other, length-append}
-use Rattle.std.proofs.Math.ListN.{get_or-append}
-use Rattle.std.proofs.Math.Seq.{get_or-append_seam}
+use Rattle.std.proofs.Common.{◌≡◌, ◌≢◌, ℕ, ◌+◌, ◌<◌, List, [], ◌∷◌, ◌++◌, length, get_or, set, take, Some, Bool, true, false, arith, refl, sym, ap}
+use Rattle.std.proofs.Common.{◌∙◌, subst, ⊎_elim, length-set, get_or-set_other}
 use Rattle.std.specs.Prelude.{not}
 use Rattle.std.specs.List.{All, Contains}
 use Rattle.std.proofs.lemmas.Bool.{both_ways, cases_Bool, cases_eq}
-use Rattle.std.proofs.lemmas.List.{take_more}
 use Rattle.std.proofs.lemmas.List.Elements.{All-contains, All-more, All-nil, All-push, All-weaker, Contains-append_left, Contains-push}
-use Rattle.std.proofs.lemmas.Option.{none-some, same_Some}
+use Rattle.std.proofs.lemmas.Option.{same_Some}
 use Rattle.std.specs.Bool.{beq}
 use Rattle.std.specs.Option.{option_map}
 use Rattle.resolver_clause_store.specs.declared.Literal.{Literal}

@@ -10,7 +10,7 @@ use Rattle.std.proofs.lemmas.List.{get_or_append_left, get_or-replicate, length-
 use Rattle.std.proofs.lemmas.List.Elements.{AllZip-push, Contains-append_left, Contains-append_right, Contains-append_cases}
 use Rattle.resolver_clause_store.specs.Lists.{IsCut, cut_none, cut_left, cut_right, IsWithin}
 use Rattle.resolver_clause_store.specs.Statements.{StatesTheSame}
-use Rattle.resolver_clause_store.specs.Rules.{Obeys, IsRefuted, IsIrreducible}
+use Rattle.resolver_clause_store.specs.Rules.{IsRefuted, IsIrreducible}
 use Rattle.resolver_clause_store.specs.TrueRules.{IsTrueRule}
 use Rattle.resolver_clause_store.specs.declared.Rule.{Rule}
 use Rattle.resolver_clause_store.specs.Universe.{Demands, Universe}

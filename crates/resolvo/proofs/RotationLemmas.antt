@@ -1,12 +1,10 @@
 -- Values that make the clauses of all rules but one true, clause by clause and turn by turn.
-use Rattle.std.proofs.Common.{◌≡◌, ◌≢◌, ℕ, suc, ◌+◌, ◌<◌, ◌≤◌, List, [], ◌∷◌, ◌++◌, length, get_or, take, replicate, set, arith, refl, sym, ap, ◌∙◌, subst}
-use Rattle.std.proofs.Common.{length-append, get_or-set_same, get_or-set_other, Bool, true, false, All, ⊎_elim}
+use Rattle.std.proofs.Common.{◌≡◌, ◌≢◌, ℕ, suc, ◌+◌, ◌<◌, ◌≤◌, List, [], ◌∷◌, ◌++◌, length, get_or, take, replicate, set, refl, sym, ap, ◌∙◌, subst}
+use Rattle.std.proofs.Common.{length-append, get_or-set_other, Bool, true, false, ⊎_elim}
 use Rattle.std.specs.Prelude.{Option, Some, None, IfSome, IsSome}
-use Rattle.std.specs.List.{slice_index_or}
-use Rattle.std.proofs.Math.Seq.{get_or-append_seam}
 use Rattle.std.proofs.lemmas.Bool.{cases_eq, cases_lt, false≢true}
 use Rattle.std.proofs.lemmas.List.{get_or_append_left, get_or_past, get_or_default, get_or-replicate, length-replicate}
-use Rattle.std.proofs.lemmas.List.Elements.{All-nil, All-weaker}
+use Rattle.std.proofs.lemmas.List.Elements.{All-weaker}
 use Rattle.resolver_clause_store.specs.Formula.{clause_true}
 use Rattle.resolver_clause_store.specs.Rules.{IsRefuted}
 use Rattle.resolver_clause_store.specs.declared.Rule.{Rule}

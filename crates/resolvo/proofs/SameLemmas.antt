@@ -1,8 +1,8 @@
 -- What rules that state the same have in common.
-use Rattle.std.proofs.Common.{◌≡◌, ℕ, zero, suc, ◌<◌, List, [], ◌∷◌, ◌++◌, length, get_or, take, drop, arith, refl, sym, subst, Contains, All}
+use Rattle.std.proofs.Common.{◌≡◌, ℕ, zero, suc, List, [], ◌∷◌, ◌++◌, get_or, take, drop, arith, refl, sym, subst, Contains, All}
 use Rattle.std.specs.Prelude.{remove}
 use Rattle.std.specs.List.{AllZip}
-use Rattle.std.proofs.lemmas.List.Elements.{All-contains, Contains-append_right, Contains-get_or, length_all_zip}
+use Rattle.std.proofs.lemmas.List.Elements.{All-contains, Contains-get_or, length_all_zip}
 use Rattle.resolver_clause_store.specs.Universe.{Universe, Demands}
 use Rattle.resolver_clause_store.specs.Statements.{ObeysAlone, StatesTheSame, one_per_package, statement_of}
 use Rattle.resolver_clause_store.specs.Rules.{Obeys, IsRefuted, IsIrreducible}

@@ -1,6 +1,6 @@
 -- The run over the soft requirements goes on by the turn of one.
-use Rattle.std.proofs.Common.{◌≡◌, ◌+◌, ◌<◌, ◌≤◌, ◌⊎◌, ℕ, Bool, true, false, List, [], ◌∷◌, ◌++◌, All, Contains, Option, Some, None, arith, refl, sym, ap, ◌∙◌}
-use Rattle.std.proofs.Common.{subst, ⊎_elim, inl, inr, take}
+use Rattle.std.proofs.Common.{◌≡◌, ◌⊎◌, Bool, true, false, List, [], ◌∷◌, ◌++◌, Contains, Option, Some, None, refl, sym, ap, ◌∙◌}
+use Rattle.std.proofs.Common.{subst, ⊎_elim}
 use Rattle.std.specs.List.{filter, flat_map, list_any}
 use Rattle.std.specs.Prelude.{cond, not}
 use Rattle.std.proofs.lemmas.Bool.{cases_Bool, true≢false}
@@ -22,8 +22,7 @@ use Rattle.resolvo.specs.RoundStates.{HasTurned, HaveTurned, IsBetween, IsOneTak
 use Rattle.resolvo.specs.RoundStates.{notes_of, one_fits, was_chosen}
 use Rattle.resolvo.specs.declared.rounds.Rounds.{Rounds}
 use Rattle.resolver_clause_store.proofs.ListLemmas.{Contains-cons_cases as cons_cases, Contains-here as here, Contains-none as none_in, Contains-there as there}
-use Rattle.std.proofs.lemmas.List.Elements.{Contains-push as last_in}
-use Rattle.resolvo.proofs.SoftLemmas.{asked_for, earlier_in}
+use Rattle.resolvo.proofs.SoftLemmas.{asked_for}
 
 -- a list gathered from parts has what one more part brings
 gathered : {X A : Type 0} (f : X → List A) (xs : List X) (x : X) → flat_map f (xs ++ x ∷ []) ≡ flat_map f xs ++ (f x ++ [])

@@ -1,22 +1,15 @@
 -- How a search's outcome answers a problem or explains that there is none.
-use Rattle.std.proofs.Common.{◌≡◌, ℕ, ◌+◌, List, [], length, arith, refl, sym, subst, All, Bool}
-use Rattle.std.specs.Prelude.{map}
-use Rattle.resolver_clause_store.specs.Laws.{HasLawfulIds, HasLawfulPackages, IsIdentity}
-use Rattle.resolver_clause_store.specs.Outcomes.{IsCore, IsFinished}
-use Rattle.resolver_clause_store.specs.TrailView.{length_of, variable_count}
+use Rattle.std.proofs.Common.{◌≡◌, ℕ, List, refl, All, Bool}
+use Rattle.resolver_clause_store.specs.Laws.{IsIdentity}
+use Rattle.resolver_clause_store.specs.Outcomes.{IsCore}
 use Rattle.resolver_clause_store.specs.Universe.{Universe, Demands}
 use Rattle.resolver_clause_store.specs.declared.Exhausted.TheVariants.{Memory, Ids}
 use Rattle.resolver_clause_store.specs.declared.Exhausted.{Exhausted as Shortage}
-use Rattle.resolver_clause_store.specs.declared.RequirementClause.{RequirementClause}
-use Rattle.resolver_clause_store.specs.declared.Trail.{Trail}
 use Rattle.resolver_encoding.specs.Encodings.{IsEncoding, Notes}
 use Rattle.resolver_encoding.specs.Refusals.{IsShortage}
-use Rattle.resolver_encoding.specs.SoFar.{IsReading, IsReadSoFar}
 use Rattle.resolver_encoding.specs.Core.{implied_in}
-use Rattle.resolver_encoding.specs.Trails.{solvables_before}
 use Rattle.resolver_encoding.specs.Truth.{AreListed, AreStated, HasLawfulSolvables}
 use Rattle.resolver_encoding.specs.Values.{kinds_at}
-use Rattle.resolver_encoding.proofs.Bridge.{chosen_once, finished_is_valid}
 use Rattle.resolver_encoding.proofs.StatedLemmas.{encoding_core_explained}
 use Rattle.resolver_report.specs.ReachedRules.{IsKept, LeavesKept}
 use Rattle.resolver_clause_store.specs.Rules.{IsRefuted}
@@ -24,8 +17,6 @@ use Rattle.resolver_clause_store.specs.TrueRules.{IsTrueRule}
 use Rattle.resolver_clause_store.specs.declared.Rule.{Rule}
 use Rattle.resolver_report.proofs.ReachedRuleLemmas.{All-left}
 use Rattle.resolvo.specs.Explanations.{Explains}
-use Rattle.resolvo.specs.declared.clause_search.ClauseSearch.{ClauseSearch}
-use Rattle.resolvo.specs.ClauseSearches.{IsConsistent, IsLoaded, clause_count_of, learnt_count_of}
 
 -- a core of an encoding explains itself
 pub explained : {N S : Type 0} (u : Universe N S) (same_name : N → N → Bool) (root : Demands) (notes : Notes N S) (core : List ℕ)

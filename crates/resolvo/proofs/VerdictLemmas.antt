@@ -1,5 +1,5 @@
 -- What a search over the clauses of the marked rules decides of these.
-use Rattle.std.proofs.Common.{◌≡◌, ◌≢◌, ℕ, zero, suc, ◌<◌, ◌≤◌, ◌⊎◌, inl, inr, List, [], ◌∷◌, length, map, get_or, arith, refl, sym, ap, ◌∙◌, subst, Bool, true}
+use Rattle.std.proofs.Common.{◌≡◌, ℕ, zero, suc, ◌<◌, ◌≤◌, ◌⊎◌, inl, inr, List, [], ◌∷◌, length, get_or, arith, refl, sym, ◌∙◌, subst, Bool, true}
 use Rattle.std.proofs.Common.{false, Contains, All, Any, ⊎_elim, Vec, Global, Option, Some, None}
 use Rattle.std.specs.Bool.{beq}
 use Rattle.std.specs.List.{slice_index_or}
@@ -8,8 +8,8 @@ use Rattle.std.proofs.lemmas.Bool.{cases_Bool, cases_lt, false≢true}
 use Rattle.std.proofs.lemmas.List.{get_or_default}
 use Rattle.std.proofs.lemmas.List.Elements.{All-cons, All-contains, All-head, All-map, All-nil, All-tail}
 use Rattle.resolver_clause_store.specs.Formula.{AreBelow, IsBelow, MakesTrue, clause_at, clause_true, literal_true}
-use Rattle.resolver_clause_store.specs.Outcomes.{IsCore, IsFalsified, IsFinished, IsMet, IsPropagated}
-use Rattle.resolver_clause_store.specs.Rules.{IsRefuted, Obeys}
+use Rattle.resolver_clause_store.specs.Outcomes.{IsCore, IsFinished, IsMet, IsPropagated}
+use Rattle.resolver_clause_store.specs.Rules.{IsRefuted}
 use Rattle.resolver_clause_store.specs.TrailView.{literal_value, slot_of}
 use Rattle.resolver_clause_store.specs.declared.Literal.{Literal}
 use Rattle.resolver_clause_store.specs.declared.RequirementClause.{RequirementClause}
@@ -17,7 +17,7 @@ use Rattle.resolver_clause_store.specs.declared.Rule.{Rule}
 use Rattle.resolver_clause_store.specs.declared.Slot.{Slot}
 use Rattle.resolver_clause_store.specs.declared.Trail.{Trail}
 use Rattle.resolver_clause_store.proofs.FormulaLemmas.{clause_at-past, false-contains}
-use Rattle.resolvo.specs.MarkedClauses.{AreMarkedClauses, AreMarksOf, IsMarked, IsThere}
+use Rattle.resolvo.specs.MarkedClauses.{AreMarkedClauses, AreMarksOf}
 use Rattle.resolvo.specs.ClauseSearches.{IsRootTurn, KeepsTurn, numbers_of}
 use Rattle.resolvo.specs.declared.clause_search.ClauseSearch.{ClauseSearch}
 use Rattle.resolvo.specs.Minimal.{AreAmong, IsRefutedPart, marked}

@@ -1,5 +1,5 @@
 -- What attaching clauses and cutting a trail do to what propagation keeps.
-use Rattle.std.specs.Prelude.{◌≡◌, ◌≢◌, ℕ, ◌+◌, ◌<◌, ◌≤◌, ◌++◌, ◌∷◌, Bool, true, false, Option, Some, None, List, [], length, Vec, All, Any, Contains}
+use Rattle.std.specs.Prelude.{◌≡◌, ◌≢◌, ℕ, ◌<◌, ◌≤◌, ◌++◌, ◌∷◌, false, Option, Some, None, List, [], length, Vec, All, Contains}
 use Rattle.std.specs.Prelude.{slice_get, slice_index_or}
 use Rattle.std.specs.Bool.{beq}
 use Rattle.std.specs.declared.alloc.Global.{Global}
@@ -8,11 +8,10 @@ use Rattle.resolver_clause_store.specs.declared.Slot.{Slot}
 use Rattle.resolver_clause_store.specs.declared.Trail.{Trail}
 use Rattle.resolver_clause_store.specs.TrailView.{IsTop, KeepsPlaces, length_of, open_count, slot_of, variable_count}
 use Rattle.resolvo.specs.declared.propagator.Late.{Late}
-use Rattle.resolvo.specs.declared.propagator.Propagator.{Propagator}
 use Rattle.resolver_clause_store.specs.declared.WatchedPair.{WatchedPair}
 use Rattle.resolvo.specs.Propagation.{Extends, IsJustified}
 use Rattle.resolver_clause_store.specs.Watches.{watched_pair}
-use Rattle.resolvo.specs.Propagators.{IsNoted, attached_of, late_of, pending_of}
+use Rattle.resolvo.specs.Propagators.{IsNoted}
 
 -- the first places of the old trail are left, and with each of them all that is of no higher level
 pub record IsLower (old new : Trail) : Type 0 where

@@ -1,5 +1,5 @@
 -- A universe without packages, and that it keeps the laws.
-use Rattle.std.specs.Prelude.{◌≡◌, ◌≢◌, ℕ, ◌<◌, ◌≤◌, List, [], ◌∷◌, nat_eq, None, All, AllPairs, refl, length}
+use Rattle.std.specs.Prelude.{◌≡◌, ◌≢◌, ℕ, ◌≤◌, List, [], ◌∷◌, nat_eq, None, AllPairs, refl, length}
 use Rattle.std.proofs.Common.{arith}
 use Rattle.std.proofs.lemmas.Bool.{eqb-true, eq-eqb}
 use Rattle.std.proofs.lemmas.List.Elements.{All-nil, All-contains}

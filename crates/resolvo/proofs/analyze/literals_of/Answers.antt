@@ -1,6 +1,6 @@
 use Rattle.std.proofs.Common.{rules}
 use Rattle.std.proofs.lemmas.List.{take_all}
-use Rattle.resolvo.proofs.ListedLemmas.{listed-all, listed-more, listed-none}
+use Rattle.resolvo.proofs.ListedLemmas.{listed-all, listed-more}
 use Rattle.resolvo.proofs.analyze.literals_of.Goals as goal
 
 pub variables-preserved : goal.variables-preserved

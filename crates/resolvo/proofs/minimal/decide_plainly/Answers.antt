@@ -1,6 +1,3 @@
-use Rattle.std.proofs.Common.{◌∙◌, List, Bool, sym, subst, ap}
-use Rattle.resolver_clause_store.specs.Rules.{Obeys, IsRefuted}
-use Rattle.resolver_clause_store.specs.declared.Rule.{Rule}
 use Rattle.resolvo.specs.Minimal.{marked}
 use Rattle.resolvo.proofs.MinimalLemmas.{whole_part}
 use Rattle.resolvo.proofs.SameLemmas.{IsRefuted-same, Obeys-same, same_flipped}

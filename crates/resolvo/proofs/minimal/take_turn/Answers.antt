@@ -1,4 +1,4 @@
-use Rattle.std.proofs.Common.{◌≡◌, ℕ, suc, ◌∙◌, ◌-◌, ◌+◌, ◌<◌, length, get_or, arith, false, true, List, Bool, sym, ap, subst}
+use Rattle.std.proofs.Common.{◌≡◌, ℕ, ◌∙◌, ◌-◌, ◌+◌, ◌<◌, length, get_or, arith, false, true, List, Bool, sym, ap, subst}
 use Rattle.std.proofs.lemmas.List.{get_or_default}
 use Rattle.resolver_clause_store.specs.Rules.{IsRefuted}
 use Rattle.resolvo.specs.Minimal.{IsRefutedPart, marked, others_of}

@@ -1,9 +1,5 @@
-use Rattle.std.proofs.Common.{rules, ◌∙◌, [], ◌++◌, ◌<◌, ◌≡◌, ◌∷◌, All, Bool, IfOk, List, OnOk, length, ℕ, ◌+◌, ◌-◌, ◌*◌, ◌≤◌, ◌/◌, ◌%◌, true, false, nat_eq}
-use Rattle.std.proofs.Common.{nat_lt, slice_index_or, slice_set, bit_and, bit_or, Fits, w8, w32, w64, Bor, MutBor}
-use Rattle.resolvo.specs.MarkedClauses.{AreMarkedClauses, AreMarksOf, IsMarked}
+use Rattle.std.proofs.Common.{rules, ◌∙◌}
 use Rattle.resolvo.specs.ClauseSearches.{numbers_of}
-use Rattle.resolvo.specs.declared.minimal.rule_clauses.RuleClause.{RuleClause}
-use Rattle.resolver_clause_store.specs.declared.RequirementClause.{RequirementClause}
 use Rattle.resolvo.proofs.MarkedLemmas.{added_asking, added_plain}
 use Rattle.resolvo.proofs.minimal.decision.add_clause.Goals as goal
 

@@ -1,10 +1,5 @@
-use Rattle.std.proofs.Common.{◌≡◌, ◌∙◌, ◌<◌, ℕ, [], All, Bool, List, Vec, length, refl, sym, ap, subst}
-use Rattle.std.specs.declared.alloc.Global.{Global}
-use Rattle.std.proofs.lemmas.List.Elements.{All-weaker}
-use Rattle.resolver_clause_store.specs.Formula.{AreBelow}
-use Rattle.resolver_clause_store.specs.declared.Literal.{Literal}
-use Rattle.resolvo.specs.ClauseSearches.{numbers_of, trail_of}
-use Rattle.resolvo.specs.MarkedClauses.{AreMarkedClauses, AreMarksOf}
+use Rattle.std.proofs.Common.{[], length, refl}
+use Rattle.resolvo.specs.ClauseSearches.{numbers_of}
 use Rattle.resolvo.proofs.VerdictLemmas.{core_refuted, marked_below, obeyed, places_inside, requirements_inside, still_root}
 use Rattle.resolvo.proofs.minimal.decision.decide_by.Goals as goal
 

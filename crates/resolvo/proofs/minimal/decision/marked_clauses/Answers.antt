@@ -1,9 +1,7 @@
-use Rattle.std.proofs.Common.{rules, subst, take, [], ◌++◌, ◌<◌, ◌≡◌, ◌∷◌, All, Bool, IfOk, List, OnOk, length, ℕ, ◌+◌, ◌-◌, ◌*◌, ◌≤◌, ◌/◌, ◌%◌, true, false}
-use Rattle.std.proofs.Common.{nat_eq, nat_lt, slice_index_or, slice_set, bit_and, bit_or, Fits, w8, w32, w64, Bor, MutBor}
-use Rattle.resolvo.specs.MarkedClauses.{AreMarkedClauses, AreMarksOf, IsMarked}
+use Rattle.std.proofs.Common.{subst, take, List}
+use Rattle.resolvo.specs.MarkedClauses.{AreMarkedClauses}
 use Rattle.resolvo.specs.ClauseSearches.{numbers_of}
 use Rattle.resolvo.specs.declared.minimal.rule_clauses.RuleClause.{RuleClause}
-use Rattle.resolver_clause_store.specs.declared.RequirementClause.{RequirementClause}
 use Rattle.std.proofs.lemmas.List.{take_all}
 use Rattle.resolvo.proofs.MarkedLemmas.{next_clause, no_clauses}
 use Rattle.resolvo.proofs.minimal.decision.marked_clauses.Goals as goal

@@ -1,8 +1,6 @@
-use Rattle.std.proofs.Common.{take, [], ◌++◌, ◌<◌, ◌≡◌, ◌∷◌, All, Bool, IfOk, List, OnOk, length, ℕ, ◌+◌, ◌-◌, ◌*◌, ◌≤◌}
-use Rattle.resolvo.specs.MarkedClauses.{AreMarkedClauses, AreMarksOf, IsMarked}
+use Rattle.std.proofs.Common.{take}
+use Rattle.resolvo.specs.MarkedClauses.{AreMarkedClauses}
 use Rattle.resolvo.specs.ClauseSearches.{numbers_of}
-use Rattle.resolvo.specs.declared.minimal.rule_clauses.RuleClause.{RuleClause}
-use Rattle.resolver_clause_store.specs.declared.RequirementClause.{RequirementClause}
 use Rattle.resolvo.proofs.minimal.decision.marked_clauses.Given as goal
 
 abbrev pub invariant-clauses : goal.invariant-clauses

@@ -1,9 +1,6 @@
-use Rattle.std.proofs.Common.{rules, subst, take, arith, [], ◌++◌, ◌<◌, ◌≡◌, ◌∷◌, All, Bool, IfOk, List, OnOk, length, ℕ, ◌+◌, ◌-◌, ◌*◌, ◌≤◌, ◌/◌, ◌%◌, true}
-use Rattle.std.proofs.Common.{false, nat_eq, nat_lt, slice_index_or, slice_set, bit_and, bit_or, Fits, w8, w32, w64, Bor, MutBor}
-use Rattle.resolvo.specs.MarkedClauses.{AreMarkedClauses, AreMarksOf, IsMarked}
-use Rattle.resolvo.specs.ClauseSearches.{numbers_of}
-use Rattle.resolvo.specs.declared.minimal.rule_clauses.RuleClause.{RuleClause}
-use Rattle.resolver_clause_store.specs.declared.RequirementClause.{RequirementClause}
+use Rattle.std.proofs.Common.{subst, arith, ◌<◌, List, length, ℕ}
+use Rattle.std.proofs.Common.{slice_index_or}
+use Rattle.resolvo.specs.MarkedClauses.{AreMarksOf}
 use Rattle.std.proofs.lemmas.List.{take_all}
 use Rattle.resolvo.proofs.MarkedLemmas.{no_numbers, next_number}
 use Rattle.resolvo.proofs.minimal.decision.marks_of.Goals as goal

@@ -1,5 +1,4 @@
-use Rattle.std.proofs.Common.{rules, arith, ⊎_elim, inl, inr, sym, ap, ◌∙◌, ◌≡◌, ◌⊎◌, ◌++◌, ◌∷◌, [], subst, Some, ℕ, List, length, take, ◌-◌}
-use Rattle.resolver_clause_store.specs.declared.Literal.{Literal}
+use Rattle.std.proofs.Common.{rules, ◌≡◌, ◌⊎◌, ◌++◌, ◌∷◌, [], subst, Some, length}
 use Rattle.resolver_clause_store.specs.declared.WatchedPair.{WatchedPair}
 use Rattle.resolvo.specs.Attaching.{IsHighPair}
 use Rattle.resolvo.specs.Propagators.{pending_of}

@@ -1,4 +1,4 @@
-use Rattle.std.proofs.Common.{rules, arith, refl, subst, sym, ◌∙◌, ◌≡◌, ◌-◌, ◌++◌, ◌∷◌, List, [], length, take, Some}
+use Rattle.std.proofs.Common.{arith, refl, subst, sym, ◌≡◌, ◌-◌, ◌++◌, ◌∷◌, List, [], length, Some}
 use Rattle.std.specs.Prelude.{slice_get}
 use Rattle.resolvo.specs.declared.propagator.Late.{Late}
 use Rattle.resolvo.specs.Attaching.{Recalls}

@@ -1,4 +1,4 @@
-use Rattle.std.proofs.Common.{rules, arith, inl, inr, sym, ap, ◌∙◌, ◌≡◌, ◌++◌, ◌∷◌, [], subst, ℕ, List, length, take, ◌-◌}
+use Rattle.std.proofs.Common.{rules, inl, inr, sym, ap, ◌∙◌, ◌≡◌, ◌++◌, ◌∷◌, [], length}
 use Rattle.resolver_clause_store.specs.declared.WatchedPair.{WatchedPair}
 use Rattle.resolvo.specs.Propagators.{pending_of}
 use Rattle.resolvo.proofs.AttachingLemmas.{ends-with, reopened}

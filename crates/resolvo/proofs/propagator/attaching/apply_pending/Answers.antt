@@ -1,6 +1,5 @@
 use Rattle.std.proofs.Common.{arith}
 use Rattle.std.proofs.lemmas.Grind.{common_steps}
-use Rattle.std.proofs.Common.{rules, ap, ◌∙◌}
 use Rattle.resolver_clause_store.proofs.TrailLemmas.{value-none}
 use Rattle.resolvo.proofs.AttachingLemmas.{forces-gains, gained-satisfied, last-inside, last-within, watched-below}
 use Rattle.resolvo.proofs.PropagatorLemmas.{propagator-gains}

@@ -1,4 +1,4 @@
-use Rattle.std.proofs.Common.{inl, inr, sym}
+use Rattle.std.proofs.Common.{inl, inr}
 use Rattle.resolvo.proofs.propagator.attaching.are_high.Goals as goal
 
 pub is_high-requires : goal.is_high-requires

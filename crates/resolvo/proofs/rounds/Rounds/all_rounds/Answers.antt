@@ -1,4 +1,4 @@
-use Rattle.resolvo.proofs.RoundLemmas.{room_trans, room_same}
+use Rattle.resolvo.proofs.RoundLemmas.{room_trans}
 use Rattle.resolvo.proofs.GoingLemmas.{goes_trans}
 use Rattle.resolvo.proofs.LeadingLemmas.{leads_trans}
 use Rattle.resolvo.proofs.rounds.Rounds.all_rounds.Goals as goal

@@ -8,7 +8,7 @@ use Rattle.resolvo.specs.RoundStates.{notes_of}
 use Rattle.resolvo.proofs.GoingLemmas.{all_clauses, answering, goes_searched, goes_trans, still_all}
 use Rattle.resolver_encoding.proofs.SoFarLemmas.{lawful_solvables}
 use Rattle.resolvo.proofs.LeadingLemmas.{leads_same, leads_trans}
-use Rattle.resolvo.proofs.RoundLemmas.{room_same, room_trans}
+use Rattle.resolvo.proofs.RoundLemmas.{room_trans}
 use Rattle.resolvo.proofs.rounds.Rounds.round.Goals as goal
 
 pub returns-in-Contradiction-clause-keeps : goal.returns-in-Contradiction-clause-keeps

@@ -1,6 +1,6 @@
 use Rattle.std.proofs.Common.{◌∙◌}
 use Rattle.resolvo.specs.RoundStates.{IsRound}
-use Rattle.resolvo.proofs.RoundLemmas.{room_trans, room_same}
+use Rattle.resolvo.proofs.RoundLemmas.{room_trans}
 use Rattle.resolvo.proofs.GoingLemmas.{goes_trans}
 use Rattle.resolvo.proofs.LeadingLemmas.{leads_trans}
 use Rattle.resolvo.proofs.rounds.Rounds.rounds_until_read.Goals as goal

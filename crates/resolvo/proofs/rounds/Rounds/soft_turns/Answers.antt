@@ -1,7 +1,7 @@
 use Rattle.std.specs.Prelude.{◌++◌, map}
 use Rattle.resolver_clause_store.specs.declared.SoftRequirement.TheVariants.{Solvable}
 use Rattle.resolvo.specs.Problems.{all_given, first_given}
-use Rattle.resolvo.proofs.RoundLemmas.{room_same, room_trans}
+use Rattle.resolvo.proofs.RoundLemmas.{room_trans}
 use Rattle.resolvo.proofs.rounds.Rounds.soft_turns.Goals as goal
 
 pub returns-clause-between : goal.returns-clause-between
