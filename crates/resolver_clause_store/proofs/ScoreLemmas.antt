@@ -17,7 +17,8 @@ after_decay-last decay zero score = refl
 after_decay-last decay (suc times) score = after_decay-last decay times (after_decay decay score)
 
 -- what is left to fade
-pub after_decay-next : (decay times count left : ℕ) → count < times → after_decays decay (times - count) left ≡ after_decays decay (times - (count + 1)) (after_decay decay left)
+pub after_decay-next : (decay times count left : ℕ) → count < times → after_decays decay (times - count) left ≡ after_decays decay (times - (count + 1))
+    (after_decay decay left)
 after_decay-next decay times count left below =
     let one : times - count ≡ suc (times - (count + 1)) = omega (arith, below) in
     ap (λ n. after_decays decay n left) one

@@ -225,7 +225,8 @@ module _ {N S : Type 0} (u : Universe N S) (root : Demands) (seeds : List S) (pa
       called (to_see t) same = let Near : S → Type 0 = λ r. IsNear u root seeds r in subst Near same it
 
   -- clauses that were spared came
-  pub led_restored : (old new : Notes N S) → AreNear u root seeds packages old → AddsOnly (IsBarred u (IsFollowed old)) old new → AreLed u root seeds packages old →
+  pub led_restored : (old new : Notes N S) → AreNear u root seeds packages old → AddsOnly (IsBarred u (IsFollowed old)) old new →
+      AreLed u root seeds packages old →
       AreLed u root seeds packages new
   led_restored old new near adds = led_asked u root seeds packages (IsFollowed old) old new near (followed_call u root seeds packages old near) adds
 

@@ -28,7 +28,8 @@ joined_4 i v c r n = ap (λ z. (i ++ z) ++ n) (append_assoc v c r) ∙ joined_3 
 module _ {I N S : Type 0} (universe : I → Universe N S) (outline : Outline I N S) (top : Bool) (levels : List Bool) (below : List Bool → Told Forest)
     (version : List ℕ) where
   abbrev pub told : Verdict → List Bool → Told Piece
-  told v reported = tell_verdict (meaning universe outline) (graph_in universe outline) (keys_in universe outline) (marks_in universe outline) below version v reported
+  told v reported = tell_verdict (meaning universe outline) (graph_in universe outline) (keys_in universe outline)
+      (marks_in universe outline) below version v reported
 
   pub quiet_text : (v : Verdict) (reported : List Bool) → is_requires v ≡ false → text_at top levels (told v reported).value ≡ indent_from top levels ++
       version ++ verdict_rest universe outline top levels v
@@ -98,7 +99,8 @@ module _ {I N S : Type 0} (universe : I → Universe N S) (outline : Outline I N
 
   -- what is told of the others
   pub told_candidate : (node : NodeOutline) → IsToldNode universe outline branch n reported node → (depth : ℕ) →
-      candidate_in universe outline (suc depth) branch n reported ≡ tell_verdict (meaning universe outline) (graph_in universe outline) (keys_in universe outline)
+      candidate_in universe outline (suc depth) branch n reported ≡ tell_verdict (meaning universe outline) (graph_in universe outline)
+      (keys_in universe outline)
       (marks_in universe outline) (λ r. tree_in universe outline depth (slice_set branch n true) false (map run_told_view node.runs.items) r)
       (version_text_in universe outline n) (verdict_view node.verdict) (with_group node.group reported)
   told_candidate node told depth =
@@ -111,16 +113,19 @@ module _ {I N S : Type 0} (universe : I → Universe N S) (outline : Outline I N
 
   pub quiet_group : (group : Option ℕ) → group ≡ group_in (keys_in universe outline) n → is_reported group reported ≡ true →
       is_quiet (meaning universe outline) (graph_in universe outline) (keys_in universe outline) (marks_in universe outline) branch n reported ≡ true
-  quiet_group group is e = or_middle (not (is_some (solvable_at outline.findings.graph.now.graph n))) (is_reported (group_in (keys_in universe outline) n) reported)
+  quiet_group group is e = or_middle (not (is_some (solvable_at outline.findings.graph.now.graph n)))
+      (is_reported (group_in (keys_in universe outline) n) reported)
       (is_marked branch n) (ap (λ o. is_reported o reported) (sym is) ∙ e)
 
   pub loud : (group : Option ℕ) → group ≡ group_in (keys_in universe outline) n → is_some (solvable_at outline.findings.graph.now.graph n) ≡ true →
       is_reported group reported ≡ false → is_marked branch n ≡ false →
       is_quiet (meaning universe outline) (graph_in universe outline) (keys_in universe outline) (marks_in universe outline) branch n reported ≡ false
-  loud group is some e f = all_false (not (is_some (solvable_at outline.findings.graph.now.graph n))) (is_reported (group_in (keys_in universe outline) n) reported)
+  loud group is some e f = all_false (not (is_some (solvable_at outline.findings.graph.now.graph n)))
+      (is_reported (group_in (keys_in universe outline) n) reported)
       (is_marked branch n) (ap not some) (ap (λ o. is_reported o reported) (sym is) ∙ e) f
 
-  pub off_branch : is_quiet (meaning universe outline) (graph_in universe outline) (keys_in universe outline) (marks_in universe outline) branch n reported ≡ false →
+  pub off_branch : is_quiet (meaning universe outline) (graph_in universe outline) (keys_in universe outline)
+      (marks_in universe outline) branch n reported ≡ false →
       is_marked branch n ≡ false
   off_branch e = last_false (not (is_some (solvable_at outline.findings.graph.now.graph n))) (is_reported (group_in (keys_in universe outline) n) reported)
       (is_marked branch n) e

@@ -109,7 +109,8 @@ module _ {N S : Type 0} (u : Universe N S) (g : ConflictShape S) (ks : List Key)
       at_group (Some m) e h = ap (λ o. u.merged_text (solvables_at g.shape (told_with u g ks marks o n))) e ∙ ap u.merged_text (sym is.ids)
 
 -- what is told of a node, by its place
-pub outline_long : {S : Type 0} (g : Shape S) (f : ℕ → NodeTold) (nodes : List NodeOutline) → map node_view nodes ≡ map f (places g) → length nodes ≡ length g.nodes
+pub outline_long : {S : Type 0} (g : Shape S) (f : ℕ → NodeTold) (nodes : List NodeOutline) → map node_view nodes ≡ map f (places g) → length nodes ≡
+    length g.nodes
 outline_long g f nodes e = sym (length-map nodes node_view) ∙ ap length e ∙ length-map (places g) f ∙ length-range_with_len 0 (length g.nodes)
 
 told_at : (f : ℕ → NodeTold) (a count n : ℕ) (t : NodeTold) → n < count → get_or (map f (range_with_len a count)) n t ≡ f (a + n)
@@ -122,7 +123,8 @@ viewed_at [] n node = refl
 viewed_at (m ∷ ms) zero node = refl
 viewed_at (m ∷ ms) (suc n) node = viewed_at ms n node
 
-pub outline_at : {S : Type 0} (g : Shape S) (f : ℕ → NodeTold) (nodes : List NodeOutline) (n : ℕ) (node : NodeOutline) → map node_view nodes ≡ map f (places g) →
+pub outline_at : {S : Type 0} (g : Shape S) (f : ℕ → NodeTold) (nodes : List NodeOutline) (n : ℕ) (node : NodeOutline) → map node_view nodes ≡
+    map f (places g) →
     n < length nodes → node ≡ get_or nodes n node → node_view node ≡ f n
 outline_at g f nodes n node e lt is =
     let long : length nodes ≡ length g.nodes = outline_long g f nodes e in

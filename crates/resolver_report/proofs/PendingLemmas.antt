@@ -223,7 +223,16 @@ module _ {I N S : Type 0} (universe : I → Universe N S) (outline : Outline I N
     -- a tree is left
     pub leave_step : (f : FrameTold) (cs : List NodeId) (rs : List RunTold) (all : List FrameTold) (b reported : List Bool) (out : List ℕ) → cs ≡ [] → rs ≡ [] →
         all ≡ f ∷ fs → branch ≡ slice_set b f.node false →
-        IsTellStep universe outline (record { top_indent = top_indent; limit = limit; frames = all; candidates = cs; runs = rs; reported = reported; branch = b })
+        IsTellStep universe outline (record {
+          top_indent = top_indent;
+          limit = limit;
+          frames = all;
+          candidates = cs;
+          runs = rs;
+          reported =
+              reported;
+          branch = b;
+        })
         (at f.candidates f.runs reported) out out
     leave_step f cs rs all b reported out none done are back =
         let old = λ (cs : List NodeId) (rs : List RunTold) (all : List FrameTold). let p : PendingTold =

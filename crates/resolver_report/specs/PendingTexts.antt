@@ -136,7 +136,8 @@ module _ {I N S : Type 0} (universe : I → Universe N S) (outline : Outline I N
       told.value ++ frames_text p.top_indent p.limit p.frames p.branch told.reported
 
   abbrev pub runs_at : ℕ → List RunTold
-  runs_at n = told_of (graph_in universe outline) (group_in (keys_in universe outline)) (marks_in universe outline) (outgoing (graph_in universe outline).shape.edges n)
+  runs_at n = told_of (graph_in universe outline) (group_in (keys_in universe outline)) (marks_in universe outline)
+      (outgoing (graph_in universe outline).shape.edges n)
 
   -- the steps that a candidate takes at most
   abbrev pub candidate_work : ℕ → ℕ → ℕ

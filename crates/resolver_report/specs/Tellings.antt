@@ -65,7 +65,8 @@ module _ {I N S : Type 0} (universe : I → Universe N S) (outline : Outline I N
 
   -- what follows a candidate's versions, but for what it requires
   abbrev pub verdict_rest : Bool → List Bool → Verdict → List ℕ
-  verdict_rest top levels (excluded reason) = codes " is excluded because " ++ reason_text meaning (slice_get outline.findings.graph.now.graph.nodes reason.0) ++
+  verdict_rest top levels (excluded reason) =
+      codes " is excluded because " ++ reason_text meaning (slice_get outline.findings.graph.now.graph.nodes reason.0) ++
       10 ∷ []
   verdict_rest top levels alone = 10 ∷ []
   verdict_rest top levels second = codes ", which conflicts with the versions reported above." ++ 10 ∷ []

@@ -254,14 +254,16 @@ chosen-grows old new requirements trail grows inside chosen = record {
 }
 
 -- the one literal of the highest level has no value after a jump back
-pub asserted-free : (old new : Trail) (backtrack_level level : ℕ) (literal : Literal) (literals : List Literal) → IsAsserting old backtrack_level literal literals →
+pub asserted-free : (old new : Trail) (backtrack_level level : ℕ) (literal : Literal) (literals : List Literal) →
+    IsAsserting old backtrack_level literal literals →
     level < level_in old literal.variable → IsUndone old new level → slot_of new literal.variable ≡ None
 asserted-free old new backtrack_level level literal literals asserting above undone = none-from (slot_of new literal.variable) (λ s at.
     let was = undone.stays _ s at in
     omega (arith, was.1, above, level-in old literal.variable s was.0))
 
 -- and the others are false still
-pub asserted-unit : (old new : Trail) (backtrack_level level : ℕ) (literal : Literal) (literals : List Literal) → IsAsserting old backtrack_level literal literals → backtrack_level ≤ level →
+pub asserted-unit : (old new : Trail) (backtrack_level level : ℕ) (literal : Literal) (literals : List Literal) →
+    IsAsserting old backtrack_level literal literals → backtrack_level ≤ level →
     IsUndone old new level → IsUnit new literal literals
 asserted-unit old new backtrack_level level literal literals asserting high undone = λ k d below. ⊎_elim
     (λ e. inl e)

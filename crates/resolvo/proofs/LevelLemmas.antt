@@ -77,7 +77,8 @@ backtrack_level-same trail clause asserted i e level within is so = record {
 }
 
 pub backtrack_level-next : (trail : Trail) (clause : List Literal) (asserted i : ℕ) (e : Literal) (level here new : ℕ) → i < length clause →
-    (get_or clause i e).variable ≢ asserted → here ≡ level_in trail (get_or clause i e).variable → IsBacktrackLevelSoFar trail clause asserted i level → level ≤ new →
+    (get_or clause i e).variable ≢ asserted → here ≡ level_in trail (get_or clause i e).variable → IsBacktrackLevelSoFar trail clause asserted i level →
+    level ≤ new →
     here ≤ new → (new ≡ here) ⊎ (new ≡ level) → IsBacktrackLevelSoFar trail clause asserted (i + 1) new
 backtrack_level-next trail clause asserted i e level here new within differ is so more least either =
     let P : ℕ → Literal → Type 0 = λ n literal. (literal.variable ≡ asserted) ⊎ (level_in trail literal.variable ≤ n) in

@@ -345,13 +345,20 @@ refused it given numbers learnt holds loaded is low =
             false_there = v.2;
             low = ⊎_elim
                 (λ e. omega (arith, ap (λ (t : Slot). t.level) (same_Some _ _ (sym v.1 ∙ ap (λ (l : Literal). slot_of it.trail l.variable) e ∙ a.is)), top))
-                (λ (f : IsFalseAt it.trail learnt.backtrack_level _). omega (arith, ap (λ (t : Slot). t.level) (same_Some _ _ (sym v.1 ∙ f.is)), f.low, a.above, top))
+                (λ (f : IsFalseAt it.trail learnt.backtrack_level _). omega (
+                  arith,
+                  ap (λ (t : Slot). t.level) (same_Some _ _ (sym v.1 ∙ f.is)),
+                  f.low,
+                  a.above,
+                  top,
+                ))
                 (a.others k d below);
           };
     }
 
 -- the level that is jumped to is below the one of the literal that is set
-pub below-asserted : (trail : Trail) (backtrack_level base back : ℕ) (literal : Literal) (literals : List Literal) → IsAsserting trail backtrack_level literal literals →
+pub below-asserted : (trail : Trail) (backtrack_level base back : ℕ) (literal : Literal) (literals : List Literal) →
+    IsAsserting trail backtrack_level literal literals →
     base < level_in trail literal.variable → back ≡ max backtrack_level base → back < level_in trail literal.variable
 below-asserted trail backtrack_level base back literal literals asserting above is =
     omega (arith, is, asserting.above, above, level-in trail literal.variable asserting.slot asserting.is)

@@ -153,7 +153,8 @@ fn level_for(trail: &Trail, literals: &[Literal], base: usize) -> usize
 }
 
 impl ClauseSearch {
-    ghost use Rattle.resolvo.specs.ClauseSearches.{IsConsistent, IsBacktrack, IsLoaded, IsRootTurn, IsSameProblem, IsSameSearch, SetsNone, StaysMarked, KeepsLoaded};
+    ghost use Rattle.resolvo.specs.ClauseSearches.{IsConsistent, IsBacktrack, IsLoaded, IsRootTurn};
+    ghost use Rattle.resolvo.specs.ClauseSearches.{IsSameProblem, IsSameSearch, SetsNone, StaysMarked, KeepsLoaded};
     ghost use Rattle.resolvo.specs.ClauseSearches.{KeepsMark, KeepsTurn, OutcomeIs, base_of, clause_count_of, held_of, kept_of, learnt_count_of, numbers_of};
     ghost use Rattle.resolvo.specs.ClauseSearches.{trail_of};
 
@@ -415,7 +416,8 @@ impl ClauseSearch {
         requires above { self.old.base < level_in self.old.trail learnt.literal.variable }
         ensures consistent { OnOk result (IsConsistent self.new) }
         ensures same { OnOk result (IsSameProblem self.old self.new) }
-        ensures backtrack_level { OnOk result (IsBacktrack self.old.trail self.new.trail learnt.literal (max learnt.backtrack_level self.old.base) (length self.old.table.items)) }
+        ensures backtrack_level { OnOk result (IsBacktrack self.old.trail self.new.trail learnt.literal (max learnt.backtrack_level self.old.base)
+            (length self.old.table.items)) }
         ensures stored { OnOk result (clause_at self.new.table.items (length self.old.table.items) ≡ learnt.literals.items) }
         ensures count { OnOk result (learnt_count_of self.new ≡ learnt_count_of self.old + 1) }
     {

@@ -4,7 +4,8 @@ use Rattle.resolver_clause_store.proofs.ScoreLemmas.{after_decay-next, after_dec
 use Rattle.resolver_clause_store.proofs.scores.decayed_often.Goals as goal
 
 pub returns-then-next-left : goal.returns-then-next-left
-returns-then-next-left c = sym (after_decay-settled c.args.decay (c.args.times - c.times.count) c.times.left (sym c.decayed-next.ensures ∙ c.if-next-left.true)) ∙
+returns-then-next-left c = sym (after_decay-settled c.args.decay (c.args.times - c.times.count) c.times.left (sym c.decayed-next.ensures ∙
+    c.if-next-left.true)) ∙
     c.times.invariant
 
 pub times-preserved : goal.times-preserved

@@ -29,7 +29,8 @@ returns-then-is_reported g c =
       solvable_below c.args.outline.now.findings.graph.now.graph c.args.n.0 some,
       outline_long c.args.outline.now.findings.graph.now.graph told c.args.outline.now.nodes.items c.requires.nodes,
     ) in
-    let view = outline_at c.args.outline.now.findings.graph.now.graph told c.args.outline.now.nodes.items c.args.n.0 c.index-node.result.now c.requires.nodes below
+    let view = outline_at c.args.outline.now.findings.graph.now.graph told c.args.outline.now.nodes.items c.args.n.0 c.index-node.result.now
+    c.requires.nodes below
     c.index-node.ensures in
     quiet_group U c.args.outline.now c.args.branch.now c.args.n.0 c.args.reported.now c.index-node.result.now.group (ap (λ t. t.group) view)
     (sym c.is_reported.ensures ∙ c.if-is_reported.true)
@@ -45,7 +46,8 @@ returns g c =
       solvable_below c.args.outline.now.findings.graph.now.graph c.args.n.0 some,
       outline_long c.args.outline.now.findings.graph.now.graph told c.args.outline.now.nodes.items c.requires.nodes,
     ) in
-    let view = outline_at c.args.outline.now.findings.graph.now.graph told c.args.outline.now.nodes.items c.args.n.0 c.index-node.result.now c.requires.nodes below
+    let view = outline_at c.args.outline.now.findings.graph.now.graph told c.args.outline.now.nodes.items c.args.n.0 c.index-node.result.now
+    c.requires.nodes below
     c.index-node.ensures in
     record {
       loud = loud U c.args.outline.now c.args.branch.now c.args.n.0 c.args.reported.now c.index-node.result.now.group (ap (λ t. t.group) view) some

@@ -16,5 +16,6 @@ returns c =
       drawn = drawn-learnt _ _ _ _ _ resolvent.drawn negates;
       falsified = negates.falsified;
       asserting = asserting _ _ _ _ c.resolve_level.new.resolvent.level _ c.variable_at-variable.result single negates some c.negation_of-literal.ensures
-          (rw c.as_slice-4.ensures.value at c.backtrack_level-backtrack_level.ensures.top) (rw c.as_slice-4.ensures.value at c.backtrack_level-backtrack_level.ensures.reached);
+          (rw c.as_slice-4.ensures.value at c.backtrack_level-backtrack_level.ensures.top)
+          (rw c.as_slice-4.ensures.value at c.backtrack_level-backtrack_level.ensures.reached);
     }

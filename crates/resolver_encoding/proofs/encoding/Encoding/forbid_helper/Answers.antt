@@ -29,8 +29,10 @@ returns-clause-forbidden g c = clause_listed (g.D.Interner.universe c.args.provi
 pub returns-in_err-add_pair-clause-adds : goal.returns-in_err-add_pair-clause-adds
 returns-in_err-add_pair-clause-adds g c =
     AddsOnly-weaker _ _ (λ o is. parent_own
-    (g.D.Interner.universe c.args.provider.now) c.args.by c.args.version_set c.origin_of-parent.result o c.origin_of-parent.ensures is) _ _ c.add_pair.ensures.adds
+    (g.D.Interner.universe c.args.provider.now) c.args.by c.args.version_set c.origin_of-parent.result o c.origin_of-parent.ensures is) _ _
+    c.add_pair.ensures.adds
 
 pub returns-clause-adds : goal.returns-clause-adds
 returns-clause-adds g c = AddsOnly-weaker _ _ (λ o is.
-    parent_own (g.D.Interner.universe c.args.provider.now) c.args.by c.args.version_set c.origin_of-parent.result o c.origin_of-parent.ensures is) _ _ c.add_pair.ensures.adds
+    parent_own (g.D.Interner.universe c.args.provider.now) c.args.by c.args.version_set c.origin_of-parent.result o c.origin_of-parent.ensures is) _ _
+    c.add_pair.ensures.adds
