@@ -1,13 +1,12 @@
 -- How a word is cut in one way alone.
 use Rattle.std.proofs.Common.{◌≡◌, ◌≢◌, ℕ, suc, ◌<◌, ◌≤◌, ◌⊎◌, List, [], ◌∷◌, ◌++◌, IsTrue, refl, sym, ◌∙◌, subst, inl, inr, arith, rules}
 use Rattle.std.specs.Fmt.{decimal}
-use Rattle.std.specs.Str.{IsAscii, IsUtf8}
+use Rattle.std.specs.Str.{IsAscii}
 use Rattle.std.specs.Str.Parse.{AllDigits}
 use Rattle.std.proofs.lemmas.Bool.Decides.{nat_tests}
-use Rattle.std.proofs.lemmas.Fmt.{digits_decimal, IsAscii-decimal}
+use Rattle.std.proofs.lemmas.Fmt.{digits_decimal}
 use Rattle.std.proofs.lemmas.List.Elements.{All-weaker}
-use Rattle.std.proofs.lemmas.Str.{IsUtf8-from_ascii, IsAscii-append}
-use Rattle.std.proofs.lemmas.Str.Ascii.{IsAscii-cons, IsAscii-from_all}
+use Rattle.std.proofs.lemmas.Str.Ascii.{IsAscii-from_all}
 use Rattle.resolve.specs.Words.{is_name_byte, IsBounded, IsName, IsSpec, Lacks, StatesSolvable, StatesSpec, StatesVersions}
 use Rattle.resolve.specs.declared.words.Spec.{Spec}
 use Rattle.resolve.specs.declared.ids.Range.{Range}
@@ -105,26 +104,6 @@ solvable_refused word front back e lacks (inl bad) name version (n, same, below)
     bad (subst IsName (sym (same_cut 61 front back name (decimal version) lacks (name_lacks_equals name n) (sym e ∙ same)).0) n)
 solvable_refused word front back e lacks (inr bad) name version (n, same, below) =
     bad version below (same_cut 61 front back name (decimal version) lacks (name_lacks_equals name n) (sym e ∙ same)).1
-
--- what states something is UTF-8
-versions_ascii : (text : List ℕ) (versions : Range) → StatesVersions text versions → IsAscii text
-versions_ascii text EachVersion h = absurd h
-versions_ascii text (Within low high) (inl (one, below, next)) = subst IsAscii (sym one) (IsAscii-decimal low (omega arith))
-versions_ascii text (Within low high) (inr (two, left, right)) =
-    subst IsAscii (sym two) (IsAscii-append (decimal low) (46 ∷ 46 ∷ decimal high) (IsAscii-decimal low (omega arith))
-    (IsAscii-cons 46 (46 ∷ decimal high) (omega arith) (IsAscii-cons 46 (decimal high) (omega arith) (IsAscii-decimal high (omega arith)))))
-
-pub spec_utf8 : (word name : List ℕ) (versions : Range) → StatesSpec word name versions → IsUtf8 word
-spec_utf8 word name versions (n, inl (a, same)) = IsUtf8-from_ascii word (subst IsAscii (sym same) (name_ascii name n))
-spec_utf8 word name versions (n, inr (t, same, states)) =
-    IsUtf8-from_ascii word (subst IsAscii (sym same)
-    (IsAscii-append name (64 ∷ t) (name_ascii name n) (IsAscii-cons 64 t (omega arith) (versions_ascii t versions states))))
-
-pub solvable_utf8 : (word name : List ℕ) (version : ℕ) → StatesSolvable word name version → IsUtf8 word
-solvable_utf8 word name version (n, same, below) =
-    IsUtf8-from_ascii word (subst IsAscii (sym same)
-    (IsAscii-append name (61 ∷ decimal version) (name_ascii name n)
-    (IsAscii-cons 61 (decimal version) (omega arith) (IsAscii-decimal version (omega arith)))))
 
 -- the bounds of what was stated
 versions_bounded : (text : List ℕ) (versions : Range) → StatesVersions text versions → IsBounded versions

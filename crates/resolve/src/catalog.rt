@@ -1,6 +1,6 @@
 //! What was declared, in tables.
 
-ghost use Rattle.std.specs.Prelude.{◌≡◌, ◌<◌, ◌≤◌, ◌++◌, ◌∷◌, [], IfErr, IfNone, IfOk, IfSome, MatchBool, OnOk, length};
+ghost use Rattle.std.specs.Prelude.{◌≡◌, ◌<◌, ◌≤◌, ◌++◌, ◌∷◌, [], IfErr, IfNone, IfOk, IfSome, IsTrue, MatchBool, OnOk, Some, length, slice_get};
 ghost use Rattle.resolve.specs.Additions.{IsInterned, IsShortage};
 ghost use Rattle.resolve.specs.Packages.{version_at, IsConstrained, IsDeclarationRefused, IsDeclared, IsExcluded, IsExclusionRefused, IsFavorRefused};
 ghost use Rattle.resolve.specs.Packages.{IsFavored, IsLockRefused, IsLocked, IsMadeUnknown, IsReasonRefused, IsRequired, KeepsPackages};
@@ -90,6 +90,26 @@ impl Catalog {
         let version = Version { name, number };
         let found = found_id(self.packages.versions.get_index_of(&version))?;
         Some(SolvableId(found))
+    }
+
+    /// Whether a solvable is the version of the package of that name. It compares two texts, which costs less than to look for one.
+    pub fn is_version(&self, solvable: SolvableId, text: &str, number: u32) -> bool
+        ensures { IsTrue result → IsFound self.now text.now number solvable }
+    {
+        match self.packages.versions.get_index(solvable.0 as usize) {
+            None => false,
+            Some(version) => version.number == number && self.has_name(version.name, text),
+        }
+    }
+
+    /// Whether a package has that name.
+    fn has_name(&self, name: NameId, text: &str) -> bool
+        ensures { IsTrue result → slice_get (names_in self.now) name.0 ≡ Some text.now }
+    {
+        match self.names.get_index(name.0 as usize) {
+            None => false,
+            Some(known) => known.as_str() == text,
+        }
     }
 
     /// The name of a solvable's package, and its version.

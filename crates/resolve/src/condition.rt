@@ -89,12 +89,12 @@ impl<'a> Reading<'a> {
     }
 
     /// Reads a spec or an opening parenthesis.
-    fn read_part(&mut self, word: &'a [u8]) -> Result<(), LineError>
+    fn read_part(&mut self, word: &'a str) -> Result<(), LineError>
         requires { self.old.wants_part ≡ true }
         ensures { IfErr result IsRefusal }
     {
         match word {
-            b"(" => {
+            "(" => {
                 self.outside.push(self.waiting)?;
                 self.waiting = Waiting::NONE;
             }
@@ -108,22 +108,22 @@ impl<'a> Reading<'a> {
     }
 
     /// Reads an operator or a closing parenthesis.
-    fn read_operator(&mut self, word: &[u8]) -> Result<(), LineError>
+    fn read_operator(&mut self, word: &str) -> Result<(), LineError>
         requires { self.old.wants_part ≡ false }
         ensures { IfErr result IsRefusal }
     {
         match word {
-            b"and" => {
+            "and" => {
                 self.join_and()?;
                 self.waiting.and = true;
                 self.wants_part = true;
             }
-            b"or" => {
+            "or" => {
                 self.join_all()?;
                 self.waiting.or = true;
                 self.wants_part = true;
             }
-            b")" => {
+            ")" => {
                 self.join_all()?;
                 self.waiting = self.outside.pop().ok_or(LineError::Bad)?;
             }

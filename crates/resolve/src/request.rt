@@ -28,6 +28,8 @@ pub struct Request {
     pub constraints: Vec<VersionSetId>,
     /// In the order of their statements.
     pub soft_requirements: Vec<SoftRequirement<SolvableId>>,
+    /// The solvable of the last statement that was about one. Statements about one solvable often follow each other.
+    last: Option<SolvableId>,
 }
 
 /// Why an input gives no request.
@@ -68,6 +70,7 @@ impl Request {
             requirements: Vec::new(alloc),
             constraints: Vec::new(alloc),
             soft_requirements: Vec::new(alloc),
+            last: None,
         }
     }
 
@@ -106,6 +109,20 @@ impl Request {
         }
     }
 
+    /// The solvable, if it was declared.
+    fn find(&mut self, solvable: SolvableText<'_>) -> Option<SolvableId> {
+        if let Some(last) = self.last {
+            if self
+                .catalog
+                .is_version(last, solvable.name, solvable.version)
+            {
+                return Some(last);
+            }
+        }
+        self.last = self.catalog.find_solvable(solvable.name, solvable.version);
+        self.last
+    }
+
     fn declare(&mut self, solvable: SolvableText<'_>) -> Result<bool, Exhausted> {
         let name = self.catalog.name(solvable.name)?;
         self.catalog.declare(name, solvable.version)
@@ -117,7 +134,7 @@ impl Request {
         union: &[Spec<'_>],
         condition: &[ConditionStep<'_>],
     ) -> Result<bool, Exhausted> {
-        let Some(solvable) = self.catalog.find_solvable(solvable.name, solvable.version) else {
+        let Some(solvable) = self.find(solvable) else {
             return Ok(false);
         };
         let Some(requirement) = self.requirement(union, condition)? else {
@@ -132,7 +149,7 @@ impl Request {
         solvable: SolvableText<'_>,
         spec: Spec<'_>,
     ) -> Result<bool, Exhausted> {
-        let Some(solvable) = self.catalog.find_solvable(solvable.name, solvable.version) else {
+        let Some(solvable) = self.find(solvable) else {
             return Ok(false);
         };
         let version_set = self.version_set(spec)?;
@@ -141,7 +158,7 @@ impl Request {
     }
 
     fn set_unknown(&mut self, solvable: SolvableText<'_>, reason: &str) -> Result<bool, Exhausted> {
-        let Some(solvable) = self.catalog.find_solvable(solvable.name, solvable.version) else {
+        let Some(solvable) = self.find(solvable) else {
             return Ok(false);
         };
         let reason = self.catalog.string(reason)?;
@@ -149,21 +166,21 @@ impl Request {
     }
 
     fn favor(&mut self, solvable: SolvableText<'_>) -> bool {
-        match self.catalog.find_solvable(solvable.name, solvable.version) {
+        match self.find(solvable) {
             None => false,
             Some(solvable) => self.catalog.favor(solvable),
         }
     }
 
     fn lock(&mut self, solvable: SolvableText<'_>) -> bool {
-        match self.catalog.find_solvable(solvable.name, solvable.version) {
+        match self.find(solvable) {
             None => false,
             Some(solvable) => self.catalog.lock(solvable),
         }
     }
 
     fn exclude(&mut self, solvable: SolvableText<'_>, reason: &str) -> Result<bool, Exhausted> {
-        let Some(solvable) = self.catalog.find_solvable(solvable.name, solvable.version) else {
+        let Some(solvable) = self.find(solvable) else {
             return Ok(false);
         };
         let reason = self.catalog.string(reason)?;

@@ -101,7 +101,18 @@ pub fn parse_line<'a>(alloc: Global, line: &'a [u8]) -> Result<Option<Statement<
 {
     match first_byte(line) {
         None | Some(b'#') => Ok(None),
-        Some(_) => Ok(Some(parse_statement(alloc, Words::new(line))?)),
+        Some(_) => Ok(Some(parse_text(alloc, line)?)),
+    }
+}
+
+/// Reads a line that states something. One that is no text is bad.
+fn parse_text<'a>(alloc: Global, line: &'a [u8]) -> Result<Statement<'a>, LineError>
+    ensures statement { IfOk result IsWellFormed }
+    ensures refused { IfErr result IsRefusal }
+{
+    match str::from_utf8(line) {
+        Ok(text) => parse_statement(alloc, Words::new(text)),
+        Err(_) => Err(LineError::Bad),
     }
 }
 
@@ -132,16 +143,16 @@ fn parse_statement<'a>(alloc: Global, mut words: Words<'a>) -> Result<Statement<
 }
 
 /// What list a statement with this keyword holds.
-fn list_of(keyword: &[u8]) -> StatementList {
+fn list_of(keyword: &str) -> StatementList {
     match keyword {
-        b"require" => StatementList::Requirement,
-        b"requires" => StatementList::RequirementOfSolvable,
+        "require" => StatementList::Requirement,
+        "requires" => StatementList::RequirementOfSolvable,
         _ => StatementList::None,
     }
 }
 
 /// Reads a statement that holds no list.
-fn parse_listless<'a>(keyword: &[u8], words: Words<'a>) -> Result<Statement<'a>, LineError>
+fn parse_listless<'a>(keyword: &str, words: Words<'a>) -> Result<Statement<'a>, LineError>
     ensures statement { IfOk result IsWellFormed }
     ensures refused { IfErr result IsRefusal }
 {
@@ -173,21 +184,21 @@ fn parse_requires<'a>(alloc: Global, mut words: Words<'a>) -> Result<Statement<'
 }
 
 /// Reads what follows the first word of a statement that holds no list.
-fn parse_short_statement<'a>(keyword: &[u8], words: Words<'a>) -> Option<Statement<'a>>
+fn parse_short_statement<'a>(keyword: &str, words: Words<'a>) -> Option<Statement<'a>>
     ensures { IfSome result IsWellFormed }
 {
     match keyword {
-        b"constrain" => Some(Statement::Constrain(last_spec(words)?)),
-        b"constrains" => parse_constrains(words),
-        b"unknown" => {
+        "constrain" => Some(Statement::Constrain(last_spec(words)?)),
+        "constrains" => parse_constrains(words),
+        "unknown" => {
             let (solvable, reason) = parse_reasoned(words)?;
             Some(Statement::Unknown { solvable, reason })
         }
-        b"exclude" => {
+        "exclude" => {
             let (solvable, reason) = parse_reasoned(words)?;
             Some(Statement::Exclude { solvable, reason })
         }
-        b"soft" => parse_soft(words),
+        "soft" => parse_soft(words),
         _ => parse_solvable_statement(keyword, last_solvable(words)?),
     }
 }
@@ -208,14 +219,14 @@ fn parse_soft(mut words: Words<'_>) -> Option<Statement<'_>>
 }
 
 /// The statement that says this of a solvable alone.
-fn parse_solvable_statement<'a>(keyword: &[u8], solvable: SolvableText<'a>) -> Option<Statement<'a>>
+fn parse_solvable_statement<'a>(keyword: &str, solvable: SolvableText<'a>) -> Option<Statement<'a>>
     requires { IsName solvable.name.now }
     ensures { IfSome result IsWellFormed }
 {
     match keyword {
-        b"package" => Some(Statement::Package(solvable)),
-        b"favor" => Some(Statement::Favor(solvable)),
-        b"lock" => Some(Statement::Lock(solvable)),
+        "package" => Some(Statement::Package(solvable)),
+        "favor" => Some(Statement::Favor(solvable)),
+        "lock" => Some(Statement::Lock(solvable)),
         _ => None,
     }
 }
@@ -260,8 +271,8 @@ fn last_spec(mut words: Words<'_>) -> Option<Spec<'_>>
 }
 
 /// Reads a reason: text that is not empty, without the spaces around it.
-fn parse_reason(bytes: &[u8]) -> Option<&str> {
-    let reason = str::from_utf8(bytes).ok()?.trim_matches(' ');
+fn parse_reason(text: &str) -> Option<&str> {
+    let reason = text.trim_matches(' ');
     if reason.is_empty() {
         return None;
     }
@@ -294,7 +305,7 @@ fn parse_requirement<'a>(
 fn parse_union<'a>(
     words: &mut Words<'a>,
     union: &mut Vec<Spec<'a>>,
-) -> Result<Option<&'a [u8]>, LineError>
+) -> Result<Option<&'a str>, LineError>
     requires { All IsSpec union.old.items }
     ensures specs { OnOk result (All IsSpec union.new.items) }
     ensures nonempty { OnOk result (0 < length union.new.items) }
@@ -304,7 +315,7 @@ fn parse_union<'a>(
         let spec = words.next().and_then(|word| parse_spec(word));
         union.push(spec.ok_or(LineError::Bad)?)?;
         match words.next() {
-            Some(b"|") => {}
+            Some("|") => {}
             word => return Ok(word),
         }
     }
@@ -313,14 +324,14 @@ fn parse_union<'a>(
 /// Reads `if` and the condition behind it, unless the line ends.
 fn parse_if<'a>(
     alloc: Global,
-    word: Option<&[u8]>,
+    word: Option<&str>,
     words: Words<'a>,
 ) -> Result<Vec<ConditionStep<'a>>, LineError>
     ensures condition { IfOk result (λ steps. IsAnyCondition steps.items) }
     ensures refused { IfErr result IsRefusal }
 {
     match word {
-        Some(b"if") => parse_condition(alloc, words),
+        Some("if") => parse_condition(alloc, words),
         Some(_) => Err(LineError::Bad),
         None => Ok(Vec::new(alloc)),
     }

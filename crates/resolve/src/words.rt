@@ -4,11 +4,9 @@ ghost use Rattle.std.specs.Prelude.{◌≡◌, ◌≢◌, ◌<◌, ◌≤◌, �
 ghost use Rattle.std.specs.Fmt.{decimal};
 ghost use Rattle.std.specs.Iterator.{at_most};
 ghost use Rattle.resolve.specs.Words.{is_name_byte, HasOddFront, HasPlainFront, IsName, Lacks, StatesSolvable, StatesSpec, StatesVersions};
-ghost use Rattle.std.specs.Str.{IsUtf8};
 ghost use Rattle.resolve.specs.declared.ids.Range.{Range};
 
 use crate::ids::Range;
-use std::str;
 
 /// The first number that is no version.
 pub const VERSION_LIMIT: u64 = 4294967296;
@@ -30,30 +28,31 @@ pub struct Spec<'a> {
 /// The words of a line, which spaces separate.
 #[derive(Clone, Copy)]
 pub struct Words<'a> {
-    rest: &'a [u8],
+    rest: &'a str,
 }
 
 impl<'a> Words<'a> {
-    pub fn new(line: &'a [u8]) -> Words<'a> {
+    pub fn new(line: &'a str) -> Words<'a> {
         Words { rest: line }
     }
 
-    /// What follows the last word that was taken, spaces included.
-    pub fn rest(&self) -> &'a [u8] {
+    /// What follows the last word that was taken and the space behind it.
+    pub fn rest(&self) -> &'a str {
         self.rest
     }
 }
 
 impl<'a> Iterator for Words<'a> {
-    type Item = &'a [u8];
+    type Item = &'a str;
 
     ghost remaining = { λ words. at_most (length words.rest.now) };
 
-    fn next(&mut self) -> Option<&'a [u8]> {
-        let start = self.rest.iter().position(|byte| *byte != b' ')?;
-        let from_word = &self.rest[start..];
-        let end = from_word.iter().position(|byte| *byte == b' ');
-        let (word, rest) = from_word.split_at(end.unwrap_or(from_word.len()));
+    fn next(&mut self) -> Option<&'a str> {
+        let from_word = self.rest.trim_start_matches(' ');
+        if from_word.is_empty() {
+            return None;
+        }
+        let (word, rest) = from_word.split_once(' ').unwrap_or((from_word, ""));
         self.rest = rest;
         Some(word)
     }
@@ -107,13 +106,6 @@ fn is_name_byte(byte: u8) -> bool
     byte.is_ascii_alphanumeric() || byte == b'-' || byte == b'_' || byte == b'.'
 }
 
-/// The text of a word.
-fn text_of(word: &[u8]) -> Option<&str>
-    ensures { MatchOption result (IsUtf8 word.now → ⊥) (λ text. text.now ≡ word.now) }
-{
-    str::from_utf8(word).ok()
-}
-
 /// What stands before and behind the first `..` of a text.
 fn around_dots(text: &str) -> Option<(&str, &str)>
     ensures { MatchOption result ((front back : List ℕ) → text.now ≢ front ++ 46 ∷ 46 ∷ back) (λ parts. text.now ≡ parts.0.now ++ 46 ∷ 46 ∷ parts.1.now) }
@@ -159,14 +151,11 @@ fn parse_one_version(text: &str) -> Option<Range>
 }
 
 /// Reads `NAME=VERSION`.
-pub fn parse_solvable(word: &[u8]) -> Option<SolvableText<'_>>
+pub fn parse_solvable(word: &str) -> Option<SolvableText<'_>>
     ensures { MatchOption result ((name : List ℕ) (version : ℕ) → StatesSolvable word.now name version → ⊥) (λ solvable.
         StatesSolvable word.now solvable.name.now solvable.version) }
 {
-    let Some(text) = text_of(word) else {
-        return None;
-    };
-    let Some((name, version)) = around(text, '=') else {
+    let Some((name, version)) = around(word, '=') else {
         return None;
     };
     if !is_name(name) {
@@ -179,15 +168,12 @@ pub fn parse_solvable(word: &[u8]) -> Option<SolvableText<'_>>
 }
 
 /// Reads `NAME`, `NAME@VERSION` or `NAME@LOW..HIGH`.
-pub fn parse_spec(word: &[u8]) -> Option<Spec<'_>>
+pub fn parse_spec(word: &str) -> Option<Spec<'_>>
     ensures { MatchOption result ((name : List ℕ) (versions : Range) → StatesSpec word.now name versions → ⊥) (λ spec.
         StatesSpec word.now spec.name.now spec.versions) }
 {
-    let Some(text) = text_of(word) else {
-        return None;
-    };
-    let Some((name, versions)) = around(text, '@') else {
-        return parse_bare_spec(text);
+    let Some((name, versions)) = around(word, '@') else {
+        return parse_bare_spec(word);
     };
     if !is_name(name) {
         return None;

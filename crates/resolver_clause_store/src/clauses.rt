@@ -13,7 +13,7 @@ pub struct RequirementClause {
     pub number: usize,
     /// Whether the requirement is one of the root.
     pub of_root: bool,
-    /// For each version set of the requirement, the place in the clause behind its candidates.
+    /// For each version set of a union, the place in the clause behind its candidates. Those of one version set alone end with the clause.
     pub ends: Vec<usize>,
 }
 

@@ -13,7 +13,8 @@ use resolver_clause_store::{
 use std::alloc::Global;
 use std::hash::Hash;
 
-/// The candidates of a requirement, and for each of its version sets how many of them stand before the end of its own.
+/// The candidates of a requirement, and for each version set of a union how many of them stand before the end of its own. Those of a requirement of one
+/// version set end with the list.
 #[derive(Drop)]
 pub(crate) struct Choices<S: Drop> {
     pub(crate) candidates: Vec<S>,
@@ -106,10 +107,10 @@ pub(crate) fn choices_of<D: DependencyProvider>(
 {
     let candidates = requirement_candidates(cache, provider, requirement)?;
     match requirement {
-        Requirement::Single(version_set) => {
-            let counts = counts_of(alloc, provider, cache, &[version_set])?;
-            Ok(Choices { candidates, counts })
-        }
+        Requirement::Single(_) => Ok(Choices {
+            candidates,
+            counts: Vec::new(alloc),
+        }),
         Requirement::Union(union) => {
             let counts = counts_of(
                 alloc,

@@ -32,3 +32,10 @@ fn the_one_of_the_root_comes_before_one_with_fewer_candidates(rt: HostRuntime) {
         "package app=1\npackage tool=1\npackage tool=2\npackage tool=3\npackage data=1\npackage data=2\nconstrains tool=3 data@1\nrequires app=1 data\nrequire app\nrequire tool if app\n";
     expect_answer(&rt, rt.alloc(), input, "app=1\ndata=1\ntool=3\n");
 }
+
+#[test]
+fn the_candidates_of_a_union_are_counted_by_version_set(rt: HostRuntime) {
+    let input =
+        "package app=1\npackage tool=3\npackage spare=1\npackage spare=2\npackage data=1\npackage data=2\nconstrains tool=3 data@1\nrequires app=1 data\nrequires app=1 tool | spare\nrequire app\n";
+    expect_answer(&rt, rt.alloc(), input, "app=1\ndata=1\ntool=3\n");
+}
