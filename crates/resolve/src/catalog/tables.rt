@@ -110,7 +110,9 @@ impl PackageTable {
         Ok(())
     }
 
-    /// Adds a version of a package, and lists it. False if it stands in the table, or if there is no such package.
+    /// Declares a version of a package, and lists it as the package's last candidate.
+    ///
+    /// False if it was declared before, or if there is no such package.
     pub fn add_version(
         &mut self,
         alloc: Global,
@@ -142,6 +144,7 @@ impl PackageTable {
         Ok(true)
     }
 
+    /// Adds to what a solvable requires.
     pub fn add_requirement(
         &mut self,
         solvable: SolvableId,
@@ -161,6 +164,7 @@ impl PackageTable {
         Ok(())
     }
 
+    /// Adds to what a solvable constrains.
     pub fn add_constraint(
         &mut self,
         solvable: SolvableId,
@@ -180,7 +184,9 @@ impl PackageTable {
         Ok(())
     }
 
-    /// Gives the reason why nobody knows what a solvable needs. False if it has one, or if there is no such solvable.
+    /// Says why nobody knows what a solvable needs. False if it has a reason already, or if there is no such solvable.
+    ///
+    /// What it requires and constrains is then kept from the solver.
     pub fn set_unknown(&mut self, solvable: SolvableId, reason: StringId) -> bool
         ensures unknown { MatchBool result (IsMadeUnknown self.old.solvables.items self.new.solvables.items solvable reason)
             (IsReasonRefused self.old.solvables.items self.new.solvables.items solvable) }
@@ -208,7 +214,7 @@ impl PackageTable {
         Some(package)
     }
 
-    /// Favors a solvable. False if its package has a favored one.
+    /// Favors a solvable. False if its package has a favored one already.
     pub fn favor(&mut self, solvable: SolvableId) -> bool
         ensures favored { MatchBool result (IsFavored self.old.versions.keys self.old.packages.items self.new.packages.items solvable)
             (IsFavorRefused self.old.versions.keys self.old.packages.items self.new.packages.items solvable) }
@@ -224,7 +230,7 @@ impl PackageTable {
         true
     }
 
-    /// Locks a package to a solvable. False if it is locked.
+    /// Locks the package of a solvable to it. False if the package is locked already.
     pub fn lock(&mut self, solvable: SolvableId) -> bool
         ensures locked { MatchBool result (IsLocked self.old.versions.keys self.old.packages.items self.new.packages.items solvable)
             (IsLockRefused self.old.versions.keys self.old.packages.items self.new.packages.items solvable) }
@@ -240,7 +246,7 @@ impl PackageTable {
         true
     }
 
-    /// Excludes a solvable. False if it is excluded.
+    /// Excludes a solvable for a reason. False if it was excluded before.
     pub fn exclude(&mut self, solvable: SolvableId, reason: StringId) -> Result<bool, Exhausted>
         ensures excluded { IfOk result (λ is_new.
             MatchBool is_new (IsExcluded self.old.versions.keys self.old.solvables.items self.new.solvables.items self.old.packages.items
@@ -290,7 +296,7 @@ impl ConditionTable {
         }
     }
 
-    /// Adds a condition that holds where a candidate of a version set is chosen.
+    /// Adds a condition, which holds where a candidate of the version set is chosen.
     pub fn add_on(&mut self, version_set: VersionSetId) -> Result<ConditionId, Exhausted>
         ensures id { IfOk result (λ id. id.0 ≡ length self.old.conditions.items) }
         ensures added { OnOk result (self.new.conditions.items ≡ self.old.conditions.items ++ Condition.Requirement version_set ∷ []) }
