@@ -288,7 +288,7 @@ impl Request {
         let Some(left) = aside.pop() else {
             return Ok(None);
         };
-        Ok(Some(self.catalog.conditions.add_of(operator, left, right)?))
+        self.catalog.conditions.add_of(operator, left, right)
     }
 }
 

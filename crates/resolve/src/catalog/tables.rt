@@ -1,13 +1,13 @@
 //! Packages with their versions, and conditions.
 
-ghost use Rattle.std.specs.Prelude.{◌≡◌, ◌<◌, ◌≤◌, ◌++◌, ◌∷◌, [], length, IfOk, IfErr, IfNone, IfSome, MatchBool, OnOk};
+ghost use Rattle.std.specs.Prelude.{◌≡◌, ◌<◌, ◌≤◌, ◌++◌, ◌∷◌, [], length, IfOk, IfErr, IfNone, IfSome, MatchBool, MatchOption, OnOk};
 ghost use Rattle.std.proofs.Props.{props};
 ghost use Rattle.resolve.specs.Additions.{IsShortage};
 ghost use Rattle.resolve.specs.Packages.{ArePackagesOf, IsConstrained, IsDeclarationRefused, IsDeclared, IsExcluded, IsExclusionRefused, IsFavorRefused};
 ghost use Rattle.resolve.specs.Packages.{IsFavored, IsLockRefused, IsLocked, IsMadeUnknown, IsPackageAdded, IsReasonRefused, IsRequired, IsVersionOf};
 ghost use Rattle.resolve.specs.Packages.{IsWithoutPackage, KeepsPackages, name_at, version_at, preference};
 ghost use Rattle.resolve.specs.Sorting.{sorted_by};
-ghost use Rattle.resolve.specs.Conditions.{ArePartsLower, condition_at};
+ghost use Rattle.resolve.specs.Conditions.{ArePartsLower, IsJoined, IsPartMissing, condition_at};
 
 use crate::ids::{NameId, SolvableId, Version, id_of};
 use indexmap::IndexSet;
@@ -307,24 +307,25 @@ impl ConditionTable {
         Ok(id)
     }
 
-    /// Adds a condition of two that stand in the table. Others are refused as ids out of reach.
+    /// Adds a condition of two others. None if one of them does not stand in the table.
     pub fn add_of(
         &mut self,
         operator: LogicalOperator,
         left: ConditionId,
         right: ConditionId,
-    ) -> Result<ConditionId, Exhausted>
-        ensures id { IfOk result (λ id. id.0 ≡ length self.old.conditions.items) }
-        ensures added { OnOk result (self.new.conditions.items ≡ self.old.conditions.items ++ Condition.Binary operator left right ∷ []) }
-        ensures refusal { left.0 < length self.old.conditions.items → right.0 < length self.old.conditions.items →
-            IfErr result (IsShortage (length self.old.conditions.items)) }
+    ) -> Result<Option<ConditionId>, Exhausted>
+        ensures joined { IfOk result (λ made.
+            MatchOption made (IsPartMissing self.old.conditions.items self.new.conditions.items left right)
+            (IsJoined self.old.conditions.items self.new.conditions.items operator left right)) }
+        ensures refusal { IfErr result (IsShortage (length self.old.conditions.items)) }
     {
-        let id = ConditionId(id_of(self.conditions.len())?);
-        if left.0 >= id.0 || right.0 >= id.0 {
-            return Err(Exhausted::Ids);
+        let count = self.conditions.len();
+        if left.0 as usize >= count || right.0 as usize >= count {
+            return Ok(None);
         }
+        let id = ConditionId(id_of(count)?);
         self.conditions
             .push(Condition::Binary(operator, left, right))?;
-        Ok(id)
+        Ok(Some(id))
     }
 }

@@ -33,7 +33,7 @@ enum Wanted<'x> {
     Unions([VersionSetUnionId; 3]),
     /// The ids of two conditions and of both together, and the last one.
     Conditions([ConditionId; 3], Condition),
-    /// Ids run out for a condition of others that are not there.
+    /// There is no condition of others that are not there.
     NoCondition,
     /// Whether a version that is there is new, and whether another one is.
     Declared([bool; 2]),
@@ -141,17 +141,19 @@ fn either(
     catalog: &mut Catalog,
     left: ConditionId,
     right: ConditionId,
-) -> Result<ConditionId, Exhausted> {
+) -> Result<Option<ConditionId>, Exhausted> {
     catalog
         .conditions
         .add_of(LogicalOperator::Or, left, right)
 }
 
-fn conditions(catalog: &mut Catalog) -> Result<[ConditionId; 3], Exhausted> {
+fn conditions(catalog: &mut Catalog) -> Result<Option<[ConditionId; 3]>, Exhausted> {
     let left = catalog.conditions.add_on(VersionSetId(5))?;
     let right = catalog.conditions.add_on(VersionSetId(5))?;
-    let both = either(catalog, left, right)?;
-    Ok([left, right, both])
+    let Some(both) = either(catalog, left, right)? else {
+        return Ok(None);
+    };
+    Ok(Some([left, right, both]))
 }
 
 fn has_conditions(
@@ -160,11 +162,11 @@ fn has_conditions(
     last: Condition,
 ) -> Result<bool, Exhausted> {
     let made = conditions(catalog)?;
-    Ok(made == wanted && catalog.resolve_condition(made[2]) == last)
+    Ok(made == Some(wanted) && catalog.resolve_condition(wanted[2]) == last)
 }
 
-fn has_no_condition(catalog: &mut Catalog) -> bool {
-    either(catalog, ConditionId(0), ConditionId(0)) == Err(Exhausted::Ids)
+fn has_no_condition(catalog: &mut Catalog) -> Result<bool, Exhausted> {
+    Ok(either(catalog, ConditionId(0), ConditionId(0))?.is_none())
 }
 
 fn declared(catalog: &mut Catalog, alloc: Global) -> Result<[bool; 2], Exhausted> {
@@ -268,7 +270,7 @@ fn is_given(catalog: &mut Catalog, alloc: Global, wanted: Wanted<'_>) -> Result<
         Wanted::VersionSets(ids) => Ok(version_sets(catalog)? == ids),
         Wanted::Unions(ids) => Ok(unions(catalog, alloc)? == ids),
         Wanted::Conditions(ids, last) => Ok(has_conditions(catalog, ids, last)?),
-        Wanted::NoCondition => Ok(has_no_condition(catalog)),
+        Wanted::NoCondition => Ok(has_no_condition(catalog)?),
         Wanted::Declared(are_new) => Ok(declared(catalog, alloc)? == are_new),
         Wanted::Found(text, version, found) => Ok(catalog.find_solvable(text, version) == found),
         Wanted::FavoredAndLocked(are_new, first) => chooses(catalog, are_new, first),
