@@ -140,9 +140,7 @@ impl Request {
             return Ok(false);
         };
         let version_set = self.version_set(spec)?;
-        self.catalog
-            .packages
-            .add_constraint(solvable, version_set)?;
+        self.catalog.packages.add_constraint(solvable, version_set)?;
         Ok(true)
     }
 

@@ -286,7 +286,6 @@ module _ {N S : Type 0} (u : Universe N S) where
       before.sound_waiting)
 
   module _ (set : List S) where
-
     pub IsFiring-trans : (one two three : Notes N S) → IsFiring u set one two → IsFiring u set two three → IsFiring u set one three
     IsFiring-trans one two three first second = record {
       origins = Keeps-trans one.origins two.origins three.origins first.origins second.origins;

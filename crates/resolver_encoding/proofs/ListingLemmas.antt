@@ -80,7 +80,6 @@ module _ {N S : Type 0} (old new : Listing N S) where
   }
 
 module _ {N S : Type 0} (old : Listing N S) where
-
   -- an empty list states nothing
   pub no_rules : {X : Type 0} (Says : X → Statement N S → Type 0) → old.rules.items ≡ [] → AreRulesOf (SomeOf [] Says) old.rules.items
   no_rules Says none = let Has : List (Rule N S) → Rule N S → Type 0 = λ list r. Contains list r in

@@ -142,9 +142,7 @@ fn either(
     left: ConditionId,
     right: ConditionId,
 ) -> Result<Option<ConditionId>, Exhausted> {
-    catalog
-        .conditions
-        .add_of(LogicalOperator::Or, left, right)
+    catalog.conditions.add_of(LogicalOperator::Or, left, right)
 }
 
 fn conditions(catalog: &mut Catalog) -> Result<Option<[ConditionId; 3]>, Exhausted> {
@@ -221,15 +219,11 @@ fn always(version_set: u32) -> ConditionalRequirement {
 
 /// Solvable 0 requires and constrains, and so does solvable 1, of which nobody knows it.
 fn add_needs(catalog: &mut Catalog) -> Result<[bool; 2], Exhausted> {
-    catalog
-        .packages
-        .add_requirement(SolvableId(0), always(5))?;
+    catalog.packages.add_requirement(SolvableId(0), always(5))?;
     catalog
         .packages
         .add_constraint(SolvableId(0), VersionSetId(6))?;
-    catalog
-        .packages
-        .add_requirement(SolvableId(1), always(5))?;
+    catalog.packages.add_requirement(SolvableId(1), always(5))?;
     let first = catalog.packages.set_unknown(SolvableId(1), StringId(7));
     let again = catalog.packages.set_unknown(SolvableId(1), StringId(8));
     Ok([first, again])

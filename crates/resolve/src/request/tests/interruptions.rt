@@ -30,9 +30,7 @@ struct Twice {
     second: Ended,
 }
 
-fn ending_of(
-    outcome: &Result<Vec<SolvableId>, UnsolvableOrCancelled<Wrapped<Catalog>>>,
-) -> Ended {
+fn ending_of(outcome: &Result<Vec<SolvableId>, UnsolvableOrCancelled<Wrapped<Catalog>>>) -> Ended {
     match outcome {
         Ok(chosen) => Ended::Chosen(set_of(chosen)),
         Err(UnsolvableOrCancelled::Unsolvable(conflict)) => {
