@@ -31,10 +31,8 @@ enum Wanted<'x> {
     VersionSets([VersionSetId; 3]),
     /// The ids of a union, of its members the other way round, and of the first one again.
     Unions([VersionSetUnionId; 3]),
-    /// The ids of two conditions and of both together, and the last one.
+    /// The ids of two conditions and of either of them, and the last one.
     Conditions([ConditionId; 3], Condition),
-    /// There is no condition of others that are not there.
-    NoCondition,
     /// Whether a version that is there is new, and whether another one is.
     Declared([bool; 2]),
     Found(&'x str, u32, Option<SolvableId>),
@@ -137,21 +135,14 @@ fn unions(catalog: &mut Catalog, alloc: Global) -> Result<[VersionSetUnionId; 3]
     Ok([one, turned, again])
 }
 
-fn either(
-    catalog: &mut Catalog,
-    left: ConditionId,
-    right: ConditionId,
-) -> Result<Option<ConditionId>, Exhausted> {
-    catalog.conditions.add_of(LogicalOperator::Or, left, right)
-}
-
 fn conditions(catalog: &mut Catalog) -> Result<Option<[ConditionId; 3]>, Exhausted> {
     let left = catalog.conditions.add_on(VersionSetId(5))?;
     let right = catalog.conditions.add_on(VersionSetId(5))?;
-    let Some(both) = either(catalog, left, right)? else {
+    let either = catalog.conditions.add_of(LogicalOperator::Or, left, right)?;
+    let Some(either) = either else {
         return Ok(None);
     };
-    Ok(Some([left, right, both]))
+    Ok(Some([left, right, either]))
 }
 
 fn has_conditions(
@@ -161,10 +152,6 @@ fn has_conditions(
 ) -> Result<bool, Exhausted> {
     let made = conditions(catalog)?;
     Ok(made == Some(wanted) && catalog.resolve_condition(wanted[2]) == last)
-}
-
-fn has_no_condition(catalog: &mut Catalog) -> Result<bool, Exhausted> {
-    Ok(either(catalog, ConditionId(0), ConditionId(0))?.is_none())
 }
 
 fn declared(catalog: &mut Catalog, alloc: Global) -> Result<[bool; 2], Exhausted> {
@@ -264,7 +251,6 @@ fn is_given(catalog: &mut Catalog, alloc: Global, wanted: Wanted<'_>) -> Result<
         Wanted::VersionSets(ids) => Ok(version_sets(catalog)? == ids),
         Wanted::Unions(ids) => Ok(unions(catalog, alloc)? == ids),
         Wanted::Conditions(ids, last) => Ok(has_conditions(catalog, ids, last)?),
-        Wanted::NoCondition => Ok(has_no_condition(catalog)?),
         Wanted::Declared(are_new) => Ok(declared(catalog, alloc)? == are_new),
         Wanted::Found(text, version, found) => Ok(catalog.find_solvable(text, version) == found),
         Wanted::FavoredAndLocked(are_new, first) => chooses(catalog, are_new, first),
@@ -353,9 +339,8 @@ fn equal_version_sets_and_unions_share_an_id(rt: HostRuntime) -> Result<(), Fail
 #[test]
 fn each_condition_is_new(rt: HostRuntime) -> Result<(), Fail> {
     let ids = [ConditionId(0), ConditionId(1), ConditionId(2)];
-    let both = Condition::Binary(LogicalOperator::Or, ConditionId(0), ConditionId(1));
-    assert!(rt; gives(rt.alloc(), Wanted::Conditions(ids, both))?);
-    assert!(rt; gives(rt.alloc(), Wanted::NoCondition)?);
+    let either = Condition::Binary(LogicalOperator::Or, ConditionId(0), ConditionId(1));
+    assert!(rt; gives(rt.alloc(), Wanted::Conditions(ids, either))?);
     Ok(())
 }
 
