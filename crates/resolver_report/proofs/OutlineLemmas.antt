@@ -1,20 +1,20 @@
 -- What is told of nodes, as the code finds it.
-use Rattle.std.proofs.Common.{◌≡◌, ℕ, zero, suc, ◌+◌, ◌<◌, Bool, true, false, cond, not, ◌||◌, List, [], ◌∷◌, ◌++◌, length, map, filter, refl, sym, ◌∙◌}
-use Rattle.std.proofs.Common.{ap, arith, get_or}
-use Rattle.std.specs.Prelude.{IsSome, slice_get}
+use Rattle.std.proofs.Common.{◌≡◌, ℕ, zero, suc, ◌+◌, ◌<◌, Bool, true, false, cond, not, ◌||◌, List, [], ◌∷◌, ◌++◌, length, map, filter, take, refl, sym, ◌∙◌}
+use Rattle.std.proofs.Common.{ap, arith, rules, get_or}
+use Rattle.std.specs.Prelude.{◌==◌, Option, Some, None, IsSome, slice_get}
 use Rattle.std.specs.List.{list_any, range_with_len}
 use Rattle.std.specs.Option.{is_some}
 use Rattle.std.proofs.lemmas.Bool.{true≢false, false≢true}
-use Rattle.std.proofs.lemmas.List.{append-nil, length-map}
+use Rattle.std.proofs.lemmas.List.{append-nil, length-map, map-append, take_more}
 use Rattle.std.proofs.lemmas.List.FromFn.{length-range_with_len}
 use Rattle.std.proofs.lemmas.List.Elements.{filter-append}
 use Rattle.resolver_clause_store.specs.Lists.{without_repeats}
-use Rattle.resolver_clause_store.specs.Universe.{Universe}
 use Rattle.resolver_report.specs.declared.graph.ConflictNode.{ConflictNode}
+use Rattle.resolver_report.specs.declared.graph.NodeId.{NodeId}
 use Rattle.resolver_report.specs.declared.outline.NodeOutline.{NodeOutline}
-use Rattle.resolver_report.specs.Merging.{Key}
-use Rattle.resolver_report.specs.Shapes.{Shape, ConflictShape, as_solvable, places, solvable_at}
-use Rattle.resolver_report.specs.Outlines.{NodeTold, node_view}
+use Rattle.resolver_report.specs.Messages.{RunTold, same_group_as}
+use Rattle.resolver_report.specs.Shapes.{Shape, as_solvable, places, solvable_at}
+use Rattle.resolver_report.specs.Outlines.{NodeTold, group_at, node_view}
 
 -- An element at the end is left out if one that is the same stands before it.
 module _ {X : Type 0} (same : X → X → Bool) (passes : (z y x : X) → same z y ≡ true → same y x ≡ true → same z x ≡ true) where
@@ -55,8 +55,38 @@ module _ {X : Type 0} (same : X → X → Bool) (passes : (z y x : X) → same z
       at_test true e rest = ap (λ zs. x ∷ zs) (ap (filter kept) rest ∙ dropped e (list_any (λ z. same y z) old))
       at_test false e rest = ap (λ zs. x ∷ filter kept zs) rest ∙ rw (any_kept x y e old) (added e (list_any (λ z. same y z) old))
 
--- the versions of a candidate are its own, or those of its group
-module _ {N S : Type 0} (u : Universe N S) (g : ConflictShape S) (ks : List Key) (marks : List Bool) (n : ℕ) where
+  pub without_repeats_next : (xs : List X) (i : ℕ) (y : X) (made : List X) → i < length xs → y ≡ get_or xs i y → made ≡ without_repeats same (take i xs) →
+      cond (list_any (λ z. same y z) made) made (made ++ y ∷ []) ≡ without_repeats same (take (i + 1) xs)
+  without_repeats_next xs i y made h is are =
+      let next : take (i + 1) xs ≡ take i xs ++ y ∷ [] = take_more xs i y h ∙ ap (λ z. take i xs ++ z ∷ []) (sym is) in
+      ap (λ m. cond (list_any (λ z. same y z) m) m (m ++ y ∷ [])) are ∙ sym (without_repeats-push (take i xs) y) ∙ ap (without_repeats same) (sym next)
+
+numbers_pass : (a b c : ℕ) → (a == b) ≡ true → (b == c) ≡ true → (a == c) ≡ true
+numbers_pass a b c e f = search (rules, e, f)
+
+groups_pass : (a b c : Option ℕ) → same_group_as a b ≡ true → same_group_as b c ≡ true → same_group_as a c ≡ true
+groups_pass (Some a) (Some b) (Some c) e f = numbers_pass a b c e f
+groups_pass None b c e f = absurd (false≢true e)
+groups_pass (Some a) None c e f = absurd (false≢true e)
+groups_pass (Some a) (Some b) None e f = absurd (false≢true f)
+
+pub first_of_groups_next : (groups : List (Option ℕ)) (xs : List NodeId) (i : ℕ) (y : NodeId) (made : List NodeId) → i < length xs → y ≡ get_or xs i y
+    → made ≡ without_repeats (λ m n. same_group_as (group_at groups m.0) (group_at groups n.0)) (take i xs)
+    → cond (list_any (λ m. same_group_as (group_at groups y.0) (group_at groups m.0)) made) made (made ++ y ∷ []) ≡ without_repeats (λ m n.
+    same_group_as (group_at groups m.0) (group_at groups n.0)) (take (i + 1) xs)
+first_of_groups_next groups xs i y made h is are =
+    without_repeats_next (λ m n. same_group_as (group_at groups m.0) (group_at groups n.0)) (λ z y' x e f.
+    groups_pass (group_at groups z.0) (group_at groups y'.0) (group_at groups x.0) e f) xs i y made h is are
+
+-- a node without a group is of no node's group
+no_group : (groups : List (Option ℕ)) (found : List NodeId) → list_any (λ m. same_group_as None (group_at groups m.0)) found ≡ false
+no_group groups [] = refl
+no_group groups (n ∷ ns) = no_group groups ns
+
+pub add_alone : (groups : List (Option ℕ)) (found : List NodeId) (n : NodeId) → group_at groups n.0 ≡ None →
+    cond (list_any (λ m. same_group_as (group_at groups n.0) (group_at groups m.0)) found) found (found ++ n ∷ []) ≡ found ++ n ∷ []
+add_alone groups found n e = ap (λ o. cond (list_any (λ m. same_group_as o (group_at groups m.0)) found) found (found ++ n ∷ [])) e ∙
+    ap (λ b. cond b found (found ++ n ∷ [])) (no_group groups found)
 
 -- what is told of a node, by its place
 pub outline_long : {S : Type 0} (g : Shape S) (f : ℕ → NodeTold) (nodes : List NodeOutline) → map node_view nodes ≡ map f (places g) → length nodes ≡
@@ -90,3 +120,9 @@ solvable_below g n h = below g.nodes n h
     below [] k e = absurd (false≢true e)
     below (m ∷ ms) zero e = omega arith
     below (m ∷ ms) (suc k) e = let rest : k < length ms = below ms k e in omega (arith, rest)
+
+-- the viable ones, and then the others
+pub stories_both : {X : Type 0} (told : X → RunTold) (p q : X → Bool) (made first second : List RunTold) (runs : List X) → made ≡ [] → first ≡ made ++
+    map told (filter p runs) → second ≡ first ++ map told (filter q runs) → second ≡ map told (filter p runs ++ filter q runs)
+stories_both told p q made first second runs d e f =
+    f ∙ ap (λ z. z ++ map told (filter q runs)) (e ∙ ap (λ z. z ++ map told (filter p runs)) d) ∙ sym (map-append told (filter p runs) (filter q runs))
