@@ -1,9 +1,7 @@
 -- What `insert_full` leaves of a set in insertion order, seen through a view of its elements.
 use Rattle.std.proofs.Common.{◌≡◌, ℕ, zero, suc, ◌+◌, ◌<◌, ◌≤◌, length, ◌⊎◌, inl, inr, ⊎_elim, Bool, true, false, cond, List, [], ◌∷◌, ◌++◌, refl, arith, sym}
 use Rattle.std.proofs.Common.{◌∙◌, subst, ap, Some, None}
-use Rattle.std.specs.Prelude.{Contains, Option, Result, Ok, Err, IfErr, IfNone, IfSome, slice_get, map, get_or, nat_lt}
-use Rattle.std.specs.Result.{IsErrAnd}
-use Rattle.std.proofs.lemmas.List.{length-map, length_push}
+use Rattle.std.specs.Prelude.{Contains, Option, IfNone, IfSome, slice_get, map, get_or, nat_lt}
 use Rattle.std.specs.Bool.{Decides}
 use Rattle.std.specs.Option.{option_map}
 use Rattle.std.specs.List.{list_any, IsDistinct, AllByRecursion}
@@ -30,9 +28,7 @@ use Rattle.std.proofs.lemmas.List.Quantifiers.{position-Some}
 use Rattle.std.proofs.lemmas.Slice.Eq.{bytes_eq-Decides}
 use Rattle.resolve.specs.declared.ids.Version.{Version}
 use Rattle.resolve.specs.contracts.ids.VersionPartialEq.TheImpl.{eq-value as version-eq}
-use Rattle.resolve.specs.Additions.{IsInterned, IsShortage}
-use Rattle.resolver_clause_store.specs.declared.data.Exhausted.{Exhausted}
-use Rattle.resolver_clause_store.specs.declared.data.Exhausted.TheVariants.{Ids}
+use Rattle.resolve.specs.Additions.{IsInterned}
 use Rattle.resolve.proofs.PackageLemmas.{slice_get-push, slice_get-push_cases}
 
 all-at : {T : Type 0} (P : T → Type 0) (xs : List T) → AllByRecursion P xs → (j : ℕ) (b : T) → slice_get xs j ≡ Some b → P b
@@ -156,29 +152,6 @@ IsInterned-itself {X} old new x place h =
     let P : List X → Type 0 = λ xs. IsInterned xs (map (λ y. y) new) x place in
     let Q : List X → Type 0 = λ xs. IsInterned old xs x place in
     subst Q (map-itself new) (subst P (map-itself old) h)
-
--- an entry's place is at most the number of entries before the call
-place_at_most : {T : Type 0} (b : Bool) (old new : List T) (t k : T) (place : ℕ) → new ≡ cond b old (old ++ t ∷ []) → slice_get new place ≡ Some k →
-    place ≤ length old
-place_at_most true old new t k place e at =
-    let within : place < length new = slice_get_within new place k at in
-    let same : length new ≡ length old = ap length e in
-    omega (arith, within, same)
-place_at_most false old new t k place e at =
-    let within : place < length new = slice_get_within new place k at in
-    let same : length new ≡ length old + 1 = ap length e ∙ length_push old t in
-    omega (arith, within, same)
-
--- where a place has no id, the table is full
-pub IsShortage-full : {A T X : Type 0} (v : T → X) (b : Bool) (old new : List T) (t k : T) (place : ℕ) (e : Exhausted) (r : Result A Exhausted) →
-    new ≡ cond b old (old ++ t ∷ []) → slice_get new place ≡ Some k → (e ≡ Ids) × (4294967295 ≤ place) → IsErrAnd r (λ x. x ≡ e) →
-    IfErr r (IsShortage (length (map v old)))
-IsShortage-full v b old new t k place e (Ok x) inserted at full is = tt
-IsShortage-full v b old new t k place e (Err x) inserted at full is =
-    let Says : Exhausted → Type 0 = λ y. IsShortage (length (map v old)) y in
-    let most : place ≤ length old = place_at_most b old new t k place inserted at in
-    let same : length (map v old) ≡ length old = length-map old v in
-    subst Says (sym (is ∙ full.0)) (omega (arith, full.1, most, same))
 
 -- where `get_index_of` found a key
 pub position-at : {T : Type 0} (p : T → Bool) (xs : List T) (i : ℕ) → position p xs ≡ Some i → (k : T) × (slice_get xs i ≡ Some k) × (p k ≡ true)

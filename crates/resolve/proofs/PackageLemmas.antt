@@ -57,10 +57,6 @@ IsKept-push xs y = record {
   named = λ k h. ap (λ (o : Option Version). (name_of o).0) (slice_get-push xs y k h);
 }
 
-pub IsKept-pushed : (b : Bool) (xs ys : List Version) (y : Version) → ys ≡ cond b (xs ++ y ∷ []) xs → IsKept xs ys
-IsKept-pushed true xs ys y e = let Q : List Version → Type 0 = λ zs. IsKept xs zs in subst Q (sym e) (IsKept-push xs y)
-IsKept-pushed false xs ys y e = let Q : List Version → Type 0 = λ zs. IsKept xs zs in subst Q (sym e) (IsKept-refl xs)
-
 pub IsVersionOf-kept : (xs ys : List Version) → IsKept xs ys → (n : ℕ) (s : SolvableId) → IsVersionOf xs n s → IsVersionOf ys n s
 IsVersionOf-kept xs ys kept n s h = record { declared = omega (arith, kept.declared, h.declared); named = kept.named s.0 h.declared ∙ h.named }
 

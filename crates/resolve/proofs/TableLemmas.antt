@@ -5,20 +5,11 @@ use Rattle.resolver_clause_store.specs.declared.data.Exhausted.TheVariants.{Memo
 use Rattle.resolve.specs.Additions.{IsShortage}
 use Rattle.resolve.specs.Catalogs.{Tables}
 use Rattle.resolve.specs.declared.ids.Version.{Version}
-use Rattle.resolve.specs.declared.catalog.tables.Package.{Package}
 use Rattle.resolve.specs.declared.catalog.tables.Solvable.{Solvable}
-
--- the tables of packages that a call left alone
-pub same_versions : (t : Tables) (versions : List Version) → versions ≡ t.versions → record t { versions = versions } ≡ t
-same_versions t versions v = λ i. record t { versions = v i }
 
 pub same_versions_and_solvables : (t : Tables) (versions : List Version) (solvables : List Solvable) → versions ≡ t.versions → solvables ≡ t.solvables →
     record t { versions = versions; solvables = solvables } ≡ t
 same_versions_and_solvables t versions solvables v s = λ i. record t { versions = v i; solvables = s i }
-
-pub same_versions_and_packages : (t : Tables) (versions : List Version) (packages : List Package) → versions ≡ t.versions → packages ≡ t.packages →
-    record t { versions = versions; packages = packages } ≡ t
-same_versions_and_packages t versions packages v p = λ i. record t { versions = v i; packages = p i }
 
 pub IsShortage-memory : (count : ℕ) (e : Exhausted) → e ≡ Memory → IsShortage count e
 IsShortage-memory count e is =

@@ -7,8 +7,7 @@ use Rattle.std.proofs.lemmas.Bool.Decides.{nat_tests}
 use Rattle.std.proofs.lemmas.Fmt.{digits_decimal}
 use Rattle.std.proofs.lemmas.List.Elements.{All-weaker}
 use Rattle.std.proofs.lemmas.Str.Ascii.{IsAscii-from_all}
-use Rattle.resolve.specs.Words.{is_name_byte, IsBounded, IsName, IsSpec, Lacks, StatesSolvable, StatesSpec, StatesVersions}
-use Rattle.resolve.specs.declared.words.Spec.{Spec}
+use Rattle.resolve.specs.Words.{is_name_byte, IsBounded, IsName, Lacks, StatesSolvable, StatesSpec, StatesVersions}
 use Rattle.resolve.specs.declared.ids.Range.{Range}
 use Rattle.resolve.specs.declared.ids.Range.TheVariants.{All as EachVersion, Within}
 use Rattle.resolve.specs.declared.words.TheConstants.{VERSION_LIMIT}
@@ -116,6 +115,3 @@ versions_bounded text (Within l r) (inr (two, below, above)) low high e =
 pub stated_bounded : (word name : List ℕ) (versions : Range) → StatesSpec word name versions → IsBounded versions
 stated_bounded word name versions (n, inl (a, same)) low high e = let wrong : EachVersion ≡ Within low high = cc in cc
 stated_bounded word name versions (n, inr (t, same, states)) low high e = versions_bounded t versions states low high e
-
-pub stated_spec : (word : List ℕ) (spec : Spec) → StatesSpec word spec.name.now spec.versions → IsSpec spec
-stated_spec word spec h = record { name = h.0; bounds = stated_bounded word spec.name.now spec.versions h }

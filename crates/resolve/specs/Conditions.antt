@@ -1,5 +1,5 @@
 -- What a table of conditions says.
-use Rattle.std.specs.Prelude.{◌≡◌, ℕ, ◌<◌, List, Option, Some, None, slice_get}
+use Rattle.std.specs.Prelude.{◌≡◌, ◌++◌, ◌∷◌, [], ℕ, ◌<◌, List, Option, Some, None, length, slice_get}
 use Rattle.resolver_clause_store.specs.declared.ids.ConditionId.{ConditionId}
 use Rattle.resolver_clause_store.specs.declared.data.LogicalOperator.{LogicalOperator}
 use Rattle.resolver_clause_store.specs.declared.data.Condition.{Condition}
@@ -16,3 +16,15 @@ condition_at conditions i = condition_or_first (slice_get conditions i.0)
 -- both parts of each condition stand before it
 abbrev pub ArePartsLower : List Condition → Type 0
 ArePartsLower conditions = (i : ℕ) (op : LogicalOperator) (a b : ConditionId) → slice_get conditions i ≡ Some (Binary op a b) → (a.0 < i) × (b.0 < i)
+
+-- both parts stand in the table, and now the condition of both stands last
+pub record IsJoined (conditions conditions' : List Condition) (operator : LogicalOperator) (left right id : ConditionId) : Type 0 where
+  pub left_stands : left.0 < length conditions
+  pub right_stands : right.0 < length conditions
+  pub last : id.0 ≡ length conditions
+  pub added : conditions' ≡ conditions ++ Binary operator left right ∷ []
+
+-- a part does not stand in the table, and nothing changed
+pub record IsPartMissing (conditions conditions' : List Condition) (left right : ConditionId) : Type 0 where
+  pub missing : left.0 < length conditions → right.0 < length conditions → ⊥
+  pub kept : conditions' ≡ conditions

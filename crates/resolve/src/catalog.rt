@@ -1,9 +1,8 @@
 //! What was declared, in tables.
 
-ghost use Rattle.std.specs.Prelude.{◌≡◌, ◌<◌, ◌≤◌, ◌++◌, ◌∷◌, [], IfErr, IfNone, IfOk, IfSome, IsTrue, MatchBool, OnOk, Some, length, slice_get};
+ghost use Rattle.std.specs.Prelude.{◌≡◌, ◌<◌, IfErr, IfNone, IfOk, IfSome, IsTrue, OnOk, Some, length, slice_get};
 ghost use Rattle.resolve.specs.Additions.{IsInterned, IsShortage};
-ghost use Rattle.resolve.specs.Packages.{version_at, IsConstrained, IsDeclarationRefused, IsDeclared, IsExcluded, IsExclusionRefused, IsFavorRefused};
-ghost use Rattle.resolve.specs.Packages.{IsFavored, IsLockRefused, IsLocked, IsMadeUnknown, IsReasonRefused, IsRequired, KeepsPackages};
+ghost use Rattle.resolve.specs.Packages.{KeepsPackages, version_at};
 
 mod provider;
 mod tables;
@@ -13,10 +12,7 @@ mod texts;
 
 use crate::ids::{NameId, Range, SolvableId, Version, VersionSet, found_id, id_of};
 use indexmap::IndexSet;
-use resolver_clause_store::{
-    Condition, ConditionId, ConditionalRequirement, Exhausted, LogicalOperator, StringId,
-    VersionSetId, VersionSetUnionId,
-};
+use resolver_clause_store::{Exhausted, StringId, VersionSetId, VersionSetUnionId};
 use std::alloc::Global;
 use tables::{ConditionTable, PackageTable};
 
@@ -27,16 +23,16 @@ use tables::{ConditionTable, PackageTable};
 pub struct Catalog {
     alloc: Global,
     names: IndexSet<String>,
-    packages: PackageTable,
+    pub packages: PackageTable,
     version_sets: IndexSet<VersionSet>,
     unions: IndexSet<Vec<VersionSetId>>,
-    conditions: ConditionTable,
+    pub conditions: ConditionTable,
     strings: IndexSet<String>,
 }
 
 impl Catalog {
-    ghost use Rattle.resolve.specs.Catalogs.{IsFound, IsNamed, IsUnfound, catalog_universe, conditions_in, names_in, no_tables, packages_in, solvables_in};
-    ghost use Rattle.resolve.specs.Catalogs.{strings_in, tables_in, unions_in, version_sets_in, versions_in};
+    ghost use Rattle.resolve.specs.Catalogs.{IsFound, IsNamed, IsUnfound, catalog_universe, names_in, no_tables, packages_in, strings_in};
+    ghost use Rattle.resolve.specs.Catalogs.{tables_in, unions_in, version_sets_in, versions_in};
 
     /// A catalog in which nothing is declared.
     pub fn new(alloc: Global) -> Catalog
@@ -125,25 +121,6 @@ impl Catalog {
         (text, self.packages.version(solvable))
     }
 
-    /// Declares a version of a package, and lists it as the package's last candidate.
-    ///
-    /// False if it was declared before.
-    pub fn declare(&mut self, name: NameId, number: u32) -> Result<bool, Exhausted>
-        ensures declared { IfOk result (λ is_new.
-            MatchBool is_new (IsDeclared (versions_in self.old) (versions_in self.new) (packages_in self.old) (packages_in self.new)
-            (record { name = name; number = number }))
-            (IsDeclarationRefused (versions_in self.old) (versions_in self.new) (packages_in self.old) (packages_in self.new)
-            (record { name = name; number = number }))) }
-        ensures kept { tables_in self.new ≡ record (tables_in self.old) {
-          packages = packages_in self.new;
-          versions = versions_in self.new;
-          solvables = solvables_in self.new;
-        } }
-        ensures refusal { IfErr result (IsShortage (length (versions_in self.old))) }
-    {
-        self.packages.add_version(self.alloc, name, number)
-    }
-
     /// The versions of a package that a range takes. Equal ones share an id.
     pub fn version_set(&mut self, name: NameId, range: Range) -> Result<VersionSetId, Exhausted>
         ensures interned { IfOk result (λ id. IsInterned (version_sets_in self.old) (version_sets_in self.new) (record { name = name; range = range }) id.0) }
@@ -164,32 +141,6 @@ impl Catalog {
         Ok(VersionSetUnionId(id_of(place)?))
     }
 
-    /// A new condition, which holds where a candidate of the version set is chosen.
-    pub fn condition_on(&mut self, version_set: VersionSetId) -> Result<ConditionId, Exhausted>
-        ensures id { IfOk result (λ id. id.0 ≡ length (conditions_in self.old)) }
-        ensures added { OnOk result (conditions_in self.new ≡ conditions_in self.old ++ Condition.Requirement version_set ∷ []) }
-        ensures kept { tables_in self.new ≡ record (tables_in self.old) { conditions = conditions_in self.new } }
-        ensures refusal { IfErr result (IsShortage (length (conditions_in self.old))) }
-    {
-        self.conditions.add_on(version_set)
-    }
-
-    /// A new condition of two others. Parts that this catalog does not have are refused as `Ids`.
-    pub fn condition_of(
-        &mut self,
-        operator: LogicalOperator,
-        left: ConditionId,
-        right: ConditionId,
-    ) -> Result<ConditionId, Exhausted>
-        ensures id { IfOk result (λ id. id.0 ≡ length (conditions_in self.old)) }
-        ensures added { OnOk result (conditions_in self.new ≡ conditions_in self.old ++ Condition.Binary operator left right ∷ []) }
-        ensures kept { tables_in self.new ≡ record (tables_in self.old) { conditions = conditions_in self.new } }
-        ensures refusal { left.0 < length (conditions_in self.old) → right.0 < length (conditions_in self.old) →
-            IfErr result (IsShortage (length (conditions_in self.old))) }
-    {
-        self.conditions.add_of(operator, left, right)
-    }
-
     /// The id of a reason. Equal texts share it.
     pub fn string(&mut self, text: &str) -> Result<StringId, Exhausted>
         ensures interned { IfOk result (λ id. IsInterned (strings_in self.old) (strings_in self.new) text.now id.0) }
@@ -199,77 +150,5 @@ impl Catalog {
         let key = String::from_str(self.alloc, text)?;
         let (place, _) = self.strings.insert_full(key)?;
         Ok(StringId(id_of(place)?))
-    }
-
-    /// Adds to what a solvable requires.
-    pub fn add_requirement(
-        &mut self,
-        solvable: SolvableId,
-        requirement: ConditionalRequirement,
-    ) -> Result<(), Exhausted>
-        ensures added { OnOk result (solvable.0 < length (solvables_in self.old) →
-            IsRequired (solvables_in self.old) (solvables_in self.new) solvable requirement) }
-        ensures dropped { OnOk result (length (solvables_in self.old) ≤ solvable.0 → solvables_in self.new ≡ solvables_in self.old) }
-        ensures kept { tables_in self.new ≡ record (tables_in self.old) { solvables = solvables_in self.new } }
-        ensures memory { IfErr result (λ e. e ≡ Exhausted.Memory) }
-    {
-        self.packages.add_requirement(solvable, requirement)
-    }
-
-    /// Adds to what a solvable constrains.
-    pub fn add_constraint(
-        &mut self,
-        solvable: SolvableId,
-        version_set: VersionSetId,
-    ) -> Result<(), Exhausted>
-        ensures added { OnOk result (solvable.0 < length (solvables_in self.old) →
-            IsConstrained (solvables_in self.old) (solvables_in self.new) solvable version_set) }
-        ensures dropped { OnOk result (length (solvables_in self.old) ≤ solvable.0 → solvables_in self.new ≡ solvables_in self.old) }
-        ensures kept { tables_in self.new ≡ record (tables_in self.old) { solvables = solvables_in self.new } }
-        ensures memory { IfErr result (λ e. e ≡ Exhausted.Memory) }
-    {
-        self.packages.add_constraint(solvable, version_set)
-    }
-
-    /// Says why nobody knows what a solvable needs. False if it has a reason already.
-    ///
-    /// What it requires and constrains is then kept from the solver.
-    pub fn set_unknown(&mut self, solvable: SolvableId, reason: StringId) -> bool
-        ensures unknown { MatchBool result (IsMadeUnknown (solvables_in self.old) (solvables_in self.new) solvable reason)
-            (IsReasonRefused (solvables_in self.old) (solvables_in self.new) solvable) }
-        ensures kept { tables_in self.new ≡ record (tables_in self.old) { solvables = solvables_in self.new } }
-    {
-        self.packages.set_unknown(solvable, reason)
-    }
-
-    /// Favors a solvable. False if its package has a favored one already.
-    pub fn favor(&mut self, solvable: SolvableId) -> bool
-        ensures favored { MatchBool result (IsFavored (versions_in self.old) (packages_in self.old) (packages_in self.new) solvable)
-            (IsFavorRefused (versions_in self.old) (packages_in self.old) (packages_in self.new) solvable) }
-        ensures kept { tables_in self.new ≡ record (tables_in self.old) { packages = packages_in self.new } }
-    {
-        self.packages.favor(solvable)
-    }
-
-    /// Locks the package of a solvable to it. False if the package is locked already.
-    pub fn lock(&mut self, solvable: SolvableId) -> bool
-        ensures locked { MatchBool result (IsLocked (versions_in self.old) (packages_in self.old) (packages_in self.new) solvable)
-            (IsLockRefused (versions_in self.old) (packages_in self.old) (packages_in self.new) solvable) }
-        ensures kept { tables_in self.new ≡ record (tables_in self.old) { packages = packages_in self.new } }
-    {
-        self.packages.lock(solvable)
-    }
-
-    /// Excludes a solvable for a reason. False if it was excluded before.
-    pub fn exclude(&mut self, solvable: SolvableId, reason: StringId) -> Result<bool, Exhausted>
-        ensures excluded { IfOk result (λ is_new.
-            MatchBool is_new (IsExcluded (versions_in self.old) (solvables_in self.old) (solvables_in self.new) (packages_in self.old)
-            (packages_in self.new) solvable reason)
-            (IsExclusionRefused (versions_in self.old) (solvables_in self.old) (solvables_in self.new) (packages_in self.old)
-            (packages_in self.new) solvable)) }
-        ensures kept { tables_in self.new ≡ record (tables_in self.old) { solvables = solvables_in self.new; packages = packages_in self.new } }
-        ensures memory { IfErr result (λ e. e ≡ Exhausted.Memory) }
-    {
-        self.packages.exclude(solvable, reason)
     }
 }

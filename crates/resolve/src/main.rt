@@ -11,7 +11,6 @@ mod statement;
 mod words;
 
 pub use run::{fault_text, run};
-use std::io;
 use std::process::ExitCode;
 
 fn main(rt: HostRuntime) -> ExitCode {

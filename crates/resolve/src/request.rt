@@ -125,7 +125,9 @@ impl Request {
 
     fn declare(&mut self, solvable: SolvableText<'_>) -> Result<bool, Exhausted> {
         let name = self.catalog.name(solvable.name)?;
-        self.catalog.declare(name, solvable.version)
+        self.catalog
+            .packages
+            .add_version(self.alloc, name, solvable.version)
     }
 
     fn add_requirement(
@@ -140,7 +142,9 @@ impl Request {
         let Some(requirement) = self.requirement(union, condition)? else {
             return Ok(false);
         };
-        self.catalog.add_requirement(solvable, requirement)?;
+        self.catalog
+            .packages
+            .add_requirement(solvable, requirement)?;
         Ok(true)
     }
 
@@ -153,7 +157,7 @@ impl Request {
             return Ok(false);
         };
         let version_set = self.version_set(spec)?;
-        self.catalog.add_constraint(solvable, version_set)?;
+        self.catalog.packages.add_constraint(solvable, version_set)?;
         Ok(true)
     }
 
@@ -162,20 +166,20 @@ impl Request {
             return Ok(false);
         };
         let reason = self.catalog.string(reason)?;
-        Ok(self.catalog.set_unknown(solvable, reason))
+        Ok(self.catalog.packages.set_unknown(solvable, reason))
     }
 
     fn favor(&mut self, solvable: SolvableText<'_>) -> bool {
         match self.find(solvable) {
             None => false,
-            Some(solvable) => self.catalog.favor(solvable),
+            Some(solvable) => self.catalog.packages.favor(solvable),
         }
     }
 
     fn lock(&mut self, solvable: SolvableText<'_>) -> bool {
         match self.find(solvable) {
             None => false,
-            Some(solvable) => self.catalog.lock(solvable),
+            Some(solvable) => self.catalog.packages.lock(solvable),
         }
     }
 
@@ -184,7 +188,7 @@ impl Request {
             return Ok(false);
         };
         let reason = self.catalog.string(reason)?;
-        self.catalog.exclude(solvable, reason)
+        self.catalog.packages.exclude(solvable, reason)
     }
 
     fn require(
@@ -288,7 +292,7 @@ impl Request {
         let operator = match step {
             ConditionStep::Version(spec) => {
                 let version_set = self.version_set(spec)?;
-                return Ok(Some(self.catalog.condition_on(version_set)?));
+                return Ok(Some(self.catalog.conditions.add_on(version_set)?));
             }
             ConditionStep::And => LogicalOperator::And,
             ConditionStep::Or => LogicalOperator::Or,
@@ -299,7 +303,7 @@ impl Request {
         let Some(left) = aside.pop() else {
             return Ok(None);
         };
-        Ok(Some(self.catalog.condition_of(operator, left, right)?))
+        self.catalog.conditions.add_of(operator, left, right)
     }
 }
 

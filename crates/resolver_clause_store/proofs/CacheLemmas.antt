@@ -56,12 +56,3 @@ KeepsAnswers-trans before between after first then = record {
   sorted = λ k h. then.sorted k (first.sorted k h);
   dependencies = λ k h. then.dependencies k (first.dependencies k h);
 }
-
-pub KeepsAnswers-same : {N S : Type 0} (cache : Cache N S) → KeepsAnswers cache cache
-KeepsAnswers-same cache = record {
-  packages = λ k h. h;
-  matching = λ k h. h;
-  non_matching = λ k h. h;
-  sorted = λ k h. h;
-  dependencies = λ k h. h;
-}

@@ -1,5 +1,5 @@
 -- Clauses of a table, and clauses under values.
-use Rattle.std.proofs.Common.{◌≡◌, ℕ, ◌<◌, ◌≤◌, List, [], ◌∷◌, ◌++◌, length, get_or, take, drop, Bool, true, false, arith, refl, sym, ap, ◌∙◌, length-append}
+use Rattle.std.proofs.Common.{◌≡◌, ℕ, ◌<◌, ◌≤◌, List, [], ◌∷◌, ◌++◌, length, get_or, Bool, true, false, arith, refl, sym, ap, ◌∙◌, length-append}
 use Rattle.std.specs.Prelude.{Vec, not}
 use Rattle.std.specs.Bool.{beq}
 use Rattle.std.specs.Option.{option_map_or}
@@ -8,7 +8,6 @@ use Rattle.std.specs.declared.alloc.Global.{Global}
 use Rattle.std.proofs.Math.ListN.{get_or-append}
 use Rattle.std.proofs.Math.Seq.{get_or-append_seam}
 use Rattle.std.proofs.lemmas.Bool.{or_from, or_parts}
-use Rattle.std.proofs.lemmas.List.{take-append-drop, length-take-le}
 use Rattle.std.proofs.lemmas.List.Elements.{All-contains, All-from_recursion, recursion_from_All}
 use Rattle.std.proofs.lemmas.Option.{slice_get-get_or, slice_get_past}
 use Rattle.resolver_clause_store.specs.declared.literals.Literal.{Literal}
@@ -35,13 +34,6 @@ pub clause_at-append : (table rest : List (Vec Literal Global)) (number : ℕ) �
 clause_at-append [] rest number within = absurd (omega arith)
 clause_at-append (d ∷ table) rest number within = clause_at-get_or (d ∷ table ++ rest) number d (simp length-append (omega arith)) ∙
     ap (λ (c : Vec Literal Global). c.items) (get_or-append (d ∷ table) rest d number within) ∙ sym (clause_at-get_or (d ∷ table) number d within)
-
-pub clause_at-take : (table : List (Vec Literal Global)) (count number : ℕ) → count ≤ length table → number < count →
-    clause_at (take count table) number ≡ clause_at table number
-clause_at-take table count number inside within =
-    let parts : take count table ++ drop count table ≡ table = take-append-drop count table in
-    sym (clause_at-append (take count table) (drop count table) number (omega (arith, within, length-take-le count table inside))) ∙
-    ap (λ t. clause_at t number) parts
 
 -- a clause with no true literal is false
 pub false-by_recursion : (values : ℕ → Bool) (clause : List Literal) → AllByRecursion (λ literal. literal_true values literal ≡ false) clause →

@@ -53,15 +53,6 @@ no_value_at count v = ⊎_elim
     (λ (more : count ≤ v). get_or_past (replicate {A = Option Bool} count None) v None (omega (arith, length-replicate {A = Option Bool} count None)))
     (cases_lt v count)
 
--- a table without values, for as many slots without a value
-pub values-none : (values : List (Option Bool)) (slots : List (Option Slot)) (count : ℕ) → values ≡ replicate count None → slots ≡ replicate count None →
-    AreValues values slots
-values-none values slots count is are = record {
-  size = omega (arith, ap length is, ap length are, length-replicate {A = Option Bool} count None, length-replicate {A = Option Slot} count None);
-  each = λ v. ap (λ xs. get_or xs v None) is ∙ no_value_at count v ∙
-      sym (ap (λ o. option_map (λ (slot : Slot). slot.value) o) (ap (λ xs. slot_in xs v) are ∙ none_at count v));
-}
-
 -- a table of values that was made as long as there will be slots
 pub values-resized : (old new : List (Option Bool)) (slots : List (Option Slot)) (count size : ℕ) → AreValues old slots → length slots ≤ count →
     size ≡ length old → new ≡ take count old ++ replicate (count - size) None → (length new ≡ count) × AreValues new slots

@@ -25,6 +25,5 @@ pub mod GrowLemmas
 pub mod KeptLemmas
 pub mod SettledLemmas
 pub mod WatchListLemmas
-pub mod DecisionLemmas
 pub mod QueueLemmas
 pub mod ScoreLemmas

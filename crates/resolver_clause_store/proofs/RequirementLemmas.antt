@@ -93,8 +93,3 @@ module _ {N S : Type 0} (u : Universe N S) (packages : HasLawfulPackages u) wher
     candidate_matches (Single v) s h = (v, Contains-here v [], sorted_matches v s h)
     candidate_matches (Union m) s h =
         in_order_matches (u.union_members m) s (Contains-without_repeats u.same_solvable (sorted_in_order u (u.union_members m)) s h)
-
-    -- and so bears its name
-    pub candidate_named : (r : Requirement) (s : S) → Contains (requirement_candidates u r) s → (v : VersionSetId) × Contains (version_sets u r) v ×
-        (u.name s ≡ u.version_set_name v)
-    candidate_named r s h = let w = candidate_matches r s h in (w.0, w.1, matching_named w.0 s w.2)

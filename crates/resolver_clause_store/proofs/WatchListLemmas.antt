@@ -368,16 +368,6 @@ watching-stands lists pairs number literal watched watching =
     counted-stands (list_at lists (list_number literal)) number
     (omega (arith, watched (list_number literal) number, pair-positive (pair_at pairs number) literal watching))
 
-pub watching-list : (lists : List (Vec Watch Global)) (pairs : List WatchedPair) (number : ℕ) (literal : Literal) → IsWatched lists pairs →
-    IsWatching pairs number literal → list_number literal < length lists
-watching-list lists pairs number literal watched watching = ⊎_elim
-    (λ (less : list_number literal < length lists). less)
-    (λ (more : length lists ≤ list_number literal).
-    let stands = watching-stands lists pairs number literal watched watching in
-    let within = slice_get_within (list_at lists (list_number literal)) stands.0 stands.1 stands.2 in
-    absurd (omega (arith, within, ap (λ ws. length ws) (list_at-past lists (list_number literal) more))))
-    (cases_lt (list_number literal) (length lists))
-
 -- what each watch of each list has
 pub puts-all : (P : Watch → Type 0) (old new : List (Vec Watch Global)) (list : ℕ) (watches : List Watch) → PutsList old new list watches → All P watches →
     ((l : ℕ) → All P (list_at old l)) → (l : ℕ) → All P (list_at new l)

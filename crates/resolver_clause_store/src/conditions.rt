@@ -1,6 +1,6 @@
 //! Conditions in disjunctive form.
 
-ghost use Rattle.std.specs.Prelude.{◌≡◌, ◌↔◌, ◌++◌, ◌∷◌, Contains, IfErr, IfOk, List, OnOk, map, reverse};
+ghost use Rattle.std.specs.Prelude.{◌≡◌, ◌↔◌, ◌∷◌, Contains, IfErr, IfOk, List, OnOk, map, reverse};
 ghost use Rattle.resolver_clause_store.specs.Conditions.{ConditionHolds};
 ghost use Rattle.resolver_clause_store.specs.Disjuncts.{IsCloser, IsDisjunctive, SomeHolds, partial_disjuncts};
 ghost use Rattle.resolver_clause_store.specs.Universe.{Universe};

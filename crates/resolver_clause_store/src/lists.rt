@@ -11,7 +11,7 @@ pub struct Lists {
 }
 
 impl Lists {
-    ghost use Rattle.resolver_clause_store.specs.Queues.{list_at, list_of};
+    ghost use Rattle.resolver_clause_store.specs.Queues.{list_of};
 
     /// Empty lists.
     pub fn new(alloc: Global) -> Self

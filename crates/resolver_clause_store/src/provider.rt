@@ -1,6 +1,6 @@
 //! The traits of a provider, and what is required of one.
 
-ghost use Rattle.std.specs.Prelude.{◌≡◌, ◌++◌, if◌then◌else◌, IfOk, IfErr, OnOk, IfSome};
+ghost use Rattle.std.specs.Prelude.{◌≡◌, if◌then◌else◌, IfOk, IfErr, OnOk, IfSome};
 ghost use Rattle.resolver_clause_store.specs.Laws.{HasLawfulIds, HasLawfulPackages, IsIdentity};
 ghost use Rattle.resolver_clause_store.specs.Texts.{Appends};
 ghost use Rattle.resolver_clause_store.specs.Universe.{Universe, needs_of, package_of};
@@ -9,7 +9,7 @@ use crate::data::{Candidates, Condition, Dependencies, Exhausted};
 use crate::ids::{ConditionId, StringId, VersionSetId, VersionSetUnionId};
 use std::hash::Hash;
 
-/// Looks ids up and writes their texts. WatchOutcome-ups take no memory.
+/// Looks ids up and writes their texts. Look-ups take no memory.
 ///
 /// A text call appends to `out`. Refused, it leaves in front what stood there, and whatever it had written behind it.
 pub trait Interner {

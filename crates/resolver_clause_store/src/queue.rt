@@ -3,7 +3,7 @@
 ghost use Rattle.std.specs.Prelude.{◌<◌, ◌≡◌, ◌≤◌, ◌+◌, ◌++◌, ◌∷◌, [], All, IfNone, IfOk, IfSome, List, OnOk, Vec, false, length, min};
 ghost use Rattle.std.specs.Option.{option_map_or};
 ghost use Rattle.std.specs.declared.alloc.Global.{Global};
-ghost use Rattle.resolver_clause_store.specs.Formula.{AreBelow, IsBelow, clause_at};
+ghost use Rattle.resolver_clause_store.specs.Formula.{AreBelow, clause_at};
 ghost use Rattle.resolver_clause_store.specs.Outcomes.{IsMet};
 ghost use Rattle.resolver_clause_store.specs.TrailView.{KeepsPlaces, length_of, slot_of, variable_count};
 ghost use Rattle.resolver_clause_store.specs.declared.literals.Literal.{Literal};
@@ -11,7 +11,7 @@ ghost use Rattle.resolver_clause_store.specs.declared.clauses.RequirementClause.
 ghost use Rattle.resolver_clause_store.specs.declared.trail.Slot.{Slot};
 ghost use Rattle.resolver_clause_store.specs.declared.trail.Trail.{Trail};
 ghost use Rattle.resolver_clause_store.specs.Decisions.{IsChoice};
-ghost use Rattle.resolver_clause_store.specs.Settled.{AllSettled, IsSettled};
+ghost use Rattle.resolver_clause_store.specs.Settled.{AllSettled};
 
 use crate::clauses::{RequirementClause, clause};
 use crate::decisions::{Choice, choice_at};

@@ -1,6 +1,6 @@
 //! The order in which active requirements are decided.
 
-ghost use Rattle.std.specs.Prelude.{◌<◌, ◌≡◌, ◌≤◌, ◌+◌, All, IfNone, IfOk, IfSome, OnOk, length};
+ghost use Rattle.std.specs.Prelude.{◌<◌, ◌≡◌, ◌+◌, All, IfNone, IfOk, IfSome, length};
 ghost use Rattle.resolver_clause_store.specs.Formula.{AreBelow};
 ghost use Rattle.resolver_clause_store.specs.TrailView.{variable_count};
 ghost use Rattle.resolver_clause_store.specs.declared.clauses.RequirementClause.{RequirementClause};

@@ -1,6 +1,6 @@
 //! The variables, and what they stand for.
 
-ghost use Rattle.std.specs.Prelude.{Contains, ◌≡◌, ◌<◌, ◌≤◌, ◌^◌, ◌⊎◌, [], ◌∷◌, ◌++◌, Some, IfErr, IfOk, OnOk, OnErr, length, slice_get};
+ghost use Rattle.std.specs.Prelude.{Contains, ◌≡◌, ◌<◌, ◌≤◌, ◌^◌, ◌⊎◌, [], ◌∷◌, ◌++◌, Some, IfErr, IfOk, OnErr, length, slice_get};
 ghost use Rattle.resolver_clause_store.specs.Laws.{IsIdentity};
 
 use crate::data::Exhausted;

@@ -1,5 +1,5 @@
 -- What an encoding's clauses are for a search.
-use Rattle.std.proofs.Common.{◌≡◌, ℕ, zero, suc, ◌<◌, ◌≤◌, List, [], ◌∷◌, length, get_or, Some, None, arith, refl, sym, ap, subst, ⊎_elim, Contains, All, Vec}
+use Rattle.std.proofs.Common.{◌≡◌, ℕ, zero, suc, ◌<◌, ◌≤◌, List, [], ◌∷◌, length, get_or, None, arith, refl, sym, ap, subst, ⊎_elim, Contains, All, Vec}
 use Rattle.std.proofs.Common.{Global}
 use Rattle.std.specs.Prelude.{map, slice_get}
 use Rattle.std.specs.Option.{option_map_or}
@@ -14,11 +14,6 @@ use Rattle.resolver_clause_store.specs.declared.Literal.{Literal}
 use Rattle.resolver_clause_store.specs.declared.RequirementClause.{RequirementClause}
 use Rattle.resolver_clause_store.proofs.ListLemmas.{Contains-map, slice_get-inside as slice_below}
 use Rattle.resolver_encoding.specs.Encodings.{IsEncoding, Notes}
-
-slice_past : {X : Type 0} (xs : List X) (n : ℕ) (x : X) → length xs ≤ n → slice_get xs n ≡ Some x → ⊥
-slice_past [] n x h e = absurd cc
-slice_past (y ∷ ys) zero x h e = absurd (omega arith)
-slice_past (y ∷ ys) (suc n) x h e = slice_past ys n x (omega arith) e
 
 slice_none : {X : Type 0} (xs : List X) (n : ℕ) → length xs ≤ n → slice_get xs n ≡ None
 slice_none [] n h = refl

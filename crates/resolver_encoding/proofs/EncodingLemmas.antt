@@ -290,9 +290,6 @@ module _ {N S : Type 0} (u : Universe N S) where
         sound_waiting = before.sound_waiting;
       }
 
-  abbrev IsStep_to : Doing N S → (Demands → Type 0) → Notes N S → Notes N S → Type 0
-  IsStep_to doing Premise old new = IsStepWhile u doing Premise old new
-
   IsStep-with_clause : (doing : Doing N S) (Premise : Demands → Type 0) (old : Notes N S) (origins : List (Origin N S)) (requirements : List ℕ)
       (literals : Vec Literal Global) (kind : ClauseKind N S) → Grows old.origins origins → Extends old.requirements requirements →
       (AreListed old.kinds old.requirements → AreListed (old.kinds ++ kind ∷ []) requirements) →

@@ -6,8 +6,7 @@ use Rattle.std.specs.Option.{option_map}
 use Rattle.std.proofs.lemmas.Bool.{cases_eq, cases_lt}
 use Rattle.std.proofs.lemmas.List.{get_or-drop, length-drop, length-map, map-append}
 use Rattle.std.proofs.lemmas.List.Elements.{All-contains, All-nil, Contains-get_or, Contains-push, Contains-push_cases}
-use Rattle.std.proofs.lemmas.List.Recursion.{is_count_by}
-use Rattle.std.proofs.lemmas.List.Sums.{sum_by-cons, sum_by-set}
+use Rattle.std.proofs.lemmas.List.Sums.{sum_by-set}
 use Rattle.std.proofs.lemmas.Option.{get_or_from_slice_get, none-some, same_Some, slice_get-get_or, slice_get_within}
 use Rattle.resolver_clause_store.specs.Lists.{Meets}
 use Rattle.resolver_clause_store.specs.Universe.{Universe, Demands}
@@ -89,16 +88,6 @@ pub get_map : {X Y : Type 0} (f : X → Y) (xs : List X) (n : ℕ) (x : X) → s
 get_map f [] n x at = absurd (none-some x at)
 get_map f (y ∷ ys) zero x at = ap (λ z. Some (f z)) (same_Some y x at)
 get_map f (y ∷ ys) (suc n) x at = get_map f ys n x at
-
--- as many are there as in the view
-pub count_map : {X Y : Type 0} (f : X → Y) (xs : List (Option X)) → count_by is_some (map (option_map f) xs) ≡ count_by is_some xs
-count_map {X} {Y} f xs = is_count_by (λ (list : List (Option X)). count_by is_some (map (option_map f) list)) is_some refl one_more xs
-  where
-    one_more : (o : Option X) (rest : List (Option X)) →
-        count_by is_some (map (option_map f) (o ∷ rest)) ≡ cond (is_some o) (1 + count_by is_some (map (option_map f) rest))
-        (count_by is_some (map (option_map f) rest))
-    one_more None rest = refl
-    one_more (Some x) rest = sum_by-cons (λ (z : Option Y). cond (is_some z) 1 0) (Some (f x)) (map (option_map f) rest)
 
 -- what is there now of the one that was taken
 pub taken_some : {N S : Type 0} (notes : Notes N S) (items : List (Option (Entry S))) (number : ℕ) (d result after : Option (Entry S)) →
@@ -297,23 +286,6 @@ module _ {N S : Type 0} (u : Universe N S) where
       before.sound_waiting)
 
   module _ (set : List S) where
-    pub IsFiring-same : (notes : Notes N S) → IsFiring u set notes notes
-    IsFiring-same notes = record {
-      origins = Keeps-same notes.origins;
-      table = Extends-same notes.table;
-      kinds = IsWithin-same notes.kinds;
-      requirements = Extends-same notes.requirements;
-      seen = Extends-same notes.seen;
-      asked = IsWithin-same notes.asked;
-      called = λ n h. inl h;
-      read = refl;
-      waiting = refl;
-      stays = λ i e at. at;
-      taken = λ i e at. inl at;
-      exempt = refl;
-      keeps = λ root before. before;
-    }
-
     pub IsFiring-trans : (one two three : Notes N S) → IsFiring u set one two → IsFiring u set two three → IsFiring u set one three
     IsFiring-trans one two three first second = record {
       origins = Keeps-trans one.origins two.origins three.origins first.origins second.origins;
@@ -425,9 +397,6 @@ module _ {N S : Type 0} (u : Universe N S) where
   -- all that wait for the package of a solvable between these places
   pub record AreQuiet (set : List S) (notes : Notes N S) (from place : ℕ) : Type 0 where
     pub each : (k : ℕ) (s : S) → from ≤ k → k < place → slice_get set k ≡ Some s → IsQuietUnder u set notes (u.name s)
-
-  pub AreQuiet-none : (set : List S) (notes : Notes N S) (from : ℕ) → AreQuiet set notes from from
-  AreQuiet-none set notes from = record { each = λ k s low high. absurd (omega (arith, low, high)) }
 
   pub AreQuiet-more : (set : List S) (old new : Notes N S) (from place : ℕ) (s : S) → IsFiring u set old new → slice_get set place ≡ Some s →
       AreQuiet set old from place → IsQuietUnder u set new (u.name s) → AreQuiet set new from (place + 1)

@@ -28,7 +28,7 @@ use Rattle.resolver_encoding.specs.Reach.{AreNear}
 use Rattle.resolver_encoding.specs.ReadState.{Deferred}
 use Rattle.resolver_encoding.specs.SoFar.{IsBare, IsFiring, IsHalfRead, IsTakenOut}
 use Rattle.resolver_encoding.proofs.FiringLemmas.{kept}
-use Rattle.resolver_encoding.proofs.LedLemmas.{Brings-equal, IsBrought-weaker, barred_brings}
+use Rattle.resolver_encoding.proofs.LedLemmas.{IsBrought-weaker, barred_brings}
 use Rattle.resolver_clause_store.proofs.ListLemmas.{Contains-at as place_in, Contains-cons_cases as cons_cases, Contains-here as here, Contains-none as none_in}
 use Rattle.resolver_encoding.proofs.ReachLemmas.{IsLed as LeadsTo, demanded_led, entry_led}
 
@@ -229,13 +229,6 @@ module _ {N S : Type 0} (u : Universe N S) (root : Demands) (seeds : List S) (pa
       AreLed u root seeds packages old →
       AreLed u root seeds packages new
   led_restored old new near adds = led_asked u root seeds packages (IsFollowed old) old new near (followed_call u root seeds packages old near) adds
-
-  -- neither variables nor what is put off changed
-  pub led_still : (old new : Notes N S) → AreNear u root seeds packages old → new.origins ≡ old.origins → new.deferred ≡ old.deferred →
-      AreLed u root seeds packages old → AreLed u root seeds packages new
-  led_still old new near origins deferred =
-      led_brings u root seeds packages (λ call. ⊥) NoneOwn old new near (λ call h. absurd h) (λ o h. absurd h)
-      (Brings-equal u (λ call. ⊥) NoneOwn old new origins deferred)
 
 -- A gate that the problem leads to is that of a requirement of the root, or of what is near.
 module _ {N S : Type 0} where

@@ -80,14 +80,6 @@ module _ {N S : Type 0} (old new : Listing N S) where
   }
 
 module _ {N S : Type 0} (old : Listing N S) where
-  -- nothing is stated, and nothing is added
-  pub added_none : (P : Statement N S → Type 0) → HasMarks old → ((st : Statement N S) → P st → ⊥) → AddsRules P old old
-  added_none P marks none = record { marks = marks; kept = λ r h. h; listed = λ st p. absurd (none st p); only = λ r h. inl h }
-
-  -- of an empty list nothing is added
-  pub added_no_more : {X : Type 0} (Says : X → Statement N S → Type 0) → HasMarks old → AddsRules (SomeOf [] Says) old old
-  added_no_more Says marks = added_none (SomeOf [] Says) marks (λ st h. none_in h.0 h.1)
-
   -- an empty list states nothing
   pub no_rules : {X : Type 0} (Says : X → Statement N S → Type 0) → old.rules.items ≡ [] → AreRulesOf (SomeOf [] Says) old.rules.items
   no_rules Says none = let Has : List (Rule N S) → Rule N S → Type 0 = λ list r. Contains list r in

@@ -29,8 +29,8 @@ use Rattle.resolver_clause_store.proofs.PlaceLemmas.{place_of_member}
 use Rattle.resolver_clause_store.specs.Statements.{IsPresent, AllMeet}
 use Rattle.resolver_clause_store.specs.TrueRules.{demands_by}
 use Rattle.resolver_encoding.specs.Atoms.{Atom, atom, atoms_of, origin_by}
-use Rattle.resolver_encoding.specs.Called.{Call, IsDemanded, IsNamedBy, IsSeeing, IsWantedBy, to_ask, to_see}
-use Rattle.resolver_encoding.specs.Encodings.{HasProperHelper, IsAskStep, IsEncoding, IsFollowed, IsReadStep, IsTrueEntry, IsUnmet, Notes}
+use Rattle.resolver_encoding.specs.Called.{Call, IsDemanded, IsNamedBy, IsWantedBy, to_ask, to_see}
+use Rattle.resolver_encoding.specs.Encodings.{HasProperHelper, IsEncoding, IsFollowed, IsReadStep, IsTrueEntry, IsUnmet, Notes}
 use Rattle.resolver_encoding.specs.Reach.{AreNear}
 use Rattle.resolver_encoding.specs.ReadState.{Deferred}
 use Rattle.resolver_encoding.specs.SoFar.{IsBare, IsFiring, IsHalfRead, IsReadSoFar, IsReadingOf}
@@ -95,23 +95,6 @@ module _ {N S : Type 0} (u : Universe N S) (root : Demands) (seeds : List S) (pa
   near_where : (notes : Notes N S) → ((s : S) → Contains notes.read s → Near s) → ((call : Call N S) → IsFollowed notes call → IsLed call) →
       AreNear u root seeds packages notes
   near_where notes read led = record { seen = λ s h. led (to_see s) h; read = read; asked = λ n h. led (to_ask n) h }
-
-  -- after a step that goes no farther
-  pub AreNear-called : (Called : Call N S → Type 0) (Premise : Demands → Type 0) (old new : Notes N S) → IsAskStep u Called Premise old new →
-      ((call : Call N S) → Called call → IsLed call) → AreNear u root seeds packages old → AreNear u root seeds packages new
-  AreNear-called Called Premise old new step led near =
-      let Has : S → List S → Type 0 = λ s list. Contains list s in
-      near_where new (λ s h. near.read s (subst (Has s) step.read h))
-      (λ call h. ⊎_elim (λ earlier. followed_led old near call earlier) (λ called. led call called) (step.called call h))
-
-  -- after one more was registered that is near itself
-  pub AreNear-seen : (s : S) (Premise : Demands → Type 0) (old new : Notes N S) → IsAskStep u (IsSeeing s) Premise old new → IsNear u root seeds s →
-      AreNear u root seeds packages old → AreNear u root seeds packages new
-  AreNear-seen s Premise old new step here near = AreNear-called (IsSeeing s) Premise old new step led near
-    where
-      led : (call : Call N S) → IsSeeing s call → IsLed call
-      led (to_ask n) seeing = absurd seeing
-      led (to_see t) same = subst Near same here
 
   -- after what is near was read, in a set that is near
   pub near_read : (set : List S) (Reads : S → Type 0) (old new : Notes N S) → IsReadingOf u set Reads old new → AreNear u root seeds packages old →

@@ -1,11 +1,10 @@
 -- What was read stays read, and when all was.
-use Rattle.std.proofs.Common.{◌≡◌, ℕ, ◌+◌, ◌<◌, ◌≤◌, length, take, get_or, List, [], ◌∷◌, ◌++◌, refl, sym, ap, ◌∙◌, subst, ⊎_elim, inl, inr, arith, Contains}
+use Rattle.std.proofs.Common.{◌≡◌, ℕ, ◌+◌, ◌<◌, ◌≤◌, length, List, [], ◌∷◌, ◌++◌, refl, sym, ap, ◌∙◌, subst, ⊎_elim, inl, inr, arith, Contains}
 use Rattle.std.proofs.Common.{All, Vec, Global, Bool, true, ◌⊎◌}
 use Rattle.std.specs.Prelude.{Some, slice_get}
 use Rattle.std.specs.Cmp.{IsEquivalence}
 use Rattle.std.specs.List.{IsDistinct}
-use Rattle.std.proofs.lemmas.List.{take-append-le}
-use Rattle.std.proofs.lemmas.List.Elements.{All-contains, All-cons, All-nil, All-same, All-weaker}
+use Rattle.std.proofs.lemmas.List.Elements.{All-contains, All-cons, All-nil, All-weaker}
 use Rattle.std.proofs.lemmas.Map.Made.{length-le_from_is_member}
 use Rattle.std.proofs.lemmas.Map.Views.{list_any-from_Contains, Contains-from_any}
 use Rattle.std.proofs.lemmas.Option.{slice_get_within}
@@ -28,7 +27,7 @@ use Rattle.resolver_clause_store.specs.declared.VersionSetId.{VersionSetId}
 use Rattle.resolver_clause_store.specs.Statements.{IsPresent}
 use Rattle.resolver_clause_store.specs.TrueRules.{demands_by}
 use Rattle.resolver_encoding.specs.Atoms.{atom}
-use Rattle.resolver_encoding.specs.Encodings.{AsksForCandidates, AreDemandsRead, AreNeedsRead, Extends, HasProperHelper, IsConstraintRead, IsEncoding, IsLeft}
+use Rattle.resolver_encoding.specs.Encodings.{AsksForCandidates, AreDemandsRead, AreNeedsRead, HasProperHelper, IsConstraintRead, IsEncoding, IsLeft}
 use Rattle.resolver_encoding.specs.Encodings.{IsUnread, Notes}
 use Rattle.resolver_encoding.specs.Read.{IsForbidden}
 use Rattle.resolver_encoding.specs.ReadState.{Deferred, HasClause, has_direct, has_gate, IsRead, IsReadRequirement}
@@ -39,7 +38,7 @@ use Rattle.resolver_clause_store.specs.Formula.{clause_at}
 use Rattle.resolver_clause_store.proofs.PlaceLemmas.{place_cases}
 use Rattle.resolver_encoding.proofs.EncodingLemmas.{IsClauseOf-zip, IsForbidden-within}
 use Rattle.resolver_encoding.proofs.CodeLemmas.{apart_of_digits}
-use Rattle.resolver_encoding.proofs.NoteLemmas.{All-grown, asks_not}
+use Rattle.resolver_encoding.proofs.NoteLemmas.{asks_not}
 use Rattle.resolver_clause_store.proofs.ListLemmas.{Contains-cons_cases as cons_cases, Contains-here as here, Contains-none as none_in, Contains-there as there}
 use Rattle.resolver_encoding.proofs.GroupLemmas.{named_of_number as IsNamed-at}
 
@@ -76,13 +75,6 @@ module _ {N S : Type 0} (u : Universe N S) (old new : Notes N S) (kinds : IsWith
   pub AreNeedsRead-grown : (s : S) (needs : Needs) → AreNeedsRead u old s needs → AreNeedsRead u new s needs
   AreNeedsRead-grown s (known d) h = AreDemandsRead-grown (BySolvable s) d h
   AreNeedsRead-grown s (unknown reason) h = kinds (Excluded s reason) h
-
--- one more element of a list that grew
-pub All-worked : {X : Type 0} (P P' : X → Type 0) (xs ys : List X) (i : ℕ) (x : X) → ((y : X) → P y → P' y) → Extends xs ys → i < length xs →
-    x ≡ get_or xs i x → All P (take i xs) → P' x → All P' (take (i + 1) ys)
-All-worked P P' xs ys i x grown more below is all now =
-    let same : take (i + 1) ys ≡ take (i + 1) xs = ap (take (i + 1)) more.is ∙ take-append-le (i + 1) xs more.more (omega (arith, below)) in
-    All-same P' _ _ same (All-grown P P' xs i x grown below is all now)
 
 module _ {N S : Type 0} where
   abbrev solvables_in : List (Origin N S) → List S

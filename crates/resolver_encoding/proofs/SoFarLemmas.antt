@@ -1,7 +1,7 @@
 -- One more reading: its two halves, what they leave of what was put off, and which packages they asked for.
 use Rattle.std.proofs.Common.{◌≡◌, ◌⊎◌, ℕ, ◌+◌, ◌<◌, Bool, true, false, length, length-append, take, drop, map, List, [], ◌∷◌, ◌++◌, refl, sym, ap, ◌∙◌, subst}
 use Rattle.std.proofs.Common.{⊎_elim, inl, inr, arith, Contains, All}
-use Rattle.std.specs.Prelude.{◌||◌, Some, slice_get, ⊤}
+use Rattle.std.specs.Prelude.{Some, slice_get, ⊤}
 use Rattle.std.proofs.Common.{◌≢◌, ◌-◌, ◌≤◌, get_or}
 use Rattle.std.proofs.lemmas.Bool.{cases_eq, cases_lt}
 use Rattle.std.proofs.lemmas.List.{get_or-drop, get_or_default, length-drop, take-append-drop}
@@ -293,15 +293,6 @@ module _ {N S : Type 0} (u : Universe N S) (set : List S) where
       let Fewer : Notes N S → Type 0 = λ n. left_count new < left_count n in
       (firing.read ∙ ap (λ (n : Notes N S). n.read) read, subst Fewer read fired)
   progress old mid new false false read fired firing = fired ∙ read
-
--- after one reading and another
-pub HasRead-trans : {N S : Type 0} (one two three : Notes N S) (a b : Bool) → HasRead one two a → HasRead two three b → HasRead one three (a || b)
-HasRead-trans one two three true true first second = omega (arith, first, second)
-HasRead-trans {N} {S} one two three true false first second = let Longer : Notes N S → Type 0 = λ n. length one.read < length n.read in
-    subst Longer (sym second) first
-HasRead-trans {N} {S} one two three false true first second = let Longer : Notes N S → Type 0 = λ n. length n.read < length three.read in
-    subst Longer first second
-HasRead-trans one two three false false first second = second ∙ first
 
 -- an encoding says nothing of what was read
 pub IsEncoding-read : {N S : Type 0} (u : Universe N S) (root : Demands) (notes : Notes N S) (read : List S) → IsEncoding u root notes →

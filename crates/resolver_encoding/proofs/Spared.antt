@@ -14,11 +14,3 @@ Spares-further u asked exempt more kinds due further = record {
       (λ e. e)
       (due.exclusions s reason clause);
 }
-
--- fewer clauses spare as much
-pub Spares-fewer : {N S : Type 0} (u : Universe N S) (exempt : List S) (kinds more : List (ClauseKind N S)) →
-    ((k : ClauseKind N S) → Contains kinds k → Contains more k) → Spares u exempt more → Spares u exempt kinds
-Spares-fewer u exempt kinds more grows spares = record {
-  locks = λ s t clause. spares.locks s t (grows _ clause);
-  exclusions = λ s reason clause. spares.exclusions s reason (grows _ clause);
-}

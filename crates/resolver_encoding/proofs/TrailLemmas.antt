@@ -1,7 +1,7 @@
 -- What a variable stands for, looked up, and a list of chosen solvables that follows a trail.
 use Rattle.std.proofs.Common.{◌≡◌, ℕ, zero, suc, ◌+◌, ◌<◌, ◌≤◌, List, [], ◌∷◌, ◌++◌, length, Option, Some, None, Bool, arith, refl, sym, ap, ◌∙◌, subst, ⊎_elim}
-use Rattle.std.proofs.Common.{Contains, take, append-nil, true, false}
-use Rattle.std.specs.Prelude.{slice_get, if◌then◌else◌}
+use Rattle.std.proofs.Common.{Contains, take, true, false}
+use Rattle.std.specs.Prelude.{slice_get}
 use Rattle.std.specs.Option.{option_map, option_map_or, option_to_list}
 use Rattle.std.proofs.lemmas.Option.{same_Some, slice_get-get_or, get_or_from_slice_get}
 use Rattle.std.proofs.lemmas.List.{length-take-le}
@@ -69,20 +69,12 @@ found_there {X} o x is = let P : Option X → Type 0 = λ p. Contains (option_to
 pub found_last : {X : Type 0} (xs list : List X) (o : Option X) (x : X) → o ≡ Some x → option_to_list o ≡ list → xs ++ x ∷ [] ≡ xs ++ list
 found_last xs list o x is e = ap (λ more. xs ++ more) (sym (ap option_to_list is) ∙ e)
 
-pub found_nothing : {X : Type 0} (xs list : List X) (o : Option X) → o ≡ None → option_to_list o ≡ list → xs ≡ xs ++ list
-found_nothing xs list o is e = sym (append-nil xs) ∙ ap (λ more. xs ++ more) (sym (ap option_to_list is) ∙ e)
-
 -- elements of a part of a list
 slice_get-take : {X : Type 0} (xs : List X) (n k : ℕ) → k < n → slice_get (take n xs) k ≡ slice_get xs k
 slice_get-take xs zero k below = absurd (omega arith)
 slice_get-take [] (suc n) k below = refl
 slice_get-take (x ∷ xs) (suc n) zero below = refl
 slice_get-take (x ∷ xs) (suc n) (suc k) below = slice_get-take xs n k (omega arith)
-
--- a set into which a member was put
-pub inserted_more : {T : Type 0} (b : Bool) (ks new : List T) (q : T) → new ≡ (if b then ks else ks ++ q ∷ []) → Extends ks new
-inserted_more true ks new q e = record { more = []; is = e ∙ sym (append-nil ks) }
-inserted_more false ks new q e = record { more = q ∷ []; is = e }
 
 module _ {N S : Type 0} (origins : List (Origin N S)) (trail : Trail) where
   -- what more places make true stands behind
@@ -104,10 +96,6 @@ module _ {N S : Type 0} (origins : List (Origin N S)) (trail : Trail) where
       let Among : List S → Type 0 = λ list. Contains list s in
       not_before origins trail distinct size n s below
       (solvable_of origins trail (origin_at origins (variable_at trail n)) (value_of trail (variable_at trail n)) s here) (subst Among follows.is inside)
-
-  -- no place
-  pub followed_none : (c : Chosen S) → chosen_in c ≡ [] → c.counts.items ≡ [] → Follows c origins trail 0
-  followed_none c keys counts = record { size = ap length counts; inside = omega arith; is = keys; counts = λ k below. absurd (omega (arith, below)) }
 
   -- one more place
   counts_next : (cs : List ℕ) (n : ℕ) → length cs ≡ n → ((k : ℕ) → k < n → slice_get cs k ≡ Some (length (solvables_before origins trail k))) →
@@ -154,12 +142,6 @@ module _ {N S : Type 0} (origins : List (Origin N S)) (trail : Trail) where
         is = keys ∙ ap (λ j. take j (chosen_in old)) number ∙ ap (take (length first)) (follows.is ∙ extends.is) ∙ take-append_seam first extends.more;
         counts = λ k below. ap (λ list. slice_get list k) counts ∙ slice_get-take old.counts.items kept k below ∙ follows.counts k (omega (arith, below, less));
       }
-
-  -- what is not there cannot be cut
-  pub followed_no_more : (c : Chosen S) (n kept : ℕ) → Follows c origins trail n → kept ≤ n → length c.counts.items ≤ kept → Follows c origins trail kept
-  followed_no_more c n kept follows inside all =
-      let same : n ≡ kept = omega (arith, inside, all, follows.size) in
-      let P : ℕ → Type 0 = λ j. Follows c origins trail j in subst P same follows
 
 -- where the first places of a trail stay, and each variable stands for what it did
 module _ {N S : Type 0} (origins more : List (Origin N S)) (old new : Trail) (count : ℕ) (keeps : Keeps origins more)

@@ -345,17 +345,3 @@ module _ {N S : Type 0} (u : Universe N S) where
         exempt = refl;
         stays = StaysRead-same notes;
       }
-
-  pub IsTurnEnd-same : (notes : Notes N S) → IsTurnEnd u notes notes
-  IsTurnEnd-same notes = record {
-    origins = Keeps-same notes.origins;
-    table = Extends-same notes.table;
-    kinds = IsWithin-same notes.kinds;
-    requirements = refl;
-    seen = refl;
-    asked = refl;
-    read = refl;
-    deferred = refl;
-    waiting = refl;
-    stays = StaysRead-same notes;
-  }

@@ -8,7 +8,7 @@ ghost use Rattle.resolver_clause_store.specs.Variables.{AreDistinct, origins_in}
 ghost use Rattle.resolver_clause_store.specs.declared.Origin.{Origin as OriginOf};
 ghost use Rattle.resolver_clause_store.specs.declared.Trail.{Trail as TrailOf};
 ghost use Rattle.resolver_encoding.specs.Encodings.{Extends};
-ghost use Rattle.resolver_encoding.specs.Trails.{origin_at, solvable_found, solvable_if, solvables_before, value_of};
+ghost use Rattle.resolver_encoding.specs.Trails.{origin_at, solvable_found, solvable_if, value_of};
 
 use indexmap::IndexSet;
 use resolver_clause_store::{Exhausted, Origin, Trail, Variables};

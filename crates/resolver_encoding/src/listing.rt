@@ -1,6 +1,6 @@
 //! Rules as they are listed, each mark once.
 
-ghost use Rattle.std.specs.Prelude.{◌≡◌, [], Contains, IfErr, OnOk, map};
+ghost use Rattle.std.specs.Prelude.{◌≡◌, [], IfErr, OnOk, map};
 ghost use Rattle.resolver_clause_store.specs.Laws.{IsIdentity};
 ghost use Rattle.resolver_clause_store.specs.Statements.{constrains, excluded, lock, one_per_package, requires};
 

@@ -1,21 +1,20 @@
 -- What is written of a candidate.
 use Rattle.std.proofs.Common.{◌≡◌, ℕ, zero, suc, Bool, true, false, List, [], ◌∷◌, ◌++◌, map, refl, sym, ◌∙◌, ap, append_assoc}
-use Rattle.std.specs.Prelude.{◌||◌, if◌then◌else◌, not, codes, Option, slice_get, slice_set}
+use Rattle.std.specs.Prelude.{◌||◌, not, codes, Option, slice_get, slice_set}
 use Rattle.std.specs.Option.{is_some}
 use Rattle.std.proofs.lemmas.Bool.{true≢false, false≢true}
 use Rattle.std.proofs.lemmas.List.{append-nil}
 use Rattle.resolver_clause_store.specs.Universe.{Universe}
-use Rattle.resolver_report.specs.declared.graph.NodeId.{NodeId}
 use Rattle.resolver_report.specs.declared.outline.NodeOutline.{NodeOutline}
 use Rattle.resolver_report.specs.declared.tree.Outline.{Outline}
-use Rattle.resolver_report.specs.Forests.{Forest, nothing, Piece, quiet, said, text_of, indent_from}
+use Rattle.resolver_report.specs.Forests.{Forest, Piece, quiet, text_of, indent_from}
 use Rattle.resolver_report.specs.Marks.{is_marked}
 use Rattle.resolver_report.specs.Merging.{group_in}
-use Rattle.resolver_report.specs.Messages.{Told, RunTold, Verdict, excluded, alone, second, constrains, requires, constraint_line, is_quiet, is_reported}
-use Rattle.resolver_report.specs.Messages.{lines_of, reason_text, requirement_text, run_text, side_by_side, tell_verdict, with_group}
+use Rattle.resolver_report.specs.Messages.{Told, Verdict, excluded, alone, second, constrains, requires, constraint_line, is_quiet, is_reported}
+use Rattle.resolver_report.specs.Messages.{lines_of, reason_text, tell_verdict, with_group}
 use Rattle.resolver_report.specs.Shapes.{solvable_at}
 use Rattle.resolver_report.specs.Outlines.{run_told_view}
-use Rattle.resolver_report.specs.Tellings.{IsToldNode, candidate_in, graph_in, keys_in, marks_in, meaning, is_requires, run_in, text_at, tree_in, verdict_rest}
+use Rattle.resolver_report.specs.Tellings.{IsToldNode, candidate_in, graph_in, keys_in, marks_in, meaning, is_requires, text_at, tree_in, verdict_rest}
 use Rattle.resolver_report.specs.Tellings.{version_text_in}
 use Rattle.resolver_report.specs.Verdicts.{verdict_view}
 
@@ -129,17 +128,3 @@ module _ {I N S : Type 0} (universe : I → Universe N S) (outline : Outline I N
       is_marked branch n ≡ false
   off_branch e = last_false (not (is_some (solvable_at outline.findings.graph.now.graph n))) (is_reported (group_in (keys_in universe outline) n) reported)
       (is_marked branch n) e
-
--- what is told of a run with candidates
-pub resolved_run : {I N S : Type 0} (universe : I → Universe N S) (outline : Outline I N S) (depth : ℕ) (branch : List Bool) (top : Bool) (run : RunTold)
-    (reported : List Bool) → run.unresolved ≡ false →
-    run_in universe outline depth branch top run reported ≡
-    (let told = side_by_side (λ n. candidate_in universe outline depth branch n.0) run.candidates reported in
-    record {
-      value = said (run_text top run.unresolved run.viable (requirement_text (meaning universe outline) run.requirement)) told.value;
-      reported = told.reported;
-    })
-resolved_run universe outline depth branch top run reported e =
-    let told = side_by_side (λ (n : NodeId). candidate_in universe outline depth branch n.0) run.candidates reported in
-    let head = run_text top run.unresolved run.viable (requirement_text (meaning universe outline) run.requirement) in
-    ap (λ b. if b then record { value = said head nothing; reported = reported } else record { value = said head told.value; reported = told.reported }) e

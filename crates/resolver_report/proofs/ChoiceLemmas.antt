@@ -71,13 +71,6 @@ choice_work_some : (width n : ℕ) → 0 < choice_work width n
 choice_work_some width zero = omega arith
 choice_work_some width (suc n) = omega arith
 
-choice_work_grows : (width n : ℕ) → choice_work width n ≤ choice_work width (suc n)
-choice_work_grows width zero = omega arith
-choice_work_grows width (suc n) =
-    let more : width * choice_work width n ≤ width * choice_work width (suc n) =
-    mul-le width (choice_work width n) width (choice_work width (suc n)) (omega arith) (choice_work_grows width n) in
-    omega (arith, more)
-
 choice_work-le : (width m n : ℕ) → m ≤ n → choice_work width m ≤ choice_work width n
 choice_work-le width zero zero below = omega arith
 choice_work-le width zero (suc n) below = omega (arith, choice_work_some width (suc n))

@@ -1,12 +1,10 @@
 -- Lists of numbers, and one element more.
-use Rattle.std.proofs.Common.{◌≡◌, ℕ, zero, suc, ◌+◌, ◌<◌, Bool, true, false, List, [], ◌∷◌, ◌++◌, length, map, refl, sym, ◌∙◌, ap, arith, get_or, take}
+use Rattle.std.proofs.Common.{◌≡◌, ℕ, zero, suc, ◌+◌, Bool, true, false, [], ◌∷◌, ◌++◌, map, refl, ◌∙◌, ap, arith}
 use Rattle.std.proofs.Common.{add-zero, add-one}
-use Rattle.std.specs.Prelude.{filter, slice_get, Some}
+use Rattle.std.specs.Prelude.{filter}
 use Rattle.std.specs.List.{range_with_len}
-use Rattle.std.specs.Option.{option_map}
-use Rattle.std.proofs.lemmas.List.{map-append, append-nil, take_more}
+use Rattle.std.proofs.lemmas.List.{map-append, append-nil}
 use Rattle.std.proofs.lemmas.List.Elements.{filter-append}
-use Rattle.std.proofs.lemmas.Option.{slice_get-map, slice_get-get_or}
 
 pub range-suc : (a n : ℕ) → range_with_len a (suc n) ≡ range_with_len a n ++ (a + n) ∷ []
 range-suc a zero = rw add-zero refl
@@ -25,13 +23,3 @@ filter-range-pass p n e = ap (filter p) (range-next n) ∙ filter-append p (rang
 
 pub filter-range-fail : (p : ℕ → Bool) (n : ℕ) → p n ≡ false → filter p (range_with_len 0 (n + 1)) ≡ filter p (range_with_len 0 n)
 filter-range-fail p n e = ap (filter p) (range-next n) ∙ filter-append p (range_with_len 0 n) (n ∷ []) ∙ rw (e, append-nil) refl
-
-pub slice_get-view : {X Y : Type 0} (f : X → Y) (xs : List X) (i : ℕ) (x : X) → i < length xs → x ≡ get_or xs i x → slice_get (map f xs) i ≡ Some (f x)
-slice_get-view f xs i x h e = slice_get-map f xs i ∙ ap (option_map f) (slice_get-get_or xs i x h ∙ ap Some (sym e))
-
--- a list made by a function, and one element more
-pub mapped_next : {X Y : Type 0} (f : X → Y) (xs : List X) (made : List Y) (i : ℕ) (x : X) (y : Y) → made ≡ map f (take i xs) → i < length xs →
-    x ≡ get_or xs i x → y ≡ f x → made ++ y ∷ [] ≡ map f (take (i + 1) xs)
-mapped_next f xs made i x y are h is told =
-    let next : take (i + 1) xs ≡ take i xs ++ x ∷ [] = take_more xs i x h ∙ ap (λ z. take i xs ++ z ∷ []) (sym is) in
-    ap (λ ys. ys ++ y ∷ []) are ∙ ap (λ z. map f (take i xs) ++ z ∷ []) told ∙ sym (map-append f (take i xs) (x ∷ [])) ∙ ap (map f) (sym next)

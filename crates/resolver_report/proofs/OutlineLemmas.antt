@@ -1,23 +1,19 @@
 -- What is told of nodes, as the code finds it.
 use Rattle.std.proofs.Common.{◌≡◌, ℕ, zero, suc, ◌+◌, ◌<◌, Bool, true, false, cond, not, ◌||◌, List, [], ◌∷◌, ◌++◌, length, map, filter, take, refl, sym, ◌∙◌}
 use Rattle.std.proofs.Common.{ap, arith, rules, get_or}
-use Rattle.std.specs.Prelude.{◌==◌, Option, Some, None, IsSome, IsNone, slice_get}
-use Rattle.std.specs.List.{filter_map, list_any, range_with_len}
+use Rattle.std.specs.Prelude.{◌==◌, Option, Some, None, IsSome, slice_get}
+use Rattle.std.specs.List.{list_any, range_with_len}
 use Rattle.std.specs.Option.{is_some}
 use Rattle.std.proofs.lemmas.Bool.{true≢false, false≢true}
 use Rattle.std.proofs.lemmas.List.{append-nil, length-map, map-append, take_more}
 use Rattle.std.proofs.lemmas.List.FromFn.{length-range_with_len}
 use Rattle.std.proofs.lemmas.List.Elements.{filter-append}
 use Rattle.resolver_clause_store.specs.Lists.{without_repeats}
-use Rattle.resolver_clause_store.specs.Universe.{Universe}
 use Rattle.resolver_report.specs.declared.graph.ConflictNode.{ConflictNode}
 use Rattle.resolver_report.specs.declared.graph.NodeId.{NodeId}
 use Rattle.resolver_report.specs.declared.outline.NodeOutline.{NodeOutline}
-use Rattle.resolver_report.specs.Merging.{Key, group_in, solvables_at}
-use Rattle.resolver_report.specs.Messages.{RunTold, same_group_as, told_with, version_text}
-use Rattle.resolver_report.specs.Shapes.{Shape, ConflictShape, as_solvable, places, solvable_at}
-use Rattle.resolver_report.specs.Simplified.{Group, IsGroupOf}
-use Rattle.resolver_clause_store.proofs.ListLemmas.{is_none as none_is}
+use Rattle.resolver_report.specs.Messages.{RunTold, same_group_as}
+use Rattle.resolver_report.specs.Shapes.{Shape, as_solvable, places, solvable_at}
 use Rattle.resolver_report.specs.Outlines.{NodeTold, group_at, node_view}
 
 -- An element at the end is left out if one that is the same stands before it.
@@ -91,22 +87,6 @@ pub add_alone : (groups : List (Option ℕ)) (found : List NodeId) (n : NodeId) 
     cond (list_any (λ m. same_group_as (group_at groups n.0) (group_at groups m.0)) found) found (found ++ n ∷ []) ≡ found ++ n ∷ []
 add_alone groups found n e = ap (λ o. cond (list_any (λ m. same_group_as o (group_at groups m.0)) found) found (found ++ n ∷ [])) e ∙
     ap (λ b. cond b found (found ++ n ∷ [])) (no_group groups found)
-
-one_solvable : {S : Type 0} (f : ℕ → Option S) (n : ℕ) (s : S) → f n ≡ Some s → filter_map f (n ∷ []) ≡ s ∷ []
-one_solvable f n s e = rw e refl
-
--- the versions of a candidate are its own, or those of its group
-module _ {N S : Type 0} (u : Universe N S) (g : ConflictShape S) (ks : List Key) (marks : List Bool) (n : ℕ) where
-  pub version_alone : (s : S) → solvable_at g.shape n ≡ Some s → IsNone (group_in ks n) → version_text u g ks marks n ≡ u.merged_text (s ∷ [])
-  version_alone s e h = ap (λ o. u.merged_text (solvables_at g.shape (told_with u g ks marks o n))) (none_is (group_in ks n) h) ∙
-      ap u.merged_text (one_solvable (solvable_at g.shape) n s e)
-
-  pub version_of_group : (group : Group S) → IsGroupOf ks g.shape n group → version_text u g ks marks n ≡ u.merged_text group.value.ids.items
-  version_of_group group is = at_group (group_in ks n) refl is.several
-    where
-      at_group : (o : Option ℕ) → group_in ks n ≡ o → is_some o ≡ true → version_text u g ks marks n ≡ u.merged_text group.value.ids.items
-      at_group None e h = absurd (false≢true h)
-      at_group (Some m) e h = ap (λ o. u.merged_text (solvables_at g.shape (told_with u g ks marks o n))) e ∙ ap u.merged_text (sym is.ids)
 
 -- what is told of a node, by its place
 pub outline_long : {S : Type 0} (g : Shape S) (f : ℕ → NodeTold) (nodes : List NodeOutline) → map node_view nodes ≡ map f (places g) → length nodes ≡

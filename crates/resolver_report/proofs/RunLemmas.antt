@@ -1,6 +1,5 @@
 -- Runs of edges, one edge after the other.
-use Rattle.std.proofs.Common.{◌≡◌, ℕ, ◌+◌, ◌<◌, Bool, true, false, cond, ◌||◌, List, [], ◌∷◌, ◌++◌, length, map, take, refl, sym, ◌∙◌, ap, rules, get_or}
-use Rattle.std.specs.List.{list_any}
+use Rattle.std.proofs.Common.{◌≡◌, ℕ, ◌+◌, ◌<◌, Bool, true, false, cond, List, [], ◌∷◌, ◌++◌, length, map, take, refl, sym, ◌∙◌, ap, rules, get_or}
 use Rattle.std.proofs.lemmas.Bool.{false≢true}
 use Rattle.std.proofs.lemmas.List.{take_more, map-append}
 use Rattle.resolver_clause_store.specs.declared.Requirement.{Requirement}
@@ -74,10 +73,6 @@ pub and_then-other : (r : Requirement) (n : NodeId) (runs : List Run) (last : Ru
 and_then-other r n [] last e = rw e refl
 and_then-other r n (run ∷ []) last e = ap (λ rs. run ∷ rs) (rw e refl)
 and_then-other r n (run ∷ next ∷ runs) last e = ap (λ rs. run ∷ rs) (and_then-other r n (next ∷ runs) last e)
-
-pub list_any-map : {X Y : Type 0} (p : X → Bool) (f : Y → X) (ys : List Y) → list_any p (map f ys) ≡ list_any (λ y. p (f y)) ys
-list_any-map p f [] = refl
-list_any-map p f (y ∷ ys) = ap (λ b. p (f y) || b) (list_any-map p f ys)
 
 -- by the lists of the code: the last run is taken out, changed and put back
 pub add_same : (r : Requirement) (n : NodeId) (old rest new : List EdgeRun) (last last' : EdgeRun) → old ≡ rest ++ last ∷ [] →

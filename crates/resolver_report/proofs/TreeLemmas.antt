@@ -1,9 +1,8 @@
 -- Pieces side by side, one after the other.
-use Rattle.std.proofs.Common.{◌≡◌, ℕ, zero, suc, ◌+◌, ◌-◌, ◌<◌, ◌≤◌, Bool, true, false, List, [], ◌∷◌, ◌++◌, length, drop, map, refl, sym, ◌∙◌, ap, arith}
-use Rattle.std.proofs.Common.{append_assoc, get_or, add-one}
+use Rattle.std.proofs.Common.{◌≡◌, ℕ, zero, suc, ◌+◌, ◌-◌, Bool, true, false, List, [], ◌∷◌, ◌++◌, length, drop, map, refl, sym, ◌∙◌, ap}
+use Rattle.std.proofs.Common.{append_assoc}
 use Rattle.std.specs.Prelude.{◌==◌, slice_set}
 use Rattle.std.proofs.lemmas.List.{append-nil, length-map, length-drop}
-use Rattle.std.proofs.Math.Seq.{drop-cons}
 use Rattle.resolver_report.specs.Forests.{Forest, Piece, quiet, said, put, is_last, text_of, indent_from}
 use Rattle.resolver_report.specs.Marks.{is_marked}
 use Rattle.resolver_report.specs.Messages.{Told, lines_of, side_by_side}
@@ -32,72 +31,14 @@ side_step top levels tell x xs reported =
     put_text top levels (tell x reported).value after ∙
     ap (λ b. text_at top (levels ++ b ∷ []) (tell x reported).value ++ text_of top levels after) (is_last_side tell xs (tell x reported).reported)
 
--- one piece more is written
-pub told_next : {X : Type 0} (top : Bool) (levels : List Bool) (tell : X → List Bool → Told Piece) (x : X) (xs all : List X) (reported reported' : List Bool)
-    (out out' whole : List ℕ) →
-    all ≡ x ∷ xs → out ++ text_of top levels (side_by_side tell all reported).value ≡ whole →
-    out' ≡ out ++ text_at top (levels ++ (length xs == 0) ∷ []) (tell x reported).value → reported' ≡ (tell x reported).reported →
-    out' ++ text_of top levels (side_by_side tell xs reported').value ≡ whole
-told_next top levels tell x xs all reported reported' out out' whole e before wrote grew =
-    ap (λ g. out' ++ text_of top levels (side_by_side tell xs g).value) grew
-    ∙ ap (λ o. o ++ text_of top levels (side_by_side tell xs (tell x reported).reported).value) wrote
-    ∙ append_assoc out (text_at top (levels ++ (length xs == 0) ∷ []) (tell x reported).value)
-    (text_of top levels (side_by_side tell xs (tell x reported).reported).value)
-    ∙ ap (λ t. out ++ t) (sym (side_step top levels tell x xs reported))
-    ∙ ap (λ ys. out ++ text_of top levels (side_by_side tell ys reported).value) (sym e)
-    ∙ before
-
-pub grew_next : {X : Type 0} (tell : X → List Bool → Told Piece) (x : X) (xs all : List X) (reported reported' whole : List Bool) →
-    all ≡ x ∷ xs → (side_by_side tell all reported).reported ≡ whole → reported' ≡ (tell x reported).reported →
-    (side_by_side tell xs reported').reported ≡ whole
-grew_next tell x xs all reported reported' whole e before grew =
-    ap (λ g. (side_by_side tell xs g).reported) grew ∙ ap (λ ys. (side_by_side tell ys reported).reported) (sym e) ∙ before
-
--- from the place i on
-pub from_place : {X : Type 0} (xs : List X) (i : ℕ) (x : X) → i < length xs → x ≡ get_or xs i x → drop i xs ≡ x ∷ drop (i + 1) xs
-from_place xs i x h e = drop-cons xs i x h ∙ rw (add-one, ← e) refl
-
-pub from_place_view : {X Y : Type 0} (f : X → Y) (xs : List X) (i : ℕ) (x : X) → i < length xs → x ≡ get_or xs i x → map f (drop i xs) ≡ f x ∷
-    map f (drop (i + 1) xs)
-from_place_view f xs i x h e = ap (map f) (from_place xs i x h e)
-
 pub at_end : {X Y : Type 0} (f : X → Y) (xs : List X) (i : ℕ) (b : Bool) → b ≡ (length xs - (i + 1) == 0) → (length (map f (drop (i + 1) xs)) == 0) ≡ b
 at_end f xs i b e = rw (length-map, length-drop) (sym e)
-
-pub at_end_place : {X : Type 0} (xs : List X) (i : ℕ) (b : Bool) → b ≡ (length xs - (i + 1) == 0) → (length (drop (i + 1) xs) == 0) ≡ b
-at_end_place xs i b e = rw (length-drop) (sym e)
-
-pub all_dropped : {X : Type 0} (xs : List X) (i : ℕ) → length xs ≤ i → drop i xs ≡ []
-all_dropped [] zero h = refl
-all_dropped [] (suc i) h = refl
-all_dropped (x ∷ xs) zero h = absurd (omega (arith, h))
-all_dropped (x ∷ xs) (suc i) h = all_dropped xs i (omega (arith, h))
-
--- all pieces are written
-pub told_all : {X : Type 0} (top : Bool) (levels : List Bool) (tell : X → List Bool → Told Piece) (left : List X) (reported : List Bool) (out whole : List ℕ) →
-    left ≡ [] → out ++ text_of top levels (side_by_side tell left reported).value ≡ whole → out ≡ whole
-told_all top levels tell left reported out whole e h = sym (append-nil out) ∙
-    ap (λ xs. out ++ text_of top levels (side_by_side tell xs reported).value) (sym e) ∙ h
-
-pub grew_all : {X : Type 0} (tell : X → List Bool → Told Piece) (left : List X) (reported whole : List Bool) → left ≡ [] →
-    (side_by_side tell left reported).reported ≡ whole → reported ≡ whole
-grew_all tell left reported whole e h = ap (λ xs. (side_by_side tell xs reported).reported) (sym e) ∙ h
-
-pub suc_of : (n : ℕ) → (n ≡ 0 → ⊥) → suc (n - 1) ≡ n
-suc_of n h = omega (arith, h)
 
 -- a mark that is set and taken away again
 pub unset : (marks : List Bool) (n : ℕ) → is_marked marks n ≡ false → slice_set (slice_set marks n true) n false ≡ marks
 unset [] n h = refl
 unset (m ∷ marks) zero h = ap (λ b. b ∷ marks) (sym h)
 unset (m ∷ marks) (suc n) h = ap (λ bs. m ∷ bs) (unset marks n h)
-
--- a line is written, and what stands below it
-pub line_and_below : (top : Bool) (levels : List Bool) (old out new line : List ℕ) (below : Forest) (text : List ℕ) → line ≡ indent_from top levels ++ text ++
-    10 ∷ [] → out ≡ old ++ line → new ≡ out ++ text_of top levels below → new ≡ old ++ text_at top levels (said text below)
-line_and_below top levels old out new line below text is first rest =
-    rest ∙ ap (λ o. o ++ text_of top levels below) (first ∙ ap (λ l. old ++ l) is) ∙
-    append_assoc old (indent_from top levels ++ text ++ 10 ∷ []) (text_of top levels below)
 
 -- the line of a version set, given those after it
 lines_last : (ts : List (List ℕ)) → is_last (lines_of ts) ≡ (length ts == 0)

@@ -1,24 +1,16 @@
 -- A valid set obeys every true rule.
-use Rattle.std.proofs.Common.{◌≡◌, List, [], sym, ◌∙◌, ap, subst, inl, inr, Contains, All, arith}
-use Rattle.std.specs.Prelude.{Option, Some, None}
+use Rattle.std.proofs.Common.{List, [], sym, ◌∙◌, ap, subst, inl, inr, Contains, All, arith}
 use Rattle.std.proofs.lemmas.List.Elements.{All-contains}
 use Rattle.resolver_clause_store.specs.Lists.{Meets}
-use Rattle.resolver_clause_store.specs.Universe.{Universe, Demands, Needs, unknown}
+use Rattle.resolver_clause_store.specs.Universe.{Universe, Demands}
 use Rattle.resolver_clause_store.specs.Candidates.{requirement_candidates}
-use Rattle.resolver_clause_store.specs.Conditions.{OptionalConditionHolds}
-use Rattle.resolver_clause_store.specs.Valid as valid
-use Rattle.resolver_clause_store.specs.Valid.{IsValid, IsKnown, demands_of}
-use Rattle.resolver_clause_store.specs.declared.ConditionId.{ConditionId}
-use Rattle.resolver_clause_store.specs.declared.ConditionalRequirement.{ConditionalRequirement}
-use Rattle.resolver_clause_store.specs.declared.VersionSetId.{VersionSetId}
-use Rattle.resolver_clause_store.specs.declared.By.{By}
-use Rattle.resolver_clause_store.specs.declared.By.TheVariants.{Root, Solvable}
+use Rattle.resolver_clause_store.specs.Valid.{IsValid}
 use Rattle.resolver_clause_store.specs.declared.Rule.{Rule}
 use Rattle.resolver_clause_store.specs.declared.Rule.TheVariants.{Requires, Constrains, Lock, Excluded, OnePerPackage}
-use Rattle.resolver_clause_store.specs.Statements.{statement_of, AllMeet, IsPresent, ObeysAlone}
+use Rattle.resolver_clause_store.specs.Statements.{statement_of, ObeysAlone}
 use Rattle.resolver_clause_store.specs.Rules.{Obeys}
 use Rattle.resolver_clause_store.proofs.DemandLemmas.{active_by, constrains_by, not_unknown, requires_by}
-use Rattle.resolver_clause_store.specs.TrueRules.{demands_by, Implies, IsTrueRule}
+use Rattle.resolver_clause_store.specs.TrueRules.{IsTrueRule}
 
 none_in : {S : Type 0} (s : S) → Contains [] s → ⊥
 none_in s h = absurd (omega (arith, h.1))

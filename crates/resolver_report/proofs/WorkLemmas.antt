@@ -37,10 +37,6 @@ module _ (marks : List Bool) (groups : List (List NodeId)) where
   down_marked (suc k) h = let same : suc k - 1 ≡ k = omega arith in ap (λ b. cond b (up_to_unmarked marks groups k) (suc k)) h ∙
       ap (up_to_unmarked marks groups) (sym same)
 
-  pub down_stays : (k : ℕ) → has_mark marks groups k ≡ false → up_to_unmarked marks groups k ≡ k
-  down_stays zero h = refl
-  down_stays (suc k) h = ap (λ b. cond b (up_to_unmarked marks groups k) (suc k)) h
-
   pub down_least : (k : ℕ) → up_to_unmarked marks groups k ≤ k
   down_least zero = omega arith
   down_least (suc k) = at_test (some_marked marks (get_or groups k [])) (down_least k)

@@ -1,7 +1,7 @@
 //! Graphs: nodes, edges, and where the edges of each node stand.
 
 ghost use Rattle.std.specs.Prelude.{◌≡◌, ◌+◌, ◌<◌, All, IfOk, IfErr, OnOk, length, slice_get};
-ghost use Rattle.resolver_report.specs.EdgePlaces.{AreEmpty, HasPlacesOfEdges, HasPlacesBefore, appended, lists_in};
+ghost use Rattle.resolver_report.specs.EdgePlaces.{AreEmpty, HasPlacesOfEdges, appended, lists_in};
 ghost use Rattle.std.specs.Iterator.{YieldsFirstRef, item_count};
 ghost use Rattle.std.specs.Option.{option_copied, ForSome};
 ghost use Rattle.resolver_clause_store.specs.Lists.{HasNoRepeats};

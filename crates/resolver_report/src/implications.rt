@@ -1,9 +1,8 @@
 //! The fewest marks of nodes that obey implications, by a work list.
 
-ghost use Rattle.std.specs.Prelude.{◌≡◌, ◌<◌, ◌≤◌, ⊤, [], All, IfOk, IfErr, OnOk, MatchOption, length, map};
+ghost use Rattle.std.specs.Prelude.{◌≡◌, ◌<◌, [], All, IfOk, IfErr, OnOk, MatchOption, length, map};
 ghost use Rattle.resolver_report.specs.EdgePlaces.{appended, lists_in};
 ghost use Rattle.resolver_report.specs.Implications.{HasLeastMarks, implied};
-ghost use Rattle.resolver_report.specs.Marks.{is_marked as is_marked_in};
 ghost use Rattle.resolver_report.specs.WorkLists.{AreTended, IsReady, IsRight, IsSameWork, KeepsOthersTended, KeepsTended, advanced, after_mark, after_waits};
 ghost use Rattle.resolver_report.specs.WorkLists.{has_mark as has_mark_in, is_ready as is_ready_in, left_at, up_to_unmarked as up_to_unmarked_in, work_view};
 

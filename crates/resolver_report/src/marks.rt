@@ -1,6 +1,6 @@
 //! Which nodes of a graph can be installed, and which are missing.
 
-ghost use Rattle.std.specs.Prelude.{◌≡◌, ◌<◌, ◌++◌, ◌∷◌, [], All, IfOk, IfErr, OnOk, length, map};
+ghost use Rattle.std.specs.Prelude.{◌≡◌, ◌<◌, ◌++◌, ◌∷◌, [], IfOk, IfErr, OnOk, length, map};
 ghost use Rattle.std.specs.Option.{option_map};
 ghost use Rattle.resolver_report.specs.ConflictGraphs.{shape_of};
 ghost use Rattle.resolver_report.specs.Causes.{has_exclusion};

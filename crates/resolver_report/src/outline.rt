@@ -6,7 +6,7 @@ ghost use Rattle.std.specs.Option.{option_map};
 ghost use Rattle.resolver_clause_store.specs.Lists.{without_repeats};
 ghost use Rattle.resolver_report.specs.ConflictGraphs.{shape_of};
 ghost use Rattle.resolver_report.specs.EdgeRuns.{run_view};
-ghost use Rattle.resolver_report.specs.Messages.{candidates_of, is_candidate as is_candidate_in, is_unresolved as is_unresolved_in, is_viable as is_viable_in};
+ghost use Rattle.resolver_report.specs.Messages.{is_candidate as is_candidate_in, is_unresolved as is_unresolved_in, is_viable as is_viable_in};
 ghost use Rattle.resolver_report.specs.Messages.{same_group_as, told_of, told_of_run};
 ghost use Rattle.resolver_report.specs.Shapes.{places};
 ghost use Rattle.resolver_report.specs.Outlines.{HasGroupsOf, group_at as group_at_in, groups_in, has_viability, node_told, node_view, run_told_view};

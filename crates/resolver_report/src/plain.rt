@@ -1,6 +1,6 @@
 //! A plain search over a list of rules.
 
-ghost use Rattle.std.specs.Prelude.{Any, ◌≡◌, IfErr, IfOk, MatchOption, ◌∷◌, ◌++◌, [], IfNone, IfSome, IsTrue, IsFalse, MatchBool, Contains, All};
+ghost use Rattle.std.specs.Prelude.{Any, ◌≡◌, IfErr, IfOk, MatchOption, ◌∷◌, [], IfNone, IfSome, IsTrue, IsFalse, MatchBool, All};
 ghost use Rattle.resolver_clause_store.specs.Laws.{IsIdentity};
 ghost use Rattle.resolver_clause_store.specs.Lists.{HasNoRepeats};
 ghost use Rattle.resolver_clause_store.specs.Statements.{AllMeet, IsPresent, lists_of};

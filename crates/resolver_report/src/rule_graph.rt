@@ -1,6 +1,6 @@
 //! The graph of a list of rules: what the rules mention and link, and where nodes stand.
 
-ghost use Rattle.std.specs.Prelude.{◌≡◌, IfOk, IfErr, ◌++◌, ◌∷◌, [], OnOk, map, reverse, ◌<◌, length};
+ghost use Rattle.std.specs.Prelude.{◌≡◌, IfOk, IfErr, ◌++◌, ◌∷◌, [], OnOk, map, ◌<◌};
 ghost use Rattle.resolver_report.specs.Graphs.{place_in, links, mark_links, mentioned, mentions, node_by as node_of, requirement_links, edge_in};
 ghost use Rattle.resolver_report.specs.Graphs.{graph_of as graph_of_rules, is_entered as is_entered_by};
 ghost use Rattle.resolver_report.specs.Places.{HasPlaces};

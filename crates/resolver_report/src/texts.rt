@@ -1,8 +1,7 @@
 //! Texts of version sets, requirements and versions, and the lines of the root's conflicts.
 
-ghost use Rattle.std.specs.Prelude.{◌≡◌, ◌++◌, ◌∷◌, [], IfOk, IfErr, OnOk, Some, map, string_bytes};
+ghost use Rattle.std.specs.Prelude.{◌≡◌, ◌++◌, ◌∷◌, [], IfErr, OnOk, Some, map, string_bytes};
 ghost use Rattle.resolver_report.specs.ConflictTexts.{conflict_line_text};
-ghost use Rattle.resolver_report.specs.Forests.{branch_mark};
 ghost use Rattle.resolver_report.specs.Indents.{is_last_child};
 ghost use Rattle.resolver_report.specs.Messages.{conflict_text, constraint_text, joined_texts, lock_text, reason_text, requirement_text as requirement_text_in};
 ghost use Rattle.resolver_report.specs.Messages.{run_after as after_run, run_before as before_run, run_text as run_text_of};

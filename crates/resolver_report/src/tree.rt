@@ -2,9 +2,9 @@
 
 ghost use Rattle.std.specs.Prelude.{◌≡◌, ◌∷◌, ◌++◌, ◌+◌, ◌<◌, ◌≤◌, ◌==◌, [], false, true, length, map};
 ghost use Rattle.std.specs.Prelude.{IfErr, IfOk, IfSome, IsFalse, IsTrue, OnOk, IsSome, MatchOption};
-ghost use Rattle.std.specs.Prelude.{slice_get, slice_set, string_bytes};
+ghost use Rattle.std.specs.Prelude.{slice_get, string_bytes};
 ghost use Rattle.resolver_report.specs.Forests.{indent_from, text_of};
-ghost use Rattle.resolver_report.specs.Indents.{is_last_child, levels_in};
+ghost use Rattle.resolver_report.specs.Indents.{levels_in};
 ghost use Rattle.resolver_report.specs.Messages.{excluded, constraint_line as constraint_line_in, tree, is_quiet, is_reported as is_reported_in, lines_of};
 ghost use Rattle.resolver_report.specs.Messages.{reason_text, run_text, requirement_text, unmarked, with_group};
 ghost use Rattle.resolver_report.specs.PendingTexts.{HasLevels, IsTellStep, below_run as below_run_in, pending_text, pending_view, pending_work};

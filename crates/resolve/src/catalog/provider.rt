@@ -1,6 +1,6 @@
 //! What the tables answer.
 
-ghost use Rattle.std.specs.Prelude.{◌≡◌, ◌++◌, if◌then◌else◌, IfOk, IfErr, OnOk, IfSome, string_bytes};
+ghost use Rattle.std.specs.Prelude.{◌≡◌, IfOk, IfErr, string_bytes};
 
 use super::Catalog;
 use super::texts::{range_text, versions_text};

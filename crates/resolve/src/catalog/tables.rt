@@ -1,13 +1,13 @@
 //! Packages with their versions, and conditions.
 
-ghost use Rattle.std.specs.Prelude.{◌≡◌, ◌<◌, ◌≤◌, ◌++◌, ◌∷◌, [], length, IfOk, IfErr, IfNone, IfSome, MatchBool, OnOk};
+ghost use Rattle.std.specs.Prelude.{◌≡◌, ◌<◌, ◌≤◌, ◌++◌, ◌∷◌, [], length, IfOk, IfErr, IfNone, IfSome, MatchBool, MatchOption, OnOk};
 ghost use Rattle.std.proofs.Props.{props};
 ghost use Rattle.resolve.specs.Additions.{IsShortage};
 ghost use Rattle.resolve.specs.Packages.{ArePackagesOf, IsConstrained, IsDeclarationRefused, IsDeclared, IsExcluded, IsExclusionRefused, IsFavorRefused};
 ghost use Rattle.resolve.specs.Packages.{IsFavored, IsLockRefused, IsLocked, IsMadeUnknown, IsPackageAdded, IsReasonRefused, IsRequired, IsVersionOf};
 ghost use Rattle.resolve.specs.Packages.{IsWithoutPackage, KeepsPackages, name_at, version_at, preference};
 ghost use Rattle.resolve.specs.Sorting.{sorted_by};
-ghost use Rattle.resolve.specs.Conditions.{ArePartsLower, condition_at};
+ghost use Rattle.resolve.specs.Conditions.{ArePartsLower, IsJoined, IsPartMissing, condition_at};
 
 use crate::ids::{NameId, SolvableId, Version, id_of};
 use indexmap::IndexSet;
@@ -110,7 +110,9 @@ impl PackageTable {
         Ok(())
     }
 
-    /// Adds a version of a package, and lists it. False if it stands in the table, or if there is no such package.
+    /// Declares a version of a package, and lists it as the package's last candidate.
+    ///
+    /// False if it was declared before, or if there is no such package.
     pub fn add_version(
         &mut self,
         alloc: Global,
@@ -142,6 +144,7 @@ impl PackageTable {
         Ok(true)
     }
 
+    /// Adds to what a solvable requires.
     pub fn add_requirement(
         &mut self,
         solvable: SolvableId,
@@ -161,6 +164,7 @@ impl PackageTable {
         Ok(())
     }
 
+    /// Adds to what a solvable constrains.
     pub fn add_constraint(
         &mut self,
         solvable: SolvableId,
@@ -180,7 +184,9 @@ impl PackageTable {
         Ok(())
     }
 
-    /// Gives the reason why nobody knows what a solvable needs. False if it has one, or if there is no such solvable.
+    /// Says why nobody knows what a solvable needs. False if it has a reason already, or if there is no such solvable.
+    ///
+    /// What it requires and constrains is then kept from the solver.
     pub fn set_unknown(&mut self, solvable: SolvableId, reason: StringId) -> bool
         ensures unknown { MatchBool result (IsMadeUnknown self.old.solvables.items self.new.solvables.items solvable reason)
             (IsReasonRefused self.old.solvables.items self.new.solvables.items solvable) }
@@ -208,7 +214,7 @@ impl PackageTable {
         Some(package)
     }
 
-    /// Favors a solvable. False if its package has a favored one.
+    /// Favors a solvable. False if its package has a favored one already.
     pub fn favor(&mut self, solvable: SolvableId) -> bool
         ensures favored { MatchBool result (IsFavored self.old.versions.keys self.old.packages.items self.new.packages.items solvable)
             (IsFavorRefused self.old.versions.keys self.old.packages.items self.new.packages.items solvable) }
@@ -224,7 +230,7 @@ impl PackageTable {
         true
     }
 
-    /// Locks a package to a solvable. False if it is locked.
+    /// Locks the package of a solvable to it. False if the package is locked already.
     pub fn lock(&mut self, solvable: SolvableId) -> bool
         ensures locked { MatchBool result (IsLocked self.old.versions.keys self.old.packages.items self.new.packages.items solvable)
             (IsLockRefused self.old.versions.keys self.old.packages.items self.new.packages.items solvable) }
@@ -240,7 +246,7 @@ impl PackageTable {
         true
     }
 
-    /// Excludes a solvable. False if it is excluded.
+    /// Excludes a solvable for a reason. False if it was excluded before.
     pub fn exclude(&mut self, solvable: SolvableId, reason: StringId) -> Result<bool, Exhausted>
         ensures excluded { IfOk result (λ is_new.
             MatchBool is_new (IsExcluded self.old.versions.keys self.old.solvables.items self.new.solvables.items self.old.packages.items
@@ -290,7 +296,7 @@ impl ConditionTable {
         }
     }
 
-    /// Adds a condition that holds where a candidate of a version set is chosen.
+    /// Adds a condition, which holds where a candidate of the version set is chosen.
     pub fn add_on(&mut self, version_set: VersionSetId) -> Result<ConditionId, Exhausted>
         ensures id { IfOk result (λ id. id.0 ≡ length self.old.conditions.items) }
         ensures added { OnOk result (self.new.conditions.items ≡ self.old.conditions.items ++ Condition.Requirement version_set ∷ []) }
@@ -301,24 +307,25 @@ impl ConditionTable {
         Ok(id)
     }
 
-    /// Adds a condition of two that stand in the table. Others are refused as ids out of reach.
+    /// Adds a condition of two others. None if one of them does not stand in the table.
     pub fn add_of(
         &mut self,
         operator: LogicalOperator,
         left: ConditionId,
         right: ConditionId,
-    ) -> Result<ConditionId, Exhausted>
-        ensures id { IfOk result (λ id. id.0 ≡ length self.old.conditions.items) }
-        ensures added { OnOk result (self.new.conditions.items ≡ self.old.conditions.items ++ Condition.Binary operator left right ∷ []) }
-        ensures refusal { left.0 < length self.old.conditions.items → right.0 < length self.old.conditions.items →
-            IfErr result (IsShortage (length self.old.conditions.items)) }
+    ) -> Result<Option<ConditionId>, Exhausted>
+        ensures joined { IfOk result (λ made.
+            MatchOption made (IsPartMissing self.old.conditions.items self.new.conditions.items left right)
+            (IsJoined self.old.conditions.items self.new.conditions.items operator left right)) }
+        ensures refusal { IfErr result (IsShortage (length self.old.conditions.items)) }
     {
-        let id = ConditionId(id_of(self.conditions.len())?);
-        if left.0 >= id.0 || right.0 >= id.0 {
-            return Err(Exhausted::Ids);
+        let count = self.conditions.len();
+        if left.0 as usize >= count || right.0 as usize >= count {
+            return Ok(None);
         }
+        let id = ConditionId(id_of(count)?);
         self.conditions
             .push(Condition::Binary(operator, left, right))?;
-        Ok(id)
+        Ok(Some(id))
     }
 }

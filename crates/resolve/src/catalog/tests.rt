@@ -31,10 +31,8 @@ enum Wanted<'x> {
     VersionSets([VersionSetId; 3]),
     /// The ids of a union, of its members the other way round, and of the first one again.
     Unions([VersionSetUnionId; 3]),
-    /// The ids of two conditions and of both together, and the last one.
+    /// The ids of two conditions and of either of them, and the last one.
     Conditions([ConditionId; 3], Condition),
-    /// Ids run out for a condition of others that are not there.
-    NoCondition,
     /// Whether a version that is there is new, and whether another one is.
     Declared([bool; 2]),
     Found(&'x str, u32, Option<SolvableId>),
@@ -137,19 +135,14 @@ fn unions(catalog: &mut Catalog, alloc: Global) -> Result<[VersionSetUnionId; 3]
     Ok([one, turned, again])
 }
 
-fn either(
-    catalog: &mut Catalog,
-    left: ConditionId,
-    right: ConditionId,
-) -> Result<ConditionId, Exhausted> {
-    catalog.condition_of(LogicalOperator::Or, left, right)
-}
-
-fn conditions(catalog: &mut Catalog) -> Result<[ConditionId; 3], Exhausted> {
-    let left = catalog.condition_on(VersionSetId(5))?;
-    let right = catalog.condition_on(VersionSetId(5))?;
-    let both = either(catalog, left, right)?;
-    Ok([left, right, both])
+fn conditions(catalog: &mut Catalog) -> Result<Option<[ConditionId; 3]>, Exhausted> {
+    let left = catalog.conditions.add_on(VersionSetId(5))?;
+    let right = catalog.conditions.add_on(VersionSetId(5))?;
+    let either = catalog.conditions.add_of(LogicalOperator::Or, left, right)?;
+    let Some(either) = either else {
+        return Ok(None);
+    };
+    Ok(Some([left, right, either]))
 }
 
 fn has_conditions(
@@ -158,26 +151,22 @@ fn has_conditions(
     last: Condition,
 ) -> Result<bool, Exhausted> {
     let made = conditions(catalog)?;
-    Ok(made == wanted && catalog.resolve_condition(made[2]) == last)
+    Ok(made == Some(wanted) && catalog.resolve_condition(wanted[2]) == last)
 }
 
-fn has_no_condition(catalog: &mut Catalog) -> bool {
-    either(catalog, ConditionId(0), ConditionId(0)) == Err(Exhausted::Ids)
-}
-
-fn declared(catalog: &mut Catalog) -> Result<[bool; 2], Exhausted> {
-    let again = catalog.declare(NameId(0), 7)?;
-    let one_more = catalog.declare(NameId(0), 8)?;
+fn declared(catalog: &mut Catalog, alloc: Global) -> Result<[bool; 2], Exhausted> {
+    let again = catalog.packages.add_version(alloc, NameId(0), 7)?;
+    let one_more = catalog.packages.add_version(alloc, NameId(0), 8)?;
     Ok([again, one_more])
 }
 
 fn favor_and_lock(catalog: &mut Catalog) -> [bool; 5] {
     [
-        catalog.favor(SolvableId(2)),
-        catalog.favor(SolvableId(1)),
-        catalog.lock(SolvableId(3)),
-        catalog.lock(SolvableId(2)),
-        catalog.favor(SolvableId(9)),
+        catalog.packages.favor(SolvableId(2)),
+        catalog.packages.favor(SolvableId(1)),
+        catalog.packages.lock(SolvableId(3)),
+        catalog.packages.lock(SolvableId(2)),
+        catalog.packages.favor(SolvableId(9)),
     ]
 }
 
@@ -192,9 +181,9 @@ fn chooses(
 }
 
 fn exclude(catalog: &mut Catalog) -> Result<[bool; 3], Exhausted> {
-    let first = catalog.exclude(SolvableId(1), StringId(3))?;
-    let again = catalog.exclude(SolvableId(1), StringId(4))?;
-    let strange = catalog.exclude(SolvableId(9), StringId(3))?;
+    let first = catalog.packages.exclude(SolvableId(1), StringId(3))?;
+    let again = catalog.packages.exclude(SolvableId(1), StringId(4))?;
+    let strange = catalog.packages.exclude(SolvableId(9), StringId(3))?;
     Ok([first, again, strange])
 }
 
@@ -217,11 +206,13 @@ fn always(version_set: u32) -> ConditionalRequirement {
 
 /// Solvable 0 requires and constrains, and so does solvable 1, of which nobody knows it.
 fn add_needs(catalog: &mut Catalog) -> Result<[bool; 2], Exhausted> {
-    catalog.add_requirement(SolvableId(0), always(5))?;
-    catalog.add_constraint(SolvableId(0), VersionSetId(6))?;
-    catalog.add_requirement(SolvableId(1), always(5))?;
-    let first = catalog.set_unknown(SolvableId(1), StringId(7));
-    let again = catalog.set_unknown(SolvableId(1), StringId(8));
+    catalog.packages.add_requirement(SolvableId(0), always(5))?;
+    catalog
+        .packages
+        .add_constraint(SolvableId(0), VersionSetId(6))?;
+    catalog.packages.add_requirement(SolvableId(1), always(5))?;
+    let first = catalog.packages.set_unknown(SolvableId(1), StringId(7));
+    let again = catalog.packages.set_unknown(SolvableId(1), StringId(8));
     Ok([first, again])
 }
 
@@ -260,8 +251,7 @@ fn is_given(catalog: &mut Catalog, alloc: Global, wanted: Wanted<'_>) -> Result<
         Wanted::VersionSets(ids) => Ok(version_sets(catalog)? == ids),
         Wanted::Unions(ids) => Ok(unions(catalog, alloc)? == ids),
         Wanted::Conditions(ids, last) => Ok(has_conditions(catalog, ids, last)?),
-        Wanted::NoCondition => Ok(has_no_condition(catalog)),
-        Wanted::Declared(are_new) => Ok(declared(catalog)? == are_new),
+        Wanted::Declared(are_new) => Ok(declared(catalog, alloc)? == are_new),
         Wanted::Found(text, version, found) => Ok(catalog.find_solvable(text, version) == found),
         Wanted::FavoredAndLocked(are_new, first) => chooses(catalog, are_new, first),
         Wanted::Excluded(are_new, excluded) => excludes(catalog, are_new, excluded),
@@ -270,10 +260,10 @@ fn is_given(catalog: &mut Catalog, alloc: Global, wanted: Wanted<'_>) -> Result<
     }
 }
 
-fn declare_all(catalog: &mut Catalog) -> Result<(), Exhausted> {
+fn declare_all(catalog: &mut Catalog, alloc: Global) -> Result<(), Exhausted> {
     let a = catalog.name("a")?;
     for version in [2, 10, 1, 7] {
-        catalog.declare(a, version)?;
+        catalog.packages.add_version(alloc, a, version)?;
     }
     Ok(())
 }
@@ -281,7 +271,7 @@ fn declare_all(catalog: &mut Catalog) -> Result<(), Exhausted> {
 /// Whether a catalog gives what is wanted.
 fn gives(alloc: Global, wanted: Wanted<'_>) -> Result<bool, Fail> {
     let mut catalog = Catalog::new(alloc);
-    declare_all(&mut catalog)?;
+    declare_all(&mut catalog, alloc)?;
     is_given(&mut catalog, alloc, wanted)
 }
 
@@ -349,9 +339,8 @@ fn equal_version_sets_and_unions_share_an_id(rt: HostRuntime) -> Result<(), Fail
 #[test]
 fn each_condition_is_new(rt: HostRuntime) -> Result<(), Fail> {
     let ids = [ConditionId(0), ConditionId(1), ConditionId(2)];
-    let both = Condition::Binary(LogicalOperator::Or, ConditionId(0), ConditionId(1));
-    assert!(rt; gives(rt.alloc(), Wanted::Conditions(ids, both))?);
-    assert!(rt; gives(rt.alloc(), Wanted::NoCondition)?);
+    let either = Condition::Binary(LogicalOperator::Or, ConditionId(0), ConditionId(1));
+    assert!(rt; gives(rt.alloc(), Wanted::Conditions(ids, either))?);
     Ok(())
 }
 

@@ -2,7 +2,6 @@
 
 mod counts;
 mod hinted;
-mod interfering;
 mod interruptions;
 mod random_problems;
 mod refused;
@@ -10,3 +9,4 @@ mod rules;
 mod sets;
 mod soft;
 mod solving;
+mod wrapped;

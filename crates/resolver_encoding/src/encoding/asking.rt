@@ -1,6 +1,6 @@
 //! Packages that are asked.
 
-ghost use Rattle.std.specs.Prelude.{◌≡◌, ◌≢◌, ◌⊎◌, [], ◌∷◌, ◌++◌, All, Contains, IfErr, OnOk, Some, map, ⊤};
+ghost use Rattle.std.specs.Prelude.{◌≡◌, ◌≢◌, ◌++◌, All, Contains, IfErr, OnOk, Some, ⊤};
 ghost use Rattle.resolver_clause_store.specs.Caches.{IsTrueCache};
 ghost use Rattle.resolver_clause_store.specs.Candidates.{version_sets};
 ghost use Rattle.resolver_clause_store.specs.declared.ClauseKind.TheVariants.{Excluded as ExcludedKind, Lock as LockKind};

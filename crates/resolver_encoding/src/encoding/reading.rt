@@ -1,6 +1,6 @@
 //! All that can be needed.
 
-ghost use Rattle.std.specs.Prelude.{◌≡◌, ◌≢◌, ◌⊎◌, ◌<◌, ◌≤◌, ◌^◌, [], ◌∷◌, All, Contains, IfErr, IfOk, List, MatchBool, OnOk, Some, drop, length, map, take, ⊤};
+ghost use Rattle.std.specs.Prelude.{◌≡◌, ◌<◌, ◌≤◌, [], All, Contains, IfErr, IfOk, List, OnOk, Some, drop, length, take, ⊤};
 ghost use Rattle.resolver_clause_store.specs.Caches.{IsTrueCache};
 ghost use Rattle.resolver_clause_store.specs.Universe.{Demands, unknown};
 ghost use Rattle.resolver_clause_store.specs.Near.{IsNear};

@@ -1,144 +1,20 @@
-//! A provider that calls the dependencies of all candidates cheap to ask for, so that each candidate is read at once. It says
-//! what a catalog says otherwise.
-
-ghost use Rattle.std.specs.Prelude.{◌≡◌};
-ghost use Rattle.resolve.specs.CatalogLaws.{same_names, same_solvables};
-ghost use Rattle.resolve.specs.Hinting.{hinting_compares_solvables, hinting_ids_lawful, hinting_packages_lawful, hinting_universe};
+//! A solver whose provider calls the dependencies of all candidates cheap to ask for, so that each candidate is read at once.
 
 use super::super::Request;
 use super::counts::{Counts, answered, counts_of};
 use super::solving::{request, set_of};
-use crate::catalog::Catalog;
-use crate::ids::{NameId, SolvableId};
-use resolvo::{
-    Candidates, Condition, ConditionId, Dependencies, DependencyProvider, EmptySolvables,
-    Exhausted, HintDependenciesAvailable, Interner, Problem, Solver, StringId, VersionSetId,
-    VersionSetUnionId,
-};
+use super::wrapped::{Behaviour, Wrapped};
+use crate::ids::SolvableId;
+use resolvo::{EmptySolvables, Problem, Solver};
 use std::alloc::Global;
-use std::convert::Infallible;
 use std::test::Fail;
-
-#[derive(Drop)]
-struct Hinting {
-    alloc: Global,
-    catalog: Catalog,
-}
-
-impl Interner for Hinting {
-    type NameId = NameId;
-
-    type SolvableId = SolvableId;
-
-    ghost universe = { λ it. hinting_universe it.catalog };
-
-    ghost lawful_ids = { λ it. hinting_ids_lawful it.catalog };
-
-    ghost names_are_values = { same_names };
-
-    ghost solvables_are_values = { same_solvables };
-
-    ghost solvables_compare = { λ it. hinting_compares_solvables it.catalog };
-
-    fn solvable_name(&self, solvable: SolvableId) -> NameId {
-        self.catalog.solvable_name(solvable)
-    }
-
-    fn version_set_name(&self, version_set: VersionSetId) -> NameId {
-        self.catalog.version_set_name(version_set)
-    }
-
-    fn version_sets_in_union(&self, version_set_union: VersionSetUnionId) -> &[VersionSetId] {
-        self.catalog.version_sets_in_union(version_set_union)
-    }
-
-    fn resolve_condition(&self, condition: ConditionId) -> Condition {
-        self.catalog.resolve_condition(condition)
-    }
-
-    fn display_name(&self, name: NameId, out: &mut String) -> Result<(), Exhausted> {
-        self.catalog.display_name(name, out)
-    }
-
-    fn display_version_set(
-        &self,
-        version_set: VersionSetId,
-        out: &mut String,
-    ) -> Result<(), Exhausted> {
-        self.catalog.display_version_set(version_set, out)
-    }
-
-    fn display_string(&self, string: StringId, out: &mut String) -> Result<(), Exhausted> {
-        self.catalog.display_string(string, out)
-    }
-
-    fn display_merged_solvables(
-        &self,
-        solvables: &[SolvableId],
-        out: &mut String,
-    ) -> Result<(), Exhausted> {
-        self.catalog.display_merged_solvables(solvables, out)
-    }
-}
-
-impl DependencyProvider for Hinting {
-    type Cancel = Infallible;
-
-    ghost may_cancel = { λ _ _. ⊥ };
-
-    ghost lawful_packages = { λ it. hinting_packages_lawful it.catalog };
-
-    fn get_candidates(&self, name: NameId) -> Result<Option<Candidates<SolvableId>>, Exhausted> {
-        match self.catalog.get_candidates(name)? {
-            Some(found) => Ok(Some(Candidates {
-                candidates: found.candidates,
-                favored: found.favored,
-                locked: found.locked,
-                hint_dependencies_available: HintDependenciesAvailable::All,
-                excluded: found.excluded,
-            })),
-            None => Ok(Some(Candidates {
-                candidates: Vec::new(self.alloc),
-                favored: None,
-                locked: None,
-                hint_dependencies_available: HintDependenciesAvailable::All,
-                excluded: Vec::new(self.alloc),
-            })),
-        }
-    }
-
-    fn get_dependencies(&self, solvable: SolvableId) -> Result<Dependencies, Exhausted> {
-        self.catalog.get_dependencies(solvable)
-    }
-
-    fn filter_candidates(
-        &self,
-        candidates: &[SolvableId],
-        version_set: VersionSetId,
-        inverse: bool,
-    ) -> Result<Vec<SolvableId>, Exhausted> {
-        self.catalog
-            .filter_candidates(candidates, version_set, inverse)
-    }
-
-    fn sort_candidates(&self, candidates: &mut Vec<SolvableId>) -> Result<(), Exhausted> {
-        self.catalog.sort_candidates(candidates)
-    }
-
-    fn should_cancel_with_value(&self) -> Option<Infallible> {
-        None
-    }
-}
 
 /// What a solver counts after a request, and the set that it chose, if it did.
 fn counts_in(alloc: Global, request: Request) -> Counts {
     let problem = Problem::<SolvableId, EmptySolvables<SolvableId>>::new()
         .requirements(request.requirements)
         .constraints(request.constraints);
-    let provider = Hinting {
-        alloc,
-        catalog: request.catalog,
-    };
+    let provider = Wrapped::new(alloc, request.catalog, Behaviour::Hinting);
     let mut solver = Solver::new(alloc, provider);
     let outcome = solver.solve(problem);
     let chosen = match &outcome {

@@ -1,7 +1,7 @@
 //! Each check that may stop a search does, and each answer of a provider is refused, one after another.
 
-use super::interfering::{Interfering, Place};
 use super::solving::{request, set_of};
+use super::wrapped::{Behaviour, Wrapped};
 use crate::catalog::Catalog;
 use crate::ids::SolvableId;
 use resolvo::{
@@ -30,9 +30,7 @@ struct Twice {
     second: Ended,
 }
 
-fn ending_of(
-    outcome: &Result<Vec<SolvableId>, UnsolvableOrCancelled<Interfering<Catalog>>>,
-) -> Ended {
+fn ending_of(outcome: &Result<Vec<SolvableId>, UnsolvableOrCancelled<Wrapped<Catalog>>>) -> Ended {
     match outcome {
         Ok(chosen) => Ended::Chosen(set_of(chosen)),
         Err(UnsolvableOrCancelled::Unsolvable(conflict)) => {
@@ -65,7 +63,7 @@ fn problem_of(
 
 fn solve_both(
     alloc: Global,
-    provider: Interfering<Catalog>,
+    provider: Wrapped<Catalog>,
     first: InputProblem,
     second: InputProblem,
 ) -> Twice {
@@ -84,8 +82,8 @@ fn solve_both(
     }
 }
 
-/// Solves the problem of an input twice, with a provider that interferes at one place.
-fn solve_twice(alloc: Global, input: &str, place: Place) -> Result<Twice, Fail> {
+/// Solves the problem of an input twice, with a provider that behaves otherwise in one way.
+fn solve_twice(alloc: Global, input: &str, behaviour: Behaviour) -> Result<Twice, Fail> {
     let request = request(alloc, input)?;
     let first = problem_of(
         alloc,
@@ -99,17 +97,17 @@ fn solve_twice(alloc: Global, input: &str, place: Place) -> Result<Twice, Fail> 
         &request.constraints,
         &request.soft_requirements,
     )?;
-    let provider = Interfering::new(request.catalog, place);
+    let provider = Wrapped::new(alloc, request.catalog, behaviour);
     Ok(solve_both(alloc, provider, first, second))
 }
 
 /// Stops the search at one check after another, up to the first one that it does not come to. Answers the number of that one. The later
 /// the check, the more clauses are counted.
 fn stop_at_each_check(alloc: Global, input: &str) -> Result<u64, Fail> {
-    let undisturbed = solve_twice(alloc, input, Place::Nowhere)?;
+    let undisturbed = solve_twice(alloc, input, Behaviour::Same)?;
     let mut clauses = 0;
     for check in 1..10_000 {
-        let twice = solve_twice(alloc, input, Place::Check(check))?;
+        let twice = solve_twice(alloc, input, Behaviour::StoppedAt(check))?;
         if twice.first == undisturbed.first {
             return Ok(check);
         }
@@ -129,10 +127,10 @@ fn stop_at_each_check(alloc: Global, input: &str) -> Result<u64, Fail> {
 
 /// Refuses one answer of the provider after another, up to the first one that is not asked for. Answers the number of that one.
 fn refuse_each_answer(alloc: Global, input: &str) -> Result<u64, Fail> {
-    let undisturbed = solve_twice(alloc, input, Place::Nowhere)?;
+    let undisturbed = solve_twice(alloc, input, Behaviour::Same)?;
     let mut clauses = 0;
     for answer in 1..10_000 {
-        let twice = solve_twice(alloc, input, Place::Answer(answer))?;
+        let twice = solve_twice(alloc, input, Behaviour::RefusedAt(answer))?;
         if twice.first == undisturbed.first {
             return Ok(answer);
         }

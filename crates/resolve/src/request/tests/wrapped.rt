@@ -1,27 +1,35 @@
-//! A provider that stops a search, or wants for memory, at one place.
+//! A provider over another one, which behaves otherwise in one way: it hints at all candidates, stops a search, or wants for memory.
 
-ghost use Rattle.std.specs.Prelude.{◌≡◌, IfErr};
+ghost use Rattle.std.specs.Prelude.{◌≡◌, IfErr, true};
+ghost use Rattle.resolver_clause_store.specs.Universe.{package_of};
+ghost use Rattle.resolve.specs.Hinting.{hinted_ids_lawful, hinted_packages_lawful, with_hint, with_hints};
 
 use resolver_clause_store::{
-    Candidates, Condition, ConditionId, Dependencies, DependencyProvider, Exhausted, Interner,
-    StringId, VersionSetId, VersionSetUnionId,
+    Candidates, Condition, ConditionId, Dependencies, DependencyProvider, Exhausted,
+    HintDependenciesAvailable, Interner, StringId, VersionSetId, VersionSetUnionId,
 };
+use std::alloc::Global;
 use std::cell::Cell;
 
-/// Where a provider interferes.
+/// What a provider does otherwise.
 #[derive(Clone, Copy)]
-pub enum Place {
-    Nowhere,
+pub enum Behaviour {
+    /// Nothing.
+    Same,
+    /// The dependencies of all candidates are cheap to ask for, so that each candidate is read at once.
+    Hinting,
     /// The cancel check with this number, counted from 1, stops the search with the number.
-    Check(u64),
+    StoppedAt(u64),
     /// The answer with this number, counted from 1, is refused for want of memory.
-    Answer(u64),
+    RefusedAt(u64),
 }
 
-/// Another provider, which interferes at one place.
+/// Another provider, which behaves otherwise in one way.
 #[derive(Drop)]
-pub struct Interfering<P> {
+pub struct Wrapped<P> {
+    alloc: Global,
     inner: P,
+    hints_all: bool,
     /// The check that stops the search, or 0.
     stopping: u64,
     /// The answer that is refused, or 0.
@@ -30,15 +38,18 @@ pub struct Interfering<P> {
     answers: Cell<u64>,
 }
 
-impl<P: Drop> Interfering<P> {
-    pub fn new(inner: P, place: Place) -> Self {
-        let (stopping, refusing) = match place {
-            Place::Nowhere => (0, 0),
-            Place::Check(check) => (check, 0),
-            Place::Answer(answer) => (0, answer),
+impl<P: Drop> Wrapped<P> {
+    pub fn new(alloc: Global, inner: P, behaviour: Behaviour) -> Self {
+        let (hints_all, stopping, refusing) = match behaviour {
+            Behaviour::Same => (false, 0, 0),
+            Behaviour::Hinting => (true, 0, 0),
+            Behaviour::StoppedAt(check) => (false, check, 0),
+            Behaviour::RefusedAt(answer) => (false, 0, answer),
         };
-        Interfering {
+        Wrapped {
+            alloc,
             inner,
+            hints_all,
             stopping,
             refusing,
             checks: Cell::new(0),
@@ -59,14 +70,36 @@ impl<P: Drop> Interfering<P> {
     }
 }
 
-impl<P: DependencyProvider + Drop> Interner for Interfering<P> {
+/// The same candidates, with dependencies that are all cheap to ask for.
+fn hinted<S: Drop>(alloc: Global, found: Option<Candidates<S>>) -> Option<Candidates<S>>
+    ensures { package_of result ≡ with_hint true (package_of found) }
+{
+    let (candidates, favored, locked, excluded) = match found {
+        None => (Vec::new(alloc), None, None, Vec::new(alloc)),
+        Some(found) => (
+            found.candidates,
+            found.favored,
+            found.locked,
+            found.excluded,
+        ),
+    };
+    Some(Candidates {
+        candidates,
+        favored,
+        locked,
+        hint_dependencies_available: HintDependenciesAvailable::All,
+        excluded,
+    })
+}
+
+impl<P: DependencyProvider + Drop> Interner for Wrapped<P> {
     type NameId = P::NameId;
 
     type SolvableId = P::SolvableId;
 
-    ghost universe = { λ it. P.universe it.inner };
+    ghost universe = { λ it. with_hints it.hints_all (P.universe it.inner) };
 
-    ghost lawful_ids = { λ it. P.lawful_ids it.inner };
+    ghost lawful_ids = { λ it. hinted_ids_lawful it.hints_all (P.universe it.inner) (P.lawful_ids it.inner) };
 
     ghost names_are_values = { P.names_are_values };
 
@@ -115,20 +148,23 @@ impl<P: DependencyProvider + Drop> Interner for Interfering<P> {
     }
 }
 
-impl<P: DependencyProvider + Drop> DependencyProvider for Interfering<P> {
+impl<P: DependencyProvider + Drop> DependencyProvider for Wrapped<P> {
     type Cancel = u64;
 
     ghost may_cancel = { λ it value. value ≡ it.stopping };
 
-    ghost lawful_packages = { λ it. P.lawful_packages it.inner };
+    ghost lawful_packages = { λ it. hinted_packages_lawful it.hints_all (P.universe it.inner) (P.lawful_packages it.inner) };
 
     fn get_candidates(
         &self,
         name: P::NameId,
     ) -> Result<Option<Candidates<P::SolvableId>>, Exhausted> {
         self.count()?;
-        let candidates = self.inner.get_candidates(name)?;
-        Ok(candidates)
+        let found = self.inner.get_candidates(name)?;
+        if self.hints_all {
+            return Ok(hinted(self.alloc, found));
+        }
+        Ok(found)
     }
 
     fn get_dependencies(&self, solvable: P::SolvableId) -> Result<Dependencies, Exhausted> {
