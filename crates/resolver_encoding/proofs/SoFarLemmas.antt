@@ -12,7 +12,6 @@ use Rattle.resolver_clause_store.specs.Lists.{IsWithin, Meets}
 use Rattle.resolver_clause_store.specs.Universe.{Universe, Demands, Needs, known, unknown}
 use Rattle.resolver_clause_store.specs.Candidates.{matching, version_sets}
 use Rattle.resolver_clause_store.specs.Valid.{demands_of}
-use Rattle.resolver_clause_store.specs.Variables.{Keeps}
 use Rattle.resolver_clause_store.specs.declared.By.{By}
 use Rattle.resolver_clause_store.specs.declared.By.TheVariants.{Root as ByRoot, Solvable as BySolvable}
 use Rattle.resolver_clause_store.specs.declared.ClauseKind.TheVariants.{Excluded}
@@ -30,7 +29,7 @@ use Rattle.resolver_encoding.specs.ReadState.{Deferred, HasClause, IsReadRequire
 use Rattle.resolver_encoding.specs.SoFar.{HasFired, HasRead, IsBare, IsFiring, IsHalfRead, IsMoreOrSame, IsProgress, IsQuietUnder, IsReadMore, IsReadSoFar}
 use Rattle.resolver_encoding.specs.SoFar.{IsReadingOf, left_count, progress_by}
 use Rattle.resolver_encoding.specs.Truth.{HasLawfulSolvables}
-use Rattle.resolver_encoding.proofs.EncodingLemmas.{Extends-same, Extends-trans, Extends-within, IsWithin-same, IsWithin-trans}
+use Rattle.resolver_encoding.proofs.EncodingLemmas.{Contains-kept, Extends-same, Extends-trans, Extends-within, IsWithin-same, IsWithin-trans}
 use Rattle.resolver_encoding.proofs.ReadLemmas.{AreDemandsRead-grown, AreNeedsRead-grown, HasClause-within, IsConstraintRead-within, demands_read, packages_of}
 use Rattle.resolver_encoding.proofs.Reading.{name_matching}
 use Rattle.resolver_clause_store.proofs.ListLemmas.{Contains-at as place_in, Contains-here as here, Contains-none as none_in, Contains-there as there}
@@ -40,9 +39,6 @@ place_on : {X : Type 0} (xs ys : List X) → Extends xs ys → (k : ℕ) (x : X)
 place_on {X} xs ys more k x at =
     let At : List X → Type 0 = λ list. slice_get list k ≡ Some x in
     subst At (sym more.is) (place_left xs more.more k x at)
-
-pub Contains-kept : {X : Type 0} (xs ys : List X) → Keeps xs ys → IsWithin xs ys
-Contains-kept xs ys keeps x h = let at = place_of_member xs x h in place_in ys at.0 x (keeps.kept at.0 x at.1)
 
 pub IsWithin-equal : {X : Type 0} (xs ys : List X) → ys ≡ xs → IsWithin xs ys
 IsWithin-equal {X} xs ys same x h = let Has : List X → Type 0 = λ list. Contains list x in subst Has (sym same) h

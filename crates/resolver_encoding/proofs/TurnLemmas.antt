@@ -20,10 +20,10 @@ use Rattle.resolver_encoding.specs.ReadState.{Deferred}
 use Rattle.resolver_encoding.specs.SoFar.{IsHalfRead}
 use Rattle.resolver_encoding.specs.Truth.{AreDue}
 use Rattle.resolver_encoding.specs.Turns.{AddsPlainly, AsksOnly, IsRestored, IsRegistered, IsTurnEnd, StaysRead}
-use Rattle.resolver_encoding.proofs.EncodingLemmas.{Extends-same, IsWithin-same}
+use Rattle.resolver_encoding.proofs.EncodingLemmas.{Contains-kept, Extends-same, IsWithin-same}
 use Rattle.resolver_encoding.proofs.ReadLemmas.{AreDemandsRead-grown, AreNeedsRead-grown}
 use Rattle.resolver_clause_store.proofs.ListLemmas.{Contains-cons_cases as cons_cases, Contains-here as here, Contains-there as there}
-use Rattle.resolver_encoding.proofs.SoFarLemmas.{Contains-kept, IsPresent-within, IsWithin-equal}
+use Rattle.resolver_encoding.proofs.SoFarLemmas.{IsPresent-within, IsWithin-equal}
 
 module _ {N S : Type 0} (u : Universe N S) where
   -- what was read stays read where clauses are added, and nothing is read or put off
