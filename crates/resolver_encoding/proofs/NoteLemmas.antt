@@ -37,7 +37,7 @@ pub All-grown_at : {X : Type 0} (P P' : X → Type 0) (xs : List X) (i : ℕ) (d
 All-grown_at P P' xs i d grown below all here = All-more P' xs i d below (All-weaker P P' grown (take i xs) all) here
 
 -- what holds of each one of a list, and of one more
-holds_also : {X : Type 0} (P : X → Type 0) (xs : List X) (x : X) → ((y : X) → Contains xs y → P y) → P x → (y : X) → Contains (xs ++ x ∷ []) y → P y
+pub holds_also : {X : Type 0} (P : X → Type 0) (xs : List X) (x : X) → ((y : X) → Contains xs y → P y) → P x → (y : X) → Contains (xs ++ x ∷ []) y → P y
 holds_also P xs x each here y h = ⊎_elim (λ (earlier : Contains xs y). each y earlier) (λ (is : x ≡ y). subst P is here) (Contains-push_cases xs x y h)
 
 -- two that the test tells apart are not the same
