@@ -308,7 +308,7 @@ module _ {N S : Type 0} (u : Universe N S) where
       let keeps : StaysRight doing Premise old (with_clause old origins requirements literals kind) =
       λ root premise before. IsEncoding-clause doing root old origins requirements literals kind grows
       (listed (record { listed = before.listed; ask = before.ask })) (next root premise before) before in
-      assumption (IsStep-same doing Premise old, grows.keeps, Extends-push old.table literals, IsWithin-push old.kinds kind, keeps)
+      assumption (IsStep-same doing Premise old, grows.keeps, Extends-push old.table literals, IsWithin-push old.kinds kind)
 
   -- one more clause, which asks for no candidates
   pub IsStep-clause : (doing : Doing N S) (Premise : Demands → Type 0) (old new : Notes N S) (kind : ClauseKind N S) (as' : List (Atom N S))
@@ -370,7 +370,7 @@ module _ {N S : Type 0} (u : Universe N S) where
   IsAskStep-trans Called Premise one two three first second =
       let called : (call : Call N S) → IsFollowed three call → IsFollowed one call ⊎ Called call =
       λ call h. ⊎_elim (λ before. first.called call before) (λ called. inr called) (second.called call h) in
-      search (Keeps-trans, Extends-trans, IsWithin-trans, called, first.keeps, second.keeps)
+      search (Keeps-trans, Extends-trans, IsWithin-trans, first.keeps, second.keeps)
 
   -- with more called for, under a premise from which its own follows
   pub IsAskStep-weaker : (Called More : Call N S → Type 0) → ((call : Call N S) → Called call → More call) → (Premise Stronger : Demands → Type 0) →
@@ -378,7 +378,7 @@ module _ {N S : Type 0} (u : Universe N S) where
   IsAskStep-weaker Called More more Premise Stronger follows old new step =
       let called : (call : Call N S) → IsFollowed new call → IsFollowed old call ⊎ More call =
       λ call h. ⊎_elim (λ before. inl before) (λ called. inr (more call called)) (step.called call h) in
-      search (called, step.keeps)
+      search step.keeps
 
   -- steps that may put disjuncts off
   pub IsReadStep-of : (Defers : Deferred S → Type 0) (Called : Call N S → Type 0) (Premise : Demands → Type 0) (old new : Notes N S) →
@@ -399,7 +399,7 @@ module _ {N S : Type 0} (u : Universe N S) where
       λ call h. ⊎_elim (λ before. first.called call before) (λ called. inr called) (second.called call h) in
       let defers : (e : Deferred S) → IsLeft three e → IsLeft one e ⊎ Defers e =
       λ e h. ⊎_elim (λ before. first.defers e before) (λ put_off. inr put_off) (second.defers e h) in
-      search (Keeps-trans, Extends-trans, IsWithin-trans, called, defers, first.keeps, second.keeps)
+      search (Keeps-trans, Extends-trans, IsWithin-trans, first.keeps, second.keeps)
 
   pub IsReadStep-weaker : (Defers : Deferred S → Type 0) (Called More : Call N S → Type 0) → ((call : Call N S) → Called call → More call) →
       (Premise Stronger : Demands → Type 0) → ((root : Demands) → Stronger root → Premise root) → (old new : Notes N S) →
@@ -407,7 +407,7 @@ module _ {N S : Type 0} (u : Universe N S) where
   IsReadStep-weaker Defers Called More more Premise Stronger follows old new step =
       let called : (call : Call N S) → IsFollowed new call → IsFollowed old call ⊎ More call =
       λ call h. ⊎_elim (λ before. inl before) (λ called. inr (more call called)) (step.called call h) in
-      search (called, step.keeps)
+      search step.keeps
 
   -- an encoding of the same problem, after a step; of a problem of which another premise holds
   pub IsEncodingOf-step : (Premise : Demands → Type 0) (old new : Notes N S) → IsEncodingOf u Premise old → IsStep u Premise old new →

@@ -223,7 +223,7 @@ module _ {N S : Type 0} (u : Universe N S) where
       let deferred : (x : Deferred S) → Contains (old.deferred ++ Some e ∷ []) (Some x) → IsLeft old x ⊎ Defers x =
       λ x h. ⊎_elim (λ earlier. inl earlier) (λ (is : Some e ≡ Some x). inr (subst Defers (same_Some e x is) defers))
       (Contains-push_cases old.deferred (Some e) (Some x) h) in
-      subst Step (sym deferral.is) (search (IsReadStep-same u Defers Called Premise old, Extends-push old.deferred (Some e), deferred, keeps))
+      subst Step (sym deferral.is) (search (IsReadStep-same u Defers Called Premise old, Extends-push old.deferred (Some e), keeps))
     where
       keeps : (root : Demands) → Premise root → IsEncoding u root old →
           IsEncoding u root (record old { deferred = old.deferred ++ Some e ∷ []; waiting = deferral.waiting })
@@ -272,7 +272,7 @@ module _ {N S : Type 0} (u : Universe N S) where
         (λ (fired : AllMeet set (map (matching u) e.disjunct) × HasClause two.kinds e.by e.disjunct e.requirement). inr
         (fired.0, HasClause-within u two.kinds three.kinds second.kinds e.by e.disjunct e.requirement fired.1))
         (first.taken i e at) in
-        search (Keeps-trans, Extends-trans, IsWithin-trans, called, taken, first.stays, second.stays, first.keeps, second.keeps)
+        search (Keeps-trans, Extends-trans, IsWithin-trans, first.stays, second.stays, first.keeps, second.keeps)
 
     -- the disjunct at hand was met
     pub met_entry : (number : ℕ) (e : Deferred S) (old mid : Notes N S) → HasMet u set old number → IsTakenOut number e old mid →
@@ -308,7 +308,7 @@ module _ {N S : Type 0} (u : Universe N S) where
           λ call h. ⊎_elim (λ earlier. inl earlier) (λ wanted. inr (e, listed, met, wanted)) (plain.called call h) in
           let keeps : (root : Demands) → IsEncoding u root old → IsEncoding u root new =
           λ root before. step.keeps root (before.left_true e listed).is_true (IsEncoding-taken root number e old mid out before) in
-          assumption (plain, called, stays, taken, keeps)
+          assumption (stays, taken)
         where
           stays : (i : ℕ) (x : Deferred S) → slice_get new.deferred i ≡ Some (Some x) → slice_get old.deferred i ≡ Some (Some x)
           stays i x at = let At : List (Option (Deferred S)) → Type 0 = λ xs. slice_get xs i ≡ Some (Some x) in

@@ -107,8 +107,8 @@ module _ {N S : Type 0} (u : Universe N S) where
       let Step : Notes N S → Type 0 = λ n. IsStepWhile u doing Premise old n in
       let encoded = AreEncoded-keeps u old.origins origins old.table old.kinds grows.keeps in
       let keeps : StaysRight u doing Premise old (record old { origins = origins; variable_limit = limit }) =
-      λ root premise before. search (grows.keeps.kept 0 Root, grows.distinct, encoded, Contains-kept old.origins origins grows.keeps, before.registered) in
-      subst Step (sym is) (assumption (IsStep-same u doing Premise old, grows.keeps, keeps))
+      λ root premise before. search (grows.keeps.kept 0 Root, grows.distinct, Contains-kept old.origins origins grows.keeps, before.registered) in
+      subst Step (sym is) (assumption (IsStep-same u doing Premise old, grows.keeps))
 
   -- the package's locks and exclusions have their clauses
   pub record IsPackageRead (kinds : List (ClauseKind N S)) (exempt : List S) (p : Package S) : Type 0 where
@@ -132,7 +132,7 @@ module _ {N S : Type 0} (u : Universe N S) where
   opened : (n : N) (root : Demands) (old : Notes N S) → IsEncodingWhile u idle root old → IsEncodingWhile u (asking_for n) root old
   opened n root old start =
       let due = AreDue-within old.asked (n ∷ old.asked) old.exempt old.kinds (λ m h. there n old.asked m h) start.due in
-      search due
+      search
 
   -- of a package that is noted as asked, and of nothing else
   asked_alone : (old mid : Notes N S) (n : N) → mid.asked ≡ old.asked → mid.seen ≡ old.seen → (call : Call N S) →
@@ -150,7 +150,7 @@ module _ {N S : Type 0} (u : Universe N S) where
       let Asked : List N → Type 0 = λ list. IsWithin old.asked (list ++ n ∷ []) in
       let seen = subst Seen (sym step.seen) (Extends-same old.seen) in
       let asked = subst Asked (sym same) (IsWithin-push old.asked n) in
-      subst Step (sym e) (assumption (step, seen, asked, asked_alone old mid n same step.seen, keeps))
+      subst Step (sym e) (assumption (step, asked_alone old mid n same step.seen, keeps))
     where
       Asks : N → Type 0
       Asks m = Contains (mid.asked ++ n ∷ []) m
@@ -176,7 +176,7 @@ module _ {N S : Type 0} (u : Universe N S) where
           All-contains (λ x. (Contains mid.exempt x.0 → ⊥) → Contains mid.kinds (Excluded x.0 x.1)) (u.package_named (u.name s)).excluded (s, reason)
           (read_of s is).exclusions inside free)
           (Contains-push_cases mid.asked n (u.name s) h) in
-          search (before, due, IsWithin-push mid.asked n, before.packages, before.gate_packages, locks, exclusions)
+          search (IsWithin-push mid.asked n, before.packages, before.gate_packages)
 
   -- a package's lists, as they were found
   pub IsPackageRead-found : (kinds more : List (ClauseKind N S)) (exempt exempt' : List S) → IsWithin kinds more → exempt' ≡ exempt →
@@ -205,8 +205,8 @@ module _ {N S : Type 0} (u : Universe N S) where
       let Follows : VersionSetId → Type 0 = λ x. (s : S) → Contains (matching u x) s → Contains old.kinds (AnyOf (ConditionHelper x) s) in
       let more = IsWithin-push old.helped v in
       let keeps : StaysRight u idle (λ root. ⊤) old (record old { helped = old.helped ++ v ∷ [] }) =
-      λ root premise before. search (more, before.helpers, holds_also Follows old.helped v before.follow follows) in
-      subst Step (sym e) (assumption (IsStep-same u idle (λ root. ⊤) old, more, keeps))
+      λ root premise before. search (before.helpers, holds_also Follows old.helped v before.follow follows) in
+      subst Step (sym e) (assumption (IsStep-same u idle (λ root. ⊤) old))
 
   -- one more gate, whose clause is there
   pub IsStep-gated : (old new : Notes N S) (r : Requirement) → new ≡ record old { gates = old.gates ++ r ∷ [] } → Contains old.kinds (GateRequires r) →
@@ -216,7 +216,7 @@ module _ {N S : Type 0} (u : Universe N S) where
       let Gated : Requirement → Type 0 = λ x. Contains old.kinds (GateRequires x) in
       let keeps : StaysRight u idle (λ root. ⊤) old (record old { gates = old.gates ++ r ∷ [] }) =
       λ root premise before. search (holds_also Gated old.gates r before.gated has) in
-      subst Step (sym e) (assumption (IsStep-same u idle (λ root. ⊤) old, IsWithin-push old.gates r, keeps))
+      subst Step (sym e) (assumption (IsStep-same u idle (λ root. ⊤) old, IsWithin-push old.gates r))
 
   -- one more helper of a constraint, which follows from each that it forbids
   pub IsStep-constrained : (old new : Notes N S) (v : VersionSetId) → new ≡ record old { constrained = old.constrained ++ v ∷ [] } →
@@ -226,4 +226,4 @@ module _ {N S : Type 0} (u : Universe N S) where
       let Excludes : VersionSetId → Type 0 = λ x. (s : S) → Contains (others u x) s → Contains old.kinds (ConstrainsExcluded s x) in
       let keeps : StaysRight u idle (λ root. ⊤) old (record old { constrained = old.constrained ++ v ∷ [] }) =
       λ root premise before. search (holds_also Excludes old.constrained v before.excluded follows) in
-      subst Step (sym e) (assumption (IsStep-same u idle (λ root. ⊤) old, IsWithin-push old.constrained v, keeps))
+      subst Step (sym e) (assumption (IsStep-same u idle (λ root. ⊤) old, IsWithin-push old.constrained v))

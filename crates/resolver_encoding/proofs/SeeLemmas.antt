@@ -137,7 +137,7 @@ module _ {N S : Type 0} (u : Universe N S) where
         ⊎_elim (λ (is : one ≡ c). subst Coded is (coded_here start.codes i)) (λ (none : Contains [] c). absurd (none_in c none)) (cons_cases one [] c h) in
         let coded : (m : N) (t : S) (i : ℕ) (b : Bool) → Contains old.kinds (HasBit m t i b) → Contains old.seen t ⊎ Contains (s ∷ []) t =
         λ m t i b h. ⊎_elim (λ seen. inl seen) (λ none. absurd (none_in t none)) (start.coded m t i b h) in
-        search (own, each_true, placed, coding, coded)
+        search
 
     -- one more clause of the solvable's code
     pub IsStep-own : (old new : Notes N S) (i : ℕ) (b : Bool) → AddsClause old new (HasBit n s i b) (atoms_of u (HasBit n s i b)) → u.name s ≡ n → b ≡ bit k i →
@@ -187,7 +187,7 @@ module _ {N S : Type 0} (u : Universe N S) where
         let Asked : List N → Type 0 = λ list. IsWithin old.asked list in
         let seen = subst Longer (sym step.seen) (Extends-push old.seen s) in
         let asked = subst Asked (sym step.asked) (IsWithin-same old.asked) in
-        subst Step (sym e) (assumption (step, seen, asked, seen_alone old mid groups step.asked step.seen, keeps))
+        subst Step (sym e) (assumption (step, seen_alone old mid groups step.asked step.seen, keeps))
       where
         At : Groups N S → N → ℕ → S → Type 0
         At gs m j t = IsAt gs m j t
@@ -261,4 +261,4 @@ module _ {N S : Type 0} (u : Universe N S) where
             (λ earlier. let w = before.members m t earlier in (w.0, more t w.1))
             (λ (is : (m ≡ n) × (t ≡ s)). (ap u.name is.1 ∙ name ∙ sym is.0, subst Seen (sym is.1) (Contains-push mid.seen s)))
             (added.only m t h) in
-            search (before, more, added.sound, registered, placed, coding, coded, digits, grouped, members, before.candidates, before.gate_candidates)
+            search (added.sound, before.candidates, before.gate_candidates)

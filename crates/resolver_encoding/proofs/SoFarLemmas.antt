@@ -79,14 +79,14 @@ module _ {N S : Type 0} (u : Universe N S) (set : List S) where
       (second.called call h) in
       let reads = λ (s : S) (h : Contains three.read s). ⊎_elim (first.reads s) (λ may. inr may) (second.reads s h) in
       let unmet = λ (e : Deferred S) (h : IsLeft three e). ⊎_elim (first.unmet e) (λ never. inr never) (second.unmet e h) in
-      search (Keeps-trans, Extends-trans, IsWithin-trans, called, reads, unmet, first.keeps, second.keeps)
+      search (Keeps-trans, Extends-trans, IsWithin-trans, first.keeps, second.keeps)
 
   pub IsReadingOf-weaker : (Reads More : S → Type 0) → ((s : S) → Reads s → More s) → (old new : Notes N S) → IsReadingOf u set Reads old new →
       IsReadingOf u set More old new
   IsReadingOf-weaker Reads More weaker old new h =
       let reads : (s : S) → Contains new.read s → Contains old.read s ⊎ More s =
       λ s k. ⊎_elim (λ before. inl before) (λ may. inr (weaker s may)) (h.reads s k) in
-      assumption reads
+      assumption
 
   -- disjuncts were taken out
   module _ (mid new : Notes N S) (firing : IsFiring u set mid new) where
@@ -177,9 +177,6 @@ module _ {N S : Type 0} (u : Universe N S) (set : List S) where
           Extends-trans old.table mid.table new.table reading.table firing.table,
           Extends-trans old.requirements mid.requirements new.requirements reading.requirements firing.requirements,
           Extends-trans old.seen mid.seen new.seen reading.seen firing.seen,
-          read,
-          reads,
-          taken,
           firing.exempt ∙ reading.exempt,
         )
 
@@ -328,7 +325,7 @@ module _ {N S : Type 0} (u : Universe N S) (set : List S) (s : S) (old mid new :
       λ t h. ⊎_elim (λ before. inl (earlier_read t before)) (λ last. inr last) (Contains-push_cases mid.read s t h) in
       let unmet : (e : Deferred S) → IsLeft mid e → IsLeft old e ⊎ (AllMeet set (map (matching u) e.disjunct) → ⊥) =
       λ e h. ⊎_elim (λ before. inl before) (λ unmet. inr unmet.never) (step.defers e h) in
-      subst Reading (sym is) (assumption (called, read, reads, unmet, half_noted))
+      subst Reading (sym is) (assumption half_noted)
 
   pub HasRead-read : HasRead old new true
   HasRead-read =

@@ -67,7 +67,7 @@ module _ {N S : Type 0} (u : Universe N S) where
   IsRegistered-of s old new step seen only plain asked =
       let stays = StaysRead-of old new step.origins step.kinds (IsWithin-equal old.asked new.asked asked) step.read step.deferred (λ root before.
       step.keeps root tt before) in
-      assumption stays
+      assumption
 
   -- other exemptions, of which the clauses make nothing wrong
   with_exempt : (root : Demands) (old : Notes N S) (exempt : List S) → AreDue u old.asked exempt old.kinds →
@@ -118,7 +118,7 @@ module _ {N S : Type 0} (u : Universe N S) where
           locks = λ r t h. let w = start.due.locks r t h in (w.0, λ k. w.1 (was_exempt t k));
           exclusions = λ t reason h. ⊎_elim (λ w. inl (w.0, λ k. w.1 (was_exempt t k))) (λ e. inr e) (start.due.exclusions t reason h);
         } in
-        search (due, start.locks, start.exclusions, still_free)
+        search (start.locks, start.exclusions, still_free)
 
     -- the clauses were made
     module _ (same : S → S → Bool) (solvables : IsIdentity same) (new : Notes N S) (restored : IsRestored u s new) where
@@ -148,13 +148,13 @@ module _ {N S : Type 0} (u : Universe N S) where
           (λ (is : same s r ≡ true). subst (ExclusionOf reason) (solvables.alone s r is) (restored.exclusions reason) h free)
           (λ (apart : same s r ≡ false). start.exclusions r reason h (not_owed r apart free))
           (cases_Bool (same s r)) in
-          search (locks, exclusions)
+          search
 
       pub IsTurnEnd-restored : IsStepWhile u (owing_for s) (λ root. ⊤) opened_notes new → AddsPlainly opened_notes new → IsTurnEnd u old new
       IsTurnEnd-restored step plainly =
           let stays = StaysRead-of old new step.origins step.kinds (IsWithin-equal old.asked new.asked step.asked) step.read step.deferred (λ root before.
           owing_closed root (step.keeps root tt (owing_opened root before))) in
-          assumption stays
+          assumption
 
   -- what a package lists, locks and excludes, as it was found
   pub IsRestored-found : (s : S) (old mid new : Notes N S) (n : N) → n ≡ u.name s → IsWithin mid.kinds new.kinds → mid.exempt ≡ old.exempt →
@@ -199,13 +199,13 @@ module _ {N S : Type 0} (u : Universe N S) where
         all = λ m is. subst Asked (sym is) here;
       } in
       let stays = StaysRead-of old new step.origins step.kinds step.asked step.read step.deferred (λ root before. step.keeps root tt before) in
-      assumption (asked, stays)
+      assumption
 
   pub AsksOnly-same : (n : N) (notes : Notes N S) → Contains notes.asked n → AsksOnly u n notes notes
   AsksOnly-same n notes here =
       let Asked : N → Type 0 = λ m. Contains notes.asked m in
       let asked : AreAsked (λ m. m ≡ n) notes.asked notes.asked = record { stays = λ m h. h; only = λ m h. inl h; all = λ m is. subst Asked (sym is) here } in
-      assumption (asked, IsStep-same u idle (λ root. ⊤) notes, StaysRead-same notes)
+      assumption (IsStep-same u idle (λ root. ⊤) notes, StaysRead-same notes)
 
   pub IsTurnEnd-same : (notes : Notes N S) → IsTurnEnd u notes notes
   IsTurnEnd-same notes = assumption (IsStep-same u idle (λ root. ⊤) notes, StaysRead-same notes)

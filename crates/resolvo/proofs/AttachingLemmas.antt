@@ -251,12 +251,12 @@ pub moves-done : (old late : List Late) (last : Late) (pending more : List ℕ) 
 moves-done old late last pending more count short moves =
     let within = λ (rising : IsRising old). within-last late last count
     (rising-left (late ++ last ∷ []) moves.gone (subst (λ (ls : List Late). IsRising ls) moves.late rising)) short in
-    search (moves, within)
+    search moves
 
 pub moves-all : (old late : List Late) (pending more : List ℕ) (count : ℕ) → length late ≤ 0 → Moves old late pending more → Recalls old late pending more count
 moves-all old late pending more count none moves =
     let within : IsRising old → All (λ (l : Late). l.length ≤ count) late = λ rising k d below. absurd (omega (arith, below, none)) in
-    search (moves, within)
+    search moves
 
 -- One clause fewer has to be looked at again.
 noted-fewer : (late : List Late) (rest : List ℕ) (number other : ℕ) → other ≢ number → IsNoted late (rest ++ number ∷ []) other → IsNoted late rest other
@@ -329,7 +329,7 @@ passed-high table trail p pending number ends pair satisfied it =
     (watching-pair pairs number pair.first pair.second literal pair.are watching))
     (λ inside is. absurd (none-some pair.first (ap (λ (w : WatchedPair). w.first) (sym is ∙ pair.are))))
     covers in
-    assumption (fewer, covered)
+    assumption
 
 -- a clause that is true is noted behind the others
 late-push : (table : List (Vec Literal Global)) (trail : Trail) (late : List Late) (number : ℕ) → IsSatisfied trail (clause_at table number) →
@@ -385,7 +385,7 @@ passed-late table trail p late pending number ends is satisfied it =
     (λ literal watching fails. inr noted)
     (λ within unwatched_there. noted)
     covers) in
-    assumption (was_late, fewer, attached, covered)
+    assumption
 
 -- a clause two literals of which have no value
 pub reopened : (table : List (Vec Literal Global)) (trail : Trail) (p : Propagator) (pending : Vec ℕ Global) (number head first second : ℕ) →
@@ -409,7 +409,7 @@ reopened table trail p pending number head first second ends is first_place seco
     watching)
     (λ inside none. absurd (free.differ (it.watched.constant number inside none free.first free.second free.has_first free.has_second)))
     covers in
-    assumption (fewer, reached, covered)
+    assumption
 
 -- a clause behind the others
 pair-two : (clause : List Literal) (pair : Option (Literal × Literal)) → MatchOption pair (IsConstant clause) (λ two. AreApart clause two.0 two.1) →

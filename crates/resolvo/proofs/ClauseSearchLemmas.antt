@@ -222,7 +222,7 @@ chosen-undone table requirements old new level chosen undone = record {
       let c = chosen.each v s n was.0 decided in
       let false_before = λ (k : ℕ) (d : Literal) (below : k < length c.before). false_before-undone old new level s v _ undone was.0 was.1
       (c.false_before k d below) in
-      search (c, false_before);
+      search;
 }
 
 pub chosen-grows : (old new : List (Vec Literal Global)) (requirements : List RequirementClause) (trail : Trail) → Grows old new →
@@ -233,7 +233,7 @@ chosen-grows old new requirements trail grows inside chosen = record {
       let c = chosen.each v s n at decided in
       let clause = grows.same _ (All-contains (λ (requirement : RequirementClause). requirement.number < length old) requirements c.requirement inside c.listed)
       ∙ c.clause in
-      search (c, clause);
+      search;
 }
 
 -- the one literal of the highest level has no value after a jump back

@@ -125,7 +125,7 @@ pub chosen-kept : (table : List (Vec Literal Global)) (requirements : List Requi
     IsChosen table requirements old variable slot → IsChosen table requirements new variable slot
 chosen-kept table requirements old new variable slot keeps c =
     let false_before = λ (k : ℕ) (d : Literal) (below : k < length c.before). false_before-kept old new _ _ keeps (c.false_before k d below) in
-    search (c, false_before)
+    search c
 
 pub chosen-extends : (table : List (Vec Literal Global)) (requirements : List RequirementClause) (old new : Trail) → AreChosen table requirements old →
     Extends old new → AreChosen table requirements new

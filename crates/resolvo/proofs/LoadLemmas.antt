@@ -166,7 +166,7 @@ chosen-wanted given table sources places requirements wanted trail variable slot
     let number : place_of places (get_or wanted k c.requirement).number ≡ c.requirement.number =
     sym (same-number requirements wanted places same k c.requirement c.requirement below) ∙ ap (λ (r : RequirementClause). r.number) c.listed.2 in
     let clause = sym (given-clause given table sources places _ loaded (inside k c.requirement below)) ∙ ap (λ n. clause_at table n) number ∙ c.clause in
-    search (Contains-get_or wanted k c.requirement below, clause)
+    search (Contains-get_or wanted k c.requirement below)
 
 -- what was found for the places holds for the given clauses
 pub finished : (given table : List (Vec Literal Global)) (sources : List Source) (places : List ℕ) (requirements wanted : List RequirementClause)
@@ -232,7 +232,7 @@ pub chosen-listed : (table : List (Vec Literal Global)) (requirements : List Req
 chosen-listed table requirements requirement trail chosen = record {
   each = λ v s n at decided.
       let c = chosen.each v s n at decided in
-      search (c, Contains-append_left requirements (requirement ∷ []) c.requirement c.listed);
+      search (Contains-append_left requirements (requirement ∷ []) c.requirement c.listed);
 }
 
 -- a trail that was undone, and how much of it is kept
@@ -317,7 +317,7 @@ consistent-requirement old wanted queue in_lists requirement it inside is queued
     let below : All (λ (r : RequirementClause). r.number < length old.table.items) wanted.items =
     rw is (All-push (λ (r : RequirementClause). r.number < length old.table.items) old.requirements.items requirement it.inside inside) in
     let noted : IsQueued queue old.trail old.table.items wanted.items = rw is queued in
-    assumption (chosen, below, noted)
+    assumption
 
 pub same-none : (it : ClauseSearch) → IsSameSearch it it
 same-none it = record { set = record { was = λ v s at. at }; marked = λ all. all; variables = refl; learnt = refl; kept = λ base k. k; turn = keeps-none it }
@@ -325,7 +325,7 @@ same-none it = record { set = record { was = λ v s at. at }; marked = λ all. a
 pub same-trans : (a b c : ClauseSearch) → IsSameSearch a b → IsSameSearch b c → IsSameSearch a c
 same-trans a b c first second =
     let set : SetsNone a.trail c.trail = record { was = λ v s at. first.set.was v s (second.set.was v s at) } in
-    search (set, first.marked, second.marked, first.kept, second.kept, turn-trans a b c first.turn second.turn)
+    search (first.marked, second.marked, first.kept, second.kept, turn-trans a b c first.turn second.turn)
 
 -- the clauses that were loaded are the first ones of a longer list
 pub clauses-begin : (it : ClauseSearch) (clauses given more : List (Vec Literal Global)) (numbers : List ℕ) (count : ℕ) → count ≡ length it.places.items →
@@ -413,7 +413,7 @@ consistent-grown it trail propagator queue variables in_lists holds room grown p
     (keeps-fewer it.trail trail (length_of it.trail) it.held places holds.turn.inside) holds.turn.marked in
     let queued = stays trail it.table.items it.requirements.items
     (queued-longer it.queue it.trail trail it.table.items it.requirements.items places holds.queued) in
-    assumption (below, justified, chosen, kept, turn, queued)
+    assumption
 
 -- what is loaded does not depend on the trail, or on what propagation keeps
 pub loaded-trail : (it : ClauseSearch) (trail : Trail) (propagator : Propagator) (queue : DecideQueue)

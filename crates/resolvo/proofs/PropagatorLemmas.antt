@@ -79,7 +79,7 @@ pub propagator-kept : (table : List (Vec Literal Global)) (old new : Trail) (it 
     length (lists_of it.watches) ≡ 2 * variable_count new → IsPropagator table old it → IsPropagator table new it
 propagator-kept table old new it keeps size was =
     let head : head_of it ≤ length_of new = omega (arith, was.head, (keeps_all old new keeps).are) in
-    assumption (size, late-kept table old new _ keeps was.late, head, covers-kept table old new _ _ _ _ keeps was.head was.covers)
+    assumption (size, late-kept table old new _ keeps was.late, covers-kept table old new _ _ _ _ keeps was.head was.covers)
 
 pub propagator-gains : (table : List (Vec Literal Global)) (old new : Trail) (it : Propagator) (literal : Literal) (level : ℕ) (reason : Reason) →
     Gains old new literal level reason → slot_of old literal.variable ≡ None → IsPropagator table old it → IsPropagator table new it

@@ -263,7 +263,7 @@ module _ {N S : Type 0} where
       let WithEncoding : Encoding N S → Type 0 = λ e. Standing e old.chosen in
       let assumed = assumed_still (notes_of old).origins (notes_of old).origins (trail_of old.search) (trail_of new.search) taken refused
       (Keeps-same (notes_of old).origins) known turn.assumed.was b.assumed in
-      subst WithChosen (sym same.chosen) (subst WithEncoding (sym same.encoding) (assumption assumed))
+      subst WithChosen (sym same.chosen) (subst WithEncoding (sym same.encoding) (assumption))
 
   -- a turn may be told of from an earlier state in which as much was chosen, exempt and asked for
   pub turned_from : (u : Universe N S) (root : Demands) (taken refused seeds : List S) (packages : List N) (s : S) (before old new : Rounds N S)
@@ -850,7 +850,7 @@ module _ {N S : Type 0} where
         let loaded = loads rounds.loaded.given rounds.loaded.numbers rounds.loaded.loaded in
         let variables : variable_count (trail_of search) ≤ length (notes_of old).origins = omega (arith, ap variable_count trail, rounds.variables) in
         let kept = subst KeptIn (sym trail) (subst (Kept (trail_of old.search)) (sym count) rounds.mark.kept) in
-        Prim.search (loaded, variables, rounds.mark.follows, kept)
+        Prim.search rounds.mark.follows
 
     pub still_held : held_of search ≡ length_of (trail_of search) → kept_of old.search ≡ length_of (trail_of old.search) →
         chosen_of old ≡ solvables_before (notes_of old).origins (trail_of old.search) (length_of (trail_of old.search)) →

@@ -92,7 +92,7 @@ module _ {N S : Type 0} (u : Universe N S) where
         IsStanding u root taken refused seeds packages r → IsStanding u root taken refused more others r
     standing_wider taken left seeds more packages others r wider besides b =
         let within : IsWithin taken more = λ s h. wider s (b.within s h) in
-        assumption (within, AreNear-more u root seeds packages more others wider besides (notes_of r) b.near)
+        assumption (AreNear-more u root seeds packages more others wider besides (notes_of r) b.near)
 
     pub standing_for : (done : List (SoftRequirement S)) (r : SoftRequirement S) (taken refused : List S) (rounds : Rounds N S) →
         IsStanding u root taken refused (flat_map (options u) done) (flat_map (own_packages u) done) rounds →
@@ -125,7 +125,7 @@ module _ {N S : Type 0} (u : Universe N S) where
         let run = run_turned b.first done b.taken (chosen_of old) (notes_of old).exempt (notes_of old).asked s h.taken_now (chosen_of new)
         (notes_of new).exempt is_chosen (notes_of new).asked b.run h.turned h.asked
         (asked_for u root (chosen_of new) (done ++ Solvable s ∷ []) (notes_of new) h.standing.read h.standing.near) in
-        search (b.promise, run, h.standing)
+        search (b.promise, h.standing)
 
     -- the turn of a version set of which a candidate is chosen
     pub between_met : (done : List (SoftRequirement S)) (v : VersionSetId) (r : Rounds N S) → Meets (matching u v) (chosen_of r) → IsBetween u root done r →
@@ -135,7 +135,7 @@ module _ {N S : Type 0} (u : Universe N S) where
         let run : SoftRun u root b.first (done ++ Matching v ∷ []) b.taken (chosen_of r) (notes_of r).exempt (notes_of r).asked =
         chosen_before (Matching v) b.run meets (λ n h. h)
         (asked_for u root (chosen_of r) (done ++ Matching v ∷ []) (notes_of r) standing.read standing.near) in
-        search (b.promise, run, standing)
+        search b.promise
 
     -- the turn of one of which none is
     run_tried : (first : List S) (done : List (SoftRequirement S)) (taken chosen exempt : List S) (asked : List N) (v : VersionSetId)
@@ -167,7 +167,7 @@ module _ {N S : Type 0} (u : Universe N S) where
         (notes_of new).asked b.run never match all taken
         (h.asked (u.version_set_name v) own) (λ n k. h.asked n (grows n k))
         (asked_for u root (chosen_of new) (done ++ Matching v ∷ []) (notes_of new) h.standing.read h.standing.near)) in
-        search (b.promise, run, h.standing)
+        search (b.promise, h.standing)
 
     -- what a turn was, by its answer
     none_taken : (taken chosen exempt candidates taken_now chosen_now : List S) (is_chosen : Bool) →

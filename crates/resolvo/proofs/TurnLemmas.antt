@@ -167,14 +167,14 @@ consistent-assumed it trail literal level base held in_lists holds gains free ma
     let turn = turn-whole trail base held it.kept top bound whole (omega (arith, whole, marked, gains.count)) in
     let queued = queued-longer it.queue it.trail trail it.table.items it.requirements.items
     (keeps_all it.trail trail (keeps-gains it.trail trail literal level _ gains free)) holds.queued in
-    assumption (below, justified, chosen, kept, propagator, turn, queued)
+    assumption
 
 pub consistent-marked : (it : ClauseSearch) (kept : ℕ) (in_lists : ∥ AreInLists it.table.items it.propagator.watches ∥₁) → kept ≡ length_of it.trail →
     IsConsistent it → IsConsistent (record it { kept = kept; in_lists = in_lists })
 consistent-marked it kept in_lists whole holds =
     let now : kept ≤ length_of it.trail = omega (arith, whole) in
     let marked : it.held ≤ kept + 1 = omega (arith, holds.turn.inside, whole) in
-    assumption (now, marked)
+    assumption
 
 pub consistent-held : (it : ClauseSearch) (base held : ℕ) (in_lists : ∥ AreInLists it.table.items it.propagator.watches ∥₁) → it.kept ≡ length_of it.trail →
     IsTop it.trail base → base ≤ length_of it.trail → held ≡ length_of it.trail → IsConsistent it →
@@ -202,7 +202,7 @@ chosen-cut table requirements old new count chosen cut = record {
   each = λ v s n at decided.
       let c = chosen.each v s n (cut.stays v s at) decided in
       let false_before = λ (k : ℕ) (d : Literal) (below : k < length c.before). false_before-cut old new count v s _ cut at (c.false_before k d below) in
-      search (c, false_before);
+      search;
 }
 
 pub consistent-cut : (it : ClauseSearch) (trail : Trail) (propagator : Propagator) (queue : DecideQueue) (count kept base : ℕ)
@@ -219,7 +219,7 @@ consistent-cut it trail propagator queue count kept base in_lists holds cut last
     let turn = turn-whole trail base count kept top bound (sym cut.length) (omega (arith, is, last, holds.turn.marked)) in
     let queued = queued-left it.queue queue it.trail trail it.table.items it.requirements.items count count noted
     (keeps_places it.trail trail count (omega (arith, last, holds.turn.inside)) (λ v s at below. cut.kept v s at below)) refl holds.queued in
-    assumption (below, justified, chosen, marked, turn, queued)
+    assumption
 
 pub cut-free : (old new : Trail) (count : ℕ) → IsCut old new count → count < length_of old → slot_of new (variable_at old count) ≡ None
 cut-free old new count cut less = none-from (slot_of new (variable_at old count)) (λ s at.
@@ -264,7 +264,7 @@ consistent-descended it trail propagator queue in_lists holds size justified cho
     let kept : it.kept ≤ length_of trail = omega (arith, holds.kept, keeps.are) in
     let turn = turn-kept it.trail trail it.base it.held it.kept it.kept holds.turn
     (keeps-fewer it.trail trail (length_of it.trail) it.held keeps holds.turn.inside) holds.turn.marked in
-    assumption (below, kept, turn)
+    assumption
 
 -- a learnt clause is implied by the given ones
 implied-learnt : (given table : List (Vec Literal Global)) (sources : List Source) (causes : List ℕ) (literals : List Literal) → IsDerived table sources →

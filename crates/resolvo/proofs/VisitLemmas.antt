@@ -438,7 +438,7 @@ visited table trail it falsified count v all stands =
           (cases_lt fails.slot.place (head_of it));
       constant = was.covers.constant;
     } in
-    assumption (was, reached, covers)
+    assumption
 
 -- the other literal that is watched stands in the clause
 pub own-other : (table : List (Vec Literal Global)) (trail : Trail) (it : Propagator) (number : ℕ) (literal other : Literal) → IsPropagator table trail it →
