@@ -23,7 +23,7 @@ use Rattle.resolver_clause_store.proofs.TrailLemmas.{Keeps, forcing-kept}
 use Rattle.resolvo.specs.declared.contradiction.Source.{Source}
 use Rattle.resolvo.specs.declared.contradiction.Source.TheVariants.{Given}
 use Rattle.resolvo.specs.declared.clause_search.ClauseSearch.{ClauseSearch}
-use Rattle.resolvo.specs.ClauseSearches.{AreLoaded, IsConsistent, IsLoaded, IsSameProblem, IsSameSearch, KeepsFirst, SetsNone, numbers_of, place_of}
+use Rattle.resolvo.specs.ClauseSearches.{AreLoaded, IsConsistent, IsLoaded, IsSameProblem, IsSameSearch, KeepsFirst, numbers_of, place_of}
 use Rattle.resolvo.specs.Derivations.{IsDerived, given_at, number_of}
 use Rattle.resolvo.specs.Propagators.{IsPropagator}
 use Rattle.resolvo.specs.declared.propagator.Propagator.{Propagator}
@@ -324,8 +324,15 @@ same-none it = record { set = record { was = λ v s at. at }; marked = λ all. a
 
 pub same-trans : (a b c : ClauseSearch) → IsSameSearch a b → IsSameSearch b c → IsSameSearch a c
 same-trans a b c first second =
-    let set : SetsNone a.trail c.trail = record { was = λ v s at. first.set.was v s (second.set.was v s at) } in
-    search (first.marked, second.marked, first.kept, second.kept, turn-trans a b c first.turn second.turn)
+    record {
+      set = record { was = λ v s at. first.set.was v s (second.set.was v s at) };
+      marked = λ all. second.marked (first.marked all);
+      variables = second.variables ∙ first.variables;
+      learnt = second.learnt ∙ first.learnt;
+      kept = λ base k. second.kept base (first.kept base k);
+      turn =
+          turn-trans a b c first.turn second.turn;
+    }
 
 -- the clauses that were loaded are the first ones of a longer list
 pub clauses-begin : (it : ClauseSearch) (clauses given more : List (Vec Literal Global)) (numbers : List ℕ) (count : ℕ) → count ≡ length it.places.items →
@@ -438,4 +445,9 @@ problem-descended a b trail propagator queue in_lists it same size keeps assumed
 }
 
 pub problem-trans : (a b c : ClauseSearch) → IsSameProblem a b → IsSameProblem b c → IsSameProblem a c
-problem-trans a b c first second = search (first.loaded, second.loaded, first.kept, second.kept, turn-trans a b c first.turn second.turn)
+problem-trans a b c first second = record {
+  loaded = λ given numbers loaded. second.loaded given numbers (first.loaded given numbers loaded);
+  variables = second.variables ∙ first.variables;
+  kept = λ base k. second.kept base (first.kept base k);
+  turn = turn-trans a b c first.turn second.turn;
+}

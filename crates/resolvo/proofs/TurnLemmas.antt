@@ -113,7 +113,12 @@ pub keeps-none : (it : ClauseSearch) → KeepsTurn it it
 keeps-none it = record { base = refl; held = refl; assumed = record { was = λ v s at reason. at }; places = λ base k. k }
 
 pub turn-trans : (a b c : ClauseSearch) → KeepsTurn a b → KeepsTurn b c → KeepsTurn a c
-turn-trans a b c first second = search (none-trans a.trail b.trail c.trail first.assumed second.assumed, first.places, second.places)
+turn-trans a b c first second = record {
+  base = second.base ∙ first.base;
+  held = second.held ∙ first.held;
+  assumed = none-trans a.trail b.trail c.trail first.assumed second.assumed;
+  places = λ base k. second.places base (first.places base k);
+}
 
 -- the turn stays where the trail keeps what is held
 pub keeps-turn : (old new : ClauseSearch) → new.base ≡ old.base → new.held ≡ old.held → AssumesNone old.trail new.trail →

@@ -416,29 +416,35 @@ visited table trail it falsified count v all stands =
     let was = v.propagator in
     let f = v.fails in
     let pairs = pairs_of it.watches in
-    let reached : head_of it + 1 ≤ length_of trail = omega (arith, f.placed, (trail.listed _ _ f.is).0) in
-    let covers : Covers table trail pairs (late_of it) (pending_of it) (head_of it + 1) = record {
-      watched = λ n literal watching fails. ⊎_elim
-          (λ (before : fails.slot.place < head_of it). was.covers.watched n literal watching
-          (record { slot = fails.slot; is = fails.is; false_there = fails.false_there; earlier = before }))
-          (λ (behind : head_of it ≤ fails.slot.place).
-          let here : fails.slot.place ≡ f.slot.place = omega (arith, behind, fails.earlier, f.placed) in
-          let named : literal.variable ≡ falsified.literal.variable = sym (trail.listed _ _ fails.is).1 ∙ ap (λ k. variable_at trail k) here ∙
-          (trail.listed _ _ f.is).1 in
-          let one : fails.slot ≡ f.slot = same_Some _ _ (sym fails.is ∙ ap (λ k. slot_of trail k) named ∙ f.is) in
-          let sign : literal.positive ≡ falsified.literal.positive =
-          other_value f.slot.value literal.positive falsified.literal.positive
-          (subst (λ (s : Slot). beq s.value literal.positive ≡ false) one fails.false_there) f.false_there in
-          let same : literal ≡ falsified.literal = λ i. record { variable = named i; positive = sign i } in
-          let s = stands n (subst (λ (l : Literal). IsWatching pairs n l) same watching) in
-          let level : falsified.level ≡ fails.slot.level = sym f.level ∙ ap (λ (x : Slot). x.level) (sym one) in
-          let e = v.excused.each s.0 s.1.watch (omega (arith, all, slice_get_within _ s.0 s.1.watch s.1.is)) s.1.is in
-          subst (λ m. IsExcused table trail (late_of it) (pending_of it) m n) level
-          (subst (λ m. IsExcused table trail (late_of it) (pending_of it) falsified.level m) s.1.named e))
-          (cases_lt fails.slot.place (head_of it));
-      constant = was.covers.constant;
-    } in
-    assumption
+    record {
+      lists = was.lists;
+      watched = was.watched;
+      late = was.late;
+      pending = was.pending;
+      inside = was.inside;
+      head = omega (arith, f.placed, (trail.listed _ _ f.is).0);
+      covers = record {
+        watched = λ n literal watching fails. ⊎_elim
+            (λ (before : fails.slot.place < head_of it). was.covers.watched n literal watching
+            (record { slot = fails.slot; is = fails.is; false_there = fails.false_there; earlier = before }))
+            (λ (behind : head_of it ≤ fails.slot.place).
+            let here : fails.slot.place ≡ f.slot.place = omega (arith, behind, fails.earlier, f.placed) in
+            let named : literal.variable ≡ falsified.literal.variable = sym (trail.listed _ _ fails.is).1 ∙ ap (λ k. variable_at trail k) here ∙
+            (trail.listed _ _ f.is).1 in
+            let one : fails.slot ≡ f.slot = same_Some _ _ (sym fails.is ∙ ap (λ k. slot_of trail k) named ∙ f.is) in
+            let sign : literal.positive ≡ falsified.literal.positive =
+            other_value f.slot.value literal.positive falsified.literal.positive
+            (subst (λ (s : Slot). beq s.value literal.positive ≡ false) one fails.false_there) f.false_there in
+            let same : literal ≡ falsified.literal = λ i. record { variable = named i; positive = sign i } in
+            let s = stands n (subst (λ (l : Literal). IsWatching pairs n l) same watching) in
+            let level : falsified.level ≡ fails.slot.level = sym f.level ∙ ap (λ (x : Slot). x.level) (sym one) in
+            let e = v.excused.each s.0 s.1.watch (omega (arith, all, slice_get_within _ s.0 s.1.watch s.1.is)) s.1.is in
+            subst (λ m. IsExcused table trail (late_of it) (pending_of it) m n) level
+            (subst (λ m. IsExcused table trail (late_of it) (pending_of it) falsified.level m) s.1.named e))
+            (cases_lt fails.slot.place (head_of it));
+        constant = was.covers.constant;
+      };
+    }
 
 -- the other literal that is watched stands in the clause
 pub own-other : (table : List (Vec Literal Global)) (trail : Trail) (it : Propagator) (number : ℕ) (literal other : Literal) → IsPropagator table trail it →
