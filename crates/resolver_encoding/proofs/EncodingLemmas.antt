@@ -24,7 +24,7 @@ use Rattle.resolver_clause_store.proofs.PlaceLemmas.{Keeps-same, Keeps-trans, pl
 use Rattle.resolver_encoding.specs.Atoms.{Atom, atoms_of}
 use Rattle.resolver_encoding.specs.Called.{Call, to_ask, to_see}
 use Rattle.resolver_encoding.specs.Encodings.{AddsClause, AddsRequirement, AsksForCandidates, Coding, Doing, Extends, Grows, HasProperHelper, IsAskStep}
-use Rattle.resolver_encoding.specs.Encodings.{IsEncodingOf, IsEncodingWhile, IsFollowed, IsReadStep, IsStep, IsStepWhile, KeepsLimits, Notes, idle}
+use Rattle.resolver_encoding.specs.Encodings.{IsEncodingOf, IsEncodingWhile, IsFollowed, IsLeft, IsReadStep, IsStep, IsStepWhile, KeepsLimits, Notes, idle}
 use Rattle.resolver_encoding.specs.Codes.{bit}
 use Rattle.resolver_encoding.specs.Groups.{IsAt}
 use Rattle.resolver_encoding.specs.Read.{IsForbidden, forbidden_direct, forbidden_helped}
@@ -42,6 +42,9 @@ IsWithin-trans xs ys zs one other x h = other x (one x h)
 
 pub IsWithin-push : {X : Type 0} (xs : List X) (x : X) → IsWithin xs (xs ++ x ∷ [])
 IsWithin-push xs x y h = Contains-append_left xs (x ∷ []) y h
+
+pub Contains-kept : {X : Type 0} (xs ys : List X) → Keeps xs ys → IsWithin xs ys
+Contains-kept xs ys keeps x h = let at = place_of_member xs x h in place_in ys at.0 x (keeps.kept at.0 x at.1)
 
 pub Extends-same : {X : Type 0} (xs : List X) → Extends xs xs
 Extends-same xs = record { more = []; is = sym (append-nil xs) }
@@ -275,8 +278,7 @@ module _ {N S : Type 0} (u : Universe N S) where
         follow = λ v h s m. within _ (before.follow v h s m);
         locks = λ s t h free lock inside differ. within _ (before.locks s t h free lock inside differ);
         exclusions = λ s reason h free inside. within _ (before.exclusions s reason h free inside);
-        registered = λ s h. let at = place_of_member notes.origins (Solvable s) (before.registered s h) in
-            place_in origins at.0 (Solvable s) (grows.keeps.kept at.0 (Solvable s) at.1);
+        registered = λ s h. Contains-kept notes.origins origins grows.keeps (Solvable s) (before.registered s h);
         placed = before.placed;
         coding = before.coding;
         coded = λ n s i b h. ⊎_elim (λ earlier. before.coded n s i b earlier) (λ e. subst Prepared e next.prepared)
@@ -290,28 +292,23 @@ module _ {N S : Type 0} (u : Universe N S) where
         sound_waiting = before.sound_waiting;
       }
 
+  -- the notes stay right where the premise holds
+  abbrev pub StaysRight : Doing N S → (Demands → Type 0) → Notes N S → Notes N S → Type 0
+  StaysRight doing Premise old new = (root : Demands) → Premise root → IsEncodingWhile u doing root old → IsEncodingWhile u doing root new
+
+  pub IsStep-same : (doing : Doing N S) (Premise : Demands → Type 0) (notes : Notes N S) → IsStepWhile u doing Premise notes notes
+  IsStep-same doing Premise notes = search (Keeps-same, Extends-same)
+
   IsStep-with_clause : (doing : Doing N S) (Premise : Demands → Type 0) (old : Notes N S) (origins : List (Origin N S)) (requirements : List ℕ)
       (literals : Vec Literal Global) (kind : ClauseKind N S) → Grows old.origins origins → Extends old.requirements requirements →
       (AreListed old.kinds old.requirements → AreListed (old.kinds ++ kind ∷ []) requirements) →
       ((root : Demands) → Premise root → IsEncodingWhile u doing root old → IsNext doing root old origins literals.items kind) →
       IsStepWhile u doing Premise old (with_clause old origins requirements literals kind)
-  IsStep-with_clause doing Premise old origins requirements literals kind grows more listed next = record {
-    origins = grows.keeps;
-    table = Extends-push old.table literals;
-    kinds = IsWithin-push old.kinds kind;
-    requirements = more;
-    seen = refl;
-    asked = refl;
-    helped = IsWithin-same old.helped;
-    gates = IsWithin-same old.gates;
-    constrained = IsWithin-same old.constrained;
-    read = refl;
-    deferred = refl;
-    waiting = refl;
-    exempt = refl;
-    keeps = λ root premise before. IsEncoding-clause doing root old origins requirements literals kind grows
-        (listed (record { listed = before.listed; ask = before.ask })) (next root premise before) before;
-  }
+  IsStep-with_clause doing Premise old origins requirements literals kind grows more listed next =
+      let keeps : StaysRight doing Premise old (with_clause old origins requirements literals kind) =
+      λ root premise before. IsEncoding-clause doing root old origins requirements literals kind grows
+      (listed (record { listed = before.listed; ask = before.ask })) (next root premise before) before in
+      assumption (IsStep-same doing Premise old, grows.keeps, Extends-push old.table literals, IsWithin-push old.kinds kind)
 
   -- one more clause, which asks for no candidates
   pub IsStep-clause : (doing : Doing N S) (Premise : Demands → Type 0) (old new : Notes N S) (kind : ClauseKind N S) (as' : List (Atom N S))
@@ -343,62 +340,14 @@ module _ {N S : Type 0} (u : Universe N S) where
       let Listed : Notes N S → Type 0 = λ n. Contains n.kinds kind in
       subst Listed (sym adds.is) (Contains-push old.kinds kind)
 
-  pub IsStep-same : (doing : Doing N S) (Premise : Demands → Type 0) (notes : Notes N S) → IsStepWhile u doing Premise notes notes
-  IsStep-same doing Premise notes = record {
-    origins = Keeps-same notes.origins;
-    table = Extends-same notes.table;
-    kinds = IsWithin-same notes.kinds;
-    requirements = Extends-same notes.requirements;
-    seen = refl;
-    asked = refl;
-    helped = IsWithin-same notes.helped;
-    gates = IsWithin-same notes.gates;
-    constrained = IsWithin-same notes.constrained;
-    read = refl;
-    deferred = refl;
-    waiting = refl;
-    exempt = refl;
-    keeps = λ root premise before. before;
-  }
-
   pub IsStep-trans : (doing : Doing N S) (Premise : Demands → Type 0) (one two three : Notes N S) → IsStepWhile u doing Premise one two →
       IsStepWhile u doing Premise two three → IsStepWhile u doing Premise one three
-  IsStep-trans doing Premise one two three first second = record {
-    origins = Keeps-trans one.origins two.origins three.origins first.origins second.origins;
-    table = Extends-trans one.table two.table three.table first.table second.table;
-    kinds = IsWithin-trans one.kinds two.kinds three.kinds first.kinds second.kinds;
-    requirements = Extends-trans one.requirements two.requirements three.requirements first.requirements second.requirements;
-    seen = second.seen ∙ first.seen;
-    asked = second.asked ∙ first.asked;
-    helped = IsWithin-trans one.helped two.helped three.helped first.helped second.helped;
-    gates = IsWithin-trans one.gates two.gates three.gates first.gates second.gates;
-    constrained = IsWithin-trans one.constrained two.constrained three.constrained first.constrained second.constrained;
-    read = second.read ∙ first.read;
-    deferred = second.deferred ∙ first.deferred;
-    waiting = second.waiting ∙ first.waiting;
-    exempt = second.exempt ∙ first.exempt;
-    keeps = λ root premise before. second.keeps root premise (first.keeps root premise before);
-  }
+  IsStep-trans doing Premise one two three first second = search (Keeps-trans, Extends-trans, IsWithin-trans, first.keeps, second.keeps)
 
   -- under a premise from which its own follows
   pub IsStep-weaker : (doing : Doing N S) (Premise Stronger : Demands → Type 0) → ((root : Demands) → Stronger root → Premise root) → (old new : Notes N S) →
       IsStepWhile u doing Premise old new → IsStepWhile u doing Stronger old new
-  IsStep-weaker doing Premise Stronger follows old new step = record {
-    origins = step.origins;
-    table = step.table;
-    kinds = step.kinds;
-    requirements = step.requirements;
-    seen = step.seen;
-    asked = step.asked;
-    helped = step.helped;
-    gates = step.gates;
-    constrained = step.constrained;
-    read = step.read;
-    deferred = step.deferred;
-    waiting = step.waiting;
-    exempt = step.exempt;
-    keeps = λ root premise before. step.keeps root (follows root premise) before;
-  }
+  IsStep-weaker doing Premise Stronger follows old new step = search step.keeps
 
   -- where nothing was asked or registered, all was followed before
   pub followed_before : (old new : Notes N S) → new.asked ≡ old.asked → new.seen ≡ old.seen → (call : Call N S) → IsFollowed new call → IsFollowed old call
@@ -411,58 +360,25 @@ module _ {N S : Type 0} (u : Universe N S) where
   IsAskStep-of Called Premise old new step =
       let Asked : List N → Type 0 = λ list. IsWithin old.asked list in
       let Seen : List S → Type 0 = λ list. Extends old.seen list in
-      record {
-        origins = step.origins;
-        table = step.table;
-        kinds = step.kinds;
-        requirements = step.requirements;
-        seen = subst Seen (sym step.seen) (Extends-same old.seen);
-        asked = subst Asked (sym step.asked) (IsWithin-same old.asked);
-        called = λ call h. inl (followed_before old new step.asked step.seen call h);
-        read = step.read;
-        deferred = step.deferred;
-        waiting = step.waiting;
-        exempt = step.exempt;
-        keeps = step.keeps;
-      }
+      search (subst Seen (sym step.seen) (Extends-same old.seen), subst Asked (sym step.asked) (IsWithin-same old.asked), inl, followed_before old new)
 
   pub IsAskStep-same : (Called : Call N S → Type 0) (Premise : Demands → Type 0) (notes : Notes N S) → IsAskStep u Called Premise notes notes
   IsAskStep-same Called Premise notes = IsAskStep-of Called Premise notes notes (IsStep-same idle Premise notes)
 
   pub IsAskStep-trans : (Called : Call N S → Type 0) (Premise : Demands → Type 0) (one two three : Notes N S) → IsAskStep u Called Premise one two →
       IsAskStep u Called Premise two three → IsAskStep u Called Premise one three
-  IsAskStep-trans Called Premise one two three first second = record {
-    origins = Keeps-trans one.origins two.origins three.origins first.origins second.origins;
-    table = Extends-trans one.table two.table three.table first.table second.table;
-    kinds = IsWithin-trans one.kinds two.kinds three.kinds first.kinds second.kinds;
-    requirements = Extends-trans one.requirements two.requirements three.requirements first.requirements second.requirements;
-    seen = Extends-trans one.seen two.seen three.seen first.seen second.seen;
-    asked = IsWithin-trans one.asked two.asked three.asked first.asked second.asked;
-    called = λ n h. ⊎_elim (λ before. first.called n before) (λ called. inr called) (second.called n h);
-    read = second.read ∙ first.read;
-    deferred = second.deferred ∙ first.deferred;
-    waiting = second.waiting ∙ first.waiting;
-    exempt = second.exempt ∙ first.exempt;
-    keeps = λ root premise before. second.keeps root premise (first.keeps root premise before);
-  }
+  IsAskStep-trans Called Premise one two three first second =
+      let called : (call : Call N S) → IsFollowed three call → IsFollowed one call ⊎ Called call =
+      λ call h. ⊎_elim (λ before. first.called call before) (λ called. inr called) (second.called call h) in
+      search (Keeps-trans, Extends-trans, IsWithin-trans, first.keeps, second.keeps)
 
   -- with more called for, under a premise from which its own follows
   pub IsAskStep-weaker : (Called More : Call N S → Type 0) → ((call : Call N S) → Called call → More call) → (Premise Stronger : Demands → Type 0) →
       ((root : Demands) → Stronger root → Premise root) → (old new : Notes N S) → IsAskStep u Called Premise old new → IsAskStep u More Stronger old new
-  IsAskStep-weaker Called More more Premise Stronger follows old new step = record {
-    origins = step.origins;
-    table = step.table;
-    kinds = step.kinds;
-    requirements = step.requirements;
-    seen = step.seen;
-    asked = step.asked;
-    called = λ n h. ⊎_elim (λ before. inl before) (λ called. inr (more n called)) (step.called n h);
-    read = step.read;
-    deferred = step.deferred;
-    waiting = step.waiting;
-    exempt = step.exempt;
-    keeps = λ root premise before. step.keeps root (follows root premise) before;
-  }
+  IsAskStep-weaker Called More more Premise Stronger follows old new step =
+      let called : (call : Call N S) → IsFollowed new call → IsFollowed old call ⊎ More call =
+      λ call h. ⊎_elim (λ before. inl before) (λ called. inr (more call called)) (step.called call h) in
+      search step.keeps
 
   -- steps that may put disjuncts off
   pub IsReadStep-of : (Defers : Deferred S → Type 0) (Called : Call N S → Type 0) (Premise : Demands → Type 0) (old new : Notes N S) →
@@ -470,20 +386,7 @@ module _ {N S : Type 0} (u : Universe N S) where
   IsReadStep-of Defers Called Premise old new step =
       let Longer : List (Option (Deferred S)) → Type 0 = λ list. Extends old.deferred list in
       let Deferred_so : List (Option (Deferred S)) → Type 0 = λ list. (e : Deferred S) → Contains list (Some e) → Contains old.deferred (Some e) ⊎ Defers e in
-      record {
-        origins = step.origins;
-        table = step.table;
-        kinds = step.kinds;
-        requirements = step.requirements;
-        seen = step.seen;
-        asked = step.asked;
-        called = step.called;
-        read = step.read;
-        deferred = subst Longer (sym step.deferred) (Extends-same old.deferred);
-        defers = subst Deferred_so (sym step.deferred) (λ e h. inl h);
-        exempt = step.exempt;
-        keeps = step.keeps;
-      }
+      assumption (subst Longer (sym step.deferred) (Extends-same old.deferred), subst Deferred_so (sym step.deferred) (λ e h. inl h))
 
   pub IsReadStep-same : (Defers : Deferred S → Type 0) (Called : Call N S → Type 0) (Premise : Demands → Type 0) (notes : Notes N S) →
       IsReadStep u Defers Called Premise notes notes
@@ -491,38 +394,20 @@ module _ {N S : Type 0} (u : Universe N S) where
 
   pub IsReadStep-trans : (Defers : Deferred S → Type 0) (Called : Call N S → Type 0) (Premise : Demands → Type 0) (one two three : Notes N S) →
       IsReadStep u Defers Called Premise one two → IsReadStep u Defers Called Premise two three → IsReadStep u Defers Called Premise one three
-  IsReadStep-trans Defers Called Premise one two three first second = record {
-    origins = Keeps-trans one.origins two.origins three.origins first.origins second.origins;
-    table = Extends-trans one.table two.table three.table first.table second.table;
-    kinds = IsWithin-trans one.kinds two.kinds three.kinds first.kinds second.kinds;
-    requirements = Extends-trans one.requirements two.requirements three.requirements first.requirements second.requirements;
-    seen = Extends-trans one.seen two.seen three.seen first.seen second.seen;
-    asked = IsWithin-trans one.asked two.asked three.asked first.asked second.asked;
-    called = λ n h. ⊎_elim (λ before. first.called n before) (λ called. inr called) (second.called n h);
-    read = second.read ∙ first.read;
-    deferred = Extends-trans one.deferred two.deferred three.deferred first.deferred second.deferred;
-    defers = λ e h. ⊎_elim (λ before. first.defers e before) (λ put_off. inr put_off) (second.defers e h);
-    exempt = second.exempt ∙ first.exempt;
-    keeps = λ root premise before. second.keeps root premise (first.keeps root premise before);
-  }
+  IsReadStep-trans Defers Called Premise one two three first second =
+      let called : (call : Call N S) → IsFollowed three call → IsFollowed one call ⊎ Called call =
+      λ call h. ⊎_elim (λ before. first.called call before) (λ called. inr called) (second.called call h) in
+      let defers : (e : Deferred S) → IsLeft three e → IsLeft one e ⊎ Defers e =
+      λ e h. ⊎_elim (λ before. first.defers e before) (λ put_off. inr put_off) (second.defers e h) in
+      search (Keeps-trans, Extends-trans, IsWithin-trans, first.keeps, second.keeps)
 
   pub IsReadStep-weaker : (Defers : Deferred S → Type 0) (Called More : Call N S → Type 0) → ((call : Call N S) → Called call → More call) →
       (Premise Stronger : Demands → Type 0) → ((root : Demands) → Stronger root → Premise root) → (old new : Notes N S) →
       IsReadStep u Defers Called Premise old new → IsReadStep u Defers More Stronger old new
-  IsReadStep-weaker Defers Called More more Premise Stronger follows old new step = record {
-    origins = step.origins;
-    table = step.table;
-    kinds = step.kinds;
-    requirements = step.requirements;
-    seen = step.seen;
-    asked = step.asked;
-    called = λ n h. ⊎_elim (λ before. inl before) (λ called. inr (more n called)) (step.called n h);
-    read = step.read;
-    deferred = step.deferred;
-    defers = step.defers;
-    exempt = step.exempt;
-    keeps = λ root premise before. step.keeps root (follows root premise) before;
-  }
+  IsReadStep-weaker Defers Called More more Premise Stronger follows old new step =
+      let called : (call : Call N S) → IsFollowed new call → IsFollowed old call ⊎ More call =
+      λ call h. ⊎_elim (λ before. inl before) (λ called. inr (more call called)) (step.called call h) in
+      search step.keeps
 
   -- an encoding of the same problem, after a step; of a problem of which another premise holds
   pub IsEncodingOf-step : (Premise : Demands → Type 0) (old new : Notes N S) → IsEncodingOf u Premise old → IsStep u Premise old new →

@@ -1,6 +1,6 @@
 -- Disjuncts that are put off, taken out and fired.
-use Rattle.std.proofs.Common.{◌≡◌, ◌≢◌, ℕ, zero, suc, ◌+◌, ◌-◌, ◌<◌, ◌≤◌, Bool, true, false, MatchBool, List, [], ◌∷◌, ◌++◌, length, get_or, take, drop, map}
-use Rattle.std.proofs.Common.{refl, ap, sym, ◌∙◌, subst, ⊎_elim, inl, inr, arith, Contains, All, cond}
+use Rattle.std.proofs.Common.{◌≡◌, ◌≢◌, ◌⊎◌, ℕ, zero, suc, ◌+◌, ◌-◌, ◌<◌, ◌≤◌, Bool, true, false, MatchBool, List, [], ◌∷◌, ◌++◌, length, get_or, take, drop}
+use Rattle.std.proofs.Common.{map, refl, ap, sym, ◌∙◌, subst, ⊎_elim, inl, inr, arith, Contains, All, cond}
 use Rattle.std.specs.Prelude.{⊤, Option, Some, None, IfSome, IfNone, count_by, is_some, slice_get, slice_set, ◌||◌}
 use Rattle.std.specs.Option.{option_map}
 use Rattle.std.proofs.lemmas.Bool.{cases_eq, cases_lt}
@@ -22,7 +22,7 @@ use Rattle.resolver_encoding.specs.SoFar.{HasFired, HasMet, IsDeferral, IsFiring
 use Rattle.resolver_clause_store.specs.Statements.{AllMeet}
 use Rattle.resolver_encoding.specs.declared.disjuncts.Entry.{Entry}
 use Rattle.resolver_encoding.specs.declared.groups.Groups.{Groups}
-use Rattle.resolver_encoding.proofs.EncodingLemmas.{Extends-push, Extends-same, Extends-trans, IsWithin-same, IsWithin-trans}
+use Rattle.resolver_encoding.proofs.EncodingLemmas.{Extends-push, Extends-same, Extends-trans, IsReadStep-same, IsWithin-trans}
 use Rattle.resolver_encoding.proofs.NoteLemmas.{All-grown_at}
 use Rattle.resolver_clause_store.proofs.ListLemmas.{Contains-at as place_in, Contains-map}
 use Rattle.resolver_encoding.proofs.ReadLemmas.{HasClause-within}
@@ -195,41 +195,7 @@ module _ {N S : Type 0} (u : Universe N S) where
       ((i : ℕ) (e : Deferred S) → slice_get deferred i ≡ Some (Some e) → (v : VersionSetId) → Contains e.disjunct v →
       IsNamed waiting (u.version_set_name v) i) → AreGroups waiting →
       IsEncoding u root (record old { deferred = deferred; waiting = waiting })
-  encoding_deferred root old deferred waiting before left_true indexed sound = record {
-    root_first = before.root_first;
-    distinct = before.distinct;
-    encoded = before.encoded;
-    codes = before.codes;
-    own_codes = before.own_codes;
-    each_true = before.each_true;
-    each_proper = before.each_proper;
-    due = before.due;
-    installs = before.installs;
-    listed = before.listed;
-    ask = before.ask;
-    helpers = before.helpers;
-    packages = before.packages;
-    candidates = before.candidates;
-    once = before.once;
-    gate_packages = before.gate_packages;
-    gate_candidates = before.gate_candidates;
-    gated = before.gated;
-    excluded = before.excluded;
-    follow = before.follow;
-    locks = before.locks;
-    exclusions = before.exclusions;
-    registered = before.registered;
-    placed = before.placed;
-    coding = before.coding;
-    coded = before.coded;
-    digits = before.digits;
-    sound_groups = before.sound_groups;
-    grouped = before.grouped;
-    members = before.members;
-    left_true = left_true;
-    indexed = indexed;
-    sound_waiting = sound;
-  }
+  encoding_deferred root old deferred waiting before left_true indexed sound = search
 
   -- it is put off from then on
   pub deferral_left : (e : Deferred S) (old new : Notes N S) → IsDeferral u e old new → IsLeft new e
@@ -243,36 +209,29 @@ module _ {N S : Type 0} (u : Universe N S) where
       IsReadStep u Defers Called Premise old new
   IsReadStep-deferral Defers Called Premise e old new deferral defers is_true =
       let Step : Notes N S → Type 0 = λ n. IsReadStep u Defers Called Premise old n in
-      subst Step (sym deferral.is) (record {
-        origins = Keeps-same old.origins;
-        table = Extends-same old.table;
-        kinds = IsWithin-same old.kinds;
-        requirements = Extends-same old.requirements;
-        seen = Extends-same old.seen;
-        asked = IsWithin-same old.asked;
-        called = λ n h. inl h;
-        read = refl;
-        deferred = Extends-push old.deferred (Some e);
-        defers = λ x h. ⊎_elim (λ (earlier : IsLeft old x). inl earlier) (λ (is : Some e ≡ Some x). inr (subst Defers (same_Some e x is) defers))
-            (Contains-push_cases old.deferred (Some e) (Some x) h);
-        exempt = refl;
-        keeps = λ root premise before. encoding_deferred root old (old.deferred ++ Some e ∷ []) deferral.waiting before
-            (λ x h.
-            let True : Deferred S → Type 0 = λ y. IsTrueEntry u root y in
-            ⊎_elim (λ (earlier : IsLeft old x). before.left_true x earlier) (λ (is : Some e ≡ Some x). subst True (same_Some e x is) (is_true root premise))
-            (Contains-push_cases old.deferred (Some e) (Some x) h))
-            (λ i x at v h.
-            let Has : Deferred S → Type 0 = λ y. Contains y.disjunct v in
-            let Named : ℕ → Type 0 = λ k. IsNamed deferral.waiting (u.version_set_name v) k in
-            ⊎_elim
-            (λ (earlier : slice_get old.deferred i ≡ Some (Some x)). deferral.earlier before.sound_waiting (u.version_set_name v) i
-            (before.indexed i x earlier v h))
-            (λ (last : (i ≡ length old.deferred) × (Some e ≡ Some x)).
-            subst Named (sym last.0) (All-contains (λ w. IsNamed deferral.waiting (u.version_set_name w) (length old.deferred)) e.disjunct v
-            (deferral.here before.sound_waiting) (subst Has (sym (same_Some e x last.1)) h)))
-            (place_cases old.deferred (Some e) i (Some x) at))
-            (deferral.sound before.sound_waiting);
-      })
+      let deferred : (x : Deferred S) → Contains (old.deferred ++ Some e ∷ []) (Some x) → IsLeft old x ⊎ Defers x =
+      λ x h. ⊎_elim (λ earlier. inl earlier) (λ (is : Some e ≡ Some x). inr (subst Defers (same_Some e x is) defers))
+      (Contains-push_cases old.deferred (Some e) (Some x) h) in
+      subst Step (sym deferral.is) (search (IsReadStep-same u Defers Called Premise old, Extends-push old.deferred (Some e), keeps))
+    where
+      keeps : (root : Demands) → Premise root → IsEncoding u root old →
+          IsEncoding u root (record old { deferred = old.deferred ++ Some e ∷ []; waiting = deferral.waiting })
+      keeps root premise before = encoding_deferred root old (old.deferred ++ Some e ∷ []) deferral.waiting before
+          (λ x h.
+          let True : Deferred S → Type 0 = λ y. IsTrueEntry u root y in
+          ⊎_elim (λ (earlier : IsLeft old x). before.left_true x earlier) (λ (is : Some e ≡ Some x). subst True (same_Some e x is) (is_true root premise))
+          (Contains-push_cases old.deferred (Some e) (Some x) h))
+          (λ i x at v h.
+          let Has : Deferred S → Type 0 = λ y. Contains y.disjunct v in
+          let Named : ℕ → Type 0 = λ k. IsNamed deferral.waiting (u.version_set_name v) k in
+          ⊎_elim
+          (λ (earlier : slice_get old.deferred i ≡ Some (Some x)). deferral.earlier before.sound_waiting (u.version_set_name v) i
+          (before.indexed i x earlier v h))
+          (λ (last : (i ≡ length old.deferred) × (Some e ≡ Some x)).
+          subst Named (sym last.0) (All-contains (λ w. IsNamed deferral.waiting (u.version_set_name w) (length old.deferred)) e.disjunct v
+          (deferral.here before.sound_waiting) (subst Has (sym (same_Some e x last.1)) h)))
+          (place_cases old.deferred (Some e) i (Some x) at))
+          (deferral.sound before.sound_waiting)
 
   -- fewer disjuncts are left
   pub IsEncoding-taken : (root : Demands) (number : ℕ) (e : Deferred S) (old mid : Notes N S) → IsTakenOut number e old mid → IsEncoding u root old →
@@ -287,30 +246,19 @@ module _ {N S : Type 0} (u : Universe N S) where
 
   module _ (set : List S) where
     pub IsFiring-trans : (one two three : Notes N S) → IsFiring u set one two → IsFiring u set two three → IsFiring u set one three
-    IsFiring-trans one two three first second = record {
-      origins = Keeps-trans one.origins two.origins three.origins first.origins second.origins;
-      table = Extends-trans one.table two.table three.table first.table second.table;
-      kinds = IsWithin-trans one.kinds two.kinds three.kinds first.kinds second.kinds;
-      requirements = Extends-trans one.requirements two.requirements three.requirements first.requirements second.requirements;
-      seen = Extends-trans one.seen two.seen three.seen first.seen second.seen;
-      asked = IsWithin-trans one.asked two.asked three.asked first.asked second.asked;
-      called = λ call h. ⊎_elim
-          (λ (earlier : IsFollowed two call). first.called call earlier)
-          (λ (later : (e : Deferred S) × IsLeft two e × AllMeet set (map (matching u) e.disjunct) × IsWantedBy u e.requirement call).
-          let at = place_of_member two.deferred (Some later.0) later.1 in
-          inr (later.0, place_in one.deferred at.0 (Some later.0) (first.stays at.0 later.0 at.1), later.2, later.3))
-          (second.called call h);
-      read = second.read ∙ first.read;
-      waiting = second.waiting ∙ first.waiting;
-      stays = λ i e at. first.stays i e (second.stays i e at);
-      taken = λ i e at. ⊎_elim
-          (λ (there : slice_get two.deferred i ≡ Some (Some e)). second.taken i e there)
-          (λ (fired : AllMeet set (map (matching u) e.disjunct) × HasClause two.kinds e.by e.disjunct e.requirement). inr
-          (fired.0, HasClause-within u two.kinds three.kinds second.kinds e.by e.disjunct e.requirement fired.1))
-          (first.taken i e at);
-      exempt = second.exempt ∙ first.exempt;
-      keeps = λ root before. second.keeps root (first.keeps root before);
-    }
+    IsFiring-trans one two three first second =
+        let called = λ (call : Call N S) (h : IsFollowed three call). ⊎_elim
+        (λ (earlier : IsFollowed two call). first.called call earlier)
+        (λ (later : (e : Deferred S) × IsLeft two e × AllMeet set (map (matching u) e.disjunct) × IsWantedBy u e.requirement call).
+        let at = place_of_member two.deferred (Some later.0) later.1 in
+        inr (later.0, place_in one.deferred at.0 (Some later.0) (first.stays at.0 later.0 at.1), later.2, later.3))
+        (second.called call h) in
+        let taken = λ (i : ℕ) (e : Deferred S) (at : slice_get one.deferred i ≡ Some (Some e)). ⊎_elim
+        (λ (there : slice_get two.deferred i ≡ Some (Some e)). second.taken i e there)
+        (λ (fired : AllMeet set (map (matching u) e.disjunct) × HasClause two.kinds e.by e.disjunct e.requirement). inr
+        (fired.0, HasClause-within u two.kinds three.kinds second.kinds e.by e.disjunct e.requirement fired.1))
+        (first.taken i e at) in
+        search (Keeps-trans, Extends-trans, IsWithin-trans, first.stays, second.stays, first.keeps, second.keeps)
 
     -- the disjunct at hand was met
     pub met_entry : (number : ℕ) (e : Deferred S) (old mid : Notes N S) → HasMet u set old number → IsTakenOut number e old mid →
@@ -340,33 +288,29 @@ module _ {N S : Type 0} (u : Universe N S) where
       IsFiring-taken met clause =
           let Step : Notes N S → Type 0 = λ n. IsAskStep u (IsWantedBy u e.requirement) (IsTrueUnder u e.by e.disjunct e.requirement) n new in
           let plain = subst Step out.is step in
-          record {
-            origins = plain.origins;
-            table = plain.table;
-            kinds = plain.kinds;
-            requirements = plain.requirements;
-            seen = plain.seen;
-            asked = plain.asked;
-            called = λ call h. ⊎_elim (λ (earlier : IsFollowed old call).
-                inl earlier) (λ (wanted : IsWantedBy u e.requirement call). inr (e, place_in old.deferred number (Some e) out.was, met, wanted))
-                (plain.called call h);
-            read = plain.read;
-            waiting = plain.waiting;
-            stays = λ i x at. let At : List (Option (Deferred S)) → Type 0 = λ xs. slice_get xs i ≡ Some (Some x) in
-                kept old.deferred number i x (subst At left_now at);
-            taken = λ i x at.
-                let At : List (Option (Deferred S)) → Type 0 = λ xs. slice_get xs i ≡ Some (Some x) in
-                let Fired : Deferred S → Type 0 = λ y. AllMeet set (map (matching u) y.disjunct) × HasClause new.kinds y.by y.disjunct y.requirement in
-                ⊎_elim
-                (λ (same : i ≡ number).
-                let is : e ≡ x = same_Some e x (same_Some _ _ (sym out.was ∙ ap (λ k. slice_get old.deferred k) (sym same) ∙ at)) in
-                inr (subst Fired is (met, clause)))
-                (λ (differ : i ≢ number). inl (subst At (sym left_now) (stays_there old.deferred number i (Some x) differ at)))
-                (cases_eq i number);
-            exempt = plain.exempt;
-            keeps = λ root before. step.keeps root (before.left_true e (place_in old.deferred number (Some e) out.was)).is_true
-                (IsEncoding-taken root number e old mid out before);
-          }
+          let listed = place_in old.deferred number (Some e) out.was in
+          let called : (call : Call N S) → IsFollowed new call → IsFollowed old call ⊎
+          ((x : Deferred S) × IsLeft old x × AllMeet set (map (matching u) x.disjunct) × IsWantedBy u x.requirement call) =
+          λ call h. ⊎_elim (λ earlier. inl earlier) (λ wanted. inr (e, listed, met, wanted)) (plain.called call h) in
+          let keeps : (root : Demands) → IsEncoding u root old → IsEncoding u root new =
+          λ root before. step.keeps root (before.left_true e listed).is_true (IsEncoding-taken root number e old mid out before) in
+          assumption (stays, taken)
+        where
+          stays : (i : ℕ) (x : Deferred S) → slice_get new.deferred i ≡ Some (Some x) → slice_get old.deferred i ≡ Some (Some x)
+          stays i x at = let At : List (Option (Deferred S)) → Type 0 = λ xs. slice_get xs i ≡ Some (Some x) in
+              kept old.deferred number i x (subst At left_now at)
+
+          taken : (i : ℕ) (x : Deferred S) → slice_get old.deferred i ≡ Some (Some x) → (slice_get new.deferred i ≡ Some (Some x)) ⊎
+              (AllMeet set (map (matching u) x.disjunct) × HasClause new.kinds x.by x.disjunct x.requirement)
+          taken i x at =
+              let At : List (Option (Deferred S)) → Type 0 = λ xs. slice_get xs i ≡ Some (Some x) in
+              let Fired : Deferred S → Type 0 = λ y. AllMeet set (map (matching u) y.disjunct) × HasClause new.kinds y.by y.disjunct y.requirement in
+              ⊎_elim
+              (λ (same : i ≡ number).
+              let is : e ≡ x = same_Some e x (same_Some _ _ (sym out.was ∙ ap (λ k. slice_get old.deferred k) (sym same) ∙ at)) in
+              inr (subst Fired is (met, clause)))
+              (λ (differ : i ≢ number). inl (subst At (sym left_now) (stays_there old.deferred number i (Some x) differ at)))
+              (cases_eq i number)
 
     module _ (old new : Notes N S) (firing : IsFiring u set old new) where
       -- what is quiet stays quiet

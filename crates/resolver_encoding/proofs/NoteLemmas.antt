@@ -1,9 +1,9 @@
 -- Steps that note a clause of a plain kind, a variable, a solvable, a package or a helper.
-use Rattle.std.proofs.Common.{◌≡◌, ◌≢◌, ◌⊎◌, ℕ, ◌+◌, ◌<◌, length, get_or, take, List, [], ◌∷◌, ◌++◌, refl, sym, ◌∙◌, subst, ⊎_elim, inl, inr, Contains, All}
+use Rattle.std.proofs.Common.{◌≡◌, ◌≢◌, ◌⊎◌, ℕ, ◌+◌, ◌<◌, length, get_or, take, List, [], ◌∷◌, ◌++◌, sym, ◌∙◌, subst, ⊎_elim, inl, inr, Contains, All}
 use Rattle.std.proofs.Common.{Bool, true, false}
 use Rattle.std.specs.Prelude.{Option, Some, None, ⊤}
 use Rattle.std.proofs.lemmas.Bool.{true≢false}
-use Rattle.std.proofs.lemmas.List.Elements.{All-contains, All-contains_itself, All-get_or, All-more, All-weaker, Contains-append_left, Contains-push}
+use Rattle.std.proofs.lemmas.List.Elements.{All-contains, All-contains_itself, All-get_or, All-more, All-weaker, Contains-push}
 use Rattle.std.proofs.lemmas.List.Elements.{Contains-push_cases}
 use Rattle.resolver_clause_store.specs.Laws.{IsIdentity}
 use Rattle.resolver_clause_store.specs.Lists.{IsWithin}
@@ -13,20 +13,19 @@ use Rattle.resolver_clause_store.specs.declared.ClauseKind.{ClauseKind}
 use Rattle.resolver_clause_store.specs.declared.ClauseKind.TheVariants.{InstallRoot, Requires, AnyOf, GateRequires, Constrains, ConstrainsExcluded}
 use Rattle.resolver_clause_store.specs.declared.ClauseKind.TheVariants.{ConstrainsParent, HasBit, Lock, Excluded}
 use Rattle.resolver_clause_store.specs.declared.Origin.{Origin}
-use Rattle.resolver_clause_store.specs.declared.Origin.TheVariants.{Root, Solvable, ConditionHelper}
+use Rattle.resolver_clause_store.specs.declared.Origin.TheVariants.{Root, ConditionHelper}
 use Rattle.resolver_clause_store.specs.declared.Requirement.{Requirement}
 use Rattle.resolver_clause_store.specs.declared.StringId.{StringId}
 use Rattle.resolver_clause_store.specs.declared.VersionSetId.{VersionSetId}
-use Rattle.resolver_clause_store.proofs.PlaceLemmas.{Keeps-same, place_of_member}
 use Rattle.resolver_clause_store.proofs.SetLemmas.{All-next}
 use Rattle.resolver_encoding.specs.Atoms.{atoms_of}
 use Rattle.resolver_encoding.specs.Called.{Call, IsAsking, IsNamedBy, IsSeeing, IsSeeingEach, to_ask, to_see}
-use Rattle.resolver_encoding.specs.Encodings.{AddsClause, AsksForCandidates, Doing, Extends, Grows, HasProperHelper, IsAskStep, IsEncodingWhile, IsFollowed}
-use Rattle.resolver_encoding.specs.Encodings.{IsLockRead, IsStep, IsStepWhile, Notes, asking_for, idle}
+use Rattle.resolver_encoding.specs.Encodings.{AddsClause, AsksForCandidates, Doing, Extends, Grows, HasProperHelper, IsAskStep, IsEncoding}
+use Rattle.resolver_encoding.specs.Encodings.{IsEncodingWhile, IsFollowed, IsLockRead, IsStep, IsStepWhile, Notes, asking_for, idle}
 use Rattle.resolver_encoding.specs.Truth.{AreDue, IsTrueClause}
-use Rattle.resolver_encoding.proofs.EncodingLemmas.{AreEncoded-keeps, Extends-same, HasCodes, IsClauseOf-zip, IsDue, IsPrepared, IsStep-clause, IsWithin-push}
-use Rattle.resolver_clause_store.proofs.ListLemmas.{Contains-at as place_in, Contains-cons_cases as cons_cases, Contains-here as here, Contains-there as there}
-use Rattle.resolver_encoding.proofs.EncodingLemmas.{IsWithin-same}
+use Rattle.resolver_encoding.proofs.EncodingLemmas.{AreEncoded-keeps, Contains-kept, Extends-same, HasCodes, IsClauseOf-zip, IsDue, IsPrepared, IsStep-clause}
+use Rattle.resolver_encoding.proofs.EncodingLemmas.{IsStep-same, IsWithin-push, StaysRight}
+use Rattle.resolver_clause_store.proofs.ListLemmas.{Contains-cons_cases as cons_cases, Contains-here as here, Contains-there as there}
 
 -- one more element of a list, by facts that grew
 pub All-grown : {X : Type 0} (P P' : X → Type 0) (xs : List X) (i : ℕ) (x : X) → ((y : X) → P y → P' y) → i < length xs → x ≡ get_or xs i x →
@@ -36,6 +35,10 @@ All-grown P P' xs i x grown below is all here = All-next P' xs i x below is (All
 pub All-grown_at : {X : Type 0} (P P' : X → Type 0) (xs : List X) (i : ℕ) (d : X) → ((y : X) → P y → P' y) → i < length xs → All P (take i xs) →
     P' (get_or xs i d) → All P' (take (i + 1) xs)
 All-grown_at P P' xs i d grown below all here = All-more P' xs i d below (All-weaker P P' grown (take i xs) all) here
+
+-- what holds of each one of a list, and of one more
+pub holds_also : {X : Type 0} (P : X → Type 0) (xs : List X) (x : X) → ((y : X) → Contains xs y → P y) → P x → (y : X) → Contains (xs ++ x ∷ []) y → P y
+holds_also P xs x each here y h = ⊎_elim (λ (earlier : Contains xs y). each y earlier) (λ (is : x ≡ y). subst P is here) (Contains-push_cases xs x y h)
 
 -- two that the test tells apart are not the same
 pub not_same : {X : Type 0} (same : X → X → Bool) → IsIdentity same → (x y : X) (b : Bool) → b ≡ same x y → b ≡ false → x ≡ y → ⊥
@@ -102,57 +105,10 @@ module _ {N S : Type 0} (u : Universe N S) where
       IsStepWhile u doing Premise old new
   IsStep-origins doing Premise old new origins limit grows same is =
       let Step : Notes N S → Type 0 = λ n. IsStepWhile u doing Premise old n in
-      subst Step (sym (is ∙ (λ i. record old { origins = origins; variable_limit = same i }))) (record {
-        origins = grows.keeps;
-        table = Extends-same old.table;
-        kinds = IsWithin-same old.kinds;
-        requirements = Extends-same old.requirements;
-        seen = refl;
-        asked = refl;
-        helped = IsWithin-same old.helped;
-        gates = IsWithin-same old.gates;
-        constrained = IsWithin-same old.constrained;
-        read = refl;
-        deferred = refl;
-        waiting = refl;
-        exempt = refl;
-        keeps = λ root premise before. record {
-          root_first = grows.keeps.kept 0 Root before.root_first;
-          distinct = grows.distinct before.distinct;
-          encoded = AreEncoded-keeps u old.origins origins old.table old.kinds grows.keeps before.encoded;
-          codes = before.codes;
-          own_codes = before.own_codes;
-          each_true = before.each_true;
-          each_proper = before.each_proper;
-          due = before.due;
-          installs = before.installs;
-          listed = before.listed;
-          ask = before.ask;
-          helpers = before.helpers;
-          packages = before.packages;
-          candidates = before.candidates;
-          once = before.once;
-          gate_packages = before.gate_packages;
-          gate_candidates = before.gate_candidates;
-          gated = before.gated;
-          excluded = before.excluded;
-          follow = before.follow;
-          locks = before.locks;
-          exclusions = before.exclusions;
-          registered = λ s h. let at = place_of_member old.origins (Solvable s) (before.registered s h) in
-              place_in origins at.0 (Solvable s) (grows.keeps.kept at.0 (Solvable s) at.1);
-          placed = before.placed;
-          coding = before.coding;
-          coded = before.coded;
-          digits = before.digits;
-          sound_groups = before.sound_groups;
-          grouped = before.grouped;
-          members = before.members;
-          left_true = before.left_true;
-          indexed = before.indexed;
-          sound_waiting = before.sound_waiting;
-        };
-      })
+      let encoded = AreEncoded-keeps u old.origins origins old.table old.kinds grows.keeps in
+      let keeps : StaysRight u doing Premise old (record old { origins = origins; variable_limit = limit }) =
+      λ root premise before. search (grows.keeps.kept 0 Root, grows.distinct, Contains-kept old.origins origins grows.keeps, before.registered) in
+      subst Step (sym is) (assumption (IsStep-same u doing Premise old, grows.keeps))
 
   -- the package's locks and exclusions have their clauses
   pub record IsPackageRead (kinds : List (ClauseKind N S)) (exempt : List S) (p : Package S) : Type 0 where
@@ -174,41 +130,9 @@ module _ {N S : Type 0} (u : Universe N S) where
 
   -- a package that is going to be asked
   opened : (n : N) (root : Demands) (old : Notes N S) → IsEncodingWhile u idle root old → IsEncodingWhile u (asking_for n) root old
-  opened n root old start = record {
-    root_first = start.root_first;
-    distinct = start.distinct;
-    encoded = start.encoded;
-    codes = start.codes;
-    own_codes = start.own_codes;
-    each_true = start.each_true;
-    each_proper = start.each_proper;
-    due = AreDue-within old.asked (n ∷ old.asked) old.exempt old.kinds (λ m h. there n old.asked m h) start.due;
-    installs = start.installs;
-    listed = start.listed;
-    ask = start.ask;
-    helpers = start.helpers;
-    packages = start.packages;
-    candidates = start.candidates;
-    once = start.once;
-    gate_packages = start.gate_packages;
-    gate_candidates = start.gate_candidates;
-    gated = start.gated;
-    excluded = start.excluded;
-    follow = start.follow;
-    locks = start.locks;
-    exclusions = start.exclusions;
-    registered = start.registered;
-    placed = start.placed;
-    coding = start.coding;
-    coded = start.coded;
-    digits = start.digits;
-    sound_groups = start.sound_groups;
-    grouped = start.grouped;
-    members = start.members;
-    left_true = start.left_true;
-    indexed = start.indexed;
-    sound_waiting = start.sound_waiting;
-  }
+  opened n root old start =
+      let due = AreDue-within old.asked (n ∷ old.asked) old.exempt old.kinds (λ m h. there n old.asked m h) start.due in
+      search
 
   -- of a package that is noted as asked, and of nothing else
   asked_alone : (old mid : Notes N S) (n : N) → mid.asked ≡ old.asked → mid.seen ≡ old.seen → (call : Call N S) →
@@ -223,74 +147,36 @@ module _ {N S : Type 0} (u : Universe N S) where
   IsStep-asked old mid new n step same e read =
       let Step : Notes N S → Type 0 = λ m. IsAskStep u (IsAsking n) (λ root. ⊤) old m in
       let Seen : List S → Type 0 = λ list. Extends old.seen list in
-      subst Step (sym e) (record {
-        origins = step.origins;
-        table = step.table;
-        kinds = step.kinds;
-        requirements = step.requirements;
-        seen = subst Seen (sym step.seen) (Extends-same old.seen);
-        asked = let Asked : List N → Type 0 = λ list. IsWithin old.asked (list ++ n ∷ []) in
-            subst Asked (sym same) (λ m h. Contains-append_left old.asked (n ∷ []) m h);
-        called = asked_alone old mid n same step.seen;
-        read = step.read;
-        deferred = step.deferred;
-        waiting = step.waiting;
-        exempt = step.exempt;
-        keeps = λ root premise start.
-            let before = step.keeps root tt (opened n root old start) in
-            let swap : IsWithin (n ∷ mid.asked) (mid.asked ++ n ∷ []) = λ m h. ⊎_elim
-            (λ (is : n ≡ m). let Has : N → Type 0 = λ q. Contains (mid.asked ++ n ∷ []) q in subst Has is (Contains-push mid.asked n))
-            (λ (earlier : Contains mid.asked m). Contains-append_left mid.asked (n ∷ []) m earlier)
-            (cons_cases n mid.asked m h) in
-            record {
-              root_first = before.root_first;
-              distinct = before.distinct;
-              encoded = before.encoded;
-              codes = before.codes;
-              own_codes = before.own_codes;
-              each_true = before.each_true;
-              each_proper = before.each_proper;
-              due = AreDue-within (n ∷ mid.asked) (mid.asked ++ n ∷ []) mid.exempt mid.kinds swap before.due;
-              installs = before.installs;
-              listed = before.listed;
-              ask = before.ask;
-              helpers = before.helpers;
-              packages = λ by disjunct r h v k. Contains-append_left mid.asked (n ∷ []) _ (before.packages by disjunct r h v k);
-              candidates = before.candidates;
-              once = before.once;
-              gate_packages = λ r h v k. Contains-append_left mid.asked (n ∷ []) _ (before.gate_packages r h v k);
-              gate_candidates = before.gate_candidates;
-              gated = before.gated;
-              excluded = before.excluded;
-              follow = before.follow;
-              locks = λ s t h free lock inside differ. ⊎_elim
-                  (λ (earlier : Contains mid.asked (u.name s)). before.locks s t earlier free lock inside differ)
-                  (λ (is : n ≡ u.name s).
-                  let P : N → Type 0 = λ m. IsPackageRead mid.kinds mid.exempt (u.package_named m) in
-                  let r : IsPackageRead mid.kinds mid.exempt (u.package_named (u.name s)) = subst P is read in
-                  lock_of mid.kinds mid.exempt (u.package_named (u.name s)).listed (u.package_named (u.name s)).locked s t r.lock lock inside differ free)
-                  (Contains-push_cases mid.asked n (u.name s) h);
-              exclusions = λ s reason h free inside. ⊎_elim
-                  (λ (earlier : Contains mid.asked (u.name s)). before.exclusions s reason earlier free inside)
-                  (λ (is : n ≡ u.name s).
-                  let P : N → Type 0 = λ m. IsPackageRead mid.kinds mid.exempt (u.package_named m) in
-                  let r : IsPackageRead mid.kinds mid.exempt (u.package_named (u.name s)) = subst P is read in
-                  All-contains (λ x. (Contains mid.exempt x.0 → ⊥) → Contains mid.kinds (Excluded x.0 x.1)) (u.package_named (u.name s)).excluded
-                  (s, reason) r.exclusions inside free)
-                  (Contains-push_cases mid.asked n (u.name s) h);
-              registered = before.registered;
-              placed = before.placed;
-              coding = before.coding;
-              coded = before.coded;
-              digits = before.digits;
-              sound_groups = before.sound_groups;
-              grouped = before.grouped;
-              members = before.members;
-              left_true = before.left_true;
-              indexed = before.indexed;
-              sound_waiting = before.sound_waiting;
-            };
-      })
+      let Asked : List N → Type 0 = λ list. IsWithin old.asked (list ++ n ∷ []) in
+      let seen = subst Seen (sym step.seen) (Extends-same old.seen) in
+      let asked = subst Asked (sym same) (IsWithin-push old.asked n) in
+      subst Step (sym e) (assumption (step, asked_alone old mid n same step.seen, keeps))
+    where
+      Asks : N → Type 0
+      Asks m = Contains (mid.asked ++ n ∷ []) m
+
+      swap : IsWithin (n ∷ mid.asked) (mid.asked ++ n ∷ [])
+      swap m h = ⊎_elim (λ is. subst Asks is (Contains-push mid.asked n)) (λ earlier. IsWithin-push mid.asked n m earlier) (cons_cases n mid.asked m h)
+
+      read_of : (s : S) → n ≡ u.name s → IsPackageRead mid.kinds mid.exempt (u.package_named (u.name s))
+      read_of s is = let Read : N → Type 0 = λ m. IsPackageRead mid.kinds mid.exempt (u.package_named m) in subst Read is read
+
+      keeps : (root : Demands) → ⊤ → IsEncoding u root old → IsEncoding u root (record mid { asked = mid.asked ++ n ∷ [] })
+      keeps root premise start =
+          let before = step.keeps root tt (opened n root old start) in
+          let due = AreDue-within (n ∷ mid.asked) (mid.asked ++ n ∷ []) mid.exempt mid.kinds swap before.due in
+          let locks = λ (s t : S) (h : Contains (mid.asked ++ n ∷ []) (u.name s)) (free : Contains mid.exempt s → ⊥). ⊎_elim
+          (λ (earlier : Contains mid.asked (u.name s)). before.locks s t earlier free)
+          (λ (is : n ≡ u.name s). λ lock inside differ.
+          lock_of mid.kinds mid.exempt (u.package_named (u.name s)).listed (u.package_named (u.name s)).locked s t (read_of s is).lock lock inside differ free)
+          (Contains-push_cases mid.asked n (u.name s) h) in
+          let exclusions = λ (s : S) (reason : StringId) (h : Contains (mid.asked ++ n ∷ []) (u.name s)) (free : Contains mid.exempt s → ⊥). ⊎_elim
+          (λ (earlier : Contains mid.asked (u.name s)). before.exclusions s reason earlier free)
+          (λ (is : n ≡ u.name s). λ inside.
+          All-contains (λ x. (Contains mid.exempt x.0 → ⊥) → Contains mid.kinds (Excluded x.0 x.1)) (u.package_named (u.name s)).excluded (s, reason)
+          (read_of s is).exclusions inside free)
+          (Contains-push_cases mid.asked n (u.name s) h) in
+          search (IsWithin-push mid.asked n, before.packages, before.gate_packages)
 
   -- a package's lists, as they were found
   pub IsPackageRead-found : (kinds more : List (ClauseKind N S)) (exempt exempt' : List S) → IsWithin kinds more → exempt' ≡ exempt →
@@ -316,176 +202,28 @@ module _ {N S : Type 0} (u : Universe N S) where
       ((s : S) → Contains (matching u v) s → Contains old.kinds (AnyOf (ConditionHelper v) s)) → IsStep u (λ root. ⊤) old new
   IsStep-helped old new v e follows =
       let Step : Notes N S → Type 0 = λ m. IsStep u (λ root. ⊤) old m in
-      subst Step (sym e) (record {
-        origins = Keeps-same old.origins;
-        table = Extends-same old.table;
-        kinds = IsWithin-same old.kinds;
-        requirements = Extends-same old.requirements;
-        seen = refl;
-        asked = refl;
-        helped = IsWithin-push old.helped v;
-        gates = IsWithin-same old.gates;
-        constrained = IsWithin-same old.constrained;
-        read = refl;
-        deferred = refl;
-        waiting = refl;
-        exempt = refl;
-        keeps = λ root premise before. record {
-          root_first = before.root_first;
-          distinct = before.distinct;
-          encoded = before.encoded;
-          codes = before.codes;
-          own_codes = before.own_codes;
-          each_true = before.each_true;
-          each_proper = before.each_proper;
-          due = before.due;
-          installs = before.installs;
-          listed = before.listed;
-          ask = before.ask;
-          helpers = λ by disjunct r h w k. Contains-append_left old.helped (v ∷ []) w (before.helpers by disjunct r h w k);
-          packages = before.packages;
-          candidates = before.candidates;
-          once = before.once;
-          gate_packages = before.gate_packages;
-          gate_candidates = before.gate_candidates;
-          gated = before.gated;
-          excluded = before.excluded;
-          follow = λ w h s m. ⊎_elim
-              (λ (earlier : Contains old.helped w). before.follow w earlier s m)
-              (λ (is : v ≡ w). let Follows : VersionSetId → Type 0 = λ x. (t : S) → Contains (matching u x) t →
-              Contains old.kinds (AnyOf (ConditionHelper x) t) in subst Follows is follows s m)
-              (Contains-push_cases old.helped v w h);
-          locks = before.locks;
-          exclusions = before.exclusions;
-          registered = before.registered;
-          placed = before.placed;
-          coding = before.coding;
-          coded = before.coded;
-          digits = before.digits;
-          sound_groups = before.sound_groups;
-          grouped = before.grouped;
-          members = before.members;
-          left_true = before.left_true;
-          indexed = before.indexed;
-          sound_waiting = before.sound_waiting;
-        };
-      })
+      let Follows : VersionSetId → Type 0 = λ x. (s : S) → Contains (matching u x) s → Contains old.kinds (AnyOf (ConditionHelper x) s) in
+      let more = IsWithin-push old.helped v in
+      let keeps : StaysRight u idle (λ root. ⊤) old (record old { helped = old.helped ++ v ∷ [] }) =
+      λ root premise before. search (before.helpers, holds_also Follows old.helped v before.follow follows) in
+      subst Step (sym e) (assumption (IsStep-same u idle (λ root. ⊤) old))
 
   -- one more gate, whose clause is there
   pub IsStep-gated : (old new : Notes N S) (r : Requirement) → new ≡ record old { gates = old.gates ++ r ∷ [] } → Contains old.kinds (GateRequires r) →
       IsStep u (λ root. ⊤) old new
   IsStep-gated old new r e has =
       let Step : Notes N S → Type 0 = λ m. IsStep u (λ root. ⊤) old m in
-      subst Step (sym e) (record {
-        origins = Keeps-same old.origins;
-        table = Extends-same old.table;
-        kinds = IsWithin-same old.kinds;
-        requirements = Extends-same old.requirements;
-        seen = refl;
-        asked = refl;
-        helped = IsWithin-same old.helped;
-        gates = IsWithin-push old.gates r;
-        constrained = IsWithin-same old.constrained;
-        read = refl;
-        deferred = refl;
-        waiting = refl;
-        exempt = refl;
-        keeps = λ root premise before. record {
-          root_first = before.root_first;
-          distinct = before.distinct;
-          encoded = before.encoded;
-          codes = before.codes;
-          own_codes = before.own_codes;
-          each_true = before.each_true;
-          each_proper = before.each_proper;
-          due = before.due;
-          installs = before.installs;
-          listed = before.listed;
-          ask = before.ask;
-          helpers = before.helpers;
-          packages = before.packages;
-          candidates = before.candidates;
-          once = before.once;
-          gate_packages = before.gate_packages;
-          gate_candidates = before.gate_candidates;
-          gated = λ q h. ⊎_elim
-              (λ (earlier : Contains old.gates q). before.gated q earlier)
-              (λ (is : r ≡ q). let Has : Requirement → Type 0 = λ x. Contains old.kinds (GateRequires x) in subst Has is has)
-              (Contains-push_cases old.gates r q h);
-          excluded = before.excluded;
-          follow = before.follow;
-          locks = before.locks;
-          exclusions = before.exclusions;
-          registered = before.registered;
-          placed = before.placed;
-          coding = before.coding;
-          coded = before.coded;
-          digits = before.digits;
-          sound_groups = before.sound_groups;
-          grouped = before.grouped;
-          members = before.members;
-          left_true = before.left_true;
-          indexed = before.indexed;
-          sound_waiting = before.sound_waiting;
-        };
-      })
+      let Gated : Requirement → Type 0 = λ x. Contains old.kinds (GateRequires x) in
+      let keeps : StaysRight u idle (λ root. ⊤) old (record old { gates = old.gates ++ r ∷ [] }) =
+      λ root premise before. search (holds_also Gated old.gates r before.gated has) in
+      subst Step (sym e) (assumption (IsStep-same u idle (λ root. ⊤) old, IsWithin-push old.gates r))
 
   -- one more helper of a constraint, which follows from each that it forbids
   pub IsStep-constrained : (old new : Notes N S) (v : VersionSetId) → new ≡ record old { constrained = old.constrained ++ v ∷ [] } →
       ((s : S) → Contains (others u v) s → Contains old.kinds (ConstrainsExcluded s v)) → IsStep u (λ root. ⊤) old new
   IsStep-constrained old new v e follows =
       let Step : Notes N S → Type 0 = λ m. IsStep u (λ root. ⊤) old m in
-      subst Step (sym e) (record {
-        origins = Keeps-same old.origins;
-        table = Extends-same old.table;
-        kinds = IsWithin-same old.kinds;
-        requirements = Extends-same old.requirements;
-        seen = refl;
-        asked = refl;
-        helped = IsWithin-same old.helped;
-        gates = IsWithin-same old.gates;
-        constrained = IsWithin-push old.constrained v;
-        read = refl;
-        deferred = refl;
-        waiting = refl;
-        exempt = refl;
-        keeps = λ root premise before. record {
-          root_first = before.root_first;
-          distinct = before.distinct;
-          encoded = before.encoded;
-          codes = before.codes;
-          own_codes = before.own_codes;
-          each_true = before.each_true;
-          each_proper = before.each_proper;
-          due = before.due;
-          installs = before.installs;
-          listed = before.listed;
-          ask = before.ask;
-          helpers = before.helpers;
-          packages = before.packages;
-          candidates = before.candidates;
-          once = before.once;
-          gate_packages = before.gate_packages;
-          gate_candidates = before.gate_candidates;
-          gated = before.gated;
-          excluded = λ w h s m. ⊎_elim
-              (λ (earlier : Contains old.constrained w). before.excluded w earlier s m)
-              (λ (is : v ≡ w). let Follows : VersionSetId → Type 0 = λ x. (t : S) → Contains (others u x) t → Contains old.kinds (ConstrainsExcluded t x) in
-              subst Follows is follows s m)
-              (Contains-push_cases old.constrained v w h);
-          follow = before.follow;
-          locks = before.locks;
-          exclusions = before.exclusions;
-          registered = before.registered;
-          placed = before.placed;
-          coding = before.coding;
-          coded = before.coded;
-          digits = before.digits;
-          sound_groups = before.sound_groups;
-          grouped = before.grouped;
-          members = before.members;
-          left_true = before.left_true;
-          indexed = before.indexed;
-          sound_waiting = before.sound_waiting;
-        };
-      })
+      let Excludes : VersionSetId → Type 0 = λ x. (s : S) → Contains (others u x) s → Contains old.kinds (ConstrainsExcluded s x) in
+      let keeps : StaysRight u idle (λ root. ⊤) old (record old { constrained = old.constrained ++ v ∷ [] }) =
+      λ root premise before. search (holds_also Excludes old.constrained v before.excluded follows) in
+      subst Step (sym e) (assumption (IsStep-same u idle (λ root. ⊤) old, IsWithin-push old.constrained v))

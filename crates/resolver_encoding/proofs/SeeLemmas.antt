@@ -4,7 +4,7 @@ use Rattle.std.proofs.Common.{Contains, All, Bool, true, false, get_or}
 use Rattle.std.specs.Prelude.{Some, slice_get, map, ⊤}
 use Rattle.std.proofs.lemmas.Bool.{cases_Bool, cases_eq}
 use Rattle.std.proofs.lemmas.Option.{slice_get-get_or}
-use Rattle.std.proofs.lemmas.List.Elements.{All-contains, Contains-append_left, Contains-get_or, Contains-push, Contains-push_cases}
+use Rattle.std.proofs.lemmas.List.Elements.{All-contains, Contains-get_or, Contains-push, Contains-push_cases}
 use Rattle.resolver_clause_store.specs.Laws.{IsIdentity}
 use Rattle.resolver_clause_store.specs.Lists.{IsWithin}
 use Rattle.resolver_clause_store.specs.Universe.{Universe, Demands}
@@ -19,10 +19,10 @@ use Rattle.resolver_encoding.specs.Encodings.{Notes, coding_for}
 use Rattle.resolver_encoding.specs.Groups.{AddsNamed, AreGroups, IsAt, IsNamed}
 use Rattle.resolver_encoding.specs.declared.groups.Groups.{Groups}
 use Rattle.resolver_encoding.specs.Truth.{AreCodes, IsTrueClause}
-use Rattle.resolver_encoding.proofs.EncodingLemmas.{Extends-push, IsClauseOf-zip, IsStep-clause, IsWithin-same}
+use Rattle.resolver_encoding.proofs.EncodingLemmas.{Extends-push, IsClauseOf-zip, IsStep-clause, IsWithin-push, IsWithin-same}
 use Rattle.resolver_encoding.proofs.GroupLemmas.{named_of_number, number_is}
 use Rattle.resolver_encoding.proofs.CodeLemmas.{no_digit, pow_same}
-use Rattle.resolver_encoding.proofs.NoteLemmas.{IsStep-plain, asks_not}
+use Rattle.resolver_encoding.proofs.NoteLemmas.{IsStep-plain, asks_not, holds_also}
 use Rattle.resolver_clause_store.proofs.ListLemmas.{Contains-at as place_in, Contains-cons_cases as cons_cases, Contains-here as here, Contains-none as none_in}
 use Rattle.resolver_encoding.specs.Atoms.{atoms_of}
 
@@ -118,60 +118,26 @@ module _ {N S : Type 0} (u : Universe N S) where
         IsEncodingWhile u (coding_for n k s) root old
     coding_opened root old name absent start =
         let Seen : S → Type 0 = λ t. Contains old.seen t in
-        record {
-          root_first = start.root_first;
-          distinct = start.distinct;
-          encoded = start.encoded;
-          codes = coded_also start.codes;
-          own_codes = coded_own start.codes name start.own_codes;
-          each_true = λ p d below.
-              let inside = Contains-get_or old.kinds p d below in
-              still_true start.codes root (get_or old.kinds p d) (start.each_proper p d below)
-              (λ m t i b is same.
-              let Has : ClauseKind N S → Type 0 = λ q. Contains old.kinds q in
-              ⊎_elim
-              (λ (seen : Contains old.seen t). absent (subst Seen same seen))
-              (λ (none : Contains (map (λ (c : Coding N S). c.instance) []) t). none_in t none)
-              (start.coded m t i b (subst Has is inside)))
-              (start.each_true p d below);
-          each_proper = start.each_proper;
-          due = start.due;
-          installs = start.installs;
-          listed = start.listed;
-          ask = start.ask;
-          helpers = start.helpers;
-          packages = start.packages;
-          candidates = start.candidates;
-          once = start.once;
-          gate_packages = start.gate_packages;
-          gate_candidates = start.gate_candidates;
-          gated = start.gated;
-          excluded = start.excluded;
-          follow = start.follow;
-          locks = start.locks;
-          exclusions = start.exclusions;
-          registered = start.registered;
-          placed = λ m j t at i.
-              let member = start.members m t (named_of_number old.groups m j t at) in
-              coded_as_before start.codes m i t (λ same. absent (subst Seen same member.1)) ∙ start.placed m j t at i;
-          coding = λ c h i. ⊎_elim
-              (λ (is : record { name = n; number = k; instance = s } ≡ c).
-              let Coded : Coding N S → Type 0 = λ q. coded_also start.codes q.name i q.instance ≡ bit q.number i in
-              subst Coded is (coded_here start.codes i))
-              (λ (none : Contains [] c). absurd (none_in c none))
-              (cons_cases (record { name = n; number = k; instance = s }) [] c h);
-          coded = λ m t i b h. ⊎_elim
-              (λ (seen : Contains old.seen t). inl seen)
-              (λ (none : Contains (map (λ (c : Coding N S). c.instance) []) t). absurd (none_in t none))
-              (start.coded m t i b h);
-          digits = start.digits;
-          sound_groups = start.sound_groups;
-          grouped = start.grouped;
-          members = start.members;
-          left_true = start.left_true;
-          indexed = start.indexed;
-          sound_waiting = start.sound_waiting;
-        }
+        let own = coded_own start.codes name start.own_codes in
+        let each_true : All (IsTrueClause u (coded_also start.codes) root) old.kinds =
+        λ p d below. still_true start.codes root (get_or old.kinds p d) (start.each_proper p d below)
+        (λ m t i b is same.
+        let Has : ClauseKind N S → Type 0 = λ q. Contains old.kinds q in
+        ⊎_elim
+        (λ (seen : Contains old.seen t). absent (subst Seen same seen))
+        (λ (none : Contains (map (λ (c : Coding N S). c.instance) []) t). none_in t none)
+        (start.coded m t i b (subst Has is (Contains-get_or old.kinds p d below))))
+        (start.each_true p d below) in
+        let placed = λ (m : N) (j : ℕ) (t : S) (at : IsAt old.groups m j t) (i : ℕ).
+        let member = start.members m t (named_of_number old.groups m j t at) in
+        coded_as_before start.codes m i t (λ same. absent (subst Seen same member.1)) ∙ start.placed m j t at i in
+        let one : Coding N S = record { name = n; number = k; instance = s } in
+        let coding = λ (c : Coding N S) (h : Contains (one ∷ []) c) (i : ℕ).
+        let Coded : Coding N S → Type 0 = λ q. coded_also start.codes q.name i q.instance ≡ bit q.number i in
+        ⊎_elim (λ (is : one ≡ c). subst Coded is (coded_here start.codes i)) (λ (none : Contains [] c). absurd (none_in c none)) (cons_cases one [] c h) in
+        let coded : (m : N) (t : S) (i : ℕ) (b : Bool) → Contains old.kinds (HasBit m t i b) → Contains old.seen t ⊎ Contains (s ∷ []) t =
+        λ m t i b h. ⊎_elim (λ seen. inl seen) (λ none. absurd (none_in t none)) (start.coded m t i b h) in
+        search
 
     -- one more clause of the solvable's code
     pub IsStep-own : (old new : Notes N S) (i : ℕ) (b : Bool) → AddsClause old new (HasBit n s i b) (atoms_of u (HasBit n s i b)) → u.name s ≡ n → b ≡ bit k i →
@@ -219,102 +185,9 @@ module _ {N S : Type 0} (u : Universe N S) where
         let Step : Notes N S → Type 0 = λ m. IsAskStep u (IsSeeing s) (λ root. ⊤) old m in
         let Longer : List S → Type 0 = λ list. Extends old.seen (list ++ s ∷ []) in
         let Asked : List N → Type 0 = λ list. IsWithin old.asked list in
-        subst Step (sym e) (record {
-          origins = step.origins;
-          table = step.table;
-          kinds = step.kinds;
-          requirements = step.requirements;
-          seen = subst Longer (sym step.seen) (Extends-push old.seen s);
-          asked = subst Asked (sym step.asked) (IsWithin-same old.asked);
-          called = seen_alone old mid groups step.asked step.seen;
-          read = step.read;
-          deferred = step.deferred;
-          waiting = step.waiting;
-          exempt = step.exempt;
-          keeps = λ root premise start.
-              let before = step.keeps root tt (coding_opened root old name absent start) in
-              let added = adds before.sound_groups in
-              let sound : AreGroups old.groups = subst Sound same_groups before.sound_groups in
-              let number : added.number ≡ k = number_is mid.groups groups n s list added
-              (λ j t at. subst (λ gs. At gs n j t) (sym same_groups) (each j t at))
-              (λ j t at. every sound j t (subst (λ gs. At gs n j t) same_groups at)) ∙ sym count in
-              record {
-                root_first = before.root_first;
-                distinct = before.distinct;
-                encoded = before.encoded;
-                codes = before.codes;
-                own_codes = before.own_codes;
-                each_true = before.each_true;
-                each_proper = before.each_proper;
-                due = before.due;
-                installs = before.installs;
-                listed = before.listed;
-                ask = before.ask;
-                helpers = before.helpers;
-                packages = before.packages;
-                candidates = λ by disjunct r h t c. Contains-append_left mid.seen (s ∷ []) t (before.candidates by disjunct r h t c);
-                once = before.once;
-                gate_packages = before.gate_packages;
-                gate_candidates = λ r h t c. Contains-append_left mid.seen (s ∷ []) t (before.gate_candidates r h t c);
-                gated = before.gated;
-                excluded = before.excluded;
-                follow = before.follow;
-                locks = before.locks;
-                exclusions = before.exclusions;
-                registered = λ t h. ⊎_elim
-                    (λ (earlier : Contains mid.seen t). before.registered t earlier)
-                    (λ (is : s ≡ t). let Has : S → Type 0 = λ r. Contains mid.origins (Solvable r) in subst Has is has)
-                    (Contains-push_cases mid.seen s t h);
-                placed = λ m j t at i. ⊎_elim
-                    (λ (earlier : IsAt mid.groups m j t). before.placed m j t earlier i)
-                    (λ (is : (m ≡ n) × (j ≡ added.number) × (t ≡ s)).
-                    let Coded : N → ℕ → S → Type 0 = λ q a r. before.codes q i r ≡ bit a i in
-                    let here_coded : before.codes n i s ≡ bit k i =
-                    before.coding (record { name = n; number = k; instance = s }) (here (record { name = n; number = k; instance = s }) []) i in
-                    subst (λ q. Coded q j t) (sym is.0) (subst (λ a. Coded n a t) (sym (is.1 ∙ number)) (subst (λ r. Coded n k r) (sym is.2) here_coded)))
-                    (added.only_at m j t at);
-                coding = λ c h i. absurd (none_in c h);
-                coded = λ m t i b h. ⊎_elim
-                    (λ (seen : Contains mid.seen t). inl (Contains-append_left mid.seen (s ∷ []) t seen))
-                    (λ (own_one : Contains (s ∷ []) t). inl (⊎_elim
-                    (λ (is : s ≡ t). let Has : S → Type 0 = λ r. Contains (mid.seen ++ s ∷ []) r in subst Has is (Contains-push mid.seen s))
-                    (λ (none : Contains [] t). absurd (none_in t none))
-                    (cons_cases s [] t own_one)))
-                    (before.coded m t i b h);
-                digits = λ m j p t r at to i reached. ⊎_elim
-                    (λ (t_before : IsAt mid.groups m j t). ⊎_elim
-                    (λ (r_before : IsAt mid.groups m p r). before.digits m j p t r t_before r_before i reached)
-                    (λ (is : (m ≡ n) × (p ≡ added.number) × (r ≡ s)).
-                    let Has : N → Type 0 = λ q. Contains mid.kinds (HasBit q t i (bit j i)) in
-                    let up_to : 2 ^ i ≤ k = omega (arith, reached, is.1, number) in
-                    subst Has (sym is.0) (earlier_digit before j t (subst (λ q. At mid.groups q j t) is.0 t_before) i up_to))
-                    (added.only_at m p r to))
-                    (λ (is : (m ≡ n) × (j ≡ added.number) × (t ≡ s)).
-                    let Has : N → ℕ → S → Type 0 = λ q a x. Contains mid.kinds (HasBit q x i (bit a i)) in
-                    let largest : p ≤ k = ⊎_elim
-                    (λ (r_before : IsAt mid.groups m p r). let less : p < added.number = added.below p r (subst (λ q. At mid.groups q p r) is.0 r_before) in
-                    omega (arith, less, number))
-                    (λ (last : (m ≡ n) × (p ≡ added.number) × (r ≡ s)). omega (arith, last.1, number))
-                    (added.only_at m p r to) in
-                    subst (λ q. Has q j t) (sym is.0)
-                    (subst (λ a. Has n a t) (sym (is.1 ∙ number)) (subst (λ x. Has n k x) (sym is.2) (own i (omega (arith, reached, largest))))))
-                    (added.only_at m j t at);
-                sound_groups = added.sound;
-                grouped = λ t h. ⊎_elim
-                    (λ (earlier : Contains mid.seen t). added.earlier (u.name t) t (before.grouped t earlier))
-                    (λ (is : s ≡ t). let Named : S → Type 0 = λ q. IsNamed groups (u.name q) q in let Of : N → Type 0 = λ m. IsNamed groups m s in
-                    subst Named is (subst Of (sym name) added.here))
-                    (Contains-push_cases mid.seen s t h);
-                members = λ m t h. ⊎_elim
-                    (λ (earlier : IsNamed mid.groups m t). let w = before.members m t earlier in (w.0, Contains-append_left mid.seen (s ∷ []) t w.1))
-                    (λ (is : (m ≡ n) × (t ≡ s)). let Has : S → Type 0 = λ q. Contains (mid.seen ++ s ∷ []) q in
-                    (ap u.name is.1 ∙ name ∙ sym is.0, subst Has (sym is.1) (Contains-push mid.seen s)))
-                    (added.only m t h);
-                left_true = before.left_true;
-                indexed = before.indexed;
-                sound_waiting = before.sound_waiting;
-              };
-        })
+        let seen = subst Longer (sym step.seen) (Extends-push old.seen s) in
+        let asked = subst Asked (sym step.asked) (IsWithin-same old.asked) in
+        subst Step (sym e) (assumption (step, seen_alone old mid groups step.asked step.seen, keeps))
       where
         At : Groups N S → N → ℕ → S → Type 0
         At gs m j t = IsAt gs m j t
@@ -335,3 +208,57 @@ module _ {N S : Type 0} (u : Universe N S) where
             subst (λ gs. IsAt gs n (k - 1) (get_or list (k - 1) s)) (sym same_groups) (each (k - 1) _ (slice_get-get_or list (k - 1) s less)) in
             before.digits n j (k - 1) t (get_or list (k - 1) s) at last i (omega (arith, reached, differ)))
             (cases_eq k (2 ^ i))
+
+        keeps : (root : Demands) → ⊤ → IsEncoding u root old → IsEncoding u root (record mid { seen = mid.seen ++ s ∷ []; groups = groups })
+        keeps root premise start =
+            let before = step.keeps root tt (coding_opened root old name absent start) in
+            let added = adds before.sound_groups in
+            let sound : AreGroups old.groups = subst Sound same_groups before.sound_groups in
+            let number : added.number ≡ k = number_is mid.groups groups n s list added
+            (λ j t at. subst (λ gs. At gs n j t) (sym same_groups) (each j t at))
+            (λ j t at. every sound j t (subst (λ gs. At gs n j t) same_groups at)) ∙ sym count in
+            let more = IsWithin-push mid.seen s in
+            let Seen : S → Type 0 = λ t. Contains (mid.seen ++ s ∷ []) t in
+            let Has : S → Type 0 = λ t. Contains mid.origins (Solvable t) in
+            let registered = holds_also Has mid.seen s before.registered has in
+            let placed = λ (m : N) (j : ℕ) (t : S) (at : IsAt groups m j t) (i : ℕ). ⊎_elim
+            (λ (earlier : IsAt mid.groups m j t). before.placed m j t earlier i)
+            (λ (is : (m ≡ n) × (j ≡ added.number) × (t ≡ s)).
+            let Coded : N → ℕ → S → Type 0 = λ q a r. before.codes q i r ≡ bit a i in
+            let here_coded : before.codes n i s ≡ bit k i =
+            before.coding (record { name = n; number = k; instance = s }) (here (record { name = n; number = k; instance = s }) []) i in
+            subst (λ q. Coded q j t) (sym is.0) (subst (λ a. Coded n a t) (sym (is.1 ∙ number)) (subst (λ r. Coded n k r) (sym is.2) here_coded)))
+            (added.only_at m j t at) in
+            let coding : (c : Coding N S) → Contains [] c → (i : ℕ) → before.codes c.name i c.instance ≡ bit c.number i = λ c h i. absurd (none_in c h) in
+            let coded : (m : N) (t : S) (i : ℕ) (b : Bool) → Contains mid.kinds (HasBit m t i b) → Seen t ⊎ Contains [] t =
+            λ m t i b h. inl (⊎_elim (λ seen. more t seen) (λ own_one. ⊎_elim
+            (λ (is : s ≡ t). subst Seen is (Contains-push mid.seen s))
+            (λ (none : Contains [] t). absurd (none_in t none))
+            (cons_cases s [] t own_one)) (before.coded m t i b h)) in
+            let digits = λ (m : N) (j p : ℕ) (t r : S) (at : IsAt groups m j t) (to : IsAt groups m p r) (i : ℕ) (reached : 2 ^ i ≤ p). ⊎_elim
+            (λ (t_before : IsAt mid.groups m j t). ⊎_elim
+            (λ (r_before : IsAt mid.groups m p r). before.digits m j p t r t_before r_before i reached)
+            (λ (is : (m ≡ n) × (p ≡ added.number) × (r ≡ s)).
+            let Digit : N → Type 0 = λ q. Contains mid.kinds (HasBit q t i (bit j i)) in
+            let up_to : 2 ^ i ≤ k = omega (arith, reached, is.1, number) in
+            subst Digit (sym is.0) (earlier_digit before j t (subst (λ q. At mid.groups q j t) is.0 t_before) i up_to))
+            (added.only_at m p r to))
+            (λ (is : (m ≡ n) × (j ≡ added.number) × (t ≡ s)).
+            let Digit : N → ℕ → S → Type 0 = λ q a x. Contains mid.kinds (HasBit q x i (bit a i)) in
+            let largest : p ≤ k = ⊎_elim
+            (λ (r_before : IsAt mid.groups m p r). let less : p < added.number = added.below p r (subst (λ q. At mid.groups q p r) is.0 r_before) in
+            omega (arith, less, number))
+            (λ (last : (m ≡ n) × (p ≡ added.number) × (r ≡ s)). omega (arith, last.1, number))
+            (added.only_at m p r to) in
+            subst (λ q. Digit q j t) (sym is.0)
+            (subst (λ a. Digit n a t) (sym (is.1 ∙ number)) (subst (λ x. Digit n k x) (sym is.2) (own i (omega (arith, reached, largest))))))
+            (added.only_at m j t at) in
+            let Named : S → Type 0 = λ q. IsNamed groups (u.name q) q in
+            let Of : N → Type 0 = λ m. IsNamed groups m s in
+            let grouped = holds_also Named mid.seen s (λ t earlier. added.earlier (u.name t) t (before.grouped t earlier)) (subst Of (sym name) added.here) in
+            let members : (m : N) (t : S) → IsNamed groups m t → (u.name t ≡ m) × Seen t =
+            λ m t h. ⊎_elim
+            (λ earlier. let w = before.members m t earlier in (w.0, more t w.1))
+            (λ (is : (m ≡ n) × (t ≡ s)). (ap u.name is.1 ∙ name ∙ sym is.0, subst Seen (sym is.1) (Contains-push mid.seen s)))
+            (added.only m t h) in
+            search (added.sound, before.candidates, before.gate_candidates)

@@ -12,7 +12,6 @@ use Rattle.resolver_clause_store.specs.Lists.{IsWithin, Meets}
 use Rattle.resolver_clause_store.specs.Universe.{Universe, Demands, Needs, known, unknown}
 use Rattle.resolver_clause_store.specs.Candidates.{matching, version_sets}
 use Rattle.resolver_clause_store.specs.Valid.{demands_of}
-use Rattle.resolver_clause_store.specs.Variables.{Keeps}
 use Rattle.resolver_clause_store.specs.declared.By.{By}
 use Rattle.resolver_clause_store.specs.declared.By.TheVariants.{Root as ByRoot, Solvable as BySolvable}
 use Rattle.resolver_clause_store.specs.declared.ClauseKind.TheVariants.{Excluded}
@@ -23,14 +22,16 @@ use Rattle.resolver_clause_store.specs.declared.VersionSetId.{VersionSetId}
 use Rattle.resolver_clause_store.proofs.PlaceLemmas.{Keeps-same, Keeps-trans, place_left, place_of_member}
 use Rattle.resolver_clause_store.specs.Statements.{IsPresent, AllMeet}
 use Rattle.resolver_clause_store.specs.TrueRules.{demands_by}
-use Rattle.resolver_encoding.specs.Called.{AreAsked, IsCalledFor, IsDemanded, IsNamedIn, to_ask}
-use Rattle.resolver_encoding.specs.Encodings.{AreDemandsRead, AreNeedsRead, Extends, IsConstraintRead, IsEncoding, IsLeft, IsReadStep, IsUnmet, Notes}
+use Rattle.resolver_encoding.specs.Called.{AreAsked, Call, IsCalledFor, IsDemanded, IsNamedIn, to_ask}
+use Rattle.resolver_encoding.specs.Encodings.{AreDemandsRead, AreNeedsRead, Extends, IsConstraintRead, IsEncoding, IsFollowed, IsLeft, IsReadStep}
+use Rattle.resolver_encoding.specs.Encodings.{IsUnmet, Notes}
 use Rattle.resolver_encoding.specs.Groups.{IsNamed}
+use Rattle.resolver_encoding.specs.Hints.{IsListedFrom}
 use Rattle.resolver_encoding.specs.ReadState.{Deferred, HasClause, IsReadRequirement, NoneFires}
 use Rattle.resolver_encoding.specs.SoFar.{HasFired, HasRead, IsBare, IsFiring, IsHalfRead, IsMoreOrSame, IsProgress, IsQuietUnder, IsReadMore, IsReadSoFar}
 use Rattle.resolver_encoding.specs.SoFar.{IsReadingOf, left_count, progress_by}
 use Rattle.resolver_encoding.specs.Truth.{HasLawfulSolvables}
-use Rattle.resolver_encoding.proofs.EncodingLemmas.{Extends-same, Extends-trans, Extends-within, IsWithin-same, IsWithin-trans}
+use Rattle.resolver_encoding.proofs.EncodingLemmas.{Contains-kept, Extends-same, Extends-trans, Extends-within, IsWithin-same, IsWithin-trans}
 use Rattle.resolver_encoding.proofs.ReadLemmas.{AreDemandsRead-grown, AreNeedsRead-grown, HasClause-within, IsConstraintRead-within, demands_read, packages_of}
 use Rattle.resolver_encoding.proofs.Reading.{name_matching}
 use Rattle.resolver_clause_store.proofs.ListLemmas.{Contains-at as place_in, Contains-here as here, Contains-none as none_in, Contains-there as there}
@@ -40,9 +41,6 @@ place_on : {X : Type 0} (xs ys : List X) → Extends xs ys → (k : ℕ) (x : X)
 place_on {X} xs ys more k x at =
     let At : List X → Type 0 = λ list. slice_get list k ≡ Some x in
     subst At (sym more.is) (place_left xs more.more k x at)
-
-pub Contains-kept : {X : Type 0} (xs ys : List X) → Keeps xs ys → IsWithin xs ys
-Contains-kept xs ys keeps x h = let at = place_of_member xs x h in place_in ys at.0 x (keeps.kept at.0 x at.1)
 
 pub IsWithin-equal : {X : Type 0} (xs ys : List X) → ys ≡ xs → IsWithin xs ys
 IsWithin-equal {X} xs ys same x h = let Has : List X → Type 0 = λ list. Contains list x in subst Has (sym same) h
@@ -70,57 +68,25 @@ met_in_parts {N} {S} u first second (v ∷ vs) met =
 
 module _ {N S : Type 0} (u : Universe N S) (set : List S) where
   pub IsReadingOf-same : (Reads : S → Type 0) (notes : Notes N S) → IsReadingOf u set Reads notes notes
-  IsReadingOf-same Reads notes = record {
-    origins = Keeps-same notes.origins;
-    table = Extends-same notes.table;
-    requirements = Extends-same notes.requirements;
-    seen = Extends-same notes.seen;
-    asked = IsWithin-same notes.asked;
-    called = λ n h. inl h;
-    read = Extends-same notes.read;
-    reads = λ s h. inl h;
-    deferred = Extends-same notes.deferred;
-    unmet = λ e h. inl h;
-    exempt = refl;
-    keeps = λ root before. before;
-  }
+  IsReadingOf-same Reads notes = search (Keeps-same, Extends-same, inl)
 
   pub IsReadingOf-trans : (Reads : S → Type 0) (one two three : Notes N S) → IsReadingOf u set Reads one two → IsReadingOf u set Reads two three →
       IsReadingOf u set Reads one three
-  IsReadingOf-trans Reads one two three first second = record {
-    origins = Keeps-trans one.origins two.origins three.origins first.origins second.origins;
-    table = Extends-trans one.table two.table three.table first.table second.table;
-    requirements = Extends-trans one.requirements two.requirements three.requirements first.requirements second.requirements;
-    seen = Extends-trans one.seen two.seen three.seen first.seen second.seen;
-    asked = IsWithin-trans one.asked two.asked three.asked first.asked second.asked;
-    called = λ n h. ⊎_elim
-        (λ before. ⊎_elim (λ earlier. inl earlier) (λ w. inr (w.0, Extends-within two.read three.read second.read w.0 w.1, w.2)) (first.called n before))
-        (λ called. inr called)
-        (second.called n h);
-    read = Extends-trans one.read two.read three.read first.read second.read;
-    reads = λ s h. ⊎_elim (λ before. first.reads s before) (λ may. inr may) (second.reads s h);
-    deferred = Extends-trans one.deferred two.deferred three.deferred first.deferred second.deferred;
-    unmet = λ e h. ⊎_elim (λ before. first.unmet e before) (λ never. inr never) (second.unmet e h);
-    exempt = second.exempt ∙ first.exempt;
-    keeps = λ root before. second.keeps root (first.keeps root before);
-  }
+  IsReadingOf-trans Reads one two three first second =
+      let called = λ (call : Call N S) (h : IsFollowed three call). ⊎_elim
+      (λ before. ⊎_elim (λ earlier. inl earlier) (λ w. inr (w.0, Extends-within two.read three.read second.read w.0 w.1, w.2)) (first.called call before))
+      (λ demanded. inr demanded)
+      (second.called call h) in
+      let reads = λ (s : S) (h : Contains three.read s). ⊎_elim (first.reads s) (λ may. inr may) (second.reads s h) in
+      let unmet = λ (e : Deferred S) (h : IsLeft three e). ⊎_elim (first.unmet e) (λ never. inr never) (second.unmet e h) in
+      search (Keeps-trans, Extends-trans, IsWithin-trans, first.keeps, second.keeps)
 
   pub IsReadingOf-weaker : (Reads More : S → Type 0) → ((s : S) → Reads s → More s) → (old new : Notes N S) → IsReadingOf u set Reads old new →
       IsReadingOf u set More old new
-  IsReadingOf-weaker Reads More weaker old new h = record {
-    origins = h.origins;
-    table = h.table;
-    requirements = h.requirements;
-    seen = h.seen;
-    asked = h.asked;
-    called = h.called;
-    read = h.read;
-    reads = λ s k. ⊎_elim (λ before. inl before) (λ may. inr (weaker s may)) (h.reads s k);
-    deferred = h.deferred;
-    unmet = h.unmet;
-    exempt = h.exempt;
-    keeps = h.keeps;
-  }
+  IsReadingOf-weaker Reads More weaker old new h =
+      let reads : (s : S) → Contains new.read s → Contains old.read s ⊎ More s =
+      λ s k. ⊎_elim (λ before. inl before) (λ may. inr (weaker s may)) (h.reads s k) in
+      assumption
 
   -- disjuncts were taken out
   module _ (mid new : Notes N S) (firing : IsFiring u set mid new) where
@@ -200,17 +166,19 @@ module _ {N S : Type 0} (u : Universe N S) (set : List S) where
   -- solvables were read, and then disjuncts taken out
   module _ (old mid new : Notes N S) (reading : IsReadingOf u set (Contains set) old mid) (firing : IsFiring u set mid new) where
     pub read_more : IsReadMore u set old new
-    read_more = record {
-      origins = Keeps-trans old.origins mid.origins new.origins reading.origins firing.origins;
-      table = Extends-trans old.table mid.table new.table reading.table firing.table;
-      requirements = Extends-trans old.requirements mid.requirements new.requirements reading.requirements firing.requirements;
-      seen = Extends-trans old.seen mid.seen new.seen reading.seen firing.seen;
-      read = record { more = reading.read.more; is = firing.read ∙ reading.read.is };
-      reads = λ s h. ⊎_elim (λ before. inl before) (λ chosen. inr (inl chosen)) (reading.reads s (IsWithin-equal new.read mid.read (sym firing.read) s h));
-      taken = λ i e at. ⊎_elim (λ still. inl still) (λ fired. inr fired.0)
-          (firing.taken i e (place_on old.deferred mid.deferred reading.deferred i (Some e) at));
-      exempt = firing.exempt ∙ reading.exempt;
-    }
+    read_more =
+        let read : Extends old.read new.read = record { more = reading.read.more; is = firing.read ∙ reading.read.is } in
+        let reads : (s : S) → Contains new.read s → Contains old.read s ⊎ (Contains set s ⊎ IsListedFrom new (length old.requirements) s) =
+        λ s h. ⊎_elim (λ before. inl before) (λ chosen. inr (inl chosen)) (reading.reads s (IsWithin-equal new.read mid.read (sym firing.read) s h)) in
+        let taken = λ (i : ℕ) (e : Deferred S) (at : slice_get old.deferred i ≡ Some (Some e)).
+        ⊎_elim (λ still. inl still) (λ fired. inr fired.0) (firing.taken i e (place_on old.deferred mid.deferred reading.deferred i (Some e) at)) in
+        assumption (
+          Keeps-trans old.origins mid.origins new.origins reading.origins firing.origins,
+          Extends-trans old.table mid.table new.table reading.table firing.table,
+          Extends-trans old.requirements mid.requirements new.requirements reading.requirements firing.requirements,
+          Extends-trans old.seen mid.seen new.seen reading.seen firing.seen,
+          firing.exempt ∙ reading.exempt,
+        )
 
     module _ (root : Demands) (from : ℕ) (so : IsReadSoFar u root (take from set) old) (rest_read : All (Contains mid.read) (drop from set))
         (quiet : All (λ s. IsQuietUnder u set new (u.name s)) (drop from set))
@@ -297,41 +265,7 @@ module _ {N S : Type 0} (u : Universe N S) (set : List S) where
 -- an encoding says nothing of what was read
 pub IsEncoding-read : {N S : Type 0} (u : Universe N S) (root : Demands) (notes : Notes N S) (read : List S) → IsEncoding u root notes →
     IsEncoding u root (record notes { read = read })
-IsEncoding-read u root notes read before = record {
-  root_first = before.root_first;
-  distinct = before.distinct;
-  encoded = before.encoded;
-  codes = before.codes;
-  own_codes = before.own_codes;
-  each_true = before.each_true;
-  each_proper = before.each_proper;
-  due = before.due;
-  installs = before.installs;
-  listed = before.listed;
-  ask = before.ask;
-  helpers = before.helpers;
-  packages = before.packages;
-  candidates = before.candidates;
-  once = before.once;
-  gate_packages = before.gate_packages;
-  gate_candidates = before.gate_candidates;
-  gated = before.gated;
-  excluded = before.excluded;
-  follow = before.follow;
-  locks = before.locks;
-  exclusions = before.exclusions;
-  registered = before.registered;
-  placed = before.placed;
-  coding = before.coding;
-  coded = before.coded;
-  digits = before.digits;
-  sound_groups = before.sound_groups;
-  grouped = before.grouped;
-  members = before.members;
-  left_true = before.left_true;
-  indexed = before.indexed;
-  sound_waiting = before.sound_waiting;
-}
+IsEncoding-read u root notes read before = search
 
 -- the clauses of a solvable are there, and it is noted as read
 module _ {N S : Type 0} (u : Universe N S) (set : List S) (s : S) (old mid new : Notes N S)
@@ -374,20 +308,15 @@ module _ {N S : Type 0} (u : Universe N S) (set : List S) (s : S) (old mid new :
   pub IsReadingOf-read : IsReadingOf u set (λ t. s ≡ t) old new
   IsReadingOf-read =
       let Reading : Notes N S → Type 0 = λ n. IsReadingOf u set (λ t. s ≡ t) old n in
-      subst Reading (sym is) (record {
-        origins = step.origins;
-        table = step.table;
-        requirements = step.requirements;
-        seen = step.seen;
-        asked = step.asked;
-        called = λ n h. ⊎_elim (λ before. inl before) (λ demanded. inr (s, Contains-push mid.read s, demanded)) (step.called n h);
-        read = record { more = s ∷ []; is = ap (λ list. list ++ s ∷ []) step.read };
-        reads = λ t h. ⊎_elim (λ (before : Contains mid.read t). inl (earlier_read t before)) (λ (last : s ≡ t). inr last) (Contains-push_cases mid.read s t h);
-        deferred = step.deferred;
-        unmet = λ e h. ⊎_elim (λ before. inl before) (λ (unmet : IsUnmet u set (BySolvable s) e). inr unmet.never) (step.defers e h);
-        exempt = step.exempt;
-        keeps = half_noted;
-      })
+      let called : (call : Call N S) → IsFollowed mid call → IsFollowed old call ⊎
+      ((t : S) × Contains (mid.read ++ s ∷ []) t × IsDemanded u set (demands_of (u.needs t)) call) =
+      λ call h. ⊎_elim (λ before. inl before) (λ demanded. inr (s, Contains-push mid.read s, demanded)) (step.called call h) in
+      let read : Extends old.read (mid.read ++ s ∷ []) = record { more = s ∷ []; is = ap (λ list. list ++ s ∷ []) step.read } in
+      let reads : (t : S) → Contains (mid.read ++ s ∷ []) t → Contains old.read t ⊎ (s ≡ t) =
+      λ t h. ⊎_elim (λ before. inl (earlier_read t before)) (λ last. inr last) (Contains-push_cases mid.read s t h) in
+      let unmet : (e : Deferred S) → IsLeft mid e → IsLeft old e ⊎ (AllMeet set (map (matching u) e.disjunct) → ⊥) =
+      λ e h. ⊎_elim (λ before. inl before) (λ unmet. inr unmet.never) (step.defers e h) in
+      subst Reading (sym is) (assumption half_noted)
 
   pub HasRead-read : HasRead old new true
   HasRead-read =

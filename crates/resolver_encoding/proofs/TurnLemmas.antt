@@ -14,16 +14,16 @@ use Rattle.resolver_clause_store.specs.declared.Origin.TheVariants.{Solvable}
 use Rattle.resolver_clause_store.specs.declared.StringId.{StringId}
 use Rattle.resolver_clause_store.proofs.PlaceLemmas.{Keeps-same}
 use Rattle.resolver_encoding.specs.Atoms.{Atom}
-use Rattle.resolver_encoding.specs.Called.{IsAsking, IsSeeing, to_ask}
-use Rattle.resolver_encoding.specs.Encodings.{AddsClause, IsEncoding, IsEncodingWhile, IsLeft, IsStepWhile, Notes, owing_for, IsAskStep}
+use Rattle.resolver_encoding.specs.Called.{AreAsked, IsAsking, IsSeeing, to_ask}
+use Rattle.resolver_encoding.specs.Encodings.{AddsClause, IsEncoding, IsEncodingWhile, IsLeft, IsStepWhile, Notes, idle, owing_for, IsAskStep}
 use Rattle.resolver_encoding.specs.ReadState.{Deferred}
 use Rattle.resolver_encoding.specs.SoFar.{IsHalfRead}
 use Rattle.resolver_encoding.specs.Truth.{AreDue}
 use Rattle.resolver_encoding.specs.Turns.{AddsPlainly, AsksOnly, IsRestored, IsRegistered, IsTurnEnd, StaysRead}
-use Rattle.resolver_encoding.proofs.EncodingLemmas.{Extends-same, IsWithin-same}
+use Rattle.resolver_encoding.proofs.EncodingLemmas.{Contains-kept, IsStep-same, IsWithin-same}
 use Rattle.resolver_encoding.proofs.ReadLemmas.{AreDemandsRead-grown, AreNeedsRead-grown}
 use Rattle.resolver_clause_store.proofs.ListLemmas.{Contains-cons_cases as cons_cases, Contains-here as here, Contains-there as there}
-use Rattle.resolver_encoding.proofs.SoFarLemmas.{Contains-kept, IsPresent-within, IsWithin-equal}
+use Rattle.resolver_encoding.proofs.SoFarLemmas.{IsPresent-within, IsWithin-equal}
 
 module _ {N S : Type 0} (u : Universe N S) where
   -- what was read stays read where clauses are added, and nothing is read or put off
@@ -64,61 +64,15 @@ module _ {N S : Type 0} (u : Universe N S) where
   -- a step that saw one solvable
   pub IsRegistered-of : (s : S) (old new : Notes N S) → IsAskStep u (IsSeeing s) (λ root. ⊤) old new → Contains new.seen s →
       ((t : S) → Contains new.seen t → Contains old.seen t ⊎ (t ≡ s)) → new.requirements ≡ old.requirements → new.asked ≡ old.asked → IsRegistered u s old new
-  IsRegistered-of s old new step seen only plain asked = record {
-    origins = step.origins;
-    table = step.table;
-    kinds = step.kinds;
-    requirements = plain;
-    seen = step.seen;
-    here = seen;
-    only = only;
-    asked = asked;
-    read = step.read;
-    deferred = step.deferred;
-    waiting = step.waiting;
-    exempt = step.exempt;
-    stays = StaysRead-of old new step.origins step.kinds (IsWithin-equal old.asked new.asked asked) step.read step.deferred (λ root before.
-        step.keeps root tt before);
-  }
+  IsRegistered-of s old new step seen only plain asked =
+      let stays = StaysRead-of old new step.origins step.kinds (IsWithin-equal old.asked new.asked asked) step.read step.deferred (λ root before.
+      step.keeps root tt before) in
+      assumption
 
   -- other exemptions, of which the clauses make nothing wrong
   with_exempt : (root : Demands) (old : Notes N S) (exempt : List S) → AreDue u old.asked exempt old.kinds →
       ((t : S) → Contains old.exempt t → Contains exempt t) → IsEncoding u root old → IsEncoding u root (record old { exempt = exempt })
-  with_exempt root old exempt due wider start = record {
-    root_first = start.root_first;
-    distinct = start.distinct;
-    encoded = start.encoded;
-    codes = start.codes;
-    own_codes = start.own_codes;
-    each_true = start.each_true;
-    each_proper = start.each_proper;
-    due = due;
-    installs = start.installs;
-    listed = start.listed;
-    ask = start.ask;
-    helpers = start.helpers;
-    packages = start.packages;
-    candidates = start.candidates;
-    once = start.once;
-    gate_packages = start.gate_packages;
-    gate_candidates = start.gate_candidates;
-    gated = start.gated;
-    excluded = start.excluded;
-    follow = start.follow;
-    locks = λ s t h free lock inside differ. start.locks s t h (λ k. free (wider s k)) lock inside differ;
-    exclusions = λ s reason h free inside. start.exclusions s reason h (λ k. free (wider s k)) inside;
-    registered = start.registered;
-    placed = start.placed;
-    coding = start.coding;
-    coded = start.coded;
-    digits = start.digits;
-    sound_groups = start.sound_groups;
-    grouped = start.grouped;
-    members = start.members;
-    left_true = start.left_true;
-    indexed = start.indexed;
-    sound_waiting = start.sound_waiting;
-  }
+  with_exempt root old exempt due wider start = search (start.locks, start.exclusions)
 
   -- of a package that was not asked no lock and no exclusion speaks
   AreDue-exempting : (asked : List N) (exempt : List S) (kinds : List (ClauseKind N S)) (s : S) → (Contains asked (u.name s) → ⊥) →
@@ -159,44 +113,12 @@ module _ {N S : Type 0} (u : Universe N S) where
         (Contains-push_cases shorter s t (IsWithin-equal old.exempt (shorter ++ s ∷ []) (sym last) t h))
 
     owing_opened : (root : Demands) → IsEncoding u root old → IsEncodingWhile u (owing_for s) root opened_notes
-    owing_opened root start = record {
-      root_first = start.root_first;
-      distinct = start.distinct;
-      encoded = start.encoded;
-      codes = start.codes;
-      own_codes = start.own_codes;
-      each_true = start.each_true;
-      each_proper = start.each_proper;
-      due = record {
-        locks = λ r t h. let w = start.due.locks r t h in (w.0, λ k. w.1 (was_exempt t k));
-        exclusions = λ t reason h. ⊎_elim (λ w. inl (w.0, λ k. w.1 (was_exempt t k))) (λ e. inr e) (start.due.exclusions t reason h);
-      };
-      installs = start.installs;
-      listed = start.listed;
-      ask = start.ask;
-      helpers = start.helpers;
-      packages = start.packages;
-      candidates = start.candidates;
-      once = start.once;
-      gate_packages = start.gate_packages;
-      gate_candidates = start.gate_candidates;
-      gated = start.gated;
-      excluded = start.excluded;
-      follow = start.follow;
-      locks = λ r t h free lock inside differ. start.locks r t h (λ k. free (still_free r k)) lock inside differ;
-      exclusions = λ r reason h free inside. start.exclusions r reason h (λ k. free (still_free r k)) inside;
-      registered = start.registered;
-      placed = start.placed;
-      coding = start.coding;
-      coded = start.coded;
-      digits = start.digits;
-      sound_groups = start.sound_groups;
-      grouped = start.grouped;
-      members = start.members;
-      left_true = start.left_true;
-      indexed = start.indexed;
-      sound_waiting = start.sound_waiting;
-    }
+    owing_opened root start =
+        let due : AreDue u old.asked shorter old.kinds = record {
+          locks = λ r t h. let w = start.due.locks r t h in (w.0, λ k. w.1 (was_exempt t k));
+          exclusions = λ t reason h. ⊎_elim (λ w. inl (w.0, λ k. w.1 (was_exempt t k))) (λ e. inr e) (start.due.exclusions t reason h);
+        } in
+        search (start.locks, start.exclusions, still_free)
 
     -- the clauses were made
     module _ (same : S → S → Bool) (solvables : IsIdentity same) (new : Notes N S) (restored : IsRestored u s new) where
@@ -217,62 +139,22 @@ module _ {N S : Type 0} (u : Universe N S) where
           (cons_cases s new.exempt r h)
 
       owing_closed : (root : Demands) → IsEncodingWhile u (owing_for s) root new → IsEncoding u root new
-      owing_closed root start = record {
-        root_first = start.root_first;
-        distinct = start.distinct;
-        encoded = start.encoded;
-        codes = start.codes;
-        own_codes = start.own_codes;
-        each_true = start.each_true;
-        each_proper = start.each_proper;
-        due = start.due;
-        installs = start.installs;
-        listed = start.listed;
-        ask = start.ask;
-        helpers = start.helpers;
-        packages = start.packages;
-        candidates = start.candidates;
-        once = start.once;
-        gate_packages = start.gate_packages;
-        gate_candidates = start.gate_candidates;
-        gated = start.gated;
-        excluded = start.excluded;
-        follow = start.follow;
-        locks = λ r t h free lock inside differ. ⊎_elim
-            (λ (is : same s r ≡ true). subst (LockOf t) (solvables.alone s r is) (restored.lock t) h free lock inside differ)
-            (λ (apart : same s r ≡ false). start.locks r t h (not_owed r apart free) lock inside differ)
-            (cases_Bool (same s r));
-        exclusions = λ r reason h free inside. ⊎_elim
-            (λ (is : same s r ≡ true). subst (ExclusionOf reason) (solvables.alone s r is) (restored.exclusions reason) h free inside)
-            (λ (apart : same s r ≡ false). start.exclusions r reason h (not_owed r apart free) inside)
-            (cases_Bool (same s r));
-        registered = start.registered;
-        placed = start.placed;
-        coding = start.coding;
-        coded = start.coded;
-        digits = start.digits;
-        sound_groups = start.sound_groups;
-        grouped = start.grouped;
-        members = start.members;
-        left_true = start.left_true;
-        indexed = start.indexed;
-        sound_waiting = start.sound_waiting;
-      }
+      owing_closed root start =
+          let locks = λ (r t : S) (h : Contains new.asked (u.name r)) (free : Contains new.exempt r → ⊥). ⊎_elim
+          (λ (is : same s r ≡ true). subst (LockOf t) (solvables.alone s r is) (restored.lock t) h free)
+          (λ (apart : same s r ≡ false). start.locks r t h (not_owed r apart free))
+          (cases_Bool (same s r)) in
+          let exclusions = λ (r : S) (reason : StringId) (h : Contains new.asked (u.name r)) (free : Contains new.exempt r → ⊥). ⊎_elim
+          (λ (is : same s r ≡ true). subst (ExclusionOf reason) (solvables.alone s r is) (restored.exclusions reason) h free)
+          (λ (apart : same s r ≡ false). start.exclusions r reason h (not_owed r apart free))
+          (cases_Bool (same s r)) in
+          search
 
       pub IsTurnEnd-restored : IsStepWhile u (owing_for s) (λ root. ⊤) opened_notes new → AddsPlainly opened_notes new → IsTurnEnd u old new
-      IsTurnEnd-restored step plainly = record {
-        origins = step.origins;
-        table = step.table;
-        kinds = step.kinds;
-        requirements = plainly.requirements;
-        seen = plainly.seen;
-        asked = step.asked;
-        read = step.read;
-        deferred = step.deferred;
-        waiting = step.waiting;
-        stays = StaysRead-of old new step.origins step.kinds (IsWithin-equal old.asked new.asked step.asked) step.read step.deferred (λ root before.
-            owing_closed root (step.keeps root tt (owing_opened root before)));
-      }
+      IsTurnEnd-restored step plainly =
+          let stays = StaysRead-of old new step.origins step.kinds (IsWithin-equal old.asked new.asked step.asked) step.read step.deferred (λ root before.
+          owing_closed root (step.keeps root tt (owing_opened root before))) in
+          assumption
 
   -- what a package lists, locks and excludes, as it was found
   pub IsRestored-found : (s : S) (old mid new : Notes N S) (n : N) → n ≡ u.name s → IsWithin mid.kinds new.kinds → mid.exempt ≡ old.exempt →
@@ -311,37 +193,16 @@ module _ {N S : Type 0} (u : Universe N S) where
       AsksOnly u n old new
   AsksOnly-of n old new step here plain =
       let Asked : N → Type 0 = λ m. Contains new.asked m in
-      record {
-        asked = record {
-          stays = step.asked;
-          only = λ m h. ⊎_elim (λ was. inl was) (λ is. inr (sym is)) (step.called (to_ask m) h);
-          all = λ m is. subst Asked (sym is) here;
-        };
-        origins = step.origins;
-        table = step.table;
-        kinds = step.kinds;
-        requirements = plain.requirements;
-        seen = plain.seen;
-        read = step.read;
-        deferred = step.deferred;
-        waiting = step.waiting;
-        exempt = step.exempt;
-        stays = StaysRead-of old new step.origins step.kinds step.asked step.read step.deferred (λ root before. step.keeps root tt before);
-      }
+      let asked : AreAsked (λ m. m ≡ n) old.asked new.asked = record {
+        stays = step.asked;
+        only = λ m h. ⊎_elim (λ was. inl was) (λ is. inr (sym is)) (step.called (to_ask m) h);
+        all = λ m is. subst Asked (sym is) here;
+      } in
+      let stays = StaysRead-of old new step.origins step.kinds step.asked step.read step.deferred (λ root before. step.keeps root tt before) in
+      assumption
 
   pub AsksOnly-same : (n : N) (notes : Notes N S) → Contains notes.asked n → AsksOnly u n notes notes
   AsksOnly-same n notes here =
       let Asked : N → Type 0 = λ m. Contains notes.asked m in
-      record {
-        asked = record { stays = λ m h. h; only = λ m h. inl h; all = λ m is. subst Asked (sym is) here };
-        origins = Keeps-same notes.origins;
-        table = Extends-same notes.table;
-        kinds = IsWithin-same notes.kinds;
-        requirements = refl;
-        seen = refl;
-        read = refl;
-        deferred = refl;
-        waiting = refl;
-        exempt = refl;
-        stays = StaysRead-same notes;
-      }
+      let asked : AreAsked (λ m. m ≡ n) notes.asked notes.asked = record { stays = λ m h. h; only = λ m h. inl h; all = λ m is. subst Asked (sym is) here } in
+      assumption (IsStep-same u idle (λ root. ⊤) notes, StaysRead-same notes)

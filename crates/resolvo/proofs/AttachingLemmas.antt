@@ -128,13 +128,8 @@ late-fewer table old new late left gone is places within are =
     let each : All (λ (l : Late). Any (IsTrueBefore old l.length) (clause_at table l.number)) left =
     all-left (λ (l : Late). Any (IsTrueBefore old l.length) (clause_at table l.number)) left gone was.each in
     record {
-      each = λ k d below. any-map _ _ _ (λ l
-          (t : IsTrueBefore old (get_or left k d).length l). record {
-            slot = t.slot;
-            is = places.slots _ t.slot t.is (omega (arith, t.earlier, within k d below));
-            true_there = t.true_there;
-            earlier = t.earlier;
-          }) (each k d below);
+      each = λ k d below. any-map _ _ _ (λ l (t : IsTrueBefore old (get_or left k d).length l). search
+          (places.slots _ t.slot t.is (omega (arith, t.earlier, within k d below)))) (each k d below);
       within = within;
       rising = λ k n early later less at there. was.rising k n early later less (place_left left gone k early at) (place_left left gone n later there);
     }
@@ -148,12 +143,7 @@ covers-cut table old new pairs late left pending more head lower noted covers = 
       record { slot = fails.slot; is = lower.stays _ _ fails.is; false_there = fails.false_there; earlier = omega (arith, fails.earlier) } in
       ⊎_elim
       (λ (holds : Any (IsTrueAt old fails.slot.level) (clause_at table number)). inl
-      (any-map _ _ _ (λ l (t : IsTrueAt old fails.slot.level l). record {
-        slot = t.slot;
-        is = lower.whole _ _ fails.slot t.slot fails.is t.is t.low;
-        true_there = t.true_there;
-        low = t.low;
-      }) holds))
+      (any-map _ _ _ (λ l (t : IsTrueAt old fails.slot.level l). search (lower.whole _ _ fails.slot t.slot fails.is t.is t.low)) holds))
       (λ (was_noted : IsNoted late pending number). inr (noted number was_noted))
       (covers.watched number literal watching was);
   constant = λ number inside is. noted number (covers.constant number inside is);
@@ -258,22 +248,15 @@ rising-left late gone rising =
 
 pub moves-done : (old late : List Late) (last : Late) (pending more : List ℕ) (count : ℕ) → last.length ≤ count → Moves old (late ++ last ∷ []) pending more →
     Recalls old (late ++ last ∷ []) pending more count
-moves-done old late last pending more count short moves = record {
-  gone = moves.gone;
-  late = moves.late;
-  noted = moves.noted;
-  inside = moves.inside;
-  within = λ rising. within-last late last count (rising-left (late ++ last ∷ []) moves.gone (subst (λ (ls : List Late). IsRising ls) moves.late rising)) short;
-}
+moves-done old late last pending more count short moves =
+    let within = λ (rising : IsRising old). within-last late last count
+    (rising-left (late ++ last ∷ []) moves.gone (subst (λ (ls : List Late). IsRising ls) moves.late rising)) short in
+    search moves
 
 pub moves-all : (old late : List Late) (pending more : List ℕ) (count : ℕ) → length late ≤ 0 → Moves old late pending more → Recalls old late pending more count
-moves-all old late pending more count none moves = record {
-  gone = moves.gone;
-  late = moves.late;
-  noted = moves.noted;
-  inside = moves.inside;
-  within = λ rising k d below. absurd (omega (arith, below, none));
-}
+moves-all old late pending more count none moves =
+    let within : IsRising old → All (λ (l : Late). l.length ≤ count) late = λ rising k d below. absurd (omega (arith, below, none)) in
+    search moves
 
 -- One clause fewer has to be looked at again.
 noted-fewer : (late : List Late) (rest : List ℕ) (number other : ℕ) → other ≢ number → IsNoted late (rest ++ number ∷ []) other → IsNoted late rest other
@@ -338,21 +321,15 @@ passed-high table trail p pending number ends pair satisfied it =
     let all : All (λ n. n < attached_of p) (pending.items ++ number ∷ []) = subst (λ (ns : List ℕ). All (λ n. n < attached_of p) ns) ends it.pending in
     let covers : Covers table trail pairs (late_of p) (pending.items ++ number ∷ []) (head_of p) =
     subst (λ (ns : List ℕ). Covers table trail pairs (late_of p) ns (head_of p)) ends it.covers in
-    record {
-      lists = it.lists;
-      watched = it.watched;
-      late = it.late;
-      pending = all-fewer pending.items number (attached_of p) all;
-      inside = it.inside;
-      head = it.head;
-      covers = covers-fewer table trail pairs (late_of p) (late_of p) pending.items number (head_of p) (head_of p) (omega arith) (λ other noted. noted)
-          (λ literal watching fails. ⊎_elim
-          (λ (e : pair.first ≡ literal). inl (excused-high trail literal _ _ (subst (λ (l : Literal). IsHigh trail l) e pair.first_high) fails satisfied))
-          (λ (e : pair.second ≡ literal). inl (excused-high trail literal _ _ (subst (λ (l : Literal). IsHigh trail l) e pair.second_high) fails satisfied))
-          (watching-pair pairs number pair.first pair.second literal pair.are watching))
-          (λ inside is. absurd (none-some pair.first (ap (λ (w : WatchedPair). w.first) (sym is ∙ pair.are))))
-          covers;
-    }
+    let fewer = all-fewer pending.items number (attached_of p) all in
+    let covered = covers-fewer table trail pairs (late_of p) (late_of p) pending.items number (head_of p) (head_of p) (omega arith) (λ other noted. noted)
+    (λ literal watching fails. ⊎_elim
+    (λ (e : pair.first ≡ literal). inl (excused-high trail literal _ _ (subst (λ (l : Literal). IsHigh trail l) e pair.first_high) fails satisfied))
+    (λ (e : pair.second ≡ literal). inl (excused-high trail literal _ _ (subst (λ (l : Literal). IsHigh trail l) e pair.second_high) fails satisfied))
+    (watching-pair pairs number pair.first pair.second literal pair.are watching))
+    (λ inside is. absurd (none-some pair.first (ap (λ (w : WatchedPair). w.first) (sym is ∙ pair.are))))
+    covers in
+    assumption
 
 -- a clause that is true is noted behind the others
 late-push : (table : List (Vec Literal Global)) (trail : Trail) (late : List Late) (number : ℕ) → IsSatisfied trail (clause_at table number) →
@@ -393,26 +370,22 @@ passed-late table trail p late pending number ends is satisfied it =
     let longer : List Late = late_of p ++ made ∷ [] in
     let has : Contains longer made = Contains-append_right (late_of p) (made ∷ []) made (0, omega arith, refl) in
     let noted : IsNoted longer pending.items number = inl (has.0, made, has.1, has.2, refl) in
-    record {
-      lists = it.lists;
-      watched = it.watched;
-      late = subst (λ (ls : List Late). AreLate table trail ls) (sym is) (late-push table trail (late_of p) number satisfied it.late);
-      pending = all-fewer pending.items number (attached_of p) all;
-      inside = subst (λ (ls : List Late). All (λ (l : Late). l.number < attached_of p) ls) (sym is)
-          (All-push (λ (l : Late). l.number < attached_of p) (late_of p) made it.inside inside);
-      head = it.head;
-      covers = subst (λ (ls : List Late). Covers table trail pairs ls pending.items (head_of p)) (sym is)
-          (covers-fewer table trail pairs (late_of p) longer pending.items number (head_of p) (head_of p) (omega arith)
-          (λ other was. ⊎_elim
-          (λ (one : Any (λ (l : Late). l.number ≡ other) (late_of p)).
-          let there = Contains-append_left (late_of p) (made ∷ []) one.1 (one.0, one.2, one.3) in
-          inl (there.0, one.1, there.1, there.2, one.4))
-          (λ (again : Contains pending.items other). inr again)
-          was)
-          (λ literal watching fails. inr noted)
-          (λ within unwatched_there. noted)
-          covers);
-    }
+    let was_late = subst (λ (ls : List Late). AreLate table trail ls) (sym is) (late-push table trail (late_of p) number satisfied it.late) in
+    let fewer = all-fewer pending.items number (attached_of p) all in
+    let attached = subst (λ (ls : List Late). All (λ (l : Late). l.number < attached_of p) ls) (sym is)
+    (All-push (λ (l : Late). l.number < attached_of p) (late_of p) made it.inside inside) in
+    let covered = subst (λ (ls : List Late). Covers table trail pairs ls pending.items (head_of p)) (sym is)
+    (covers-fewer table trail pairs (late_of p) longer pending.items number (head_of p) (head_of p) (omega arith)
+    (λ other was. ⊎_elim
+    (λ (one : Any (λ (l : Late). l.number ≡ other) (late_of p)).
+    let there = Contains-append_left (late_of p) (made ∷ []) one.1 (one.0, one.2, one.3) in
+    inl (there.0, one.1, there.1, there.2, one.4))
+    (λ (again : Contains pending.items other). inr again)
+    was)
+    (λ literal watching fails. inr noted)
+    (λ within unwatched_there. noted)
+    covers) in
+    assumption
 
 -- a clause two literals of which have no value
 pub reopened : (table : List (Vec Literal Global)) (trail : Trail) (p : Propagator) (pending : Vec ℕ Global) (number head first second : ℕ) →
@@ -425,23 +398,18 @@ reopened table trail p pending number head first second ends is first_place seco
     let all : All (λ n. n < attached_of p) (pending.items ++ number ∷ []) = subst (λ (ns : List ℕ). All (λ n. n < attached_of p) ns) ends it.pending in
     let covers : Covers table trail pairs (late_of p) (pending.items ++ number ∷ []) (head_of p) =
     subst (λ (ns : List ℕ). Covers table trail pairs (late_of p) ns (head_of p)) ends it.covers in
-    record {
-      lists = it.lists;
-      watched = it.watched;
-      late = it.late;
-      pending = all-fewer pending.items number (attached_of p) all;
-      inside = it.inside;
-      head = omega (arith, is, it.head);
-      covers = covers-fewer table trail pairs (late_of p) (late_of p) pending.items number (head_of p) head (omega (arith, is)) (λ other noted. noted)
-          (λ literal watching fails. ⊎_elim
-          (λ (e : (pair_at pairs number).first ≡ Some literal). absurd
-          (omega (arith, first_place literal e fails.slot fails.is fails.false_there, fails.earlier, is)))
-          (λ (e : (pair_at pairs number).second ≡ Some literal). absurd
-          (omega (arith, second_place literal e fails.slot fails.is fails.false_there, fails.earlier, is)))
-          watching)
-          (λ inside none. absurd (free.differ (it.watched.constant number inside none free.first free.second free.has_first free.has_second)))
-          covers;
-    }
+    let fewer = all-fewer pending.items number (attached_of p) all in
+    let reached : head ≤ length_of trail = omega (arith, is, it.head) in
+    let covered = covers-fewer table trail pairs (late_of p) (late_of p) pending.items number (head_of p) head (omega (arith, is)) (λ other noted. noted)
+    (λ literal watching fails. ⊎_elim
+    (λ (e : (pair_at pairs number).first ≡ Some literal). absurd
+    (omega (arith, first_place literal e fails.slot fails.is fails.false_there, fails.earlier, is)))
+    (λ (e : (pair_at pairs number).second ≡ Some literal). absurd
+    (omega (arith, second_place literal e fails.slot fails.is fails.false_there, fails.earlier, is)))
+    watching)
+    (λ inside none. absurd (free.differ (it.watched.constant number inside none free.first free.second free.has_first free.has_second)))
+    covers in
+    assumption
 
 -- a clause behind the others
 pair-two : (clause : List Literal) (pair : Option (Literal × Literal)) → MatchOption pair (IsConstant clause) (λ two. AreApart clause two.0 two.1) →

@@ -201,12 +201,8 @@ chosen-decides table requirements old new literal choice level gains free is cho
 -- what is false before is so still where the levels above are undone
 false_before-undone : (old new : Trail) (level : ℕ) (slot : Slot) (variable : ℕ) (literal : Literal) → IsUndone old new level →
     slot_of old variable ≡ Some slot → slot.level ≤ level → IsFalseBefore old slot.place literal → IsFalseBefore new slot.place literal
-false_before-undone old new level slot variable literal undone at low f = record {
-  slot = f.slot;
-  is = undone.kept _ _ f.is (omega (arith, (old.rising _ variable f.slot slot f.is at f.earlier).0, low));
-  false_there = f.false_there;
-  earlier = f.earlier;
-}
+false_before-undone old new level slot variable literal undone at low f =
+    search (undone.kept _ _ f.is (omega (arith, (old.rising _ variable f.slot slot f.is at f.earlier).0, low)))
 
 pub justified-undone : (table : List (Vec Literal Global)) (old new : Trail) (level : ℕ) → IsJustified table old → IsUndone old new level →
     IsJustified table new
@@ -224,15 +220,9 @@ chosen-undone table requirements old new level chosen undone = record {
   each = λ v s n at decided.
       let was = undone.stays v s at in
       let c = chosen.each v s n was.0 decided in
-      record {
-        requirement = c.requirement;
-        listed = c.listed;
-        value = c.value;
-        before = c.before;
-        after = c.after;
-        clause = c.clause;
-        false_before = λ k d below. false_before-undone old new level s v _ undone was.0 was.1 (c.false_before k d below);
-      };
+      let false_before = λ (k : ℕ) (d : Literal) (below : k < length c.before). false_before-undone old new level s v _ undone was.0 was.1
+      (c.false_before k d below) in
+      search;
 }
 
 pub chosen-grows : (old new : List (Vec Literal Global)) (requirements : List RequirementClause) (trail : Trail) → Grows old new →
@@ -241,16 +231,9 @@ pub chosen-grows : (old new : List (Vec Literal Global)) (requirements : List Re
 chosen-grows old new requirements trail grows inside chosen = record {
   each = λ v s n at decided.
       let c = chosen.each v s n at decided in
-      record {
-        requirement = c.requirement;
-        listed = c.listed;
-        value = c.value;
-        before = c.before;
-        after = c.after;
-        clause = grows.same _ (All-contains (λ (requirement : RequirementClause). requirement.number < length old) requirements c.requirement inside c.listed) ∙
-            c.clause;
-        false_before = c.false_before;
-      };
+      let clause = grows.same _ (All-contains (λ (requirement : RequirementClause). requirement.number < length old) requirements c.requirement inside c.listed)
+      ∙ c.clause in
+      search;
 }
 
 -- the one literal of the highest level has no value after a jump back

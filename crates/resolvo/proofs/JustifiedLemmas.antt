@@ -123,15 +123,9 @@ extends-trans old mid new first second = record {
 -- what is decided stays so where a trail is extended
 pub chosen-kept : (table : List (Vec Literal Global)) (requirements : List RequirementClause) (old new : Trail) (variable : ℕ) (slot : Slot) → Keeps old new →
     IsChosen table requirements old variable slot → IsChosen table requirements new variable slot
-chosen-kept table requirements old new variable slot keeps c = record {
-  requirement = c.requirement;
-  listed = c.listed;
-  value = c.value;
-  before = c.before;
-  after = c.after;
-  clause = c.clause;
-  false_before = λ k d below. false_before-kept old new _ _ keeps (c.false_before k d below);
-}
+chosen-kept table requirements old new variable slot keeps c =
+    let false_before = λ (k : ℕ) (d : Literal) (below : k < length c.before). false_before-kept old new _ _ keeps (c.false_before k d below) in
+    search c
 
 pub chosen-extends : (table : List (Vec Literal Global)) (requirements : List RequirementClause) (old new : Trail) → AreChosen table requirements old →
     Extends old new → AreChosen table requirements new

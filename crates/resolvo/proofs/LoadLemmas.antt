@@ -14,7 +14,7 @@ use Rattle.resolver_clause_store.specs.declared.RequirementClause.{RequirementCl
 use Rattle.resolver_clause_store.specs.declared.Reason.TheVariants.{Assumed, Decided, Forced}
 use Rattle.resolver_clause_store.specs.declared.Slot.{Slot}
 use Rattle.resolver_clause_store.specs.declared.Trail.{Trail}
-use Rattle.resolver_clause_store.specs.Formula.{IsBelow, clause_at}
+use Rattle.resolver_clause_store.specs.Formula.{AreBelow, IsBelow, clause_at}
 use Rattle.resolver_clause_store.specs.Outcomes.{IsChosen, IsFinished, IsMet, IsPropagated}
 use Rattle.resolver_clause_store.specs.TrailView.{IsGrown, IsUndone, KeepsPlaces, length_of, slot_of, variable_count}
 use Rattle.resolver_clause_store.proofs.FormulaLemmas.{clause_at-get_or, clause_at-last, clause_at-push}
@@ -165,15 +165,8 @@ chosen-wanted given table sources places requirements wanted trail variable slot
     let below : k < length wanted = omega (arith, c.listed.1, same-length requirements wanted places same) in
     let number : place_of places (get_or wanted k c.requirement).number ≡ c.requirement.number =
     sym (same-number requirements wanted places same k c.requirement c.requirement below) ∙ ap (λ (r : RequirementClause). r.number) c.listed.2 in
-    record {
-      requirement = get_or wanted k c.requirement;
-      listed = Contains-get_or wanted k c.requirement below;
-      value = c.value;
-      before = c.before;
-      after = c.after;
-      clause = sym (given-clause given table sources places _ loaded (inside k c.requirement below)) ∙ ap (λ n. clause_at table n) number ∙ c.clause;
-      false_before = c.false_before;
-    }
+    let clause = sym (given-clause given table sources places _ loaded (inside k c.requirement below)) ∙ ap (λ n. clause_at table n) number ∙ c.clause in
+    search (Contains-get_or wanted k c.requirement below)
 
 -- what was found for the places holds for the given clauses
 pub finished : (given table : List (Vec Literal Global)) (sources : List Source) (places : List ℕ) (requirements wanted : List RequirementClause)
@@ -239,15 +232,7 @@ pub chosen-listed : (table : List (Vec Literal Global)) (requirements : List Req
 chosen-listed table requirements requirement trail chosen = record {
   each = λ v s n at decided.
       let c = chosen.each v s n at decided in
-      record {
-        requirement = c.requirement;
-        listed = Contains-append_left requirements (requirement ∷ []) c.requirement c.listed;
-        value = c.value;
-        before = c.before;
-        after = c.after;
-        clause = c.clause;
-        false_before = c.false_before;
-      };
+      search (Contains-append_left requirements (requirement ∷ []) c.requirement c.listed);
 }
 
 -- a trail that was undone, and how much of it is kept
@@ -326,19 +311,13 @@ pub consistent-requirement : (old : ClauseSearch) (wanted : Vec RequirementClaus
     requirement.number < length old.table.items → wanted.items ≡ old.requirements.items ++ requirement ∷ [] →
     IsQueued queue old.trail old.table.items (old.requirements.items ++ requirement ∷ []) →
     IsConsistent (record old { requirements = wanted; queue = queue; in_lists = in_lists })
-consistent-requirement old wanted queue in_lists requirement it inside is queued = record {
-  below = it.below;
-  derived = it.derived;
-  justified = it.justified;
-  chosen = rw is (chosen-listed old.table.items old.requirements.items requirement old.trail it.chosen);
-  inside = rw is (All-push (λ (r : RequirementClause). r.number < length old.table.items) old.requirements.items requirement it.inside inside);
-  places = it.places;
-  count = it.count;
-  kept = it.kept;
-  propagator = it.propagator;
-  turn = it.turn;
-  queued = rw is queued;
-}
+consistent-requirement old wanted queue in_lists requirement it inside is queued =
+    let chosen : AreChosen old.table.items wanted.items old.trail =
+    rw is (chosen-listed old.table.items old.requirements.items requirement old.trail it.chosen) in
+    let below : All (λ (r : RequirementClause). r.number < length old.table.items) wanted.items =
+    rw is (All-push (λ (r : RequirementClause). r.number < length old.table.items) old.requirements.items requirement it.inside inside) in
+    let noted : IsQueued queue old.trail old.table.items wanted.items = rw is queued in
+    assumption
 
 pub same-none : (it : ClauseSearch) → IsSameSearch it it
 same-none it = record { set = record { was = λ v s at. at }; marked = λ all. all; variables = refl; learnt = refl; kept = λ base k. k; turn = keeps-none it }
@@ -431,28 +410,23 @@ pub consistent-grown : (it : ClauseSearch) (trail : Trail) (propagator : Propaga
     (in_lists : ∥ AreInLists it.table.items propagator.watches ∥₁) → IsConsistent it → variable_count it.trail ≤ variables → IsGrown it.trail trail variables →
     IsPropagator it.table.items trail propagator → StaysQueued it.queue queue →
     IsConsistent (record it { trail = trail; propagator = propagator; queue = queue; in_lists = in_lists })
-consistent-grown it trail propagator queue variables in_lists holds room grown propagates stays = record {
-  below = λ n k d b. omega (arith, holds.below n k d b, grown.size, room);
-  derived = holds.derived;
-  justified = justified-grown it.table.items it.trail trail variables grown holds.justified;
-  chosen = chosen-extends it.table.items it.requirements.items it.trail trail holds.chosen (extends-grown it.trail trail variables grown);
-  inside = holds.inside;
-  places = holds.places;
-  count = holds.count;
-  kept = omega (arith, holds.kept, ap length grown.order);
-  propagator = propagates;
-  turn = turn-kept it.trail trail it.base it.held it.kept it.kept holds.turn
-      (keeps-fewer it.trail trail (length_of it.trail) it.held (keeps_grown it.trail trail variables grown) holds.turn.inside) holds.turn.marked;
-  queued = stays trail it.table.items it.requirements.items
-      (queued-longer it.queue it.trail trail it.table.items it.requirements.items (keeps_grown it.trail trail variables grown) holds.queued);
-}
+consistent-grown it trail propagator queue variables in_lists holds room grown propagates stays =
+    let below : AreBelow (variable_count trail) it.table.items = λ n k d b. omega (arith, holds.below n k d b, grown.size, room) in
+    let justified = justified-grown it.table.items it.trail trail variables grown holds.justified in
+    let chosen = chosen-extends it.table.items it.requirements.items it.trail trail holds.chosen (extends-grown it.trail trail variables grown) in
+    let kept : it.kept ≤ length_of trail = omega (arith, holds.kept, ap length grown.order) in
+    let places = keeps_grown it.trail trail variables grown in
+    let turn = turn-kept it.trail trail it.base it.held it.kept it.kept holds.turn
+    (keeps-fewer it.trail trail (length_of it.trail) it.held places holds.turn.inside) holds.turn.marked in
+    let queued = stays trail it.table.items it.requirements.items
+    (queued-longer it.queue it.trail trail it.table.items it.requirements.items places holds.queued) in
+    assumption
 
 -- what is loaded does not depend on the trail, or on what propagation keeps
 pub loaded-trail : (it : ClauseSearch) (trail : Trail) (propagator : Propagator) (queue : DecideQueue)
     (in_lists : ∥ AreInLists it.table.items propagator.watches ∥₁) (given : List (Vec Literal Global)) (numbers : List ℕ) → IsLoaded given numbers it →
     IsLoaded given numbers (record it { trail = trail; propagator = propagator; queue = queue; in_lists = in_lists })
-loaded-trail it trail propagator queue in_lists given numbers loaded =
-    record { clauses = loaded.clauses; requirements = loaded.requirements; inside = loaded.inside }
+loaded-trail it trail propagator queue in_lists given numbers loaded = assumption
 
 pub first-grown : (old new : Trail) (count variables : ℕ) → IsGrown old new variables → KeepsFirst old count new count
 first-grown old new count variables grown = first-after old new count (keeps_grown old new variables grown)

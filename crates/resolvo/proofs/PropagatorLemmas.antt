@@ -62,12 +62,7 @@ pub covers-kept : (table : List (Vec Literal Global)) (old new : Trail) (pairs :
 covers-kept table old new pairs late pending head keeps within covers = record {
   watched = λ number literal watching fails.
       let was : IsFalseBefore old head literal =
-      record {
-        slot = fails.slot;
-        is = slot-back old new keeps _ _ fails.is (omega (arith, fails.earlier, within));
-        false_there = fails.false_there;
-        earlier = fails.earlier;
-      } in
+      search (slot-back old new keeps _ _ fails.is (omega (arith, fails.earlier, within))) in
       excused-kept table old new late pending fails.slot.level number keeps (covers.watched number literal watching was);
   constant = covers.constant;
 }
@@ -82,15 +77,9 @@ late-kept table old new late keeps noted = record {
 
 pub propagator-kept : (table : List (Vec Literal Global)) (old new : Trail) (it : Propagator) → Keeps old new →
     length (lists_of it.watches) ≡ 2 * variable_count new → IsPropagator table old it → IsPropagator table new it
-propagator-kept table old new it keeps size was = record {
-  lists = size;
-  watched = was.watched;
-  late = late-kept table old new _ keeps was.late;
-  pending = was.pending;
-  inside = was.inside;
-  head = omega (arith, was.head, (keeps_all old new keeps).are);
-  covers = covers-kept table old new _ _ _ _ keeps was.head was.covers;
-}
+propagator-kept table old new it keeps size was =
+    let head : head_of it ≤ length_of new = omega (arith, was.head, (keeps_all old new keeps).are) in
+    assumption (size, late-kept table old new _ keeps was.late, covers-kept table old new _ _ _ _ keeps was.head was.covers)
 
 pub propagator-gains : (table : List (Vec Literal Global)) (old new : Trail) (it : Propagator) (literal : Literal) (level : ℕ) (reason : Reason) →
     Gains old new literal level reason → slot_of old literal.variable ≡ None → IsPropagator table old it → IsPropagator table new it

@@ -35,19 +35,4 @@ module _ {N S : Type 0} (u : Universe N S) where
 pub unread_with : {N S : Type 0} (exempt : List S) (old new : Notes N S) → IsUnread old → new ≡ record old { exempt = exempt } → IsUnread new
 unread_with {N} {S} exempt old new unread is =
     let Unread : Notes N S → Type 0 = λ notes. IsUnread notes in
-    subst Unread (sym is) (record {
-      no_origins = unread.no_origins;
-      no_table = unread.no_table;
-      no_kinds = unread.no_kinds;
-      no_requirements = unread.no_requirements;
-      none_seen = unread.none_seen;
-      sound_groups = unread.sound_groups;
-      no_groups = unread.no_groups;
-      none_asked = unread.none_asked;
-      none_helped = unread.none_helped;
-      no_gates = unread.no_gates;
-      none_constrained = unread.none_constrained;
-      none_read = unread.none_read;
-      none_deferred = unread.none_deferred;
-      sound_waiting = unread.sound_waiting;
-    })
+    subst Unread (sym is) (assumption unread)

@@ -154,18 +154,10 @@ module _ {N S : Type 0} where
 
   -- the packages of variables do not matter
   pub rounds_owned : (u : Universe N S) (r : Rounds N S) (owners : Owners N) → AreRounds u r → AreRounds u (record r { owners = owners })
-  rounds_owned u r owners rounds =
-      record {
-        bounded = rounds.bounded;
-        reading = rounds.reading;
-        consistent = rounds.consistent;
-        loaded = rounds.loaded;
-        variables = rounds.variables;
-        mark = rounds.mark;
-      }
+  rounds_owned u r owners rounds = assumption
 
   pub still_owned : (r : Rounds N S) (owners : Owners N) → IsStill r → IsStill (record r { owners = owners })
-  still_owned r owners still = record { held = still.held; marked = still.marked; chosen = still.chosen }
+  still_owned r owners still = assumption
 
   -- the search has run over all that was read
   pub searched : (u : Universe N S) (old : Rounds N S) (new : ClauseSearch) → AreRounds u old → IsConsistent new →

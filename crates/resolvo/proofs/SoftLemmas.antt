@@ -73,42 +73,18 @@ pub record IsAddition {N S : Type 0} (u : Universe N S) (old new : Notes N S) : 
 pub registered_adds : {N S : Type 0} (u : Universe N S) (s : S) (old new : Notes N S) → IsRegistered u s old new → IsAddition u old new
 registered_adds {N} {S} u s old new r =
     let Asked : List N → Type 0 = λ list. IsWithin old.asked list in
-    record {
-      origins = r.origins;
-      table = r.table;
-      requirements = r.requirements;
-      asked = subst Asked (sym r.asked) (λ n h. h);
-      seen = Extends-within old.seen new.seen r.seen;
-      read = r.read;
-      keeps = r.stays.so_far;
-    }
+    assumption (subst Asked (sym r.asked) (λ n h. h), Extends-within old.seen new.seen r.seen)
 
 pub asking_adds : {N S : Type 0} (u : Universe N S) (n : N) (old new : Notes N S) → AsksOnly u n old new → IsAddition u old new
 asking_adds {N} {S} u n old new a =
     let Seen : List S → Type 0 = λ list. IsWithin old.seen list in
-    record {
-      origins = a.origins;
-      table = a.table;
-      requirements = a.requirements;
-      asked = a.asked.stays;
-      seen = subst Seen (sym a.seen) (λ s h. h);
-      read = a.read;
-      keeps = a.stays.so_far;
-    }
+    assumption (subst Seen (sym a.seen) (λ s h. h))
 
 pub ended_adds : {N S : Type 0} (u : Universe N S) (old new : Notes N S) → IsTurnEnd u old new → IsAddition u old new
 ended_adds {N} {S} u old new e =
     let Asked : List N → Type 0 = λ list. IsWithin old.asked list in
     let Seen : List S → Type 0 = λ list. IsWithin old.seen list in
-    record {
-      origins = e.origins;
-      table = e.table;
-      requirements = e.requirements;
-      asked = subst Asked (sym e.asked) (λ n h. h);
-      seen = subst Seen (sym e.seen) (λ s h. h);
-      read = e.read;
-      keeps = e.stays.so_far;
-    }
+    assumption (subst Asked (sym e.asked) (λ n h. h), subst Seen (sym e.seen) (λ s h. h))
 
 pub earlier_in : {X : Type 0} (xs : List X) (x y : X) → Contains xs y → Contains (xs ++ x ∷ []) y
 earlier_in xs x y h = Contains-append_left xs (x ∷ []) y h
@@ -224,12 +200,8 @@ module _ {N S : Type 0} where
       Keeps (notes_of old).origins (notes_in encoding).origins → IsStill old → IsStill (record old { encoding = encoding })
   still_added u old encoding rounds keeps still =
       let trail : Trail = trail_of old.search in
-      record {
-        held = still.held;
-        marked = still.marked;
-        chosen = still.chosen ∙ sym (same_before (notes_of old).origins (notes_in encoding).origins trail trail (length_of trail) keeps rounds.variables
-            (keeps_itself trail (length_of trail) (omega arith)) (length_of trail) (omega arith));
-      }
+      assumption (still.chosen ∙ sym (same_before (notes_of old).origins (notes_in encoding).origins trail trail (length_of trail) keeps rounds.variables
+      (keeps_itself trail (length_of trail) (omega arith)) (length_of trail) (omega arith)))
 
   -- where clauses were added that are near, what stands goes on to stand
   module _ (u : Universe N S) (root : Demands) (taken refused seeds : List S) (packages : List N) (old : Rounds N S) (encoding : Encoding N S)
@@ -289,17 +261,9 @@ module _ {N S : Type 0} where
       let Standing : Encoding N S → Chosen S → Type 0 = λ e c. IsStanding u root taken refused seeds packages (record new { encoding = e; chosen = c }) in
       let WithChosen : Chosen S → Type 0 = λ c. Standing new.encoding c in
       let WithEncoding : Encoding N S → Type 0 = λ e. Standing e old.chosen in
-      subst WithChosen (sym same.chosen) (subst WithEncoding (sym same.encoding) (record {
-        read = b.read;
-        once = b.once;
-        assumed = assumed_still (notes_of old).origins (notes_of old).origins (trail_of old.search) (trail_of new.search) taken refused
-            (Keeps-same (notes_of old).origins) known turn.assumed.was b.assumed;
-        left_out = b.left_out;
-        seeded = b.seeded;
-        within = b.within;
-        exempt = b.exempt;
-        near = b.near;
-      }))
+      let assumed = assumed_still (notes_of old).origins (notes_of old).origins (trail_of old.search) (trail_of new.search) taken refused
+      (Keeps-same (notes_of old).origins) known turn.assumed.was b.assumed in
+      subst WithChosen (sym same.chosen) (subst WithEncoding (sym same.encoding) (assumption))
 
   -- a turn may be told of from an earlier state in which as much was chosen, exempt and asked for
   pub turned_from : (u : Universe N S) (root : Demands) (taken refused seeds : List S) (packages : List N) (s : S) (before old new : Rounds N S)
@@ -312,13 +276,7 @@ module _ {N S : Type 0} where
       let WithExempt : List S → Type 0 = λ e. Turned (chosen_of before) e (notes_of old).asked in
       let WithAsked : List N → Type 0 = λ a. Turned (chosen_of before) (notes_of before).exempt a in
       let Asked : List N → Type 0 = λ a. IsWithin a (notes_of new).asked in
-      record {
-        taken_now = h.taken_now;
-        refused_now = h.refused_now;
-        turned = subst WithAsked asked (subst WithExempt exempt (subst WithChosen chosen h.turned));
-        standing = h.standing;
-        asked = subst Asked asked h.asked;
-      }
+      search (subst WithAsked asked (subst WithExempt exempt (subst WithChosen chosen h.turned)), h.standing, subst Asked asked h.asked)
 
   -- one that is decided is skipped
   pub skipped : (u : Universe N S) → HasLawfulSolvables u → (eq : N → N → Bool) → IsIdentity eq →
@@ -554,11 +512,11 @@ module _ {N S : Type 0} where
           subst From (ap (λ (n : Notes N S). n.table) only) goes.table
 
       -- the assumption
-      abbrev assumption : Slot
-      assumption = record { value = true; level = level_of t0 + 1; place = n0; reason = Assumed }
+      abbrev assumed_slot : Slot
+      assumed_slot = record { value = true; level = level_of t0 + 1; place = n0; reason = Assumed }
 
-      made_rest : slot_of t2 v ≡ Some assumption
-      made_rest = places.slots v assumption gains.here (omega (arith, held, gains.count))
+      made_rest : slot_of t2 v ≡ Some assumed_slot
+      made_rest = places.slots v assumed_slot gains.here (omega (arith, held, gains.count))
 
       rest_assumed : AreAssumed o2 taken_now refused t2
       rest_assumed = assumed_still (notes_in encoding).origins o2
@@ -580,7 +538,7 @@ module _ {N S : Type 0} where
         now_chosen : Contains (chosen_of rest) s
         now_chosen =
             let Has : List S → Type 0 = λ list. Contains list s in
-            subst Has (sym answering.chosen) (slot_chosen o2 t2 answering.variables v assumption s made_rest origin_rest refl)
+            subst Has (sym answering.chosen) (slot_chosen o2 t2 answering.variables v assumed_slot s made_rest origin_rest refl)
 
         rest_exempts : Exempts u (notes_of old).asked (notes_of old).exempt s (notes_of rest).exempt
         rest_exempts = let Made : List S → Type 0 = λ e. Exempts u (notes_of old).asked (notes_of old).exempt s e in subst Made (sym goes.exempt) made_exempt
@@ -757,12 +715,12 @@ module _ {N S : Type 0} where
         decided_before : (x : ℕ) (slot : Slot) (n : ℕ) → slot_of t2 x ≡ Some slot → slot.reason ≡ Decided n → slot.level ≤ base_of rest.search → slot.place < n0
         decided_before x slot n at reason low = ⊎_elim
             (λ (after_it : n0 < slot.place).
-            let above : level_of t0 + 1 < slot.level = (t2.rising v x assumption slot made_rest at after_it).1 (ap is_decided reason) in
+            let above : level_of t0 + 1 < slot.level = (t2.rising v x assumed_slot slot made_rest at after_it).1 (ap is_decided reason) in
             omega (arith, above, low, goes.turn.base, base))
             (λ (not_after : slot.place ≤ n0). ⊎_elim
             (λ (here : slot.place ≡ n0).
-            let named : x ≡ v = sym (t2.listed x slot at).1 ∙ ap (variable_at t2) here ∙ (t2.listed v assumption made_rest).1 in
-            let same : slot ≡ assumption = same_Some _ _ (sym at ∙ ap (slot_of t2) named ∙ made_rest) in
+            let named : x ≡ v = sym (t2.listed x slot at).1 ∙ ap (variable_at t2) here ∙ (t2.listed v assumed_slot made_rest).1 in
+            let same : slot ≡ assumed_slot = same_Some _ _ (sym at ∙ ap (slot_of t2) named ∙ made_rest) in
             absurd (decided-assumed n (sym reason ∙ ap (λ (q : Slot). q.reason) same)))
             (λ (other : slot.place ≢ n0). omega (arith, not_after, other))
             (cases_eq slot.place n0))
@@ -889,25 +847,10 @@ module _ {N S : Type 0} where
     rounds_held rounds consistent loads =
         let Kept : Trail → ℕ → Type 0 = λ t n. KeepsPlaces rounds.mark.base t n in
         let KeptIn : Trail → Type 0 = λ t. Kept t (kept_of search) in
-        record {
-          bounded = rounds.bounded;
-          reading = rounds.reading;
-          consistent = consistent;
-          loaded = record {
-            given = rounds.loaded.given;
-            numbers = rounds.loaded.numbers;
-            loaded = loads rounds.loaded.given rounds.loaded.numbers rounds.loaded.loaded;
-            clauses = rounds.loaded.clauses;
-            asking = rounds.loaded.asking;
-          };
-          variables = omega (arith, ap variable_count trail, rounds.variables);
-          mark = record {
-            base = rounds.mark.base;
-            follows = rounds.mark.follows;
-            kept = subst KeptIn (sym trail) (subst (Kept (trail_of old.search)) (sym count) rounds.mark.kept);
-            known = rounds.mark.known;
-          };
-        }
+        let loaded = loads rounds.loaded.given rounds.loaded.numbers rounds.loaded.loaded in
+        let variables : variable_count (trail_of search) ≤ length (notes_of old).origins = omega (arith, ap variable_count trail, rounds.variables) in
+        let kept = subst KeptIn (sym trail) (subst (Kept (trail_of old.search)) (sym count) rounds.mark.kept) in
+        Prim.search rounds.mark.follows
 
     pub still_held : held_of search ≡ length_of (trail_of search) → kept_of old.search ≡ length_of (trail_of old.search) →
         chosen_of old ≡ solvables_before (notes_of old).origins (trail_of old.search) (length_of (trail_of old.search)) →
@@ -922,38 +865,17 @@ module _ {N S : Type 0} where
         IsStanding u root taken refused seeds packages (record old { search = search })
     standing_held root taken refused seeds packages b =
         let Assuming : Trail → Type 0 = λ t. AreAssumed (notes_of old).origins taken refused t in
-        record {
-          read = b.read;
-          once = b.once;
-          assumed = subst Assuming (sym trail) b.assumed;
-          left_out = b.left_out;
-          seeded = b.seeded;
-          within = b.within;
-          exempt = b.exempt;
-          near = b.near;
-        }
+        assumption (subst Assuming (sym trail) b.assumed)
 
     pub between_held : (root : Demands) (done : List (SoftRequirement S)) → IsBetween u root done old → IsBetween u root done (record old { search = search })
-    between_held root done b = record {
-      first = b.first;
-      promise = b.promise;
-      taken = b.taken;
-      refused = b.refused;
-      run = b.run;
-      standing = standing_held root b.taken b.refused (flat_map (options u) done) (flat_map (own_packages u) done) b.standing;
-    }
+    between_held root done b =
+        Prim.search (b.promise, b.run, standing_held root b.taken b.refused (flat_map (options u) done) (flat_map (own_packages u) done) b.standing)
 
     pub turned_held : (root : Demands) (taken refused seeds : List S) (packages : List N) (s : S) (before : Rounds N S) (is_chosen : Bool) →
         HasTurned u root taken refused seeds packages s before old is_chosen →
         HasTurned u root taken refused seeds packages s before (record old { search = search }) is_chosen
     turned_held root taken refused seeds packages s before on h =
-        record {
-          taken_now = h.taken_now;
-          refused_now = h.refused_now;
-          turned = h.turned;
-          standing = standing_held root h.taken_now h.refused_now seeds packages h.standing;
-          asked = h.asked;
-        }
+        Prim.search (h.turned, standing_held root h.taken_now h.refused_now seeds packages h.standing, h.asked)
 
 -- the variable that was assumed
 pub just_assumed : (old new : ClauseSearch) (v : ℕ) →

@@ -90,16 +90,9 @@ module _ {N S : Type 0} (u : Universe N S) where
     -- more seeds, and more packages
     pub standing_wider : (taken refused seeds more : List S) (packages others : List N) (r : Rounds N S) → IsWithin seeds more → IsWithin packages others →
         IsStanding u root taken refused seeds packages r → IsStanding u root taken refused more others r
-    standing_wider taken left seeds more packages others r wider besides b = record {
-      read = b.read;
-      once = b.once;
-      assumed = b.assumed;
-      left_out = b.left_out;
-      seeded = b.seeded;
-      within = λ s h. wider s (b.within s h);
-      exempt = b.exempt;
-      near = AreNear-more u root seeds packages more others wider besides (notes_of r) b.near;
-    }
+    standing_wider taken left seeds more packages others r wider besides b =
+        let within : IsWithin taken more = λ s h. wider s (b.within s h) in
+        assumption (AreNear-more u root seeds packages more others wider besides (notes_of r) b.near)
 
     pub standing_for : (done : List (SoftRequirement S)) (r : SoftRequirement S) (taken refused : List S) (rounds : Rounds N S) →
         IsStanding u root taken refused (flat_map (options u) done) (flat_map (own_packages u) done) rounds →
@@ -128,31 +121,21 @@ module _ {N S : Type 0} (u : Universe N S) where
     pub between_solvable : (done : List (SoftRequirement S)) (s : S) (old new : Rounds N S) (is_chosen : Bool) (b : IsBetween u root done old) →
         HasTurned u root b.taken b.refused (flat_map (options u) (done ++ Solvable s ∷ []))
         (flat_map (own_packages u) (done ++ Solvable s ∷ [])) s old new is_chosen → IsBetween u root (done ++ Solvable s ∷ []) new
-    between_solvable done s old new is_chosen b h = record {
-      first = b.first;
-      promise = b.promise;
-      taken = h.taken_now;
-      refused = h.refused_now;
-      run = run_turned b.first done b.taken (chosen_of old) (notes_of old).exempt (notes_of old).asked s h.taken_now (chosen_of new)
-          (notes_of new).exempt is_chosen (notes_of new).asked b.run h.turned h.asked
-          (asked_for u root (chosen_of new) (done ++ Solvable s ∷ []) (notes_of new) h.standing.read h.standing.near);
-      standing = h.standing;
-    }
+    between_solvable done s old new is_chosen b h =
+        let run = run_turned b.first done b.taken (chosen_of old) (notes_of old).exempt (notes_of old).asked s h.taken_now (chosen_of new)
+        (notes_of new).exempt is_chosen (notes_of new).asked b.run h.turned h.asked
+        (asked_for u root (chosen_of new) (done ++ Solvable s ∷ []) (notes_of new) h.standing.read h.standing.near) in
+        search (b.promise, h.standing)
 
     -- the turn of a version set of which a candidate is chosen
     pub between_met : (done : List (SoftRequirement S)) (v : VersionSetId) (r : Rounds N S) → Meets (matching u v) (chosen_of r) → IsBetween u root done r →
         IsBetween u root (done ++ Matching v ∷ []) r
     between_met done v r meets b =
         let standing = standing_for done (Matching v) b.taken b.refused r b.standing in
-        record {
-          first = b.first;
-          promise = b.promise;
-          taken = b.taken;
-          refused = b.refused;
-          run = chosen_before (Matching v) b.run meets (λ n h. h)
-              (asked_for u root (chosen_of r) (done ++ Matching v ∷ []) (notes_of r) standing.read standing.near);
-          standing = standing;
-        }
+        let run : SoftRun u root b.first (done ++ Matching v ∷ []) b.taken (chosen_of r) (notes_of r).exempt (notes_of r).asked =
+        chosen_before (Matching v) b.run meets (λ n h. h)
+        (asked_for u root (chosen_of r) (done ++ Matching v ∷ []) (notes_of r) standing.read standing.near) in
+        search b.promise
 
     -- the turn of one of which none is
     run_tried : (first : List S) (done : List (SoftRequirement S)) (taken chosen exempt : List S) (asked : List N) (v : VersionSetId)
@@ -179,18 +162,12 @@ module _ {N S : Type 0} (u : Universe N S) where
         let WithExempt : List S → Type 0 = λ e. Taken (chosen_of old) e in
         let taken : Taken (chosen_of old) (notes_of old).exempt = subst WithExempt exempt (subst WithChosen chosen h.turned) in
         let Run : List S → Type 0 = λ e. SoftRun u root b.first (done ++ Matching v ∷ []) h.taken_now (chosen_of new) e (notes_of new).asked in
-        record {
-          first = b.first;
-          promise = b.promise;
-          taken = h.taken_now;
-          refused = h.refused_now;
-          run = subst Run (sym (h.exempt ∙ exempt))
-              (run_tried b.first done b.taken (chosen_of old) (notes_of old).exempt (notes_of old).asked v candidates h.taken_now (chosen_of new) is_chosen
-              (notes_of new).asked b.run never match all taken
-              (h.asked (u.version_set_name v) own) (λ n k. h.asked n (grows n k))
-              (asked_for u root (chosen_of new) (done ++ Matching v ∷ []) (notes_of new) h.standing.read h.standing.near));
-          standing = h.standing;
-        }
+        let run = subst Run (sym (h.exempt ∙ exempt))
+        (run_tried b.first done b.taken (chosen_of old) (notes_of old).exempt (notes_of old).asked v candidates h.taken_now (chosen_of new) is_chosen
+        (notes_of new).asked b.run never match all taken
+        (h.asked (u.version_set_name v) own) (λ n k. h.asked n (grows n k))
+        (asked_for u root (chosen_of new) (done ++ Matching v ∷ []) (notes_of new) h.standing.read h.standing.near)) in
+        search (b.promise, h.standing)
 
     -- what a turn was, by its answer
     none_taken : (taken chosen exempt candidates taken_now chosen_now : List S) (is_chosen : Bool) →

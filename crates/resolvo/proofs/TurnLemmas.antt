@@ -11,7 +11,7 @@ use Rattle.resolver_clause_store.specs.declared.Reason.{Reason}
 use Rattle.resolver_clause_store.specs.declared.Reason.TheVariants.{Assumed, Decided, Forced}
 use Rattle.resolver_clause_store.specs.declared.Slot.{Slot}
 use Rattle.resolver_clause_store.specs.declared.Trail.{Trail}
-use Rattle.resolver_clause_store.specs.Formula.{FollowsFrom}
+use Rattle.resolver_clause_store.specs.Formula.{AreBelow, FollowsFrom}
 use Rattle.resolver_clause_store.specs.Outcomes.{IsFalseBefore, IsImplied}
 use Rattle.resolver_clause_store.specs.Slots.{is_decided}
 use Rattle.resolver_clause_store.specs.TrailView.{Gains, IsCut, IsGrown, IsTop, IsUndone, KeepsPlaces, length_of, level_of, slot_of, variable_at}
@@ -163,63 +163,35 @@ pub consistent-assumed : (it : ClauseSearch) (trail : Trail) (literal : Literal)
     (in_lists : ∥ AreInLists it.table.items it.propagator.watches ∥₁) → IsConsistent it → Gains it.trail trail literal level Assumed →
     slot_of it.trail literal.variable ≡ None → it.kept ≡ length_of it.trail → IsTop trail base → base ≤ length_of trail → held ≡ length_of trail →
     IsConsistent (record it { trail = trail; base = base; held = held; in_lists = in_lists })
-consistent-assumed it trail literal level base held in_lists holds gains free marked top bound whole = record {
-  below = λ n k d b. omega (arith, holds.below n k d b, gains.size);
-  derived = holds.derived;
-  justified = justified-decides it.table.items it.trail trail literal level Assumed assumed-forced holds.justified gains free;
-  chosen = chosen-assumes it.table.items it.requirements.items it.trail trail literal level holds.chosen gains free;
-  inside = holds.inside;
-  places = holds.places;
-  count = holds.count;
-  kept = omega (arith, holds.kept, gains.count);
-  propagator = propagator-gains it.table.items it.trail trail it.propagator literal level Assumed gains free holds.propagator;
-  turn = turn-whole trail base held it.kept top bound whole (omega (arith, whole, marked, gains.count));
-  queued = queued-longer it.queue it.trail trail it.table.items it.requirements.items
-      (keeps_all it.trail trail (keeps-gains it.trail trail literal level _ gains free)) holds.queued;
-}
+consistent-assumed it trail literal level base held in_lists holds gains free marked top bound whole =
+    let below : AreBelow (variable_count trail) it.table.items = λ n k d b. omega (arith, holds.below n k d b, gains.size) in
+    let justified = justified-decides it.table.items it.trail trail literal level Assumed assumed-forced holds.justified gains free in
+    let chosen = chosen-assumes it.table.items it.requirements.items it.trail trail literal level holds.chosen gains free in
+    let kept : it.kept ≤ length_of trail = omega (arith, holds.kept, gains.count) in
+    let propagator = propagator-gains it.table.items it.trail trail it.propagator literal level Assumed gains free holds.propagator in
+    let turn = turn-whole trail base held it.kept top bound whole (omega (arith, whole, marked, gains.count)) in
+    let queued = queued-longer it.queue it.trail trail it.table.items it.requirements.items
+    (keeps_all it.trail trail (keeps-gains it.trail trail literal level _ gains free)) holds.queued in
+    assumption
 
 pub consistent-marked : (it : ClauseSearch) (kept : ℕ) (in_lists : ∥ AreInLists it.table.items it.propagator.watches ∥₁) → kept ≡ length_of it.trail →
     IsConsistent it → IsConsistent (record it { kept = kept; in_lists = in_lists })
-consistent-marked it kept in_lists whole holds = record {
-  below = holds.below;
-  derived = holds.derived;
-  justified = holds.justified;
-  chosen = holds.chosen;
-  inside = holds.inside;
-  places = holds.places;
-  count = holds.count;
-  kept = omega (arith, whole);
-  propagator = holds.propagator;
-  turn = record { inside = holds.turn.inside; low = holds.turn.low; some = holds.turn.some; marked = omega (arith, holds.turn.inside, whole) };
-  queued = holds.queued;
-}
+consistent-marked it kept in_lists whole holds =
+    let now : kept ≤ length_of it.trail = omega (arith, whole) in
+    let marked : it.held ≤ kept + 1 = omega (arith, holds.turn.inside, whole) in
+    assumption
 
 pub consistent-held : (it : ClauseSearch) (base held : ℕ) (in_lists : ∥ AreInLists it.table.items it.propagator.watches ∥₁) → it.kept ≡ length_of it.trail →
     IsTop it.trail base → base ≤ length_of it.trail → held ≡ length_of it.trail → IsConsistent it →
     IsConsistent (record it { base = base; held = held; in_lists = in_lists })
-consistent-held it base held in_lists marked top bound whole holds = record {
-  below = holds.below;
-  derived = holds.derived;
-  justified = holds.justified;
-  chosen = holds.chosen;
-  inside = holds.inside;
-  places = holds.places;
-  count = holds.count;
-  kept = holds.kept;
-  propagator = holds.propagator;
-  turn = turn-whole it.trail base held it.kept top bound whole (omega (arith, whole, marked));
-  queued = holds.queued;
-}
+consistent-held it base held in_lists marked top bound whole holds =
+    assumption (turn-whole it.trail base held it.kept top bound whole (omega (arith, whole, marked)))
 
 -- a trail of which the first places are left
 false_before-cut : (old new : Trail) (count variable : ℕ) (slot : Slot) (literal : Literal) → IsCut old new count → slot_of new variable ≡ Some slot →
     IsFalseBefore old slot.place literal → IsFalseBefore new slot.place literal
-false_before-cut old new count variable slot literal cut at f = record {
-  slot = f.slot;
-  is = cut.kept _ _ f.is (omega (arith, f.earlier, (new.listed variable slot at).0, cut.length));
-  false_there = f.false_there;
-  earlier = f.earlier;
-}
+false_before-cut old new count variable slot literal cut at f =
+    search (cut.kept _ _ f.is (omega (arith, f.earlier, (new.listed variable slot at).0, cut.length)))
 
 justified-cut : (table : List (Vec Literal Global)) (old new : Trail) (count : ℕ) → IsJustified table old → IsCut old new count → IsJustified table new
 justified-cut table old new count justified cut = record {
@@ -234,15 +206,8 @@ chosen-cut : (table : List (Vec Literal Global)) (requirements : List Requiremen
 chosen-cut table requirements old new count chosen cut = record {
   each = λ v s n at decided.
       let c = chosen.each v s n (cut.stays v s at) decided in
-      record {
-        requirement = c.requirement;
-        listed = c.listed;
-        value = c.value;
-        before = c.before;
-        after = c.after;
-        clause = c.clause;
-        false_before = λ k d below. false_before-cut old new count v s _ cut at (c.false_before k d below);
-      };
+      let false_before = λ (k : ℕ) (d : Literal) (below : k < length c.before). false_before-cut old new count v s _ cut at (c.false_before k d below) in
+      search;
 }
 
 pub consistent-cut : (it : ClauseSearch) (trail : Trail) (propagator : Propagator) (queue : DecideQueue) (count kept base : ℕ)
@@ -251,20 +216,15 @@ pub consistent-cut : (it : ClauseSearch) (trail : Trail) (propagator : Propagato
     ((before after : Trail) (clauses : List (Vec Literal Global)) (wanted : List RequirementClause) → KeepsPlaces before after (min it.queue.kept count) →
     IsQueued it.queue before clauses wanted → IsQueued queue after clauses wanted) →
     IsConsistent (record it { trail = trail; propagator = propagator; queue = queue; kept = kept; base = base; held = count; in_lists = in_lists })
-consistent-cut it trail propagator queue count kept base in_lists holds cut last is top bound propagates noted = record {
-  below = λ n k d b. omega (arith, holds.below n k d b, cut.size);
-  derived = holds.derived;
-  justified = justified-cut it.table.items it.trail trail count holds.justified cut;
-  chosen = chosen-cut it.table.items it.requirements.items it.trail trail count holds.chosen cut;
-  inside = holds.inside;
-  places = holds.places;
-  count = holds.count;
-  kept = omega (arith, is, cut.length);
-  propagator = propagates;
-  turn = turn-whole trail base count kept top bound (sym cut.length) (omega (arith, is, last, holds.turn.marked));
-  queued = queued-left it.queue queue it.trail trail it.table.items it.requirements.items count count noted
-      (keeps_places it.trail trail count (omega (arith, last, holds.turn.inside)) (λ v s at below. cut.kept v s at below)) refl holds.queued;
-}
+consistent-cut it trail propagator queue count kept base in_lists holds cut last is top bound propagates noted =
+    let below : AreBelow (variable_count trail) it.table.items = λ n k d b. omega (arith, holds.below n k d b, cut.size) in
+    let justified = justified-cut it.table.items it.trail trail count holds.justified cut in
+    let chosen = chosen-cut it.table.items it.requirements.items it.trail trail count holds.chosen cut in
+    let marked : kept ≤ length_of trail = omega (arith, is, cut.length) in
+    let turn = turn-whole trail base count kept top bound (sym cut.length) (omega (arith, is, last, holds.turn.marked)) in
+    let queued = queued-left it.queue queue it.trail trail it.table.items it.requirements.items count count noted
+    (keeps_places it.trail trail count (omega (arith, last, holds.turn.inside)) (λ v s at below. cut.kept v s at below)) refl holds.queued in
+    assumption
 
 pub cut-free : (old new : Trail) (count : ℕ) → IsCut old new count → count < length_of old → slot_of new (variable_at old count) ≡ None
 cut-free old new count cut less = none-from (slot_of new (variable_at old count)) (λ s at.
@@ -281,8 +241,7 @@ first-cut old new kept count left cut within is =
 pub loaded-turn : (it : ClauseSearch) (trail : Trail) (propagator : Propagator) (queue : DecideQueue) (kept base held : ℕ)
     (in_lists : ∥ AreInLists it.table.items propagator.watches ∥₁) (given : List (Vec Literal Global)) (numbers : List ℕ) → IsLoaded given numbers it →
     IsLoaded given numbers (record it { trail = trail; propagator = propagator; queue = queue; kept = kept; base = base; held = held; in_lists = in_lists })
-loaded-turn it trail propagator queue kept base held in_lists given numbers loaded =
-    record { clauses = loaded.clauses; requirements = loaded.requirements; inside = loaded.inside }
+loaded-turn it trail propagator queue kept base held in_lists given numbers loaded = assumption
 
 -- more variables, and a descent
 pub turn-grown : (it : ClauseSearch) (trail : Trail) (propagator : Propagator) (queue : DecideQueue) (variables : ℕ)
@@ -305,20 +264,12 @@ pub consistent-descended : (it : ClauseSearch) (trail : Trail) (propagator : Pro
     IsJustified it.table.items trail → AreChosen it.table.items it.requirements.items trail → KeepsPlaces it.trail trail (length_of it.trail) →
     IsPropagator it.table.items trail propagator → IsQueued queue trail it.table.items it.requirements.items →
     IsConsistent (record it { trail = trail; propagator = propagator; queue = queue; in_lists = in_lists })
-consistent-descended it trail propagator queue in_lists holds size justified chosen keeps propagates queued = record {
-  below = λ n k d b. omega (arith, holds.below n k d b, size);
-  derived = holds.derived;
-  justified = justified;
-  chosen = chosen;
-  inside = holds.inside;
-  places = holds.places;
-  count = holds.count;
-  kept = omega (arith, holds.kept, keeps.are);
-  propagator = propagates;
-  turn = turn-kept it.trail trail it.base it.held it.kept it.kept holds.turn
-      (keeps-fewer it.trail trail (length_of it.trail) it.held keeps holds.turn.inside) holds.turn.marked;
-  queued = queued;
-}
+consistent-descended it trail propagator queue in_lists holds size justified chosen keeps propagates queued =
+    let below : AreBelow (variable_count trail) it.table.items = λ n k d b. omega (arith, holds.below n k d b, size) in
+    let kept : it.kept ≤ length_of trail = omega (arith, holds.kept, keeps.are) in
+    let turn = turn-kept it.trail trail it.base it.held it.kept it.kept holds.turn
+    (keeps-fewer it.trail trail (length_of it.trail) it.held keeps holds.turn.inside) holds.turn.marked in
+    assumption
 
 -- a learnt clause is implied by the given ones
 implied-learnt : (given table : List (Vec Literal Global)) (sources : List Source) (causes : List ℕ) (literals : List Literal) → IsDerived table sources →

@@ -3,8 +3,8 @@ use Rattle.std.proofs.Common.{get_or}
 use Rattle.std.proofs.lemmas.List.Elements.{All-contains}
 use Rattle.resolver_clause_store.specs.declared.Origin.TheVariants.{Solvable}
 use Rattle.resolver_encoding.specs.Notes.{notes_in}
-use Rattle.resolver_encoding.proofs.EncodingLemmas.{Extends-within, KeepsLimits-same, KeepsLimits-trans}
-use Rattle.resolver_encoding.proofs.SoFarLemmas.{AreEach-done, AreEach-more, AreEach-none, Contains-kept, IsMoreOrSame-trans, IsReadingOf-same}
+use Rattle.resolver_encoding.proofs.EncodingLemmas.{Contains-kept, Extends-within, KeepsLimits-same, KeepsLimits-trans}
+use Rattle.resolver_encoding.proofs.SoFarLemmas.{AreEach-done, AreEach-more, AreEach-none, IsMoreOrSame-trans, IsReadingOf-same}
 use Rattle.resolver_encoding.proofs.SoFarLemmas.{IsReadingOf-trans, IsReadingOf-weaker, no_more_read}
 use Rattle.resolver_encoding.proofs.ReadLemmas.{seen_fit}
 use Rattle.resolver_clause_store.specs.Near.{IsNear}
