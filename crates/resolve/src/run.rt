@@ -209,10 +209,17 @@ fn read_input<R: Read + Drop>(alloc: Global, mut input: R) -> Result<Vec<u8>, Fa
 fn answer<R: Read + Drop>(alloc: Global, input: R) -> Result<Outcome, Fault>
     ensures { IfOk result IsSomeOutcome }
 {
-    let bytes = read_input(alloc, input)?;
-    let request = read_request(alloc, &bytes)?;
+    let request = read_all(alloc, input)?;
     let outcome = solve_request(alloc, request)?;
     Ok(outcome)
+}
+
+/// Reads the statements of an input, and lets go of its text, so that solving has that memory.
+fn read_all<R: Read + Drop>(alloc: Global, input: R) -> Result<Request, Fault> {
+    let bytes = read_input(alloc, input)?;
+    let request = read_request(alloc, &bytes);
+    drop(bytes);
+    Ok(request?)
 }
 
 /// What a request comes to.

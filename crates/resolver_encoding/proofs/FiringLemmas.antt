@@ -12,7 +12,7 @@ use Rattle.resolver_clause_store.specs.Lists.{Meets}
 use Rattle.resolver_clause_store.specs.Universe.{Universe, Demands}
 use Rattle.resolver_clause_store.specs.Candidates.{matching}
 use Rattle.resolver_clause_store.specs.declared.VersionSetId.{VersionSetId}
-use Rattle.resolver_clause_store.proofs.PlaceLemmas.{Keeps-same, Keeps-trans, place_cases, place_of_member}
+use Rattle.resolver_clause_store.proofs.PlaceLemmas.{Keeps-trans, place_cases, place_of_member}
 use Rattle.resolver_encoding.specs.Called.{Call, IsWantedBy}
 use Rattle.resolver_encoding.specs.Encodings.{IsAskStep, IsEncoding, IsEncodingOf, IsFollowed, IsLeft, IsReadStep, IsTrueEntry, IsTrueUnder, Notes}
 use Rattle.resolver_encoding.specs.Groups.{AddsNamed, AreGroups, IsNamed}
@@ -22,7 +22,7 @@ use Rattle.resolver_encoding.specs.SoFar.{HasFired, HasMet, IsDeferral, IsFiring
 use Rattle.resolver_clause_store.specs.Statements.{AllMeet}
 use Rattle.resolver_encoding.specs.declared.disjuncts.Entry.{Entry}
 use Rattle.resolver_encoding.specs.declared.groups.Groups.{Groups}
-use Rattle.resolver_encoding.proofs.EncodingLemmas.{Extends-push, Extends-same, Extends-trans, IsReadStep-same, IsWithin-trans}
+use Rattle.resolver_encoding.proofs.EncodingLemmas.{Extends-push, Extends-trans, IsReadStep-same, IsWithin-trans}
 use Rattle.resolver_encoding.proofs.NoteLemmas.{All-grown_at}
 use Rattle.resolver_clause_store.proofs.ListLemmas.{Contains-at as place_in, Contains-map}
 use Rattle.resolver_encoding.proofs.ReadLemmas.{HasClause-within}
