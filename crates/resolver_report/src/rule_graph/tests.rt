@@ -6,6 +6,7 @@ use super::*;
 use crate::graph::{ConflictCause, ConflictEdge, Graph, Incoming, Outgoing};
 use crate::test_rules::{Row, graph_of_rows, marked, required};
 use resolver_clause_store::{By, Requirement, StringId, VersionSetId};
+use std::test::Fail;
 
 const WANTED: Requirement = Requirement::Single(VersionSetId(0));
 
@@ -51,17 +52,17 @@ fn is_graph<'x>(
     nodes: &'x [ConflictNode<u32>],
     edges: &'x [Edge<u32>],
     unresolved_node: Option<NodeId>,
-) -> bool {
+) -> Result<bool, Exhausted> {
     let wanted = Parts {
         nodes,
         edges,
         unresolved_node,
     };
-    matches!(makes_parts(alloc, rows, &wanted), Ok(true))
+    makes_parts(alloc, rows, &wanted)
 }
 
 #[test]
-fn constraint_on_itself(rt: HostRuntime) {
+fn constraint_on_itself(rt: HostRuntime) -> Result<(), Fail> {
     let rows = [
         required(By::Root, &[1]),
         Row::Constrains {
@@ -76,27 +77,30 @@ fn constraint_on_itself(rt: HostRuntime) {
         edge(0, 1, ConflictEdge::Requires(WANTED)),
         edge(1, 1, constrains),
     ];
-    assert!(rt; is_graph(rt.alloc(), &rows, &nodes, &edges, None));
+    assert!(rt; is_graph(rt.alloc(), &rows, &nodes, &edges, None)?);
+    Ok(())
 }
 
 #[test]
-fn no_candidates(rt: HostRuntime) {
+fn no_candidates(rt: HostRuntime) -> Result<(), Fail> {
     let rows = [required(By::Root, &[])];
     let nodes = [ConflictNode::Root, ConflictNode::UnresolvedDependency];
     let edges = [edge(0, 1, ConflictEdge::Requires(WANTED))];
-    assert!(rt; is_graph(rt.alloc(), &rows, &nodes, &edges, Some(NodeId(1))));
+    assert!(rt; is_graph(rt.alloc(), &rows, &nodes, &edges, Some(NodeId(1)))?);
+    Ok(())
 }
 
 #[test]
-fn mark_listed_twice(rt: HostRuntime) {
+fn mark_listed_twice(rt: HostRuntime) -> Result<(), Fail> {
     let second = ConflictEdge::Conflict(ConflictCause::ForbidMultipleInstances);
     let rows = [marked(5, 1), marked(5, 1)];
     let nodes = [ConflictNode::Root, ConflictNode::Solvable(1)];
-    assert!(rt; is_graph(rt.alloc(), &rows, &nodes, &[edge(1, 1, second)], None));
+    assert!(rt; is_graph(rt.alloc(), &rows, &nodes, &[edge(1, 1, second)], None)?);
+    Ok(())
 }
 
 #[test]
-fn mark_of_another_name_between(rt: HostRuntime) {
+fn mark_of_another_name_between(rt: HostRuntime) -> Result<(), Fail> {
     let second = ConflictEdge::Conflict(ConflictCause::ForbidMultipleInstances);
     let rows = [marked(5, 1), marked(6, 2), marked(5, 3)];
     let nodes = [
@@ -105,11 +109,12 @@ fn mark_of_another_name_between(rt: HostRuntime) {
         ConflictNode::Solvable(1),
         ConflictNode::Solvable(2),
     ];
-    assert!(rt; is_graph(rt.alloc(), &rows, &nodes, &[edge(2, 1, second)], None));
+    assert!(rt; is_graph(rt.alloc(), &rows, &nodes, &[edge(2, 1, second)], None)?);
+    Ok(())
 }
 
 #[test]
-fn locks_and_exclusions(rt: HostRuntime) {
+fn locks_and_exclusions(rt: HostRuntime) -> Result<(), Fail> {
     let rows = [
         Row::Lock {
             locked: 2,
@@ -136,7 +141,8 @@ fn locks_and_exclusions(rt: HostRuntime) {
         edge(2, 3, excluded),
         edge(1, 3, excluded),
     ];
-    assert!(rt; is_graph(rt.alloc(), &rows, &nodes, &edges, None));
+    assert!(rt; is_graph(rt.alloc(), &rows, &nodes, &edges, None)?);
+    Ok(())
 }
 
 /// Whether these two edges come out of a node, in order, and no more.
@@ -176,11 +182,11 @@ fn gives_edges(
 }
 
 #[test]
-fn edges_newest_first(rt: HostRuntime) {
+fn edges_newest_first(rt: HostRuntime) -> Result<(), Fail> {
     let rows = [required(By::Root, &[2, 1]), required(By::Solvable(1), &[2])];
     let wanted = ConflictEdge::Requires(WANTED);
     let from_root = (edge(0, 1, wanted), edge(0, 2, wanted));
     let to_second = (edge(1, 2, wanted), edge(0, 2, wanted));
-    let outcome = gives_edges(rt.alloc(), &rows, from_root, to_second);
-    assert!(rt; matches!(outcome, Ok(true)));
+    assert!(rt; gives_edges(rt.alloc(), &rows, from_root, to_second)?);
+    Ok(())
 }

@@ -14,6 +14,7 @@ use crate::test_rules::{Row, graph_of_rows, required_in};
 use resolver_clause_store::{
     By, Condition, ConditionId, StringId, VersionSetId, VersionSetUnionId,
 };
+use std::test::Fail;
 
 /// Solvable 10 n + k is version k of package n. Package 1 is "a", the others are "b".
 struct Packages;
@@ -115,54 +116,49 @@ fn is_one_group(groups: &Groups, ids: [u32; 2]) -> bool {
     }
 }
 
-fn has_one_group(alloc: Global, rows: &[Row<'_>], ids: [u32; 2]) -> Result<bool, Exhausted> {
+/// Whether these two versions share the one group that there is, which lists them in this order.
+fn share_a_group(alloc: Global, rows: &[Row<'_>], ids: [u32; 2]) -> Result<bool, Exhausted> {
     let groups = groups_of(alloc, rows)?;
     Ok(is_one_group(&groups, ids))
 }
 
-/// Whether these two versions share the one group that there is, which lists them in this order.
-fn share_a_group(alloc: Global, rows: &[Row<'_>], ids: [u32; 2]) -> bool {
-    matches!(has_one_group(alloc, rows, ids), Ok(true))
-}
-
-fn has_no_group(alloc: Global, rows: &[Row<'_>]) -> Result<bool, Exhausted> {
+/// Whether no two versions share a group.
+fn all_part(alloc: Global, rows: &[Row<'_>]) -> Result<bool, Exhausted> {
     let groups = groups_of(alloc, rows)?;
     Ok(groups.is_empty())
 }
 
-/// Whether no two versions share a group.
-fn all_part(alloc: Global, rows: &[Row<'_>]) -> bool {
-    matches!(has_no_group(alloc, rows), Ok(true))
-}
-
 #[test]
-fn other_requirements_part(rt: HostRuntime) {
+fn other_requirements_part(rt: HostRuntime) -> Result<(), Fail> {
     let rows = [
         required_in(By::Root, 0, &[12, 11]),
         required_in(By::Solvable(11), 1, &[]),
         required_in(By::Solvable(12), 2, &[]),
     ];
-    assert!(rt; all_part(rt.alloc(), &rows));
+    assert!(rt; all_part(rt.alloc(), &rows)?);
+    Ok(())
 }
 
 #[test]
-fn other_names_part(rt: HostRuntime) {
+fn other_names_part(rt: HostRuntime) -> Result<(), Fail> {
     let rows = [required_in(By::Root, 0, &[11, 21])];
-    assert!(rt; all_part(rt.alloc(), &rows));
+    assert!(rt; all_part(rt.alloc(), &rows)?);
+    Ok(())
 }
 
 #[test]
-fn alike_versions_share_a_group(rt: HostRuntime) {
+fn alike_versions_share_a_group(rt: HostRuntime) -> Result<(), Fail> {
     let rows = [
         required_in(By::Root, 0, &[12, 11]),
         required_in(By::Solvable(11), 1, &[]),
         required_in(By::Solvable(12), 1, &[]),
     ];
-    assert!(rt; share_a_group(rt.alloc(), &rows, [12, 11]));
+    assert!(rt; share_a_group(rt.alloc(), &rows, [12, 11])?);
+    Ok(())
 }
 
 #[test]
-fn the_order_of_edges_does_not_part(rt: HostRuntime) {
+fn the_order_of_edges_does_not_part(rt: HostRuntime) -> Result<(), Fail> {
     let rows = [
         required_in(By::Root, 0, &[12, 11]),
         required_in(By::Solvable(11), 1, &[]),
@@ -170,22 +166,24 @@ fn the_order_of_edges_does_not_part(rt: HostRuntime) {
         required_in(By::Solvable(12), 2, &[21]),
         required_in(By::Solvable(12), 1, &[]),
     ];
-    assert!(rt; share_a_group(rt.alloc(), &rows, [12, 11]));
+    assert!(rt; share_a_group(rt.alloc(), &rows, [12, 11])?);
+    Ok(())
 }
 
 #[test]
-fn how_often_an_edge_stands_parts(rt: HostRuntime) {
+fn how_often_an_edge_stands_parts(rt: HostRuntime) -> Result<(), Fail> {
     let rows = [
         required_in(By::Root, 0, &[12, 11]),
         required_in(By::Solvable(11), 1, &[]),
         required_in(By::Solvable(11), 1, &[]),
         required_in(By::Solvable(12), 1, &[]),
     ];
-    assert!(rt; all_part(rt.alloc(), &rows));
+    assert!(rt; all_part(rt.alloc(), &rows)?);
+    Ok(())
 }
 
 #[test]
-fn conflicts_are_not_told_apart(rt: HostRuntime) {
+fn conflicts_are_not_told_apart(rt: HostRuntime) -> Result<(), Fail> {
     let rows = [
         required_in(By::Root, 0, &[11, 12, 13]),
         Row::Constrains {
@@ -200,5 +198,6 @@ fn conflicts_are_not_told_apart(rt: HostRuntime) {
         },
     ];
     // The last node takes the place of the unresolved one.
-    assert!(rt; share_a_group(rt.alloc(), &rows, [13, 11]));
+    assert!(rt; share_a_group(rt.alloc(), &rows, [13, 11])?);
+    Ok(())
 }
