@@ -1,6 +1,7 @@
 //! Requests as a solver sees them.
 
 mod counts;
+mod graphs;
 mod hinted;
 mod interruptions;
 mod random_problems;
