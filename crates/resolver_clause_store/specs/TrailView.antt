@@ -1,13 +1,11 @@
 -- What a trail says.
-use Rattle.std.specs.Prelude.{◌≡◌, ◌≢◌, ℕ, ◌+◌, ◌-◌, ◌<◌, ◌≤◌, Bool, true, false, Option, Some, None, length, is_none, count_by, slice_index}
+use Rattle.std.specs.Prelude.{◌≡◌, ◌≢◌, ℕ, ◌+◌, ◌-◌, ◌<◌, ◌≤◌, Bool, Option, Some, length, is_none, count_by, slice_index}
 use Rattle.std.specs.Option.{option_map, option_map_or}
 use Rattle.std.specs.Bool.{beq}
 use Rattle.resolver_clause_store.specs.declared.literals.Literal.{Literal}
 use Rattle.resolver_clause_store.specs.declared.trail.Slot.{Slot}
 use Rattle.resolver_clause_store.specs.declared.trail.Reason.{Reason}
 use Rattle.resolver_clause_store.specs.declared.trail.Trail.{Trail}
-use Rattle.resolver_clause_store.specs.declared.trail.Addition.{Addition}
-use Rattle.resolver_clause_store.specs.declared.trail.Addition.TheVariants.{Added, Present, Refused}
 use Rattle.resolver_clause_store.specs.Slots.{slot_in}
 
 -- the slot of a variable, if it has a value
@@ -62,12 +60,6 @@ pub record Gains (old new : Trail) (literal : Literal) (level : ℕ) (reason : R
   pub size : variable_count new ≡ variable_count old
   pub count : length_of new ≡ length_of old + 1
   pub fewer_open : open_count new + 1 ≡ open_count old
-
--- what adding a literal did
-abbrev pub AdditionIs : Trail → Trail → Literal → ℕ → Reason → Addition → Type 0
-AdditionIs old new literal level reason Added = (slot_of old literal.variable ≡ None) × Gains old new literal level reason
-AdditionIs old new literal level reason Present = (literal_value old literal ≡ Some true) × (new ≡ old)
-AdditionIs old new literal level reason Refused = (literal_value old literal ≡ Some false) × (new ≡ old)
 
 -- there are so many variables, and nothing else has changed: those that were not there have no value
 pub record IsGrown (old new : Trail) (variables : ℕ) : Type 0 where

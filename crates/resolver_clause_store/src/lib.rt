@@ -50,6 +50,6 @@ pub use requirements::requirement_candidates;
 pub use rules::Rule;
 pub use scores::{Activity, Scores};
 pub use sets::{has, meets};
-pub use trail::{Addition, Reason, Slot, Trail};
+pub use trail::{Reason, Slot, Trail};
 pub use variables::Variables;
 pub use watches::{Watch, WatchedPair, Watches};

@@ -26,17 +26,6 @@ pub struct Slot {
     pub reason: Reason,
 }
 
-/// What adding a literal to a trail did.
-#[derive(Clone, Copy, PartialEq, Eq)]
-pub enum Addition {
-    /// Its variable had no value, and the literal is true from now on.
-    Added,
-    /// The literal was true.
-    Present,
-    /// The literal is false.
-    Refused,
-}
-
 /// The variables in the order in which they got their values, and a slot for each variable.
 ///
 /// The values stand in a small table besides, since most looks are for the value, and slots are wide.
@@ -59,7 +48,7 @@ impl Trail {
     ghost use Rattle.std.specs.Option.{option_map};
     ghost use Rattle.resolver_clause_store.specs.Slots.{is_decided};
     ghost use Rattle.resolver_clause_store.specs.declared.trail.Reason.TheVariants.{Assumed, Decided, Forced};
-    ghost use Rattle.resolver_clause_store.specs.TrailView.{AdditionIs, Gains, IsAbove, IsCut, IsGrown, IsSame, IsTop, IsUndone, length_of, level_of};
+    ghost use Rattle.resolver_clause_store.specs.TrailView.{Gains, IsAbove, IsCut, IsGrown, IsSame, IsTop, IsUndone, length_of, level_of};
     ghost use Rattle.resolver_clause_store.specs.TrailView.{literal_value, slot_of, variable_at, variable_count};
 
     /// A trail of no variables.
@@ -175,34 +164,6 @@ impl Trail {
         });
         self.values[literal.variable.index()] = Some(literal.positive);
         Ok(())
-    }
-
-    /// Makes a literal true at the highest level or above it, unless its variable has a value.
-    pub fn try_add_decision(
-        &mut self,
-        literal: Literal,
-        level: usize,
-        reason: Reason,
-    ) -> Result<Addition, AllocError>
-        requires inside { literal.variable < variable_count self.old }
-        requires top { IsTop self.old level }
-        requires bound { level ≤ length_of self.old + 1 }
-        requires begins { is_decided reason ≡ true → IsAbove self.old level × (0 < level) }
-        ensures ok { IfOk result (AdditionIs self.old self.new literal level reason) }
-        ensures err { OnErr result (IsSame self.old self.new) }
-    {
-        match self.slot(literal.variable) {
-            Some(slot) => {
-                if slot.value == literal.positive {
-                    return Ok(Addition::Present);
-                }
-                Ok(Addition::Refused)
-            }
-            None => {
-                self.assign(literal, level, reason)?;
-                Ok(Addition::Added)
-            }
-        }
     }
 
     /// Begins a level with a literal whose variable has no value, decided for the requirement clause with this number.

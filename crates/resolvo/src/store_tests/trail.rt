@@ -1,6 +1,6 @@
 //! What a trail answers.
 
-use resolver_clause_store::{Addition, Literal, Reason, Slot, Trail, Variable};
+use resolver_clause_store::{Literal, Reason, Slot, Trail, Variable};
 use std::alloc::AllocError;
 use std::test::Fail;
 
@@ -11,14 +11,15 @@ fn literal(number: u32, positive: bool) -> Literal {
     }
 }
 
-/// Adds a forced literal at the highest level, if there is such a variable.
-fn add(trail: &mut Trail, literal: Literal) -> Result<Option<Addition>, AllocError> {
-    if literal.variable.index() >= trail.variable_count() {
-        return Ok(None);
+/// Forces a literal, if its variable has no value.
+fn force(trail: &mut Trail, literal: Literal) -> Result<bool, AllocError> {
+    if literal.variable.index() >= trail.variable_count()
+        || trail.slot(literal.variable).is_some()
+    {
+        return Ok(false);
     }
-    let level = trail.level();
-    let addition = trail.try_add_decision(literal, level, Reason::Forced(7))?;
-    Ok(Some(addition))
+    trail.force(literal, 7)?;
+    Ok(true)
 }
 
 /// Makes a variable true, if it has no value.
@@ -55,12 +56,10 @@ fn slot(trail: &Trail, number: u32) -> Option<Slot> {
 }
 
 #[test]
-fn adding_answers_what_stands_there(rt: HostRuntime) -> Result<(), Fail> {
+fn a_forced_literal_has_a_value_and_a_slot(rt: HostRuntime) -> Result<(), Fail> {
     let mut trail = Trail::new(rt.alloc(), 3)?;
     assert!(rt; trail.is_empty());
-    assert!(rt; add(&mut trail, literal(2, false))? == Some(Addition::Added));
-    assert!(rt; add(&mut trail, literal(2, false))? == Some(Addition::Present));
-    assert!(rt; add(&mut trail, literal(2, true))? == Some(Addition::Refused));
+    assert!(rt; force(&mut trail, literal(2, false))?);
     assert_eq!(rt; trail.len(), 1);
     assert_eq!(rt; trail.variable_count(), 3);
     assert_eq!(rt; value(&trail, literal(2, false)), Some(true));
