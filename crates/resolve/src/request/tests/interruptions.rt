@@ -176,3 +176,18 @@ fn each_answer_of_the_provider_may_be_refused(rt: HostRuntime) -> Result<(), Fai
     }
     Ok(())
 }
+
+/// Whether an answer comes of an input with a provider that stops the search once more than three packages were asked for.
+fn asks_for_three(alloc: Global, input: &str) -> Result<bool, Fail> {
+    let twice = solve_twice(alloc, input, Behaviour::StoppedBeyond(3))?;
+    Ok(matches!(twice.first, Ended::Chosen(_)))
+}
+
+#[test]
+fn the_package_behind_a_condition_is_asked_for_where_that_holds(
+    rt: HostRuntime,
+) -> Result<(), Fail> {
+    assert!(rt; asks_for_three(rt.alloc(), INPUTS[4])?);
+    assert!(rt; !asks_for_three(rt.alloc(), INPUTS[5])?);
+    Ok(())
+}

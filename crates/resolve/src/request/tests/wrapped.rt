@@ -22,6 +22,8 @@ pub enum Behaviour {
     StoppedAt(u64),
     /// The answer with this number, counted from 1, is refused for want of memory.
     RefusedAt(u64),
+    /// The search is stopped once more than so many packages were asked for.
+    StoppedBeyond(u64),
 }
 
 /// Another provider, which behaves otherwise in one way.
@@ -30,21 +32,25 @@ pub struct Wrapped<P> {
     alloc: Global,
     inner: P,
     hints_all: bool,
-    /// The check that stops the search, or 0.
+    /// The check that stops the search, or 0, and the value that it is stopped with.
     stopping: u64,
     /// The answer that is refused, or 0.
     refusing: u64,
+    /// So many packages may be asked for.
+    most: u64,
     checks: Cell<u64>,
     answers: Cell<u64>,
+    packages: Cell<u64>,
 }
 
 impl<P: Drop> Wrapped<P> {
     pub fn new(alloc: Global, inner: P, behaviour: Behaviour) -> Self {
-        let (hints_all, stopping, refusing) = match behaviour {
-            Behaviour::Same => (false, 0, 0),
-            Behaviour::Hinting => (true, 0, 0),
-            Behaviour::StoppedAt(check) => (false, check, 0),
-            Behaviour::RefusedAt(answer) => (false, 0, answer),
+        let (hints_all, stopping, refusing, most) = match behaviour {
+            Behaviour::Same => (false, 0, 0, u64::MAX),
+            Behaviour::Hinting => (true, 0, 0, u64::MAX),
+            Behaviour::StoppedAt(check) => (false, check, 0, u64::MAX),
+            Behaviour::RefusedAt(answer) => (false, 0, answer, u64::MAX),
+            Behaviour::StoppedBeyond(most) => (false, 0, 0, most),
         };
         Wrapped {
             alloc,
@@ -52,8 +58,10 @@ impl<P: Drop> Wrapped<P> {
             hints_all,
             stopping,
             refusing,
+            most,
             checks: Cell::new(0),
             answers: Cell::new(0),
+            packages: Cell::new(0),
         }
     }
 
@@ -160,6 +168,7 @@ impl<P: DependencyProvider + Drop> DependencyProvider for Wrapped<P> {
         name: P::NameId,
     ) -> Result<Option<Candidates<P::SolvableId>>, Exhausted> {
         self.count()?;
+        self.packages.set(self.packages.get().saturating_add(1));
         let found = self.inner.get_candidates(name)?;
         if self.hints_all {
             return Ok(hinted(self.alloc, found));
@@ -195,7 +204,7 @@ impl<P: DependencyProvider + Drop> DependencyProvider for Wrapped<P> {
     fn should_cancel_with_value(&self) -> Option<u64> {
         let check = self.checks.get().saturating_add(1);
         self.checks.set(check);
-        if check == self.stopping {
+        if check == self.stopping || self.most < self.packages.get() {
             return Some(self.stopping);
         }
         None
