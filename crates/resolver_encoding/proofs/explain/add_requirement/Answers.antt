@@ -11,3 +11,9 @@ returns-clause-added g c =
     let u = g.D.Interner.universe c.args.provider.now in
     subst (λ lists. Adds (requirement_candidates u c.args.requirement) lists) c.in_ok-when.ensures.are
     (subst (λ list. Adds list (map (λ x. x.items) c.in_ok-when.when.items)) c.in_ok-candidates.ensures.value c.in_ok-require.ensures.added)
+
+pub returns-clause-is_true : goal.returns-clause-is_true
+returns-clause-is_true g c = c.matching_lists.ensures.is_true
+
+pub returns-clause-refusal : goal.returns-clause-refusal
+returns-clause-refusal g c = tt

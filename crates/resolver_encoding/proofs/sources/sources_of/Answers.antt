@@ -1,3 +1,6 @@
+use Rattle.std.proofs.Common.{subst, List, ℕ}
+use Rattle.std.proofs.lemmas.List.{take_all}
+use Rattle.resolver_encoding.specs.Sources.{AreSources}
 use Rattle.std.proofs.Common.{arith, rules, ◌∙◌, take}
 use Rattle.std.specs.Prelude.{slice_index_or}
 use Rattle.std.proofs.lemmas.List.{get_or_default}
@@ -23,3 +26,11 @@ loop-number-preserved g c =
     sources_next c.args.kinds.now c.args.numbers.now i n k c.note.new.self (search rules) (get_or_default c.args.numbers.now i 0 n (search rules))
     (c.index-kinds-number.is ∙ get_or_default c.args.kinds.now n k InstallRoot (c.requires.within i 0 (search rules)))
     (c.in_ok-note.ensures.noted (kinds_at c.args.kinds.now (take i c.args.numbers.now)) c.loop-number.invariant)
+
+pub returns-clause-are : goal.returns-clause-are
+returns-clause-are g c =
+    let Are : List ℕ → Type 0 = λ numbers. AreSources (kinds_at c.args.kinds.now numbers) c.loop-number.sources in
+    subst Are (take_all c.loop-number.number-index c.args.numbers.now (omega arith)) c.loop-number.invariant
+
+pub returns-clause-memory : goal.returns-clause-memory
+returns-clause-memory g c = tt

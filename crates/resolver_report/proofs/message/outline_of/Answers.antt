@@ -1,3 +1,4 @@
+use Rattle.std.proofs.Common.{refl}
 use Rattle.std.proofs.Common.{◌≡◌, ◌∙◌, map, sym, subst}
 use Rattle.resolver_report.specs.ConflictGraphs.{shape_of}
 use Rattle.resolver_report.specs.declared.graph.ConflictGraph.{ConflictGraph}
@@ -20,3 +21,12 @@ returns-clause-outline g c =
       nodes = c.in_ok-nodes.ensures.value ∙
           (λ i. map (node_told (shape_of f.graph.now) (same_groups i) (c.in_ok-findings.ensures.marks i)) (places f.graph.now.graph));
     }
+
+pub returns-clause-graph : goal.returns-clause-graph
+returns-clause-graph g c = c.in_ok-findings.ensures.graph
+
+pub returns-clause-interner : goal.returns-clause-interner
+returns-clause-interner g c = refl
+
+pub returns-clause-memory : goal.returns-clause-memory
+returns-clause-memory g c = tt

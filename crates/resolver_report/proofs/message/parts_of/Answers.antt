@@ -24,3 +24,9 @@ returns-clause-message g c =
     let graph = c.in_ok-outline.ensures.graph in
     λ i. missing_part (U (it i)) (shape_of (graph i)) (keys (U (it i)) (graph i).graph) (installable (shape_of (graph i))) (lost i) ++
     conflict_part (U (it i)) (shape_of (graph i)) (keys (U (it i)) (graph i).graph) (installable (shape_of (graph i))) (edges i) (left i)
+
+pub returns-clause-outline : goal.returns-clause-outline
+returns-clause-outline g c = c.in_ok-outline.ensures.outline
+
+pub returns-clause-memory : goal.returns-clause-memory
+returns-clause-memory g c = tt

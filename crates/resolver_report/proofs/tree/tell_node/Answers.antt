@@ -1,3 +1,4 @@
+use Rattle.std.proofs.lemmas.List.{length-map}
 use Rattle.std.proofs.Common.{◌∙◌, ◌++◌, ◌∷◌, ◌<◌, ◌-◌, [], List, Bool, true, false, ap, length, map, arith, suc, subst, sym}
 use Rattle.std.specs.Prelude.{◌==◌, slice_set, string_bytes}
 use Rattle.resolver_report.specs.Forests.{indent_from, text_of}
@@ -85,3 +86,19 @@ returns-clause-step g c =
     ap (λ r. line ++ text_of top levels (below r).value) (sym c.report.ensures))
     (ap (λ t. t.reported) whole ∙ more_reported U s top levels below version verdict told more ∙ ap (λ r. (below r).reported) (sym c.report.ensures))
     wrote (off_branch U s p.branch.items n.0 p.reported.items c.requires.node.loud) (ap (λ t. t.runs) c.requires.node.view) deep)
+
+pub returns-clause-levels : goal.returns-clause-levels
+returns-clause-levels g c =
+    let runs = c.args.pending.now.runs.now in
+    ap levels_in c.in_ok-enter.ensures.indenter ∙ c.in_ok-deeper.ensures.levels
+    ∙ (λ i. c.requires.levels i ++ (ap (λ n. n == 0) (sym (length-map runs run_told_view))) i ∷ (length c.args.rest.now == 0) ∷ [])
+    ∙ sym (ap (λ (q : PendingTold). levels_of q.frames) c.in_ok-enter.ensures.view)
+
+pub returns-then-not-requires_more-clause-levels : goal.returns-then-not-requires_more-clause-levels
+returns-then-not-requires_more-clause-levels g c = c.requires.levels
+
+pub returns-clause-memory : goal.returns-clause-memory
+returns-clause-memory g c = tt
+
+pub returns-then-not-requires_more-clause-memory : goal.returns-then-not-requires_more-clause-memory
+returns-then-not-requires_more-clause-memory g c = tt

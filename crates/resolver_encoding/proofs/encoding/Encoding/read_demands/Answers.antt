@@ -1,3 +1,4 @@
+use Rattle.std.proofs.Common.{◌∙◌}
 use Rattle.std.proofs.Common.{◌≡◌, inl, inr, sym, subst, All, Contains, List, ◌⊎◌, ⊎_elim}
 use Rattle.std.specs.Prelude.{Option, Some, ⊤}
 use Rattle.std.proofs.lemmas.List.Elements.{All-contains_itself, All-weaker}
@@ -227,3 +228,41 @@ returns-clause-brings g c =
     Brings-trans u Called Own old required new seen_required third
     (Brings-weaker u (IsNamedBy u vs) Called (λ n h. inr h) (IsOwn u by (with_constraints vs)) Own
     (IsOwn-within u by (with_constraints vs) demands (none_within rs) (λ v h. h)) required new c.read_constraints.ensures.brings)
+
+pub returns-clause-bounded : goal.returns-clause-bounded
+returns-clause-bounded g c = c.read_constraints.ensures.bounded
+
+pub returns-clause-is_true : goal.returns-clause-is_true
+returns-clause-is_true g c = c.read_constraints.ensures.is_true
+
+pub returns-clause-limits : goal.returns-clause-limits
+returns-clause-limits g c =
+    let one = c.ask_plain_each.ensures.limits in
+    let two = c.ask_each.ensures.limits in
+    let three = c.read_requirements.ensures.limits in
+    let four = c.read_constraints.ensures.limits in
+    record { variables = four.variables ∙ three.variables ∙ two.variables ∙ one.variables; clauses = four.clauses ∙ three.clauses ∙ two.clauses ∙ one.clauses }
+
+pub returns-in_err-read_constraints-clause-limits : goal.returns-in_err-read_constraints-clause-limits
+returns-in_err-read_constraints-clause-limits g c =
+    let one = c.ask_plain_each.ensures.limits in
+    let two = c.ask_each.ensures.limits in
+    let three = c.read_requirements.ensures.limits in
+    let four = c.read_constraints.ensures.limits in
+    record { variables = four.variables ∙ three.variables ∙ two.variables ∙ one.variables; clauses = four.clauses ∙ three.clauses ∙ two.clauses ∙ one.clauses }
+
+pub returns-in_err-read_requirements-clause-limits : goal.returns-in_err-read_requirements-clause-limits
+returns-in_err-read_requirements-clause-limits g c =
+    let one = c.ask_plain_each.ensures.limits in
+    let two = c.ask_each.ensures.limits in
+    let three = c.read_requirements.ensures.limits in
+    record { variables = three.variables ∙ two.variables ∙ one.variables; clauses = three.clauses ∙ two.clauses ∙ one.clauses }
+
+pub returns-in_err-ask_each-clause-limits : goal.returns-in_err-ask_each-clause-limits
+returns-in_err-ask_each-clause-limits g c =
+    let one = c.ask_plain_each.ensures.limits in
+    let two = c.ask_each.ensures.limits in
+    record { variables = two.variables ∙ one.variables; clauses = two.clauses ∙ one.clauses }
+
+pub returns-clause-refusal : goal.returns-clause-refusal
+returns-clause-refusal g c = tt

@@ -1,3 +1,4 @@
+use Rattle.resolver_encoding.specs.Encodings.{AreNeedsRead}
 use Rattle.std.proofs.Common.{◌≡◌, sym, ◌∙◌, refl, subst}
 use Rattle.std.specs.Prelude.{⊤}
 use Rattle.resolver_clause_store.specs.Universe.{Demands, Needs, known}
@@ -155,3 +156,46 @@ returns-in_ok-read_demands-in-Known-clause-brings g c =
     let new = notes_in c.read_demands.new.self in
     let Brought : Demands → Type 0 = λ d. Brings u (IsDemanded u set d) (IsOwn u (Solvable s) d) old new in
     subst Brought (sym same) c.read_demands.ensures.brings
+
+pub returns-in_ok-forbid_unknown-in-Unknown-clause-bounded : goal.returns-in_ok-forbid_unknown-in-Unknown-clause-bounded
+returns-in_ok-forbid_unknown-in-Unknown-clause-bounded g c = c.forbid_unknown.ensures.bounded
+
+pub returns-in_ok-forbid_unknown-in-Unknown-clause-is_true : goal.returns-in_ok-forbid_unknown-in-Unknown-clause-is_true
+returns-in_ok-forbid_unknown-in-Unknown-clause-is_true g c = c.fetch_dependencies.ensures.is_true
+
+pub returns-in_ok-forbid_unknown-in-Unknown-clause-limits : goal.returns-in_ok-forbid_unknown-in-Unknown-clause-limits
+returns-in_ok-forbid_unknown-in-Unknown-clause-limits g c = c.forbid_unknown.ensures.limits
+
+pub returns-in_ok-forbid_unknown-in-Unknown-clause-refusal : goal.returns-in_ok-forbid_unknown-in-Unknown-clause-refusal
+returns-in_ok-forbid_unknown-in-Unknown-clause-refusal g c = tt
+
+pub returns-in_ok-forbid_unknown-in-Unknown-clause-read : goal.returns-in_ok-forbid_unknown-in-Unknown-clause-read
+returns-in_ok-forbid_unknown-in-Unknown-clause-read g c =
+    let u = g.D.Interner.universe c.args.provider.now in
+    let answer = rw c.in-Unknown.is at (c.dependencies.ensures u c.fetch_dependencies.ensures.is_true) in
+    let Read : Needs → Type 0 = λ needs. AreNeedsRead u (notes_in c.forbid_unknown.new.self) c.args.solvable needs in
+    subst Read answer c.in_ok-forbid_unknown-in-Unknown.ensures.forbidden
+
+pub returns-in_ok-read_demands-in-Known-clause-bounded : goal.returns-in_ok-read_demands-in-Known-clause-bounded
+returns-in_ok-read_demands-in-Known-clause-bounded g c = c.read_demands.ensures.bounded
+
+pub returns-in_ok-read_demands-in-Known-clause-is_true : goal.returns-in_ok-read_demands-in-Known-clause-is_true
+returns-in_ok-read_demands-in-Known-clause-is_true g c = c.read_demands.ensures.is_true
+
+pub returns-in_ok-read_demands-in-Known-clause-limits : goal.returns-in_ok-read_demands-in-Known-clause-limits
+returns-in_ok-read_demands-in-Known-clause-limits g c = c.read_demands.ensures.limits
+
+pub returns-in_ok-read_demands-in-Known-clause-refusal : goal.returns-in_ok-read_demands-in-Known-clause-refusal
+returns-in_ok-read_demands-in-Known-clause-refusal g c = tt
+
+pub returns-in_ok-read_demands-in-Known-clause-read : goal.returns-in_ok-read_demands-in-Known-clause-read
+returns-in_ok-read_demands-in-Known-clause-read g c =
+    let u = g.D.Interner.universe c.args.provider.now in
+    let answer = rw c.in-Known.is at (c.dependencies.ensures u c.fetch_dependencies.ensures.is_true) in
+    let copied_requirements = c.deref-in-Known-2.ensures.value ∙ c.in_ok-requirements-in-Known.ensures.items ∙ c.deref.ensures.value in
+    let copied_constraints = c.deref-in-Known-3.ensures.value ∙ c.in_ok-constraints-in-Known.ensures.items ∙ c.deref-in-Known.ensures.value in
+    let demands : Demands = record { requirements = c.deref-in-Known-2.result.now; constraints = c.deref-in-Known-3.result.now } in
+    let copied : demands ≡ record { requirements = c.in-Known.known.requirements.items; constraints = c.in-Known.known.constrains.items } =
+    λ i. record { requirements = copied_requirements i; constraints = copied_constraints i } in
+    let Read : Needs → Type 0 = λ needs. AreNeedsRead u (notes_in c.read_demands.new.self) c.args.solvable needs in
+    subst Read answer (subst (λ (d : Demands). Read (known d)) copied c.in_ok-read_demands-in-Known.ensures.read)
