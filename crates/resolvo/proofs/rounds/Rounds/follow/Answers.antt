@@ -1,4 +1,4 @@
-use Rattle.std.proofs.Common.{List, subst, ℕ, refl}
+use Rattle.std.proofs.Common.{List, subst, ℕ}
 use Rattle.resolver_clause_store.specs.TrailView.{length_of}
 use Rattle.resolver_clause_store.specs.Variables.{origins_in}
 use Rattle.resolver_clause_store.specs.declared.Origin.{Origin}
@@ -30,18 +30,3 @@ returns-clause-followed g c =
     followed old c.kept.result c.cut.new.self c.follow.new.self c.mark.new.self c.requires.loaded c.requires.mark c.kept.ensures.value c.cut.ensures
     (subst With c.variables.ensures (subst For c.trail.ensures c.in_ok-follow.ensures.follows))
     c.mark.ensures.trail c.mark.ensures.clauses c.mark.ensures.learnt c.mark.ensures.turn c.mark.ensures.count
-
-pub returns-clause-memory : goal.returns-clause-memory
-returns-clause-memory g c = tt
-
-pub returns-clause-same : goal.returns-clause-same
-returns-clause-same g c = refl
-
-pub returns-clause-limits : goal.returns-clause-limits
-returns-clause-limits g c = record { notes = record { variables = refl; clauses = refl }; clauses = refl; learnt = refl }
-
-pub follow-requires-clause-size : goal.follow-requires-clause-size
-follow-requires-clause-size g c = rw (c.trail.ensures, c.variables.ensures) c.requires.loaded.variables
-
-pub follow-requires-clause-distinct : goal.follow-requires-clause-distinct
-follow-requires-clause-distinct g c = rw c.variables.ensures c.requires.distinct

@@ -1,6 +1,7 @@
+use Rattle.std.proofs.Common.{arith}
+use Rattle.std.proofs.lemmas.Grind.{common_steps}
 use Rattle.std.proofs.Common.{Option, subst, sym}
 use Rattle.resolvo.specs.Problems.{AreFirstItems, AreItems}
-use Rattle.resolvo.proofs.RoundLemmas.{room_same}
 use Rattle.resolvo.proofs.rounds.Rounds.given_turns.Goals as goal
 
 pub returns-in_ok-solvable_turns-in-Some-clause-between : goal.returns-in_ok-solvable_turns-in-Some-clause-between
@@ -14,6 +15,21 @@ returns-in_ok-solvable_turns-in-Some-clause-over g c = λ root b led.
     let w = c.in_ok-solvable_turns-in-Some.ensures.over root b led in
     let Items : Option g.row.I.Denot → Type 0 = λ soft. AreItems g.I.Iterator.next_gives soft w.0 in
     (w.0, subst Items (sym c.in-Some.is) w.1, w.2, w.3)
+
+pub returns-in_ok-solvable_turns-in-Some-clause-counted : goal.returns-in_ok-solvable_turns-in-Some-clause-counted
+returns-in_ok-solvable_turns-in-Some-clause-counted g c = grind (arith, common_steps)
+
+pub returns-in_ok-solvable_turns-in-Some-clause-is_true : goal.returns-in_ok-solvable_turns-in-Some-clause-is_true
+returns-in_ok-solvable_turns-in-Some-clause-is_true g c = grind (arith, common_steps)
+
+pub returns-in_ok-solvable_turns-in-Some-clause-limits : goal.returns-in_ok-solvable_turns-in-Some-clause-limits
+returns-in_ok-solvable_turns-in-Some-clause-limits g c = grind (arith, common_steps)
+
+pub returns-in_ok-solvable_turns-in-Some-clause-refusal : goal.returns-in_ok-solvable_turns-in-Some-clause-refusal
+returns-in_ok-solvable_turns-in-Some-clause-refusal g c = grind (arith, common_steps)
+
+pub returns-in_ok-solvable_turns-in-Some-clause-rounds : goal.returns-in_ok-solvable_turns-in-Some-clause-rounds
+returns-in_ok-solvable_turns-in-Some-clause-rounds g c = grind (arith, common_steps)
 
 pub returns-in_err-solvable_turns-in-Some-clause-led : goal.returns-in_err-solvable_turns-in-Some-clause-led
 returns-in_err-solvable_turns-in-Some-clause-led g c = λ root b led.
@@ -29,27 +45,3 @@ returns-in_ok-solvable_turns-in-Some-clause-led g c = λ root b led.
 
 pub returns-in_ok-solvable_turns-in-Some-clause-still : goal.returns-in_ok-solvable_turns-in-Some-clause-still
 returns-in_ok-solvable_turns-in-Some-clause-still g c = c.in_ok-solvable_turns-in-Some.ensures.still
-
-pub returns-in_ok-solvable_turns-in-Some-clause-counted : goal.returns-in_ok-solvable_turns-in-Some-clause-counted
-returns-in_ok-solvable_turns-in-Some-clause-counted g c = c.in_ok-solvable_turns-in-Some.ensures.counted
-
-pub returns-in_ok-solvable_turns-in-Some-clause-is_true : goal.returns-in_ok-solvable_turns-in-Some-clause-is_true
-returns-in_ok-solvable_turns-in-Some-clause-is_true g c = c.solvable_turns.ensures.is_true
-
-pub returns-in_ok-solvable_turns-in-Some-clause-limits : goal.returns-in_ok-solvable_turns-in-Some-clause-limits
-returns-in_ok-solvable_turns-in-Some-clause-limits g c = c.solvable_turns.ensures.limits
-
-pub returns-in_ok-solvable_turns-in-Some-clause-refusal : goal.returns-in_ok-solvable_turns-in-Some-clause-refusal
-returns-in_ok-solvable_turns-in-Some-clause-refusal g c = tt
-
-pub returns-in_ok-solvable_turns-in-Some-clause-rounds : goal.returns-in_ok-solvable_turns-in-Some-clause-rounds
-returns-in_ok-solvable_turns-in-Some-clause-rounds g c = c.in_ok-solvable_turns-in-Some.ensures.rounds
-
-pub returns-in-None-clause-limits : goal.returns-in-None-clause-limits
-returns-in-None-clause-limits g c = room_same c.args.self.now
-
-pub solvable_turns-requires-clause-can_next : goal.solvable_turns-requires-clause-can_next
-solvable_turns-requires-clause-can_next g c = rw c.in-Some.is at c.requires.can_next
-
-pub solvable_turns-requires-clause-ends : goal.solvable_turns-requires-clause-ends
-solvable_turns-requires-clause-ends g c = rw c.in-Some.is at c.requires.ends

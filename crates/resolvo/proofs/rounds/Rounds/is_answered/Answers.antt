@@ -1,3 +1,5 @@
+use Rattle.std.proofs.Common.{arith}
+use Rattle.std.proofs.lemmas.Grind.{common_steps}
 use Rattle.std.proofs.Common.{sym}
 use Rattle.std.proofs.lemmas.Bool.{false≢true}
 use Rattle.resolvo.specs.RoundStates.{IsFound}
@@ -15,6 +17,12 @@ returns-clause-unanswered g c =
       | in-Contradiction w ↦ rw w.result-is (λ off. unanswered_core new _ (rw w.in-Contradiction.is at found))
       | in-Refused w ↦ rw w.result-is (λ off. unanswered_refused new (rw w.in-Refused.is at found))
     ]
+
+pub returns-clause-is_true : goal.returns-clause-is_true
+returns-clause-is_true g c = grind (arith, common_steps)
+
+pub returns-clause-limits : goal.returns-clause-limits
+returns-clause-limits g c = grind (arith, common_steps)
 
 pub returns-in_err-all_rounds-clause-led : goal.returns-in_err-all_rounds-clause-led
 returns-in_err-all_rounds-clause-led g c = c.all_rounds.ensures.led
@@ -59,9 +67,3 @@ returns-clause-refusal g c = elim c.match-branch-2.branch [
   | in-Contradiction w ↦ rw w.result-is tt
   | in-Refused w ↦ rw w.result-is tt
 ]
-
-pub returns-clause-is_true : goal.returns-clause-is_true
-returns-clause-is_true g c = c.all_rounds.ensures.is_true
-
-pub returns-clause-limits : goal.returns-clause-limits
-returns-clause-limits g c = c.all_rounds.ensures.limits

@@ -88,7 +88,3 @@ returns-clause-limits g c = c.loop-requirement.invariant.room
 
 pub returns-clause-refusal : goal.returns-clause-refusal
 returns-clause-refusal g c = tt
-
-pub returns-in_err-soft_turn-clause-limits : goal.returns-in_err-soft_turn-clause-limits
-returns-in_err-soft_turn-clause-limits g c =
-    room_trans c.args.self.now c.loop-requirement.self c.soft_turn.new.self c.loop-requirement.invariant.room c.soft_turn.ensures.limits

@@ -182,7 +182,3 @@ returns-in-Read-clause-refusal g c = tt
 
 pub returns-in-Read-clause-limits : goal.returns-in-Read-clause-limits
 returns-in-Read-clause-limits g c = room_trans c.args.self.now c.search.new.self c.read.new.self c.search.ensures.limits c.read.ensures.limits
-
-pub returns-in_err-read-in-Finished-clause-limits : goal.returns-in_err-read-in-Finished-clause-limits
-returns-in_err-read-in-Finished-clause-limits g c =
-    room_trans c.args.self.now c.search.new.self c.read.new.self c.search.ensures.limits c.read.ensures.limits

@@ -40,7 +40,3 @@ returns-clause-limits g c = room_trans c.args.self.now c.given_turns.new.self c.
 
 pub returns-clause-refusal : goal.returns-clause-refusal
 returns-clause-refusal g c = tt
-
-pub returns-in_err-list_turns-clause-limits : goal.returns-in_err-list_turns-clause-limits
-returns-in_err-list_turns-clause-limits g c =
-    room_trans c.args.self.now c.given_turns.new.self c.list_turns.new.self c.given_turns.ensures.limits c.list_turns.ensures.limits

@@ -1,12 +1,28 @@
-use Rattle.std.proofs.Common.{[], ◌∷◌, ◌++◌, List, subst, sym}
+use Rattle.std.proofs.Common.{[], ◌∷◌, ◌++◌, List, arith, subst, sym}
 use Rattle.std.specs.Prelude.{map}
 use Rattle.std.proofs.lemmas.List.{map-append}
 use Rattle.resolver_clause_store.specs.declared.SoftRequirement.{SoftRequirement}
 use Rattle.resolver_clause_store.specs.declared.SoftRequirement.TheVariants.{Solvable}
 use Rattle.resolvo.specs.RoundStates.{IsBetween, IsLedBy}
 use Rattle.resolvo.proofs.RoundLemmas.{room_trans}
+use Rattle.std.proofs.lemmas.Grind.{common_steps}
 use Rattle.resolvo.proofs.LeadingLemmas.{gives_all, gives_more, gives_these}
 use Rattle.resolvo.proofs.rounds.Rounds.solvable_turns.Goals as goal
+
+pub returns-clause-counted : goal.returns-clause-counted
+returns-clause-counted g c = grind (arith, common_steps)
+
+pub returns-clause-is_true : goal.returns-clause-is_true
+returns-clause-is_true g c = grind (arith, common_steps)
+
+pub returns-clause-limits : goal.returns-clause-limits
+returns-clause-limits g c = grind (arith, common_steps)
+
+pub returns-clause-refusal : goal.returns-clause-refusal
+returns-clause-refusal g c = grind (arith, common_steps)
+
+pub returns-clause-rounds : goal.returns-clause-rounds
+returns-clause-rounds g c = grind (arith, common_steps)
 
 pub loop-solvable-preserved : goal.loop-solvable-preserved
 loop-solvable-preserved g c =
@@ -63,22 +79,3 @@ returns-clause-led g c = λ root b led.
 
 pub returns-clause-still : goal.returns-clause-still
 returns-clause-still g c = c.loop-solvable.invariant.still
-
-pub returns-clause-counted : goal.returns-clause-counted
-returns-clause-counted g c = c.loop-solvable.invariant.counted
-
-pub returns-clause-is_true : goal.returns-clause-is_true
-returns-clause-is_true g c = c.loop-solvable.invariant.is_true
-
-pub returns-clause-limits : goal.returns-clause-limits
-returns-clause-limits g c = c.loop-solvable.invariant.room
-
-pub returns-clause-refusal : goal.returns-clause-refusal
-returns-clause-refusal g c = tt
-
-pub returns-clause-rounds : goal.returns-clause-rounds
-returns-clause-rounds g c = c.loop-solvable.invariant.rounds
-
-pub returns-in_err-soft_turn-clause-limits : goal.returns-in_err-soft_turn-clause-limits
-returns-in_err-soft_turn-clause-limits g c =
-    room_trans c.args.self.now c.loop-solvable.self c.soft_turn.new.self c.loop-solvable.invariant.room c.soft_turn.ensures.limits

@@ -129,6 +129,3 @@ returns-then-branch-clause-limits g c = room_trans c.args.self.now c.loop-candid
 
 pub returns-then-branch-clause-refusal : goal.returns-then-branch-clause-refusal
 returns-then-branch-clause-refusal g c = tt
-
-pub returns-in_err-turn-clause-limits : goal.returns-in_err-turn-clause-limits
-returns-in_err-turn-clause-limits g c = room_trans c.args.self.now c.loop-candidate.self c.turn.new.self c.loop-candidate.invariant.room c.turn.ensures.limits
