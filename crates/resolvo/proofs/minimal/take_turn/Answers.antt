@@ -1,15 +1,21 @@
-use Rattle.std.proofs.Common.{◌≡◌, ℕ, ◌∙◌, ◌-◌, ◌+◌, ◌<◌, length, get_or, arith, false, true, List, Bool, sym, ap, subst}
-use Rattle.std.proofs.lemmas.List.{get_or_default}
+use Rattle.std.proofs.Common.{◌≡◌, ◌∷◌, ℕ, ◌∙◌, ◌-◌, ◌+◌, ◌<◌, length, get_or, arith, false, true, List, Bool, sym, ap, subst}
+use Rattle.std.proofs.lemmas.List.{get_or_default, length_push, length-append, length-replicate}
 use Rattle.resolver_clause_store.specs.Rules.{IsRefuted}
 use Rattle.resolvo.specs.Minimal.{IsRefutedPart, marked, others_of}
 use Rattle.resolvo.proofs.MinimalLemmas.{turn_kept, turn_left_out, turn_skipped}
 use Rattle.resolvo.proofs.RotationLemmas.{marked_needed, needed_next}
+use Rattle.std.specs.Prelude.{replicate}
 use Rattle.resolvo.proofs.minimal.take_turn.Goals as goal
 
 -- the marks as they are lent
 same_marks : (count : ℕ) (lent marks slice kept : List Bool) → lent ≡ marks → marks ≡ others_of slice (count - (length slice + 1)) → slice ≡ kept →
     lent ≡ others_of kept (count - (length kept + 1))
 same_marks count lent marks slice kept a b e = a ∙ (b ∙ ap (λ q. others_of q (count - (length q + 1))) e)
+
+-- there are as many marks as rules
+others_length : (count : ℕ) (kept : List Bool) → length kept < count → length (others_of kept (count - (length kept + 1))) ≡ count
+others_length count kept below =
+    omega (arith, below, length-append kept (false ∷ replicate (count - (length kept + 1)) true), length-replicate (count - (length kept + 1)) true)
 
 -- the mark behind the first ones, as it is read
 standing : (core kept : List Bool) (place : ℕ) (mark : Bool) → place ≡ length kept → mark ≡ get_or core place mark → mark ≡ false →
@@ -88,3 +94,39 @@ returns-clause-underway g c =
       size = noted.size ∙ so.size;
       needed = rw is (needed_next c.args.form.now after.kept.items after.needed.items true noted.needed);
     }
+
+pub returns-clause-memory : goal.returns-clause-memory
+returns-clause-memory g c = tt
+
+pub returns-then-is_needed-clause-memory : goal.returns-then-is_needed-clause-memory
+returns-then-is_needed-clause-memory g c = tt
+
+pub returns-then-not-index-clause-memory : goal.returns-then-not-index-clause-memory
+returns-then-not-index-clause-memory g c = tt
+
+pub returns-in-Refuted-clause-memory : goal.returns-in-Refuted-clause-memory
+returns-in-Refuted-clause-memory g c = tt
+
+pub returns-then-not-index-clause-next : goal.returns-then-not-index-clause-next
+returns-then-not-index-clause-next g c = ap length c.in_ok-push.ensures.items ∙ length_push _ _
+
+pub returns-then-is_needed-clause-next : goal.returns-then-is_needed-clause-next
+returns-then-is_needed-clause-next g c = ap length c.in_ok-push-2.ensures.items ∙ length_push _ _
+
+pub returns-in-Refuted-clause-next : goal.returns-in-Refuted-clause-next
+returns-in-Refuted-clause-next g c = ap length c.in_ok-push-in-Refuted.ensures.items ∙ length_push _ _
+
+pub returns-clause-next : goal.returns-clause-next
+returns-clause-next g c =
+    let noted = c.in_ok-note_needed-in-Obeyed.ensures in
+    rw noted.kept at (ap length c.in_ok-push-in-Obeyed.ensures.items ∙ length_push _ _)
+
+pub others-requires : goal.others-requires
+others-requires g c = rw c.deref.ensures.value c.requires.inside
+
+pub verdict_on-requires-clause-size : goal.verdict_on-requires-clause-size
+verdict_on-requires-clause-size g c =
+    let kept = c.args.turns.now.kept.items in
+    let rules = c.args.rules.now in
+    ap length (same_marks (length rules) c.deref-2.result.now c.in_ok-marks.marks.items c.deref.result.now kept c.deref-2.ensures.value c.in_ok-marks.ensures
+    c.deref.ensures.value) ∙ others_length (length rules) kept c.requires.inside

@@ -1,6 +1,7 @@
 use Rattle.resolvo.proofs.LoadLemmas.{finished_for, first-after, loaded-trail, problem-descended, problem-trans}
 use Rattle.resolvo.proofs.TurnLemmas.{consistent-descended, turn-trans}
 use Rattle.resolvo.proofs.WatchedLemmas.{in_lists, owned-either}
+use Rattle.std.proofs.Common.{◌∙◌}
 use Rattle.resolvo.proofs.clause_search.ClauseSearch.run.Goals as goal
 
 pub returns-in-None-clause-outcome : goal.returns-in-None-clause-outcome
@@ -81,3 +82,44 @@ invariant_of-self g c =
       in_lists = ∣ in_lists _ _
           (owned-either c.descend.result _ _ _ (rw table at c.descend.ensures.propagator) (rw table at c.descend.ensures.refused)) ∣₁;
     }
+
+pub returns-in-None-clause-variables : goal.returns-in-None-clause-variables
+returns-in-None-clause-variables g c = c.in_ok-descend.ensures.size ∙ c.conflicts.invariant.1.variables
+
+pub returns-in-None-clause-kept : goal.returns-in-None-clause-kept
+returns-in-None-clause-kept g c = λ base keeps.
+    first-after c.conflicts.self.trail c.descend.new.trail c.conflicts.self.kept c.in_ok-descend.ensures.kept base (c.conflicts.invariant.1.kept base keeps)
+
+pub returns-in-None-clause-refusal : goal.returns-in-None-clause-refusal
+returns-in-None-clause-refusal g c = tt
+
+pub returns-in-Some-2-clause-consistent : goal.returns-in-Some-2-clause-consistent
+returns-in-Some-2-clause-consistent g c = c.in_ok-outcome-in-Some.ensures.consistent
+
+pub returns-in-Some-2-clause-variables : goal.returns-in-Some-2-clause-variables
+returns-in-Some-2-clause-variables g c =
+    c.in_ok-outcome-in-Some.ensures.same.variables ∙ (c.in_ok-descend.ensures.size ∙ c.conflicts.invariant.1.variables)
+
+pub returns-in-Some-2-clause-refusal : goal.returns-in-Some-2-clause-refusal
+returns-in-Some-2-clause-refusal g c = tt
+
+pub descend-requires-clause-below : goal.descend-requires-clause-below
+descend-requires-clause-below g c = rw c.as_slice.ensures.value c.conflicts.invariant.0.below
+
+pub descend-requires-clause-propagator : goal.descend-requires-clause-propagator
+descend-requires-clause-propagator g c = rw c.as_slice.ensures.value c.conflicts.invariant.0.propagator
+
+pub descend-requires-clause-justified : goal.descend-requires-clause-justified
+descend-requires-clause-justified g c = rw c.as_slice.ensures.value c.conflicts.invariant.0.justified
+
+pub descend-requires-clause-inside : goal.descend-requires-clause-inside
+descend-requires-clause-inside g c = rw (c.as_slice.ensures.value, c.as_slice-in-conflicts.ensures.value) c.conflicts.invariant.0.inside
+
+pub descend-requires-clause-chosen : goal.descend-requires-clause-chosen
+descend-requires-clause-chosen g c = rw (c.as_slice.ensures.value, c.as_slice-in-conflicts.ensures.value) c.conflicts.invariant.0.chosen
+
+pub descend-requires-clause-queued : goal.descend-requires-clause-queued
+descend-requires-clause-queued g c = rw (c.as_slice.ensures.value, c.as_slice-in-conflicts.ensures.value) c.conflicts.invariant.0.queued
+
+pub learn-requires-clause-conflict : goal.learn-requires-clause-conflict
+learn-requires-clause-conflict g c = rw (c.in-Some.is, c.as_slice.ensures.value) at c.in_ok-descend.ensures.conflict

@@ -1,6 +1,7 @@
 use Rattle.resolvo.proofs.MinimalLemmas.{minimal_explains, minimal_irreducible, minimal_left, minimal_part}
 use Rattle.resolvo.specs.Conflicts.{rules_in}
 use Rattle.resolvo.specs.Minimal.{marked}
+use Rattle.std.proofs.Common.{ap, length, sym, ◌∙◌}
 use Rattle.resolvo.proofs.conflict.Conflict.minimal.Goals as goal
 
 pub returns-clause-part : goal.returns-clause-part
@@ -28,3 +29,10 @@ returns-clause-explains g c =
     (rw c.rules.ensures at c.in_ok-marks.ensures.left)
     (rw (c.deref.ensures.value, c.rules-2.ensures) at c.in_ok-copies.ensures.same) c.in_ok-rules.ensures.left c.in_ok-rules.ensures.refuted
     c.in_ok-rules.ensures.again
+
+pub returns-clause-memory : goal.returns-clause-memory
+returns-clause-memory g c = tt
+
+pub copies_of-requires : goal.copies_of-requires
+copies_of-requires g c =
+    ap length c.deref.ensures.value ∙ (c.in_ok-marks.ensures.size ∙ ap length (c.rules.ensures ∙ sym c.rules-2.ensures))

@@ -18,3 +18,21 @@ searches-preserved g c = record {
 
 pub returns-then-not-branch-clause-refuted : goal.returns-then-not-branch-clause-refuted
 returns-then-not-branch-clause-refuted g c = λ all. c.in_ok-search_again.ensures.refuted (c.searches.invariant.refuted all)
+
+pub returns-clause-memory : goal.returns-clause-memory
+returns-clause-memory g c = tt
+
+pub returns-clause-size : goal.returns-clause-size
+returns-clause-size g c = c.searches.invariant.size
+
+pub returns-clause-refuted : goal.returns-clause-refuted
+returns-clause-refuted g c = c.searches.invariant.refuted
+
+pub returns-then-not-branch-clause-memory : goal.returns-then-not-branch-clause-memory
+returns-then-not-branch-clause-memory g c = tt
+
+pub returns-then-not-branch-clause-size : goal.returns-then-not-branch-clause-size
+returns-then-not-branch-clause-size g c = c.in_ok-search_again.ensures.size
+
+pub search_again-requires-clause-size : goal.search_again-requires-clause-size
+search_again-requires-clause-size g c = c.searches.invariant.size

@@ -1,4 +1,7 @@
 use Rattle.resolvo.proofs.VisitLemmas.{makes-true, own-other, sets, stands-own, stands-same}
+use Rattle.std.proofs.Common.{arith}
+use Rattle.std.proofs.lemmas.Grind.{common_steps}
+use Rattle.std.proofs.lemmas.Option.{slice_get_within}
 use Rattle.resolvo.proofs.propagator.Propagator.pass_by_other.Goals as goal
 
 pub pass_by-requires-clause-visiting : goal.pass_by-requires-clause-visiting
@@ -15,3 +18,15 @@ pub pass_by-requires-clause-satisfied : goal.pass_by-requires-clause-satisfied
 pass_by-requires-clause-satisfied c =
     makes-true c.args.table.now c.args.trail.now c.args.watcher.now.number c.args.watcher.now.other
     (own-other _ _ _ _ _ _ c.requires.visiting.propagator c.requires.pair) c.requires.satisfied
+
+pub returns-clause-refused : goal.returns-clause-refused
+returns-clause-refused c = tt
+
+pub returns-clause-outcome : goal.returns-clause-outcome
+returns-clause-outcome c = grind (arith, common_steps)
+
+pub set_blocker-requires-clause-list : goal.set_blocker-requires-clause-list
+set_blocker-requires-clause-list c = grind (arith, common_steps)
+
+pub set_blocker-requires-clause-place : goal.set_blocker-requires-clause-place
+set_blocker-requires-clause-place c = slice_get_within _ c.args.watcher.now.place c.requires.stands.watch c.requires.stands.is

@@ -1,14 +1,21 @@
-use Rattle.std.proofs.Common.{arith}
-use Rattle.std.proofs.lemmas.Grind.{common_steps}
-use Rattle.std.proofs.Common.{[], ap, length, refl, subst, sym, true}
+use Rattle.std.proofs.Common.{arith, [], ap, length, refl, subst, sym, true, List, ◌≡◌, ◌<◌}
 use Rattle.resolvo.proofs.GoingLemmas.{still_all}
 use Rattle.resolvo.proofs.SoftLemmas.{accepted, just_assumed, not_accepted, rounds_assumed, rounds_held, still_assumed, still_held, turned_held}
+use Rattle.resolvo.proofs.SoftLemmas.{led_refused, led_tried}
 use Rattle.resolver_encoding.proofs.SoFarLemmas.{lawful_solvables}
-use Rattle.resolver_encoding.specs.Encodings.{Notes}
+use Rattle.resolver_encoding.specs.Encodings.{Notes, KeepsLimits}
 use Rattle.resolver_encoding.specs.Led.{AreLed}
 use Rattle.resolver_clause_store.proofs.ListLemmas.{Contains-here as here}
-use Rattle.resolvo.proofs.SoftLemmas.{led_refused, led_tried}
+use Rattle.std.proofs.lemmas.Option.{slice_get_within}
+use Rattle.resolver_clause_store.specs.declared.Origin.TheVariants.{Solvable as SolvableOrigin}
+use Rattle.resolvo.specs.RoundStates.{notes_of}
+use Rattle.resolvo.proofs.RoundLemmas.{room_trans}
 use Rattle.resolvo.proofs.rounds.Rounds.attempt.Goals as goal
+
+-- the limits stay where a turn begins
+limits_begun : {N S : Type 0} (old new : Notes N S) (exempt : List S) → new ≡ record old { exempt = exempt } → KeepsLimits old new
+limits_begun {N} {S} old new exempt only =
+    record { variables = ap (λ (n : Notes N S). n.variable_limit) only; clauses = ap (λ (n : Notes N S). n.clause_limit) only }
 
 pub is_answered-requires-clause-rounds : goal.is_answered-requires-clause-rounds
 is_answered-requires-clause-rounds g c =
@@ -57,33 +64,6 @@ pub returns-then-answered-clause-counted : goal.returns-then-answered-clause-cou
 returns-then-answered-clause-counted g c =
     still_all c.is_answered.new.self
     (record c.is_answered.new.self { search = c.hold.new.self }) refl c.hold.ensures.clauses c.hold.ensures.learnt c.in_ok-answered.ensures.counted
-
-pub returns-clause-counted : goal.returns-clause-counted
-returns-clause-counted g c = grind (arith, common_steps)
-
-pub returns-clause-is_true : goal.returns-clause-is_true
-returns-clause-is_true g c = grind (arith, common_steps)
-
-pub returns-clause-limits : goal.returns-clause-limits
-returns-clause-limits g c = grind (arith, common_steps)
-
-pub returns-clause-refusal : goal.returns-clause-refusal
-returns-clause-refusal g c = grind (arith, common_steps)
-
-pub returns-clause-rounds : goal.returns-clause-rounds
-returns-clause-rounds g c = grind (arith, common_steps)
-
-pub returns-clause-still : goal.returns-clause-still
-returns-clause-still g c = grind (arith, common_steps)
-
-pub returns-then-answered-clause-is_true : goal.returns-then-answered-clause-is_true
-returns-then-answered-clause-is_true g c = grind (arith, common_steps)
-
-pub returns-then-answered-clause-limits : goal.returns-then-answered-clause-limits
-returns-then-answered-clause-limits g c = grind (arith, common_steps)
-
-pub returns-then-answered-clause-refusal : goal.returns-then-answered-clause-refusal
-returns-then-answered-clause-refusal g c = grind (arith, common_steps)
 
 pub returns-in_err-begin_turn-clause-led : goal.returns-in_err-begin_turn-clause-led
 returns-in_err-begin_turn-clause-led g c = λ seen root taken refused seeds packages within b led.
@@ -136,3 +116,69 @@ returns-then-answered-clause-still g c =
     let answering = c.in_ok-answered.ensures.answer c.if-answered.true in
     still_held (g.D.Interner.universe c.args.provider.now) c.is_answered.new.self c.hold.new.self c.hold.ensures.trail c.hold.ensures.count
     c.hold.ensures.held answering.marked answering.chosen
+
+pub returns-in_err-begin_turn-clause-limits : goal.returns-in_err-begin_turn-clause-limits
+returns-in_err-begin_turn-clause-limits g c = record { notes = limits_begun _ _ _ c.begin_turn.ensures.only; clauses = refl; learnt = refl }
+
+pub returns-in_err-assume-clause-limits : goal.returns-in_err-assume-clause-limits
+returns-in_err-assume-clause-limits g c = record { notes = limits_begun _ _ _ c.begin_turn.ensures.only; clauses = refl; learnt = refl }
+
+pub returns-in_err-answered-clause-limits : goal.returns-in_err-answered-clause-limits
+returns-in_err-answered-clause-limits g c =
+    room_trans c.args.self.now (record c.args.self.now { encoding = c.begin_turn.new.self; search = c.assume.new.self }) c.is_answered.new.self
+    (record { notes = limits_begun _ _ _ c.begin_turn.ensures.only; clauses = refl; learnt = refl }) c.is_answered.ensures.limits
+
+pub returns-in_err-refuse-clause-limits : goal.returns-in_err-refuse-clause-limits
+returns-in_err-refuse-clause-limits g c =
+    room_trans c.args.self.now c.is_answered.new.self c.refuse.new.self
+    (room_trans c.args.self.now (record c.args.self.now { encoding = c.begin_turn.new.self; search = c.assume.new.self }) c.is_answered.new.self
+    (record { notes = limits_begun _ _ _ c.begin_turn.ensures.only; clauses = refl; learnt = refl }) c.is_answered.ensures.limits) c.refuse.ensures.limits
+
+pub returns-clause-limits : goal.returns-clause-limits
+returns-clause-limits g c =
+    room_trans c.args.self.now c.is_answered.new.self c.refuse.new.self
+    (room_trans c.args.self.now (record c.args.self.now { encoding = c.begin_turn.new.self; search = c.assume.new.self }) c.is_answered.new.self
+    (record { notes = limits_begun _ _ _ c.begin_turn.ensures.only; clauses = refl; learnt = refl }) c.is_answered.ensures.limits) c.refuse.ensures.limits
+
+pub returns-then-answered-clause-limits : goal.returns-then-answered-clause-limits
+returns-then-answered-clause-limits g c =
+    let room = room_trans c.args.self.now (record c.args.self.now { encoding = c.begin_turn.new.self; search = c.assume.new.self }) c.is_answered.new.self
+    (record { notes = limits_begun _ _ _ c.begin_turn.ensures.only; clauses = refl; learnt = refl }) c.is_answered.ensures.limits in
+    record { notes = room.notes; clauses = room.clauses; learnt = room.learnt }
+
+pub returns-clause-counted : goal.returns-clause-counted
+returns-clause-counted g c = c.in_ok-refuse.ensures.counted
+
+pub returns-clause-is_true : goal.returns-clause-is_true
+returns-clause-is_true g c = c.refuse.ensures.is_true
+
+pub returns-clause-rounds : goal.returns-clause-rounds
+returns-clause-rounds g c = c.in_ok-refuse.ensures.rounds
+
+pub returns-clause-still : goal.returns-clause-still
+returns-clause-still g c = c.in_ok-refuse.ensures.still
+
+pub returns-clause-refusal : goal.returns-clause-refusal
+returns-clause-refusal g c = tt
+
+pub returns-then-answered-clause-is_true : goal.returns-then-answered-clause-is_true
+returns-then-answered-clause-is_true g c = c.is_answered.ensures.is_true
+
+pub returns-then-answered-clause-refusal : goal.returns-then-answered-clause-refusal
+returns-then-answered-clause-refusal g c = tt
+
+pub refuse-requires-clause-one_turn : goal.refuse-requires-clause-one_turn
+refuse-requires-clause-one_turn g c =
+    omega (arith, ap length c.in_ok-answered.ensures.keeps.exempt, c.begin_turn.ensures.few, ap length c.exempt-exempt.ensures)
+
+pub assume-requires-clause-inside : goal.assume-requires-clause-inside
+assume-requires-clause-inside g c =
+    let inside : c.args.variable < length (notes_of c.args.self.now).origins =
+    slice_get_within (notes_of c.args.self.now).origins c.args.variable (SolvableOrigin c.args.solvable) c.requires.stands in
+    omega (arith, inside, c.requires.loaded.variables)
+
+pub assume-requires-clause-marked : goal.assume-requires-clause-marked
+assume-requires-clause-marked g c = c.requires.still.marked
+
+pub hold-requires-clause-marked : goal.hold-requires-clause-marked
+hold-requires-clause-marked g c = (c.in_ok-answered.ensures.answer c.if-answered.true).marked

@@ -12,6 +12,7 @@ use Rattle.resolvo.specs.ClauseSearches.{trail_of}
 use Rattle.resolvo.specs.RoundStates.{HasAssumed, notes_of}
 use Rattle.resolvo.proofs.SoftLemmas.{assumed_inside, ended_adds, refused_within, rounds_added, rounds_followed, still_assumed}
 use Rattle.resolvo.proofs.LeadingLemmas.{stays_paid}
+use Rattle.resolvo.proofs.RoundLemmas.{room_trans}
 use Rattle.resolvo.proofs.rounds.Rounds.refuse.Goals as goal
 
 pub load-requires : goal.load-requires
@@ -103,18 +104,6 @@ returns-clause-counted g c =
     (followed.clauses ∙ c.in_ok-assume.ensures.clauses ∙ c.in_ok-retract.ensures.clauses)
     (followed.learnt ∙ c.in_ok-assume.ensures.learnt ∙ c.in_ok-retract.ensures.learnt) c.in_ok-load.ensures.counted
 
-pub returns-clause-is_true : goal.returns-clause-is_true
-returns-clause-is_true g c = grind (arith, common_steps)
-
-pub returns-clause-limits : goal.returns-clause-limits
-returns-clause-limits g c = grind (arith, common_steps)
-
-pub returns-clause-refusal : goal.returns-clause-refusal
-returns-clause-refusal g c = grind (arith, common_steps)
-
-pub returns-clause-still : goal.returns-clause-still
-returns-clause-still g c = grind (arith, common_steps)
-
 pub returns-in_err-end_turn-clause-led : goal.returns-in_err-end_turn-clause-led
 returns-in_err-end_turn-clause-led g c =
     let e = c.end_turn.new.self in
@@ -144,3 +133,52 @@ pub returns-clause-led : goal.returns-clause-led
 returns-clause-led g c =
     stays_paid (g.D.Interner.universe c.args.provider.now) c.args.self.now c.follow.new.self c.end_turn.new.self
     (c.follow.ensures.same ∙ c.load.ensures.same.encoding) c.end_turn.ensures.adds
+
+pub returns-in_err-end_turn-clause-limits : goal.returns-in_err-end_turn-clause-limits
+returns-in_err-end_turn-clause-limits g c = record { notes = c.end_turn.ensures.limits; clauses = refl; learnt = refl }
+
+pub returns-in_err-load-clause-limits : goal.returns-in_err-load-clause-limits
+returns-in_err-load-clause-limits g c =
+    room_trans c.args.self.now (record c.args.self.now { encoding = c.end_turn.new.self }) c.load.new.self
+    (record { notes = c.end_turn.ensures.limits; clauses = refl; learnt = refl }) c.load.ensures.limits
+
+pub returns-in_err-retract-clause-limits : goal.returns-in_err-retract-clause-limits
+returns-in_err-retract-clause-limits g c =
+    let loaded = room_trans c.args.self.now (record c.args.self.now { encoding = c.end_turn.new.self }) c.load.new.self
+    (record { notes = c.end_turn.ensures.limits; clauses = refl; learnt = refl }) c.load.ensures.limits in
+    record { notes = loaded.notes; clauses = loaded.clauses; learnt = loaded.learnt }
+
+pub returns-in_err-assume-clause-limits : goal.returns-in_err-assume-clause-limits
+returns-in_err-assume-clause-limits g c =
+    let loaded = room_trans c.args.self.now (record c.args.self.now { encoding = c.end_turn.new.self }) c.load.new.self
+    (record { notes = c.end_turn.ensures.limits; clauses = refl; learnt = refl }) c.load.ensures.limits in
+    record { notes = loaded.notes; clauses = loaded.clauses; learnt = loaded.learnt }
+
+pub returns-in_err-follow-clause-limits : goal.returns-in_err-follow-clause-limits
+returns-in_err-follow-clause-limits g c =
+    let loaded = room_trans c.args.self.now (record c.args.self.now { encoding = c.end_turn.new.self }) c.load.new.self
+    (record { notes = c.end_turn.ensures.limits; clauses = refl; learnt = refl }) c.load.ensures.limits in
+    room_trans c.args.self.now (record c.load.new.self { search = c.assume.new.self }) c.follow.new.self
+    (record { notes = loaded.notes; clauses = loaded.clauses; learnt = loaded.learnt }) c.follow.ensures.limits
+
+pub returns-clause-limits : goal.returns-clause-limits
+returns-clause-limits g c =
+    let loaded = room_trans c.args.self.now (record c.args.self.now { encoding = c.end_turn.new.self }) c.load.new.self
+    (record { notes = c.end_turn.ensures.limits; clauses = refl; learnt = refl }) c.load.ensures.limits in
+    room_trans c.args.self.now (record c.load.new.self { search = c.assume.new.self }) c.follow.new.self
+    (record { notes = loaded.notes; clauses = loaded.clauses; learnt = loaded.learnt }) c.follow.ensures.limits
+
+pub returns-clause-is_true : goal.returns-clause-is_true
+returns-clause-is_true g c = c.end_turn.ensures.is_true
+
+pub returns-clause-refusal : goal.returns-clause-refusal
+returns-clause-refusal g c = tt
+
+pub assume-requires-clause-marked : goal.assume-requires-clause-marked
+assume-requires-clause-marked g c = c.in_ok-retract.ensures.count
+
+pub follow-requires-clause-distinct : goal.follow-requires-clause-distinct
+follow-requires-clause-distinct g c = c.in_ok-load.ensures.rounds.reading.so_far.half.encoding.distinct
+
+pub returns-clause-still : goal.returns-clause-still
+returns-clause-still g c = grind (arith, common_steps)

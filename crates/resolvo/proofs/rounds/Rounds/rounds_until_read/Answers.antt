@@ -1,8 +1,8 @@
-use Rattle.std.proofs.Common.{◌∙◌}
+use Rattle.std.proofs.Common.{◌∙◌, refl}
 use Rattle.resolvo.specs.RoundStates.{IsRound}
-use Rattle.resolvo.proofs.RoundLemmas.{room_trans}
-use Rattle.resolvo.proofs.GoingLemmas.{goes_trans}
-use Rattle.resolvo.proofs.LeadingLemmas.{leads_trans}
+use Rattle.resolvo.proofs.RoundLemmas.{room_trans, room_same}
+use Rattle.resolvo.proofs.GoingLemmas.{goes_trans, goes_begin}
+use Rattle.resolvo.proofs.LeadingLemmas.{leads_trans, leads_same}
 use Rattle.resolvo.proofs.rounds.Rounds.rounds_until_read.Goals as goal
 
 pub returns-in-Last-clause-keeps : goal.returns-in-Last-clause-keeps
@@ -68,3 +68,61 @@ returns-in-Read-clause-refusal g c = tt
 
 pub returns-in-Read-clause-limits : goal.returns-in-Read-clause-limits
 returns-in-Read-clause-limits g c = room_trans c.args.self.now c.rounds.self c.round.new.self c.rounds.invariant.room c.in_ok-found.ensures.limits
+
+pub returns-in-Last-clause-counted : goal.returns-in-Last-clause-counted
+returns-in-Last-clause-counted g c =
+    let round : IsRound (g.D.Interner.universe c.args.provider.now) c.rounds.self c.round.new.self c.in_ok-found.field-0 = c.in_ok-found.ensures.round in
+    let last = rw c.in-Last.is at round in
+    last.1
+
+pub returns-in-Last-clause-found : goal.returns-in-Last-clause-found
+returns-in-Last-clause-found g c =
+    let round : IsRound (g.D.Interner.universe c.args.provider.now) c.rounds.self c.round.new.self c.in_ok-found.field-0 = c.in_ok-found.ensures.round in
+    let last = rw c.in-Last.is at round in
+    last.0
+
+pub returns-in-Last-clause-read : goal.returns-in-Last-clause-read
+returns-in-Last-clause-read g c = tt
+
+pub returns-in-Last-clause-fit : goal.returns-in-Last-clause-fit
+returns-in-Last-clause-fit g c = tt
+
+pub returns-in-Read-clause-counted : goal.returns-in-Read-clause-counted
+returns-in-Read-clause-counted g c = tt
+
+pub returns-in-Read-clause-found : goal.returns-in-Read-clause-found
+returns-in-Read-clause-found g c = tt
+
+pub returns-in-Read-clause-read : goal.returns-in-Read-clause-read
+returns-in-Read-clause-read g c =
+    let round : IsRound (g.D.Interner.universe c.args.provider.now) c.rounds.self c.round.new.self c.in_ok-found.field-0 = c.in_ok-found.ensures.round in
+    let read = rw c.in-Read.is at round in
+    rw c.rounds.invariant.read at read.0
+
+pub returns-in-Read-clause-fit : goal.returns-in-Read-clause-fit
+returns-in-Read-clause-fit g c =
+    let round : IsRound (g.D.Interner.universe c.args.provider.now) c.rounds.self c.round.new.self c.in_ok-found.field-0 = c.in_ok-found.ensures.round in
+    let read = rw c.in-Read.is at round in
+    read.1
+
+pub returns-in_err-found-clause-limits : goal.returns-in_err-found-clause-limits
+returns-in_err-found-clause-limits g c = room_trans c.args.self.now c.rounds.self c.round.new.self c.rounds.invariant.room c.round.ensures.limits
+
+pub rounds-init : goal.rounds-init
+rounds-init g c =
+    let u = g.D.Interner.universe c.args.provider.now in
+    let self = c.args.self.now in
+    record {
+      is_true = c.requires.is_true;
+      rounds = c.requires.rounds;
+      keeps = goes_begin u self;
+      led = leads_same u self self refl;
+      room = room_same self;
+      read = refl;
+    }
+
+pub rounds-smaller : goal.rounds-smaller
+rounds-smaller g c =
+    let round : IsRound (g.D.Interner.universe c.args.provider.now) c.rounds.self c.round.new.self c.in_ok-found.field-0 = c.in_ok-found.ensures.round in
+    let fired = rw c.in-Fired.is at round in
+    fired.1

@@ -1,5 +1,3 @@
-use Rattle.std.proofs.Common.{arith}
-use Rattle.std.proofs.lemmas.Grind.{common_steps}
 use Rattle.std.proofs.Common.{◌∙◌}
 use Rattle.resolvo.specs.RoundStates.{notes_of}
 use Rattle.resolvo.proofs.RoundLemmas.{searched}
@@ -27,16 +25,26 @@ returns-clause-loaded g c =
 pub returns-clause-turn : goal.returns-clause-turn
 returns-clause-turn g c = turn-trans c.args.self.now.search c.load.new.self.search c.run.new.self c.in_ok-load.ensures.turn c.in_ok-outcome.ensures.turn
 
-pub returns-clause-limits : goal.returns-clause-limits
-returns-clause-limits g c = grind (arith, common_steps)
-
-pub returns-clause-refusal : goal.returns-clause-refusal
-returns-clause-refusal g c = grind (arith, common_steps)
-
-pub returns-clause-same : goal.returns-clause-same
-returns-clause-same g c = grind (arith, common_steps)
-
 pub returns-clause-outcome : goal.returns-clause-outcome
 returns-clause-outcome g c =
     let mid = c.load.new.self in
     c.in_ok-outcome.ensures.outcome (notes_of mid).table (notes_of mid).requirements c.in_ok-load.ensures.loaded.loaded
+
+pub returns-clause-limits : goal.returns-clause-limits
+returns-clause-limits g c =
+    let loaded = c.load.ensures.limits in
+    record { notes = loaded.notes; clauses = loaded.clauses; learnt = loaded.learnt }
+
+pub returns-in_err-outcome-clause-limits : goal.returns-in_err-outcome-clause-limits
+returns-in_err-outcome-clause-limits g c =
+    let loaded = c.load.ensures.limits in
+    record { notes = loaded.notes; clauses = loaded.clauses; learnt = loaded.learnt }
+
+pub returns-clause-refusal : goal.returns-clause-refusal
+returns-clause-refusal g c = tt
+
+pub returns-clause-same : goal.returns-clause-same
+returns-clause-same g c = record { encoding = c.load.ensures.same.encoding; chosen = c.load.ensures.same.chosen }
+
+pub returns-in_err-outcome-clause-same : goal.returns-in_err-outcome-clause-same
+returns-in_err-outcome-clause-same g c = record { encoding = c.load.ensures.same.encoding; chosen = c.load.ensures.same.chosen }

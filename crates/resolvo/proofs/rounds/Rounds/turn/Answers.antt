@@ -1,5 +1,4 @@
-use Rattle.std.proofs.lemmas.Grind.{common_steps}
-use Rattle.std.proofs.Common.{[], ap, arith, Some, subst, sym, ◌<◌, ◌∙◌, ◌≡◌}
+use Rattle.std.proofs.Common.{[], ap, arith, Some, subst, sym, ◌<◌, ◌∙◌, ◌≡◌, refl}
 use Rattle.std.specs.Prelude.{Contains, length, slice_get}
 use Rattle.std.proofs.lemmas.Option.{slice_get_within}
 use Rattle.resolver_clause_store.specs.TrailView.{slot_of, variable_count}
@@ -13,6 +12,7 @@ use Rattle.resolvo.proofs.SoftLemmas.{registered_adds, rounds_added, skipped, st
 use Rattle.resolver_encoding.proofs.SoFarLemmas.{lawful_solvables}
 use Rattle.resolver_clause_store.proofs.ListLemmas.{Contains-here as here}
 use Rattle.resolvo.proofs.LeadingLemmas.{led_same, led_seed, standing_seed}
+use Rattle.resolvo.proofs.RoundLemmas.{room_trans}
 use Rattle.resolvo.proofs.rounds.Rounds.turn.Goals as goal
 
 pub load-requires : goal.load-requires
@@ -88,24 +88,6 @@ returns-in_ok-is_chosen-in-None-clause-turned g c = λ root taken refused seeds 
     (ap (λ x. (notes_in x).asked) same.encoding ∙ registered.asked)
     (c.in_ok-is_chosen-in-None.ensures.turned root taken refused seeds packages (subst Seen (sym same.encoding) registered.here) seed loaded)
 
-pub returns-in_ok-is_chosen-in-None-clause-counted : goal.returns-in_ok-is_chosen-in-None-clause-counted
-returns-in_ok-is_chosen-in-None-clause-counted g c = grind (arith, common_steps)
-
-pub returns-in_ok-is_chosen-in-None-clause-is_true : goal.returns-in_ok-is_chosen-in-None-clause-is_true
-returns-in_ok-is_chosen-in-None-clause-is_true g c = grind (arith, common_steps)
-
-pub returns-in_ok-is_chosen-in-None-clause-limits : goal.returns-in_ok-is_chosen-in-None-clause-limits
-returns-in_ok-is_chosen-in-None-clause-limits g c = grind (arith, common_steps)
-
-pub returns-in_ok-is_chosen-in-None-clause-refusal : goal.returns-in_ok-is_chosen-in-None-clause-refusal
-returns-in_ok-is_chosen-in-None-clause-refusal g c = grind (arith, common_steps)
-
-pub returns-in_ok-is_chosen-in-None-clause-rounds : goal.returns-in_ok-is_chosen-in-None-clause-rounds
-returns-in_ok-is_chosen-in-None-clause-rounds g c = grind (arith, common_steps)
-
-pub returns-in_ok-is_chosen-in-None-clause-still : goal.returns-in_ok-is_chosen-in-None-clause-still
-returns-in_ok-is_chosen-in-None-clause-still g c = grind (arith, common_steps)
-
 pub returns-in_err-variable-clause-led : goal.returns-in_err-variable-clause-led
 returns-in_err-variable-clause-led g c = λ root taken refused seeds packages within b led.
     let s = c.args.solvable in
@@ -171,3 +153,52 @@ returns-in-Some-clause-is_true g c = c.requires.is_true
 
 pub returns-in-Some-clause-refusal : goal.returns-in-Some-clause-refusal
 returns-in-Some-clause-refusal g c = tt
+
+pub returns-in_err-variable-clause-limits : goal.returns-in_err-variable-clause-limits
+returns-in_err-variable-clause-limits g c = record { notes = c.register.ensures.limits; clauses = refl; learnt = refl }
+
+pub returns-in_err-load-clause-limits : goal.returns-in_err-load-clause-limits
+returns-in_err-load-clause-limits g c =
+    room_trans c.args.self.now (record c.args.self.now { encoding = c.register.new.self }) c.load.new.self
+    (record { notes = c.register.ensures.limits; clauses = refl; learnt = refl }) c.load.ensures.limits
+
+pub returns-in-Some-clause-limits : goal.returns-in-Some-clause-limits
+returns-in-Some-clause-limits g c =
+    room_trans c.args.self.now (record c.args.self.now { encoding = c.register.new.self }) c.load.new.self
+    (record { notes = c.register.ensures.limits; clauses = refl; learnt = refl }) c.load.ensures.limits
+
+pub returns-in_err-is_chosen-in-None-clause-limits : goal.returns-in_err-is_chosen-in-None-clause-limits
+returns-in_err-is_chosen-in-None-clause-limits g c =
+    room_trans c.args.self.now c.load.new.self c.attempt.new.self
+    (room_trans c.args.self.now (record c.args.self.now { encoding = c.register.new.self }) c.load.new.self
+    (record { notes = c.register.ensures.limits; clauses = refl; learnt = refl }) c.load.ensures.limits) c.attempt.ensures.limits
+
+pub returns-in_ok-is_chosen-in-None-clause-limits : goal.returns-in_ok-is_chosen-in-None-clause-limits
+returns-in_ok-is_chosen-in-None-clause-limits g c =
+    room_trans c.args.self.now c.load.new.self c.attempt.new.self
+    (room_trans c.args.self.now (record c.args.self.now { encoding = c.register.new.self }) c.load.new.self
+    (record { notes = c.register.ensures.limits; clauses = refl; learnt = refl }) c.load.ensures.limits) c.attempt.ensures.limits
+
+pub attempt-requires-clause-free : goal.attempt-requires-clause-free
+attempt-requires-clause-free g c = rw c.trail.ensures at (sym c.slot.ensures ∙ c.in-None.is)
+
+pub attempt-requires-clause-stands : goal.attempt-requires-clause-stands
+attempt-requires-clause-stands g c =
+    let Stands : Encoding g.row.N.Denot g.row.S.Denot → Type 0 =
+    λ e. slice_get (notes_in e).origins c.in_ok-variable.variable ≡ Some (SolvableOrigin c.args.solvable) in
+    subst Stands (sym c.in_ok-load.ensures.same.encoding) c.in_ok-variable.ensures.variable
+
+pub returns-in_ok-is_chosen-in-None-clause-counted : goal.returns-in_ok-is_chosen-in-None-clause-counted
+returns-in_ok-is_chosen-in-None-clause-counted g c = c.in_ok-is_chosen-in-None.ensures.counted
+
+pub returns-in_ok-is_chosen-in-None-clause-is_true : goal.returns-in_ok-is_chosen-in-None-clause-is_true
+returns-in_ok-is_chosen-in-None-clause-is_true g c = c.attempt.ensures.is_true
+
+pub returns-in_ok-is_chosen-in-None-clause-refusal : goal.returns-in_ok-is_chosen-in-None-clause-refusal
+returns-in_ok-is_chosen-in-None-clause-refusal g c = tt
+
+pub returns-in_ok-is_chosen-in-None-clause-rounds : goal.returns-in_ok-is_chosen-in-None-clause-rounds
+returns-in_ok-is_chosen-in-None-clause-rounds g c = c.in_ok-is_chosen-in-None.ensures.rounds
+
+pub returns-in_ok-is_chosen-in-None-clause-still : goal.returns-in_ok-is_chosen-in-None-clause-still
+returns-in_ok-is_chosen-in-None-clause-still g c = c.in_ok-is_chosen-in-None.ensures.still

@@ -185,3 +185,15 @@ returns-then-has_any-clause-limits g c = room_same c.args.self.now
 
 pub returns-then-has_any-clause-refusal : goal.returns-then-has_any-clause-refusal
 returns-then-has_any-clause-refusal g c = tt
+
+pub returns-in_err-ask-clause-limits : goal.returns-in_err-ask-clause-limits
+returns-in_err-ask-clause-limits g c = c.ask.ensures.limits
+
+pub returns-in_err-candidates-clause-limits : goal.returns-in_err-candidates-clause-limits
+returns-in_err-candidates-clause-limits g c = room_same c.args.self.now
+
+pub returns-in_err-take_first-clause-limits : goal.returns-in_err-take_first-clause-limits
+returns-in_err-take_first-clause-limits g c = room_trans c.args.self.now c.ask.new.self c.take_first.new.self c.ask.ensures.limits c.take_first.ensures.limits
+
+pub returns-then-has_any-clause-is_true : goal.returns-then-has_any-clause-is_true
+returns-then-has_any-clause-is_true g c = c.in_ok-candidates.ensures.is_true

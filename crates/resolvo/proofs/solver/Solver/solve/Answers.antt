@@ -1,5 +1,5 @@
-use Rattle.std.proofs.Common.{List, refl, subst, sym, ◌∙◌, ◌≡◌, ◌++◌}
-use Rattle.std.specs.Prelude.{IfErr, IfOk, Ok, Option, map}
+use Rattle.std.proofs.Common.{List, refl, subst, sym, ◌∙◌, ◌≡◌, ◌++◌, ap, Vec, Global}
+use Rattle.std.specs.Prelude.{IfErr, IfOk, Ok, Option, map, IfSome}
 use Rattle.resolver_clause_store.specs.declared.SoftRequirement.{SoftRequirement}
 use Rattle.resolver_clause_store.specs.declared.SoftRequirement.TheVariants.{Solvable}
 use Rattle.resolver_clause_store.specs.Universe.{Demands}
@@ -7,11 +7,13 @@ use Rattle.resolver_encoding.specs.Refusals.{IsStop}
 use Rattle.resolvo.specs.Answers.{IsSoftAnswer}
 use Rattle.resolvo.specs.Problems.{AreItems, HaveBegun, demands_in, list_in, soft_in}
 use Rattle.resolvo.specs.Refusals.{IsRefusal}
-use Rattle.resolvo.specs.RoundStates.{IsDone, IsLedBy, IsStuck}
+use Rattle.resolvo.specs.RoundStates.{IsDone, IsLedBy, IsStuck, IsSomeDone}
 use Rattle.resolvo.specs.Solvers.{IsAtLimit, exempt_in}
 use Rattle.resolvo.specs.declared.rounds.Found.TheVariants.{Answer}
 use Rattle.resolvo.proofs.OutcomeLemmas.{IfOk-both, at_limit, found_at, refusal_weaker, same_demands, soft_given, still_at_limit, still_sound}
 use Rattle.resolvo.proofs.RefusalLemmas.{IfErr-weaker}
+use Rattle.std.proofs.lemmas.Result.{IfOk-weaker}
+use Rattle.std.specs.Iterator.{IsFinite}
 use Rattle.resolvo.proofs.solver.Solver.solve.Goals as goal
 
 pub outcome-answer-requires-clause-sound : goal.outcome-answer-requires-clause-sound
@@ -126,3 +128,30 @@ returns-clause-provider g c = c.outcome-answer.ensures.provider ∙ c.count.ensu
 
 pub returns-clause-sound : goal.returns-clause-sound
 returns-clause-sound g c = c.outcome-answer.ensures.sound
+
+pub find-found-requires-clause-can_next : goal.find-found-requires-clause-can_next
+find-found-requires-clause-can_next g c =
+    let CanNext : Option g.row.S.Denot → Type 0 = λ o. IfSome o (λ it. g.S.Iterator.can_next it) in
+    subst CanNext (sym c.take-soft.ensures.value) c.requires.can_next
+
+pub find-found-requires-clause-ends : goal.find-found-requires-clause-ends
+find-found-requires-clause-ends g c =
+    let Ends : Option g.row.S.Denot → Type 0 = λ o. IfSome o (λ it. IsFinite (g.S.Iterator.remaining it)) in
+    subst Ends (sym c.take-soft.ensures.value) c.requires.ends
+
+pub outcome-answer-requires-clause-done : goal.outcome-answer-requires-clause-done
+outcome-answer-requires-clause-done g c =
+    let p : g.row.D.Denot = c.args.self.now.provider in
+    let rounds = c.find-found.new.self in
+    let list = c.listed_soft_requirements.result.now in
+    let given : Demands = record { requirements = c.root_requirements.result.now; constraints = c.root_constraints.result.now } in
+    let w = soft_given (λ xs. AreItems g.S.Iterator.next_gives c.take-soft.result xs) (λ f. f ≡ Answer) (λ xs f.
+    IsDone (g.D.Interner.universe p) given (map Solvable xs ++ list) rounds f) c.find-found.result c.find-found.ensures.done in
+    let Done : g.row.D.Denot → Type 0 = λ q. IfOk c.find-found.result (IsSomeDone (g.D.Interner.universe q) rounds) in
+    subst Done (sym c.count.ensures.rest.provider)
+    (IfOk-weaker c.find-found.result (IsDone (g.D.Interner.universe p) given (map Solvable w.0 ++ list) rounds) (IsSomeDone (g.D.Interner.universe p) rounds)
+    (λ f done. record { root = given; soft = map Solvable w.0 ++ list; done = done }) w.2)
+
+pub outcome-answer-requires-clause-none : goal.outcome-answer-requires-clause-none
+outcome-answer-requires-clause-none g c =
+    ap (λ (v : Vec g.row.D-SolvableId.Denot Global). v.items) c.count.ensures.rest.exempt ∙ c.new.ensures.items

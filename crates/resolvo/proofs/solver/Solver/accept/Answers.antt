@@ -1,0 +1,48 @@
+use Rattle.std.proofs.Common.{refl, ap, ◌∙◌}
+use Rattle.resolvo.specs.declared.solver.UnsolvableOrCancelled.TheVariants.{Exhausted}
+use Rattle.resolvo.proofs.solver.Solver.accept.Goals as goal
+
+pub returns-in-Err-clause-sound : goal.returns-in-Err-clause-sound
+returns-in-Err-clause-sound g c = c.requires.sound
+
+pub returns-in-Err-from_slice-clause-sound : goal.returns-in-Err-from_slice-clause-sound
+returns-in-Err-from_slice-clause-sound g c = c.requires.sound
+
+pub returns-in-Err-clause-counts : goal.returns-in-Err-clause-counts
+returns-in-Err-clause-counts g c = record { variables = refl; clauses = refl; learnt = refl; deferred = refl }
+
+pub returns-in-Err-clause-limits : goal.returns-in-Err-clause-limits
+returns-in-Err-clause-limits g c = record { variables = refl; clauses = refl; learnt = refl }
+
+pub returns-in-Err-clause-memory : goal.returns-in-Err-clause-memory
+returns-in-Err-clause-memory g c = ap Exhausted c.in-Err.ensures.memory
+
+pub returns-in-Err-clause-none : goal.returns-in-Err-clause-none
+returns-in-Err-clause-none g c = c.requires.none
+
+pub returns-in-Err-from_slice-clause-counts : goal.returns-in-Err-from_slice-clause-counts
+returns-in-Err-from_slice-clause-counts g c = record { variables = refl; clauses = refl; learnt = refl; deferred = refl }
+
+pub returns-in-Err-from_slice-clause-limits : goal.returns-in-Err-from_slice-clause-limits
+returns-in-Err-from_slice-clause-limits g c = record { variables = refl; clauses = refl; learnt = refl }
+
+pub returns-in-Err-from_slice-clause-memory : goal.returns-in-Err-from_slice-clause-memory
+returns-in-Err-from_slice-clause-memory g c = refl
+
+pub returns-in-Err-from_slice-clause-none : goal.returns-in-Err-from_slice-clause-none
+returns-in-Err-from_slice-clause-none g c = c.requires.none
+
+pub returns-in-Ok-from_slice-clause-chosen : goal.returns-in-Ok-from_slice-clause-chosen
+returns-in-Ok-from_slice-clause-chosen g c = c.in-Ok.ensures.list
+
+pub returns-in-Ok-from_slice-clause-counts : goal.returns-in-Ok-from_slice-clause-counts
+returns-in-Ok-from_slice-clause-counts g c = record { variables = refl; clauses = refl; learnt = refl; deferred = refl }
+
+pub returns-in-Ok-from_slice-clause-exempt : goal.returns-in-Ok-from_slice-clause-exempt
+returns-in-Ok-from_slice-clause-exempt g c = c.in-Ok-from_slice.ensures.items ∙ c.exempt.ensures
+
+pub returns-in-Ok-from_slice-clause-limits : goal.returns-in-Ok-from_slice-clause-limits
+returns-in-Ok-from_slice-clause-limits g c = record { variables = refl; clauses = refl; learnt = refl }
+
+pub returns-in-Ok-from_slice-clause-sound : goal.returns-in-Ok-from_slice-clause-sound
+returns-in-Ok-from_slice-clause-sound g c = record { true_answers = c.requires.sound.true_answers; fits = c.requires.sound.fits }
