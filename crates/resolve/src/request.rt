@@ -1,6 +1,6 @@
 //! What the statements of an input declare and ask for.
 
-ghost use Rattle.std.specs.Prelude.{◌≡◌, [], ◌∷◌, ◌++◌, IfOk, MatchBool};
+ghost use Rattle.std.specs.Prelude.{◌≡◌, [], ◌∷◌, ◌++◌, IfNone, IfOk, IfSome, MatchBool};
 ghost use Rattle.resolver_clause_store.specs.Laws.{HasLawfulIds, HasLawfulPackages};
 ghost use Rattle.resolve.specs.declared.request.InputError.TheVariants.{Exhausted as RanOut};
 ghost use Rattle.resolve.specs.Catalogs.{IsFound, IsUnfound, catalog_universe};
@@ -110,7 +110,11 @@ impl Request {
     }
 
     /// The solvable, if it was declared.
-    fn find(&mut self, solvable: SolvableText<'_>) -> Option<SolvableId> {
+    fn find(&mut self, solvable: SolvableText<'_>) -> Option<SolvableId>
+        ensures only { self.new ≡ record self.old { last = self.new.last } }
+        ensures found { IfSome result (IsFound self.old.catalog solvable.entry.name.now solvable.entry.version) }
+        ensures none { IfNone result (IsUnfound self.old.catalog solvable.entry.name.now solvable.entry.version) }
+    {
         if let Some(last) = self.last {
             if self
                 .catalog
