@@ -127,3 +127,11 @@ fn two_hundred_versions_have_eight_digits_each(rt: HostRuntime) -> Result<(), Fa
     assert_eq!(rt; clauses_of_versions(rt.alloc(), 200)?, 1602);
     Ok(())
 }
+
+#[test]
+fn a_requirement_that_is_listed_twice_has_its_clause_twice(rt: HostRuntime) -> Result<(), Fail> {
+    let input =
+        "package asdf=1\npackage efgh=4\npackage dummy=6\nrequires asdf=1 efgh\nrequires asdf=1 efgh\nrequire asdf\n";
+    assert_eq!(rt; counts_of(rt.alloc(), input)?, answered(4, 0, 0b11));
+    Ok(())
+}
