@@ -5,7 +5,7 @@ use Rattle.std.specs.Prelude.{Vec, not}
 use Rattle.std.specs.List.{All, Any, Contains}
 use Rattle.std.specs.Option.{option_map, option_map_or}
 use Rattle.std.specs.declared.alloc.Global.{Global}
-use Rattle.std.proofs.lemmas.Bool.{cases_Bool, both_ways, cases_lt}
+use Rattle.std.proofs.lemmas.Bool.{cases_Bool, both_ways, cases_eq, cases_lt}
 use Rattle.std.proofs.lemmas.List.Elements.{All-more, All-weaker}
 use Rattle.std.proofs.lemmas.Option.{same_Some}
 use Rattle.resolver_clause_store.specs.declared.Literal.{Literal}
@@ -361,3 +361,17 @@ pub empty-follows : (table : List (Vec Literal Global)) (trail : Trail) (marks :
     AllBefore trail marks 0 → FollowsFrom table causes []
 empty-follows table trail marks causes refutes none =
     λ values holds. absurd (refutes.apart values holds (λ v s m at. absurd (omega (arith, none.before v s m at))))
+
+-- the mark of another variable is taken away
+pub single-fewer : (trail : Trail) (marks : List Bool) (level variable other : ℕ) → other ≢ variable → IsSingle trail marks level variable →
+    IsSingle trail (set marks other false) level variable
+single-fewer trail marks level variable other differ single = record {
+  slot = single.slot;
+  is = single.is;
+  marked = get_or-set_other marks other variable false false (λ e. differ (sym e)) ∙ single.marked;
+  level_is = single.level_is;
+  others = λ u t m at ne. ⊎_elim
+      (λ (e : u ≡ other). absurd (both_ways _ (unmarked-set marks other) (ap (λ k. is_marked (set marks other false) k) (sym e) ∙ m)))
+      (λ (apart : u ≢ other). single.others u t (sym (get_or-set_other marks other u false false apart) ∙ m) at ne)
+      (cases_eq u other);
+}

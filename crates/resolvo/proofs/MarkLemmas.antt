@@ -50,3 +50,8 @@ unmarked-set marks at = ⊎_elim
 -- what indexing read, at the default that `is_marked` has
 pub marked-read : (marks : List Bool) (at : ℕ) (read value : Bool) → at < length marks → read ≡ get_or marks at read → read ≡ value → is_marked marks at ≡ value
 marked-read marks at read value inside is e = get_or_default marks at false read inside ∙ sym is ∙ e
+
+-- nothing is marked besides what is marked already
+pub marks-same : (marks : List Bool) (clause : List Literal) → All (λ (literal : Literal). is_marked marks literal.variable ≡ true) clause →
+    MarksAlso marks marks clause
+marks-same marks clause all = record { size = refl; kept = λ v m. m; all = all; only = λ v unmarked none. unmarked }

@@ -1,6 +1,6 @@
 //! A clause that follows from a conflict.
 
-ghost use Rattle.std.specs.Prelude.{◌≡◌, ◌≢◌, ◌⊎◌, ◌+◌, ◌<◌, ◌≤◌, length, All, Any, IfOk, MatchBool, OnOk, Some, ℕ, false, not, slice_set, true};
+ghost use Rattle.std.specs.Prelude.{◌≡◌, ◌≢◌, ◌⊎◌, ◌+◌, ◌<◌, ◌≤◌, length, All, Any, IfOk, IfSome, MatchBool, OnOk, Some, ℕ, false, not, slice_set, true};
 ghost use Rattle.resolver_clause_store.specs.Formula.{AreBelow, IsBelow, clause_at};
 ghost use Rattle.resolver_clause_store.specs.Outcomes.{IsFalsified};
 ghost use Rattle.resolver_clause_store.specs.TrailView.{length_of, place_of, slot_of, variable_at, variable_count};
@@ -290,6 +290,123 @@ pub fn resolve_level(
     Ok(())
 }
 
+/// Whether each literal of a clause is of a marked variable.
+pub fn are_marked(marks: &[bool], clause: &[Literal]) -> bool
+    requires { IsBelow (length marks.now) clause.now }
+    ensures { MatchBool result (All (λ (literal : Literal). is_marked marks.now literal.variable ≡ true) clause.now)
+        (Any (λ (literal : Literal). is_marked marks.now literal.variable ≡ false) clause.now) }
+{
+    'literals: for literal in clause {
+        if !marks[literal.variable.index()] {
+            return false;
+        }
+    }
+    true
+}
+
+/// Takes the mark of a variable away whose reason has marked variables alone: their values imply its own.
+pub fn drop_implied(
+    table: &[Vec<Literal>],
+    trail: &Trail,
+    resolvent: &mut Resolvent,
+    variable: Variable,
+    number: usize,
+) -> Result<(), AllocError>
+    requires justified { IsJustified table.now trail.now }
+    requires reason { IsReason trail.now variable number }
+    requires resolvent { IsResolvent table.now trail.now resolvent.old }
+    requires implied { All (λ (literal : Literal). is_marked resolvent.old.marks.items literal.variable ≡ true) (clause_at table.now number) }
+    ensures resolvent { OnOk result (IsResolvent table.now trail.now resolvent.new) }
+    ensures marks { OnOk result (resolvent.new.marks.items ≡ slice_set resolvent.old.marks.items variable false) }
+    ensures marked { OnOk result (resolvent.new.marked ≡ resolvent.old.marked) }
+    ensures level { OnOk result (resolvent.new.level ≡ resolvent.old.level) }
+    ensures lowest { OnOk result (resolvent.new.lowest ≡ resolvent.old.lowest) }
+{
+    resolvent.causes.push(number)?;
+    resolvent.marks[variable.index()] = false;
+    Ok(())
+}
+
+/// Takes the mark of a variable away if the others imply it, and it is not the one variable of the highest level.
+pub fn minimize_at(
+    table: &[Vec<Literal>],
+    trail: &Trail,
+    resolvent: &mut Resolvent,
+    variable: Variable,
+) -> Result<(), AllocError>
+    requires below { AreBelow (variable_count trail.now) table.now }
+    requires justified { IsJustified table.now trail.now }
+    requires resolvent { IsResolvent table.now trail.now resolvent.old }
+    requires inside { resolvent.old.lowest < length_of trail.now }
+    requires variable { variable < variable_count trail.now }
+    requires single { IsSingle trail.now resolvent.old.marks.items resolvent.old.level (variable_at trail.now resolvent.old.lowest) }
+    ensures resolvent { OnOk result (IsResolvent table.now trail.now resolvent.new) }
+    ensures single { OnOk result (IsSingle trail.now resolvent.new.marks.items resolvent.new.level (variable_at trail.now resolvent.new.lowest)) }
+    ensures marked { OnOk result (resolvent.new.marked ≡ resolvent.old.marked) }
+    ensures level { OnOk result (resolvent.new.level ≡ resolvent.old.level) }
+    ensures lowest { OnOk result (resolvent.new.lowest ≡ resolvent.old.lowest) }
+{
+    if variable == trail.variable_at(resolvent.lowest) {
+        return Ok(());
+    }
+    match forced_by(trail, variable) {
+        Some(number) => {
+            if resolvent.marks[variable.index()]
+                && are_marked(&resolvent.marks, clause(table, number))
+            {
+                drop_implied(table, trail, resolvent, variable, number)?;
+                return Ok(());
+            }
+            Ok(())
+        }
+        None => Ok(()),
+    }
+}
+
+/// The number of the clause that forced a variable, if one did.
+pub fn forced_by(trail: &Trail, variable: Variable) -> Option<usize>
+    requires { variable < variable_count trail.now }
+    ensures { IfSome result (IsReason trail.now variable) }
+{
+    match trail.slot(variable) {
+        Some(slot) => match slot.reason {
+            Reason::Forced(number) => Some(number),
+            Reason::Decided(_) => None,
+            Reason::Assumed => None,
+        },
+        None => None,
+    }
+}
+
+/// Takes the marks away of variables that the other marked ones imply. The one variable of the highest level stays.
+pub fn minimize(
+    table: &[Vec<Literal>],
+    trail: &Trail,
+    resolvent: &mut Resolvent,
+) -> Result<(), AllocError>
+    requires below { AreBelow (variable_count trail.now) table.now }
+    requires justified { IsJustified table.now trail.now }
+    requires resolvent { IsResolvent table.now trail.now resolvent.old }
+    requires single { 0 < resolvent.old.level →
+        IsSingle trail.now resolvent.old.marks.items resolvent.old.level (variable_at trail.now resolvent.old.lowest) }
+    requires inside { 0 < resolvent.old.level → resolvent.old.lowest < length_of trail.now }
+    requires none { resolvent.old.level ≡ 0 → AllBefore trail.now resolvent.old.marks.items 0 }
+    ensures resolvent { OnOk result (IsResolvent table.now trail.now resolvent.new) }
+    ensures single { OnOk result (0 < resolvent.new.level →
+        IsSingle trail.now resolvent.new.marks.items resolvent.new.level (variable_at trail.now resolvent.new.lowest)) }
+    ensures inside { OnOk result (0 < resolvent.new.level → resolvent.new.lowest < length_of trail.now) }
+    ensures none { OnOk result (resolvent.new.level ≡ 0 → AllBefore trail.now resolvent.new.marks.items 0) }
+{
+    if resolvent.level == 0 {
+        return Ok(());
+    }
+    'marked: for index in 0..resolvent.marked.len() {
+        let variable = resolvent.marked[index];
+        minimize_at(table, trail, resolvent, variable)?;
+    }
+    Ok(())
+}
+
 /// Puts the literal of a variable that is false behind the others, where the variable is marked and has a value.
 pub fn add_negation(
     literals: &mut Vec<Literal>,
@@ -391,6 +508,7 @@ pub fn analyze(
     let blank = marks.take(alloc, trail.variable_count())?;
     let mut resolvent = begin(alloc, blank, table, trail, number)?;
     resolve_level(table, trail, &mut resolvent)?;
+    minimize(table, trail, &mut resolvent)?;
     let literals = literals_of(
         alloc,
         trail,
