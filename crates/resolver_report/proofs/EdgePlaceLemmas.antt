@@ -11,7 +11,7 @@ use Rattle.std.proofs.lemmas.Bool.{true≢false}
 use Rattle.resolver_report.specs.declared.graph.Edge.{Edge}
 use Rattle.resolver_report.specs.EdgePlaces.{AreEmpty, ArePlaces, appended, lists_in, passes, places_passing}
 use Rattle.resolver_report.proofs.AlikeLemmas.{itself_number, same_numbers}
-use Rattle.resolver_report.proofs.AskedLemmas.{cases_lt_suc}
+use Rattle.resolver_report.proofs.CandidateListLemmas.{cases_lt_suc}
 use Rattle.resolver_report.proofs.ListLemmas.{filter-range-pass, filter-range-fail}
 
 module _ {X : Type 0} where

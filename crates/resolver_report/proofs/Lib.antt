@@ -1,5 +1,5 @@
 pub mod ReachedRuleLemmas
-pub mod AskedLemmas
+pub mod CandidateListLemmas
 pub mod ReachingLemmas
 pub mod SearchLemmas
 pub mod TrueRuleLemmas
@@ -16,7 +16,7 @@ pub mod OnceLemmas
 pub mod EdgePlaceLemmas
 pub mod SimplifyLemmas
 pub mod PlaceLemmas
-pub mod MarkLemmas
+pub mod LastInstanceLemmas
 pub mod RunLemmas
 pub mod TextLemmas
 pub mod ConflictLemmas

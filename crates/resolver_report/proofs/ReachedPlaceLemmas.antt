@@ -21,9 +21,9 @@ use Rattle.resolver_report.specs.declared.graph.Link.{Link}
 use Rattle.resolver_clause_store.specs.declared.Rule.{Rule}
 use Rattle.resolver_clause_store.specs.declared.Rule.TheVariants.{Requires, Constrains, Lock, Excluded, OnePerPackage}
 use Rattle.resolver_report.specs.Same.{same_node}
-use Rattle.resolver_report.specs.Graphs.{node_by, mentioned, mentions, first_mentions, requirement_link, requirement_links, marked_last, mark_links, links_of}
+use Rattle.resolver_report.specs.Graphs.{node_by, mentioned, mentions, first_mentions, requirement_link, requirement_links, last_instance, instance_links, links_of}
 use Rattle.resolver_report.specs.Graphs.{links_after, links, is_entered, place_in, edge_in, graph_with, graph_of}
-use Rattle.resolver_report.specs.ReachedRules.{IsReachedBy, by_root, by_reached, IsAskerReached, IsKept}
+use Rattle.resolver_report.specs.ReachedRules.{IsReachedBy, by_root, by_reached, IsRequirerReached, IsKept}
 use Rattle.resolver_report.specs.ReachedPlaces.{IsWalkedTo, at_root, by_requirement, IsReachedPlace, by_walk, by_edge, AreNodesReached}
 use Rattle.resolver_report.specs.Shapes.{as_solvable, ConflictShape}
 use Rattle.resolver_report.proofs.TrueEdgeLemmas.{stands}
@@ -68,10 +68,10 @@ module _ {N S : Type 0} (same_name : N → N → Bool) where
 
     candidate_node : (by : By S) (requirement : Requirement) (candidates : Vec S Global) (when : Vec (Vec S Global) Global) (s : S) →
         Contains rules (Requires by requirement candidates when) → Contains candidates.items s → Walked (node_by by) → Walked (Solvable s)
-    candidate_node by requirement candidates when s listed inside asker =
+    candidate_node by requirement candidates when s listed inside requirer =
         by_required (node_by by) requirement s
         (link_in [] rules (Requires by requirement candidates when) (requirement_link (node_by by) requirement (Solvable s)) listed (λ before.
-        requirement_link_in (node_by by) requirement candidates.items s inside)) asker
+        requirement_link_in (node_by by) requirement candidates.items s inside)) requirer
 
     reached_node : (s : S) → IsReachedBy rules s → Walked (Solvable s)
     reached_node s (by_root {requirement = requirement} {candidates = candidates} {when = when} listed inside) =
@@ -79,9 +79,9 @@ module _ {N S : Type 0} (same_name : N → N → Bool) where
     reached_node s (by_reached {t = t} {requirement = requirement} {candidates = candidates} {when = when} r listed inside) =
         candidate_node (BySolvable t) requirement candidates when s listed inside (reached_node t r)
 
-    asker_node : (by : By S) → IsAskerReached rules by → Walked (node_by by)
-    asker_node ByRoot h = from_root
-    asker_node (BySolvable s) h = reached_node s h
+    requirer_node : (by : By S) → IsRequirerReached rules by → Walked (node_by by)
+    requirer_node ByRoot h = from_root
+    requirer_node (BySolvable s) h = reached_node s h
 
     solvable_nodes : (cs : List S) → ((s : S) → Contains cs s → Walked (Solvable s)) → AllByRecursion Reached (map Solvable cs)
     solvable_nodes [] f = tt
@@ -89,11 +89,11 @@ module _ {N S : Type 0} (same_name : N → N → Bool) where
 
     mentioned_nodes : (rule : Rule N S) → Contains rules rule → IsKept rules rule → AllByRecursion Reached (mentioned rule)
     mentioned_nodes (Requires by requirement candidates when) listed h = (
-      by_nodes (asker_node by h),
+      by_nodes (requirer_node by h),
       solvable_nodes candidates.items (λ s inside.
-          candidate_node by requirement candidates when s listed inside (asker_node by h)),
+          candidate_node by requirement candidates when s listed inside (requirer_node by h)),
     )
-    mentioned_nodes (Constrains by version_set candidate) listed (asker, h) = (by_nodes (asker_node by asker), (by_nodes (reached_node candidate h), tt))
+    mentioned_nodes (Constrains by version_set candidate) listed (requirer, h) = (by_nodes (requirer_node by requirer), (by_nodes (reached_node candidate h), tt))
     mentioned_nodes (Lock locked forbidden) listed h = (by_nodes (reached_node forbidden h), tt)
     mentioned_nodes (Excluded solvable reason) listed h =
         let l : Link S = record { source = Solvable solvable; target = Reason reason; weight = Conflict ByExclusion } in (
@@ -213,16 +213,16 @@ module _ {N S : Type 0} (same_name : N → N → Bool) where
         requirement_from source r [] walked = ((λ e. walked), tt)
         requirement_from source r (c ∷ cs) walked = required_from source r (c ∷ cs) walked
 
-        mark_from : (o : Option S) (s : S) → AllByRecursion IsFromWalked (mark_links o s)
-        mark_from None s = tt
-        mark_from (Some t) s = ((λ e. absurd cc), tt)
+        instance_from : (o : Option S) (s : S) → AllByRecursion IsFromWalked (instance_links o s)
+        instance_from None s = tt
+        instance_from (Some t) s = ((λ e. absurd cc), tt)
 
         links_of_from : (earlier : List (Rule N S)) (rule : Rule N S) → IsKept rules rule → AllByRecursion IsFromWalked (links_of same_name earlier rule)
-        links_of_from earlier (Requires by requirement candidates when) h = requirement_from (node_by by) requirement candidates.items (asker_node by h)
+        links_of_from earlier (Requires by requirement candidates when) h = requirement_from (node_by by) requirement candidates.items (requirer_node by h)
         links_of_from earlier (Constrains by version_set candidate) h = ((λ e. absurd cc), tt)
         links_of_from earlier (Lock locked forbidden) h = ((λ e. absurd cc), tt)
         links_of_from earlier (Excluded solvable reason) h = ((λ e. absurd cc), tt)
-        links_of_from earlier (OnePerPackage name instance) h = mark_from (marked_last same_name name earlier) instance
+        links_of_from earlier (OnePerPackage name instance) h = instance_from (last_instance same_name name earlier) instance
 
         links_from : (earlier rs : List (Rule N S)) → All (IsKept rules) rs → AllByRecursion IsFromWalked (links_after same_name earlier rs)
         links_from earlier [] h = tt

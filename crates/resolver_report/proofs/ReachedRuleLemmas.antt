@@ -7,7 +7,7 @@ use Rattle.resolver_clause_store.specs.declared.By.TheVariants.{Root, Solvable}
 use Rattle.resolver_clause_store.specs.declared.Requirement.{Requirement}
 use Rattle.resolver_clause_store.specs.declared.Rule.{Rule}
 use Rattle.resolver_clause_store.specs.declared.Rule.TheVariants.{Requires, Constrains, Lock, Excluded, OnePerPackage}
-use Rattle.resolver_report.specs.ReachedRules.{IsReachedBy, by_root, by_reached, IsAskerReached, IsKept, LeavesKept}
+use Rattle.resolver_report.specs.ReachedRules.{IsReachedBy, by_root, by_reached, IsRequirerReached, IsKept, LeavesKept}
 use Rattle.resolver_clause_store.specs.Statements.{lists_of, statement_of, IsPresent, ObeysAlone}
 use Rattle.resolver_clause_store.specs.Rules.{IsRefuted, Obeys}
 use Rattle.resolver_report.proofs.SearchLemmas.{AllMeet-within}
@@ -72,13 +72,13 @@ module _ {N S : Type 0} (rules : List (Rule N S)) where
 
 module _ {N S : Type 0} (rules kept : List (Rule N S)) (left : LeavesKept rules kept) (set part : List S) (obeys : Obeys set kept)
     (is : IsReachedPart rules set part) where
-  asker_reached : (by : By S) → IsPresent by part → IsAskerReached rules by
-  asker_reached Root here = tt
-  asker_reached (Solvable s) here = is.reached s here
+  requirer_reached : (by : By S) → IsPresent by part → IsRequirerReached rules by
+  requirer_reached Root here = tt
+  requirer_reached (Solvable s) here = is.reached s here
 
-  asker_present : (by : By S) → IsPresent by part → IsPresent by set
-  asker_present Root here = tt
-  asker_present (Solvable s) here = is.within s here
+  requirer_present : (by : By S) → IsPresent by part → IsPresent by set
+  requirer_present Root here = tt
+  requirer_present (Solvable s) here = is.within s here
 
   candidate_reached : (by : By S) (requirement : Requirement) (candidates : Vec S Global) (when : Vec (Vec S Global) Global) (s : S) → IsPresent by part →
       Contains rules (Requires by requirement candidates when) → Contains candidates.items s → IsReachedBy rules s
@@ -89,7 +89,7 @@ module _ {N S : Type 0} (rules kept : List (Rule N S)) (left : LeavesKept rules 
   part_obeys (Requires by requirement candidates when) listed = λ here meet.
       let met : Meets candidates.items set =
       obeys.each (Requires by requirement candidates when)
-      (Contains-kept rules kept left (Requires by requirement candidates when) listed (asker_reached by here)) (asker_present by here)
+      (Contains-kept rules kept left (Requires by requirement candidates when) listed (requirer_reached by here)) (requirer_present by here)
       (AllMeet-within (lists_of when.items) part set is.within meet) in
       record {
         shared = met.shared;
@@ -98,8 +98,8 @@ module _ {N S : Type 0} (rules kept : List (Rule N S)) (left : LeavesKept rules 
       }
   part_obeys (Constrains by version_set candidate) listed = λ here inside.
       obeys.each (Constrains by version_set candidate)
-      (Contains-kept rules kept left (Constrains by version_set candidate) listed (asker_reached by here, is.reached candidate inside))
-      (asker_present by here) (is.within candidate inside)
+      (Contains-kept rules kept left (Constrains by version_set candidate) listed (requirer_reached by here, is.reached candidate inside))
+      (requirer_present by here) (is.within candidate inside)
   part_obeys (Lock locked forbidden) listed =
       λ inside. obeys.each (Lock locked forbidden) (Contains-kept rules kept left (Lock locked forbidden) listed (is.reached forbidden inside))
       (is.within forbidden inside)
@@ -133,14 +133,14 @@ IsReachedBy-kept rules kept left s (by_root {requirement = requirement} {candida
 IsReachedBy-kept rules kept left s (by_reached {t = t} {requirement = requirement} {candidates = candidates} {when = when} r listed inside) =
     by_reached (IsReachedBy-kept rules kept left t r) (Contains-kept rules kept left (Requires (Solvable t) requirement candidates when) listed r) inside
 
-asker_kept : {N S : Type 0} (rules kept : List (Rule N S)) → LeavesKept rules kept → (by : By S) → IsAskerReached rules by → IsAskerReached kept by
-asker_kept rules kept left Root h = tt
-asker_kept rules kept left (Solvable s) h = IsReachedBy-kept rules kept left s h
+requirer_kept : {N S : Type 0} (rules kept : List (Rule N S)) → LeavesKept rules kept → (by : By S) → IsRequirerReached rules by → IsRequirerReached kept by
+requirer_kept rules kept left Root h = tt
+requirer_kept rules kept left (Solvable s) h = IsReachedBy-kept rules kept left s h
 
 IsKept-kept : {N S : Type 0} (rules kept : List (Rule N S)) → LeavesKept rules kept → (rule : Rule N S) → IsKept rules rule → IsKept kept rule
-IsKept-kept rules kept left (Requires by requirement candidates when) h = asker_kept rules kept left by h
-IsKept-kept rules kept left (Constrains by version_set candidate) (asker, h) =
-    (asker_kept rules kept left by asker, IsReachedBy-kept rules kept left candidate h)
+IsKept-kept rules kept left (Requires by requirement candidates when) h = requirer_kept rules kept left by h
+IsKept-kept rules kept left (Constrains by version_set candidate) (requirer, h) =
+    (requirer_kept rules kept left by requirer, IsReachedBy-kept rules kept left candidate h)
 IsKept-kept rules kept left (Lock locked forbidden) h = IsReachedBy-kept rules kept left forbidden h
 IsKept-kept rules kept left (Excluded solvable reason) h = IsReachedBy-kept rules kept left solvable h
 IsKept-kept rules kept left (OnePerPackage name instance) h = IsReachedBy-kept rules kept left instance h

@@ -18,12 +18,12 @@ use Rattle.resolver_clause_store.specs.declared.Requirement.{Requirement}
 use Rattle.resolver_clause_store.specs.declared.By.TheVariants.{Root, Solvable}
 use Rattle.resolver_clause_store.specs.declared.Rule.{Rule}
 use Rattle.resolver_clause_store.specs.declared.Rule.TheVariants.{Requires, Constrains, Lock, Excluded, OnePerPackage}
-use Rattle.resolver_report.specs.Asked.{asked_in, root_asked_in}
+use Rattle.resolver_report.specs.CandidateLists.{candidates_for, root_candidates_of}
 use Rattle.resolver_report.specs.Listed.{items_if}
-use Rattle.resolver_report.specs.ReachedRules.{IsReachedBy, by_root, by_reached, IsAskerReached, IsKept, LeavesJust}
+use Rattle.resolver_report.specs.ReachedRules.{IsReachedBy, by_root, by_reached, IsRequirerReached, IsKept, LeavesJust}
 use Rattle.resolver_report.specs.Reaching.{IsAbout, IsReachedSet}
 use Rattle.resolver_clause_store.specs.Statements.{IsPresent}
-use Rattle.resolver_report.proofs.AskedLemmas.{gathered, gathered_from, cases_lt_suc}
+use Rattle.resolver_report.proofs.CandidateListLemmas.{gathered, gathered_from, cases_lt_suc}
 use Rattle.resolver_report.specs.Searching.{all_candidates, candidates_in, count_outside}
 use Rattle.resolver_clause_store.proofs.ListLemmas.{Contains-here as head_in, Contains-none as none_in, slice_get-append_left}
 use Rattle.resolver_report.proofs.SearchLemmas.{Contains-all_candidates, count_outside-lt, list_any-outside}
@@ -54,11 +54,11 @@ module _ {S : Type 0} (same : S → S → Bool) where
       let Has : List S → Type 0 = λ list. Contains list s in
       subst Has (sym h.is) (Contains-append_left old h.more s inside)
 
--- what is there is reached; what the root asks for is there, and what each of the first members asks for
+-- what is there is reached; what the root requires is there, and what each of the first members requires
 pub record IsUnderway {N S : Type 0} (same : S → S → Bool) (rules : List (Rule N S)) (set : List S) (next : ℕ) : Type 0 where
   pub sound : (s : S) → Contains set s → IsReachedBy rules s
-  pub first : IsWithin (flat_map root_asked_in rules) set
-  pub followed : (k : ℕ) (u : S) → k < next → slice_get set k ≡ Some u → IsWithin (flat_map (asked_in same u) rules) set
+  pub first : IsWithin (flat_map root_candidates_of rules) set
+  pub followed : (k : ℕ) (u : S) → k < next → slice_get set k ≡ Some u → IsWithin (flat_map (candidates_for same u) rules) set
 
 module _ {S : Type 0} (same : S → S → Bool) (identity : IsIdentity same) (laws : IsEquivalence same) where
   -- the search finds just the members
@@ -105,7 +105,7 @@ module _ {S : Type 0} (same : S → S → Bool) (identity : IsIdentity same) (la
 
   -- Of the candidates of requirements.
   module _ {N : Type 0} (rules : List (Rule N S)) where
-    root_reached_in : (rule : Rule N S) → Contains rules rule → (s : S) → Contains (root_asked_in rule) s → IsReachedBy rules s
+    root_reached_in : (rule : Rule N S) → Contains rules rule → (s : S) → Contains (root_candidates_of rule) s → IsReachedBy rules s
     root_reached_in (Requires Root requirement candidates when) listed s inside = by_root listed inside
     root_reached_in (Requires (Solvable t) requirement candidates when) listed s inside = absurd (none_in s inside)
     root_reached_in (Constrains by version_set candidate) listed s inside = absurd (none_in s inside)
@@ -113,65 +113,65 @@ module _ {S : Type 0} (same : S → S → Bool) (identity : IsIdentity same) (la
     root_reached_in (Excluded solvable reason) listed s inside = absurd (none_in s inside)
     root_reached_in (OnePerPackage name instance) listed s inside = absurd (none_in s inside)
 
-    root_reached : (s : S) → Contains (flat_map root_asked_in rules) s → IsReachedBy rules s
-    root_reached s inside = let found = gathered_from root_asked_in rules s inside in root_reached_in found.0 found.1 s found.2
+    root_reached : (s : S) → Contains (flat_map root_candidates_of rules) s → IsReachedBy rules s
+    root_reached s inside = let found = gathered_from root_candidates_of rules s inside in root_reached_in found.0 found.1 s found.2
 
     from_items_if : (t u s : S) (cs : List S) (b : Bool) → same t u ≡ b → Contains (items_if b cs) s → (t ≡ u) × Contains cs s
     from_items_if t u s cs true e inside = (identity.alone t u e, inside)
     from_items_if t u s cs false e inside = absurd (none_in s inside)
 
-    asked_reached_in : (u : S) → IsReachedBy rules u → (rule : Rule N S) → Contains rules rule → (s : S) → Contains (asked_in same u rule) s →
+    candidates_reached_in : (u : S) → IsReachedBy rules u → (rule : Rule N S) → Contains rules rule → (s : S) → Contains (candidates_for same u rule) s →
         IsReachedBy rules s
-    asked_reached_in u r (Requires Root requirement candidates when) listed s inside = absurd (none_in s inside)
-    asked_reached_in u r (Requires (Solvable t) requirement candidates when) listed s inside =
+    candidates_reached_in u r (Requires Root requirement candidates when) listed s inside = absurd (none_in s inside)
+    candidates_reached_in u r (Requires (Solvable t) requirement candidates when) listed s inside =
         let told = from_items_if t u s candidates.items (same t u) refl inside in
         by_reached (subst (IsReachedBy rules) (sym told.0) r) listed told.1
-    asked_reached_in u r (Constrains by version_set candidate) listed s inside = absurd (none_in s inside)
-    asked_reached_in u r (Lock locked forbidden) listed s inside = absurd (none_in s inside)
-    asked_reached_in u r (Excluded solvable reason) listed s inside = absurd (none_in s inside)
-    asked_reached_in u r (OnePerPackage name instance) listed s inside = absurd (none_in s inside)
+    candidates_reached_in u r (Constrains by version_set candidate) listed s inside = absurd (none_in s inside)
+    candidates_reached_in u r (Lock locked forbidden) listed s inside = absurd (none_in s inside)
+    candidates_reached_in u r (Excluded solvable reason) listed s inside = absurd (none_in s inside)
+    candidates_reached_in u r (OnePerPackage name instance) listed s inside = absurd (none_in s inside)
 
-    asked_reached : (u : S) → IsReachedBy rules u → (s : S) → Contains (flat_map (asked_in same u) rules) s → IsReachedBy rules s
-    asked_reached u r s inside = let found = gathered_from (asked_in same u) rules s inside in asked_reached_in u r found.0 found.1 s found.2
+    candidates_reached : (u : S) → IsReachedBy rules u → (s : S) → Contains (flat_map (candidates_for same u) rules) s → IsReachedBy rules s
+    candidates_reached u r s inside = let found = gathered_from (candidates_for same u) rules s inside in candidates_reached_in u r found.0 found.1 s found.2
 
-    asked_candidate : (u : S) (rule : Rule N S) (s : S) → Contains (asked_in same u rule) s → Contains (candidates_in rule) s
-    asked_candidate u (Requires Root requirement candidates when) s inside = absurd (none_in s inside)
-    asked_candidate u (Requires (Solvable t) requirement candidates when) s inside = (from_items_if t u s candidates.items (same t u) refl inside).1
-    asked_candidate u (Constrains by version_set candidate) s inside = absurd (none_in s inside)
-    asked_candidate u (Lock locked forbidden) s inside = absurd (none_in s inside)
-    asked_candidate u (Excluded solvable reason) s inside = absurd (none_in s inside)
-    asked_candidate u (OnePerPackage name instance) s inside = absurd (none_in s inside)
+    listed_candidate : (u : S) (rule : Rule N S) (s : S) → Contains (candidates_for same u rule) s → Contains (candidates_in rule) s
+    listed_candidate u (Requires Root requirement candidates when) s inside = absurd (none_in s inside)
+    listed_candidate u (Requires (Solvable t) requirement candidates when) s inside = (from_items_if t u s candidates.items (same t u) refl inside).1
+    listed_candidate u (Constrains by version_set candidate) s inside = absurd (none_in s inside)
+    listed_candidate u (Lock locked forbidden) s inside = absurd (none_in s inside)
+    listed_candidate u (Excluded solvable reason) s inside = absurd (none_in s inside)
+    listed_candidate u (OnePerPackage name instance) s inside = absurd (none_in s inside)
 
-    asked_within : (u : S) → IsWithin (flat_map (asked_in same u) rules) (all_candidates rules)
-    asked_within u s inside =
-        let found = gathered_from (asked_in same u) rules s inside in
-        Contains-all_candidates rules found.0 s found.1 (asked_candidate u found.0 s found.2)
+    candidates_within : (u : S) → IsWithin (flat_map (candidates_for same u) rules) (all_candidates rules)
+    candidates_within u s inside =
+        let found = gathered_from (candidates_for same u) rules s inside in
+        Contains-all_candidates rules found.0 s found.1 (listed_candidate u found.0 s found.2)
 
-    asked_itself : (u : S) (requirement : Requirement) (candidates : Vec S Global) (when : Vec (Vec S Global) Global) (s : S) → Contains candidates.items s →
-        Contains (asked_in {N = N} same u (Requires (Solvable u) requirement candidates when)) s
-    asked_itself u requirement candidates when s inside =
-        let Asked : Bool → Type 0 = λ b. Contains (items_if b candidates.items) s in
-        subst Asked (sym (identity.itself u)) inside
+    candidates_itself : (u : S) (requirement : Requirement) (candidates : Vec S Global) (when : Vec (Vec S Global) Global) (s : S) → Contains candidates.items s →
+        Contains (candidates_for {N = N} same u (Requires (Solvable u) requirement candidates when)) s
+    candidates_itself u requirement candidates when s inside =
+        let Listed : Bool → Type 0 = λ b. Contains (items_if b candidates.items) s in
+        subst Listed (sym (identity.itself u)) inside
 
-    pub underway_first : (old new first : List S) → old ≡ [] → first ≡ flat_map root_asked_in rules → new ≡ insert_all same old first →
+    pub underway_first : (old new first : List S) → old ≡ [] → first ≡ flat_map root_candidates_of rules → new ≡ insert_all same old first →
         IsUnderway same rules new 0
     underway_first old new first none are told =
-        let whole : new ≡ insert_all same [] (flat_map root_asked_in rules) = told ∙ (λ i. insert_all same (none i) (are i)) in
+        let whole : new ≡ insert_all same [] (flat_map root_candidates_of rules) = told ∙ (λ i. insert_all same (none i) (are i)) in
         let Underway : List S → Type 0 = λ set. IsUnderway same rules set 0 in
         subst Underway (sym whole) (record {
-          sound = all_sound (IsReachedBy rules) [] (flat_map root_asked_in rules) (λ s inside. absurd (none_in s inside)) root_reached;
-          first = Contains-insert_all [] (flat_map root_asked_in rules);
+          sound = all_sound (IsReachedBy rules) [] (flat_map root_candidates_of rules) (λ s inside. absurd (none_in s inside)) root_reached;
+          first = Contains-insert_all [] (flat_map root_candidates_of rules);
           followed = λ k u below. absurd (omega (arith, below));
         })
 
     module _ (old new : List S) (next : ℕ) (u : S) (at_next : slice_get old next ≡ Some u)
-        (told : new ≡ insert_all same old (flat_map (asked_in same u) rules)) where
-      asked : List S
-      asked = flat_map (asked_in same u) rules
+        (told : new ≡ insert_all same old (flat_map (candidates_for same u) rules)) where
+      listed_there : List S
+      listed_there = flat_map (candidates_for same u) rules
 
       growth : IsGrowth same (all_candidates rules) old new
       growth = let Grown : List S → Type 0 = λ set. IsGrowth same (all_candidates rules) old set in
-          subst Grown (sym told) (Growth-all (all_candidates rules) old (flat_map (asked_in same u) rules) (asked_within u))
+          subst Grown (sym told) (Growth-all (all_candidates rules) old (flat_map (candidates_for same u) rules) (candidates_within u))
 
       within_new : IsWithin old new
       within_new = Contains-grown same (all_candidates rules) old new growth
@@ -194,18 +194,18 @@ module _ {S : Type 0} (same : S → S → Bool) (identity : IsIdentity same) (la
           sound : (s : S) → Contains new s → IsReachedBy rules s
           sound s inside =
               let Has : List S → Type 0 = λ set. Contains set s in
-              all_sound (IsReachedBy rules) old (flat_map (asked_in same u) rules) h.sound (asked_reached u (h.sound u there)) s (subst Has told inside)
+              all_sound (IsReachedBy rules) old (flat_map (candidates_for same u) rules) h.sound (candidates_reached u (h.sound u there)) s (subst Has told inside)
 
-          at_place : (k : ℕ) (v : S) → slice_get old k ≡ Some v → (k < next) ⊎ (k ≡ next) → IsWithin (flat_map (asked_in same v) rules) new
+          at_place : (k : ℕ) (v : S) → slice_get old k ≡ Some v → (k < next) ⊎ (k ≡ next) → IsWithin (flat_map (candidates_for same v) rules) new
           at_place k v e (inl below) = λ s inside. within_new s (h.followed k v below e s inside)
           at_place k v e (inr is) =
               let one : Some v ≡ Some u = sym e ∙ ap (slice_get old) is ∙ at_next in
               let same_one : v ≡ u = cc in
-              let Within : S → Type 0 = λ w. IsWithin (flat_map (asked_in same w) rules) new in
-              let Has : List S → Type 0 = λ set. IsWithin (flat_map (asked_in same u) rules) set in
-              subst Within (sym same_one) (subst Has (sym told) (Contains-insert_all old (flat_map (asked_in same u) rules)))
+              let Within : S → Type 0 = λ w. IsWithin (flat_map (candidates_for same w) rules) new in
+              let Has : List S → Type 0 = λ set. IsWithin (flat_map (candidates_for same u) rules) set in
+              subst Within (sym same_one) (subst Has (sym told) (Contains-insert_all old (flat_map (candidates_for same u) rules)))
 
-          followed : (k : ℕ) (v : S) → k < next + 1 → slice_get new k ≡ Some v → IsWithin (flat_map (asked_in same v) rules) new
+          followed : (k : ℕ) (v : S) → k < next + 1 → slice_get new k ≡ Some v → IsWithin (flat_map (candidates_for same v) rules) new
           followed k v below e = at_place k v (sym (before k below) ∙ e) (cases_lt_suc k next below)
 
       -- the measure of the steps
@@ -219,12 +219,12 @@ module _ {S : Type 0} (same : S → S → Bool) (identity : IsIdentity same) (la
       where
         complete : (s : S) → IsReachedBy rules s → Contains set s
         complete s (by_root {requirement = requirement} {candidates = candidates} {when = when} listed inside) =
-            h.first s (gathered root_asked_in rules (Requires Root requirement candidates when) s listed inside)
+            h.first s (gathered root_candidates_of rules (Requires Root requirement candidates when) s listed inside)
         complete s (by_reached {t = t} {requirement = requirement} {candidates = candidates} {when = when} r listed inside) =
             let at = complete t r in
             h.followed at.0 t (omega (arith, at.1, end)) (slice_get-get_or set at.0 t at.1 ∙ ap Some at.2) s
-            (gathered (asked_in same t) rules (Requires (Solvable t) requirement candidates when) s listed
-            (asked_itself t requirement candidates when s inside))
+            (gathered (candidates_for same t) rules (Requires (Solvable t) requirement candidates when) s listed
+            (candidates_itself t requirement candidates when s inside))
 
 -- what `retain` leaves, where each call tells whether P holds, and leaves the closure as it was
 module _ {X F : Type 0} (R : F → X → Bool → F → Type 0) (P : X → Type 0) (f : F)
@@ -257,24 +257,24 @@ module _ {X F : Type 0} (R : F → X → Bool → F → Type 0) (P : X → Type 
 
 -- to be about members of the set and about what is reached are one
 module _ {N S : Type 0} (rules : List (Rule N S)) (set : List S) (is : IsReachedSet rules set) where
-  asker_kept : (by : By S) → IsPresent by set → IsAskerReached rules by
-  asker_kept Root here = tt
-  asker_kept (Solvable s) here = is.sound s here
+  requirer_kept : (by : By S) → IsPresent by set → IsRequirerReached rules by
+  requirer_kept Root here = tt
+  requirer_kept (Solvable s) here = is.sound s here
 
-  asker_about : (by : By S) → IsAskerReached rules by → IsPresent by set
-  asker_about Root here = tt
-  asker_about (Solvable s) here = is.complete s here
+  requirer_about : (by : By S) → IsRequirerReached rules by → IsPresent by set
+  requirer_about Root here = tt
+  requirer_about (Solvable s) here = is.complete s here
 
   IsKept-about : (rule : Rule N S) → IsAbout set rule → IsKept rules rule
-  IsKept-about (Requires by requirement candidates when) here = asker_kept by here
-  IsKept-about (Constrains by version_set candidate) (here, inside) = (asker_kept by here, is.sound candidate inside)
+  IsKept-about (Requires by requirement candidates when) here = requirer_kept by here
+  IsKept-about (Constrains by version_set candidate) (here, inside) = (requirer_kept by here, is.sound candidate inside)
   IsKept-about (Lock locked forbidden) inside = is.sound forbidden inside
   IsKept-about (Excluded solvable reason) inside = is.sound solvable inside
   IsKept-about (OnePerPackage name instance) inside = is.sound instance inside
 
   IsAbout-kept : (rule : Rule N S) → IsKept rules rule → IsAbout set rule
-  IsAbout-kept (Requires by requirement candidates when) here = asker_about by here
-  IsAbout-kept (Constrains by version_set candidate) (here, reached) = (asker_about by here, is.complete candidate reached)
+  IsAbout-kept (Requires by requirement candidates when) here = requirer_about by here
+  IsAbout-kept (Constrains by version_set candidate) (here, reached) = (requirer_about by here, is.complete candidate reached)
   IsAbout-kept (Lock locked forbidden) reached = is.complete forbidden reached
   IsAbout-kept (Excluded solvable reason) reached = is.complete solvable reached
   IsAbout-kept (OnePerPackage name instance) reached = is.complete instance reached

@@ -16,9 +16,9 @@ use Rattle.resolver_clause_store.specs.declared.Rule.TheVariants.{Requires, Cons
 use Rattle.resolver_clause_store.specs.Statements.{lists_of, statement_of, AllMeet, IsPresent, ObeysAlone}
 use Rattle.resolver_clause_store.specs.Rules.{AllNeeded, IsNeeded, by_root, by_needed, Obeys}
 use Rattle.resolver_report.specs.Searching.{all_candidates, candidates_in, count_outside}
-use Rattle.resolver_report.specs.Plain.{BreaksSome, Clashes, HasTwo, IsAllowed, IsAloneMarked, IsForbidden, IsMet, IsOpen, IsRefutedFrom, IsUnmet, MarksNoOther}
+use Rattle.resolver_report.specs.Plain.{BreaksSome, Clashes, HasTwo, IsAllowed, IsOnlyInstance, IsForbidden, IsMet, IsOpen, IsRefutedFrom, IsUnmet, HasNoOtherInstance}
 use Rattle.resolver_clause_store.proofs.ListLemmas.{Contains-map}
-use Rattle.resolver_report.specs.Plain.{MarksOther}
+use Rattle.resolver_report.specs.Plain.{HasOtherInstance}
 
 -- what is there in a set is there in a larger one
 
@@ -60,17 +60,17 @@ clash_refuted (Constrains by version_set candidate) set rules listed h larger wi
 clash_refuted (Lock locked forbidden) set rules listed h larger within obeys = absurd h
 clash_refuted (Excluded solvable reason) set rules listed h larger within obeys = absurd h
 clash_refuted {N} {S} (OnePerPackage name instance) set rules listed (inside, other) larger within obeys =
-    let other_refuted : (rule : Rule N S) → Contains rules rule → MarksOther set name instance rule → ⊥ =
-    other_marked name instance set rules listed inside larger within obeys in
+    let other_refuted : (rule : Rule N S) → Contains rules rule → HasOtherInstance set name instance rule → ⊥ =
+    other_instance name instance set rules listed inside larger within obeys in
     other_refuted other.1 (other.0, other.2, other.3) other.4
   where
-    other_marked : {N S : Type 0} (n : N) (s : S) (set : List S) (rules : List (Rule N S)) → Contains rules (OnePerPackage n s) → Contains set s →
-        (larger : List S) → IsWithin set larger → Obeys larger rules → (rule : Rule N S) → Contains rules rule → MarksOther set n s rule → ⊥
-    other_marked n s set rules listed inside larger within obeys (Requires by requirement candidates when) also h = absurd h
-    other_marked n s set rules listed inside larger within obeys (Constrains by version_set candidate) also h = absurd h
-    other_marked n s set rules listed inside larger within obeys (Lock locked forbidden) also h = absurd h
-    other_marked n s set rules listed inside larger within obeys (Excluded solvable reason) also h = absurd h
-    other_marked {N} {S} n s set rules listed inside larger within obeys (OnePerPackage m t) also (same, there, apart) =
+    other_instance : {N S : Type 0} (n : N) (s : S) (set : List S) (rules : List (Rule N S)) → Contains rules (OnePerPackage n s) → Contains set s →
+        (larger : List S) → IsWithin set larger → Obeys larger rules → (rule : Rule N S) → Contains rules rule → HasOtherInstance set n s rule → ⊥
+    other_instance n s set rules listed inside larger within obeys (Requires by requirement candidates when) also h = absurd h
+    other_instance n s set rules listed inside larger within obeys (Constrains by version_set candidate) also h = absurd h
+    other_instance n s set rules listed inside larger within obeys (Lock locked forbidden) also h = absurd h
+    other_instance n s set rules listed inside larger within obeys (Excluded solvable reason) also h = absurd h
+    other_instance {N} {S} n s set rules listed inside larger within obeys (OnePerPackage m t) also (same, there, apart) =
         let Marked : N → Type 0 = λ name. Contains rules (OnePerPackage name t) in
         apart (obeys.one_each n t s (subst Marked same also) listed (within t there) (within s inside))
 
@@ -85,13 +85,13 @@ obeys_alone (Lock locked forbidden) set allowed met = allowed
 obeys_alone (Excluded solvable reason) set allowed met = allowed
 obeys_alone (OnePerPackage name instance) set allowed met = tt
 
-pub Obeys-from_tests : {N S : Type 0} (set : List S) (rules : List (Rule N S)) → All (IsAllowed set) rules → All (IsAloneMarked set rules) rules →
+pub Obeys-from_tests : {N S : Type 0} (set : List S) (rules : List (Rule N S)) → All (IsAllowed set) rules → All (IsOnlyInstance set rules) rules →
     All (IsMet set) rules → Obeys set rules
 Obeys-from_tests set rules allowed alone met = record {
   each = λ r listed. obeys_alone r set (All-contains (IsAllowed set) rules r allowed listed) (All-contains (IsMet set) rules r met listed);
   one_each = λ n s t first second inside also. sym
-      (All-contains (MarksNoOther set n s) rules (OnePerPackage n t)
-      (All-contains (IsAloneMarked set rules) rules (OnePerPackage n s) alone first inside) second refl also);
+      (All-contains (HasNoOtherInstance set n s) rules (OnePerPackage n t)
+      (All-contains (IsOnlyInstance set rules) rules (OnePerPackage n s) alone first inside) second refl also);
 }
 
 -- a set with one more member

@@ -19,7 +19,7 @@ use Rattle.resolver_clause_store.specs.declared.Rule.{Rule}
 use Rattle.resolver_clause_store.specs.declared.Rule.TheVariants.{Requires, Constrains, Lock, Excluded, OnePerPackage}
 use Rattle.resolver_report.specs.Same.{same_node}
 use Rattle.resolver_report.specs.Shapes.{IsShape}
-use Rattle.resolver_report.specs.Graphs.{node_by, mentioned, mentions, first_mentions, requirement_link, requirement_links, marked_last, mark_links, links_of}
+use Rattle.resolver_report.specs.Graphs.{node_by, mentioned, mentions, first_mentions, requirement_link, requirement_links, last_instance, instance_links, links_of}
 use Rattle.resolver_report.specs.Graphs.{links_after, links, is_entered, place_in, edge_in}
 use Rattle.resolver_report.proofs.GraphLemmas.{IsFinding, finding, same_node_is_identity, has-without_repeats, without_repeats_once}
 
@@ -112,27 +112,27 @@ module _ {S : Type 0} (same : S → S → Bool) (identity : IsIdentity same) whe
   requirement_links_ends ms source r [] h k all = ((h, inr refl, k), tt)
   requirement_links_ends ms source r (c ∷ cs) h k all = requirement_ends ms source r (c ∷ cs) h k all
 
-  abbrev HasMark : List (ConflictNode S) → Option S → Type 0
-  HasMark ms None = Unit {0}
-  HasMark ms (Some s) = Has ms (Solvable s)
+  abbrev HasInstance : List (ConflictNode S) → Option S → Type 0
+  HasInstance ms None = Unit {0}
+  HasInstance ms (Some s) = Has ms (Solvable s)
 
-  mark_cases : (ms : List (ConflictNode S)) (b : Bool) (s : S) (o : Option S) → Has ms (Solvable s) → HasMark ms o → HasMark ms (cond b (Some s) o)
-  mark_cases ms true s o h k = h
-  mark_cases ms false s o h k = k
+  instance_cases : (ms : List (ConflictNode S)) (b : Bool) (s : S) (o : Option S) → Has ms (Solvable s) → HasInstance ms o → HasInstance ms (cond b (Some s) o)
+  instance_cases ms true s o h k = h
+  instance_cases ms false s o h k = k
 
-  marked_is_mentioned : {N : Type 0} (same_name : N → N → Bool) (ms : List (ConflictNode S)) (n : N) (earlier : List (Rule N S)) →
-      AllByRecursion (HasMentioned ms) earlier → HasMark ms (marked_last same_name n earlier)
-  marked_is_mentioned same_name ms n [] h = tt
-  marked_is_mentioned same_name ms n (OnePerPackage name instance ∷ earlier) h =
-      mark_cases ms (same_name name n) instance (marked_last same_name n earlier) h.0.0 (marked_is_mentioned same_name ms n earlier h.1)
-  marked_is_mentioned same_name ms n (Requires by requirement candidates when ∷ earlier) h = marked_is_mentioned same_name ms n earlier h.1
-  marked_is_mentioned same_name ms n (Constrains by version_set candidate ∷ earlier) h = marked_is_mentioned same_name ms n earlier h.1
-  marked_is_mentioned same_name ms n (Lock locked forbidden ∷ earlier) h = marked_is_mentioned same_name ms n earlier h.1
-  marked_is_mentioned same_name ms n (Excluded solvable reason ∷ earlier) h = marked_is_mentioned same_name ms n earlier h.1
+  last_is_mentioned : {N : Type 0} (same_name : N → N → Bool) (ms : List (ConflictNode S)) (n : N) (earlier : List (Rule N S)) →
+      AllByRecursion (HasMentioned ms) earlier → HasInstance ms (last_instance same_name n earlier)
+  last_is_mentioned same_name ms n [] h = tt
+  last_is_mentioned same_name ms n (OnePerPackage name instance ∷ earlier) h =
+      instance_cases ms (same_name name n) instance (last_instance same_name n earlier) h.0.0 (last_is_mentioned same_name ms n earlier h.1)
+  last_is_mentioned same_name ms n (Requires by requirement candidates when ∷ earlier) h = last_is_mentioned same_name ms n earlier h.1
+  last_is_mentioned same_name ms n (Constrains by version_set candidate ∷ earlier) h = last_is_mentioned same_name ms n earlier h.1
+  last_is_mentioned same_name ms n (Lock locked forbidden ∷ earlier) h = last_is_mentioned same_name ms n earlier h.1
+  last_is_mentioned same_name ms n (Excluded solvable reason ∷ earlier) h = last_is_mentioned same_name ms n earlier h.1
 
-  mark_ends : (ms : List (ConflictNode S)) (o : Option S) (s : S) → HasMark ms o → Has ms (Solvable s) → AllByRecursion (HasEnds ms) (mark_links o s)
-  mark_ends ms None s h k = tt
-  mark_ends ms (Some t) s h k = ((h, inl k, λ e. cc), tt)
+  instance_ends : (ms : List (ConflictNode S)) (o : Option S) (s : S) → HasInstance ms o → Has ms (Solvable s) → AllByRecursion (HasEnds ms) (instance_links o s)
+  instance_ends ms None s h k = tt
+  instance_ends ms (Some t) s h k = ((h, inl k, λ e. cc), tt)
 
   links_of_ends : {N : Type 0} (same_name : N → N → Bool) (ms : List (ConflictNode S)) → Has ms Root → (earlier : List (Rule N S)) →
       AllByRecursion (HasMentioned ms) earlier → (rule : Rule N S) → HasMentioned ms rule → AllByRecursion (HasEnds ms) (links_of same_name earlier rule)
@@ -142,7 +142,7 @@ module _ {S : Type 0} (same : S → S → Bool) (identity : IsIdentity same) whe
   links_of_ends same_name ms root earlier before (Lock locked forbidden) h = ((root, inl h.0, λ e. cc), tt)
   links_of_ends same_name ms root earlier before (Excluded solvable reason) h = ((h.0, inl h.1.0, λ e. cc), tt)
   links_of_ends same_name ms root earlier before (OnePerPackage name instance) h =
-      mark_ends ms (marked_last same_name name earlier) instance (marked_is_mentioned same_name ms name earlier before) h.0
+      instance_ends ms (last_instance same_name name earlier) instance (last_is_mentioned same_name ms name earlier before) h.0
 
   links_after_ends : {N : Type 0} (same_name : N → N → Bool) (ms : List (ConflictNode S)) → Has ms Root → (earlier rs : List (Rule N S)) →
       AllByRecursion (HasMentioned ms) earlier → AllByRecursion (HasMentioned ms) rs → AllByRecursion (HasEnds ms) (links_after same_name earlier rs)

@@ -16,12 +16,12 @@ use Rattle.resolver_report.specs.declared.graph.ConflictNode.TheVariants.{Solvab
 use Rattle.resolver_report.specs.declared.graph.Link.{Link}
 use Rattle.resolver_clause_store.specs.declared.Rule.{Rule}
 use Rattle.resolver_clause_store.specs.declared.Rule.TheVariants.{Requires, Constrains, Lock, Excluded, OnePerPackage}
-use Rattle.resolver_report.specs.Graphs.{node_by, requirement_link, requirement_links, marked_last, mark_links, links_of, links_after, links, is_entered}
+use Rattle.resolver_report.specs.Graphs.{node_by, requirement_link, requirement_links, last_instance, instance_links, links_of, links_after, links, is_entered}
 use Rattle.resolver_report.specs.Graphs.{first_mentions, place_in, edge_in, graph_with, graph_of}
 use Rattle.resolver_report.specs.Same.{same_node}
 use Rattle.resolver_report.specs.Shapes.{Shape}
 use Rattle.resolver_clause_store.specs.TrueRules.{demands_by, IsTrueRule}
-use Rattle.resolver_report.specs.TrueEdges.{IsAskerWith, AsksFor, IsTrueBetween, IsTrueEdge, AreEdgesTrue}
+use Rattle.resolver_report.specs.TrueEdges.{IsRequirerWith, HasRequirement, IsTrueBetween, IsTrueEdge, AreEdgesTrue}
 use Rattle.resolver_report.proofs.GraphLemmas.{same_node_is_identity}
 use Rattle.resolver_report.proofs.ShapeLemmas.{AllByRecursion-append, Has, EndsIn, together, first_ends, without_unresolved, without_ends}
 
@@ -29,21 +29,21 @@ module _ {N S : Type 0} (u : Universe N S) (root : Demands) where
   abbrev pub IsTrueLink : Link S → Type 0
   IsTrueLink l = IsTrueBetween u root l.source l.weight l.target
 
-  asker_with : (P : Demands → Type 0) (by : By S) → P (demands_by u root by) → IsAskerWith u root P (node_by by)
-  asker_with P ByRoot h = h
-  asker_with P (BySolvable s) h = h
+  requirer_with : (P : Demands → Type 0) (by : By S) → P (demands_by u root by) → IsRequirerWith u root P (node_by by)
+  requirer_with P ByRoot h = h
+  requirer_with P (BySolvable s) h = h
 
-  candidate_links : (source : ConflictNode S) (r : Requirement) (cs : List S) → IsAskerWith u root (AsksFor r) source →
+  candidate_links : (source : ConflictNode S) (r : Requirement) (cs : List S) → IsRequirerWith u root (HasRequirement r) source →
       ((s : S) → Contains cs s → Contains (requirement_candidates u r) s) → AllByRecursion IsTrueLink (map (λ d. requirement_link source r (Solvable d)) cs)
-  candidate_links source r [] asker within = tt
-  candidate_links source r (c ∷ cs) asker within =
-      ((asker, within c (zero, omega arith, refl)), candidate_links source r cs asker (λ s h. within s (Contains-append_right (c ∷ []) cs s h)))
+  candidate_links source r [] requirer within = tt
+  candidate_links source r (c ∷ cs) requirer within =
+      ((requirer, within c (zero, omega arith, refl)), candidate_links source r cs requirer (λ s h. within s (Contains-append_right (c ∷ []) cs s h)))
 
-  requirement_links_true : (source : ConflictNode S) (r : Requirement) (cs : List S) → IsAskerWith u root (AsksFor r) source → cs ≡ requirement_candidates u r →
+  requirement_links_true : (source : ConflictNode S) (r : Requirement) (cs : List S) → IsRequirerWith u root (HasRequirement r) source → cs ≡ requirement_candidates u r →
       AllByRecursion IsTrueLink (requirement_links source r cs)
-  requirement_links_true source r [] asker are = ((asker, sym are), tt)
-  requirement_links_true source r (c ∷ cs) asker are =
-      candidate_links source r (c ∷ cs) asker (λ s h. let Has : List S → Type 0 = λ xs. Contains xs s in subst Has are h)
+  requirement_links_true source r [] requirer are = ((requirer, sym are), tt)
+  requirement_links_true source r (c ∷ cs) requirer are =
+      candidate_links source r (c ∷ cs) requirer (λ s h. let Has : List S → Type 0 = λ xs. Contains xs s in subst Has are h)
 
   abbrev IsNamed : N → Option S → Type 0
   IsNamed n None = Unit {0}
@@ -53,34 +53,34 @@ module _ {N S : Type 0} (u : Universe N S) (root : Demands) where
   named_cases n true s o h k = h refl
   named_cases n false s o h k = k
 
-  mark_links_true : (n : N) (o : Option S) (s : S) → IsNamed n o → u.name s ≡ n → AllByRecursion IsTrueLink (mark_links o s)
-  mark_links_true n None s h k = tt
-  mark_links_true n (Some t) s h k = (h ∙ sym k, tt)
+  instance_links_true : (n : N) (o : Option S) (s : S) → IsNamed n o → u.name s ≡ n → AllByRecursion IsTrueLink (instance_links o s)
+  instance_links_true n None s h k = tt
+  instance_links_true n (Some t) s h k = (h ∙ sym k, tt)
 
   module _ (same_name : N → N → Bool) (names : IsIdentity same_name) where
-    marked_is_named : (n : N) (earlier : List (Rule N S)) → All (IsTrueRule u root) earlier → IsNamed n (marked_last same_name n earlier)
-    marked_is_named n [] h = tt
-    marked_is_named n (OnePerPackage name instance ∷ earlier) h =
-        named_cases n (same_name name n) instance (marked_last same_name n earlier) (λ e.
+    last_is_named : (n : N) (earlier : List (Rule N S)) → All (IsTrueRule u root) earlier → IsNamed n (last_instance same_name n earlier)
+    last_is_named n [] h = tt
+    last_is_named n (OnePerPackage name instance ∷ earlier) h =
+        named_cases n (same_name name n) instance (last_instance same_name n earlier) (λ e.
         All-head (IsTrueRule u root) (OnePerPackage name instance) earlier h ∙ names.alone name n e)
-        (marked_is_named n earlier (All-tail (IsTrueRule u root) (OnePerPackage name instance) earlier h))
-    marked_is_named n (Requires by requirement candidates when ∷ earlier) h =
-        marked_is_named n earlier (All-tail (IsTrueRule u root) (Requires by requirement candidates when) earlier h)
-    marked_is_named n (Constrains by version_set candidate ∷ earlier) h =
-        marked_is_named n earlier (All-tail (IsTrueRule u root) (Constrains by version_set candidate) earlier h)
-    marked_is_named n (Lock locked forbidden ∷ earlier) h = marked_is_named n earlier (All-tail (IsTrueRule u root) (Lock locked forbidden) earlier h)
-    marked_is_named n (Excluded solvable reason ∷ earlier) h = marked_is_named n earlier (All-tail (IsTrueRule u root) (Excluded solvable reason) earlier h)
+        (last_is_named n earlier (All-tail (IsTrueRule u root) (OnePerPackage name instance) earlier h))
+    last_is_named n (Requires by requirement candidates when ∷ earlier) h =
+        last_is_named n earlier (All-tail (IsTrueRule u root) (Requires by requirement candidates when) earlier h)
+    last_is_named n (Constrains by version_set candidate ∷ earlier) h =
+        last_is_named n earlier (All-tail (IsTrueRule u root) (Constrains by version_set candidate) earlier h)
+    last_is_named n (Lock locked forbidden ∷ earlier) h = last_is_named n earlier (All-tail (IsTrueRule u root) (Lock locked forbidden) earlier h)
+    last_is_named n (Excluded solvable reason ∷ earlier) h = last_is_named n earlier (All-tail (IsTrueRule u root) (Excluded solvable reason) earlier h)
 
     links_of_true : (earlier : List (Rule N S)) → All (IsTrueRule u root) earlier → (rule : Rule N S) → IsTrueRule u root rule →
         AllByRecursion IsTrueLink (links_of same_name earlier rule)
-    links_of_true earlier before (Requires by requirement candidates when) (r, asked, same, are, implied) =
-        requirement_links_true (node_by by) requirement candidates.items (asker_with (AsksFor requirement) by (r, asked, same)) are
-    links_of_true earlier before (Constrains by version_set candidate) (asked, other) =
-        ((asker_with (λ d. Contains d.constraints version_set) by asked, other), tt)
+    links_of_true earlier before (Requires by requirement candidates when) (r, stated, same, are, implied) =
+        requirement_links_true (node_by by) requirement candidates.items (requirer_with (HasRequirement requirement) by (r, stated, same)) are
+    links_of_true earlier before (Constrains by version_set candidate) (stated, other) =
+        ((requirer_with (λ d. Contains d.constraints version_set) by stated, other), tt)
     links_of_true earlier before (Lock locked forbidden) h = ((refl, h), tt)
     links_of_true earlier before (Excluded solvable reason) h = (h, tt)
     links_of_true earlier before (OnePerPackage name instance) h =
-        mark_links_true name (marked_last same_name name earlier) instance (marked_is_named name earlier before) h
+        instance_links_true name (last_instance same_name name earlier) instance (last_is_named name earlier before) h
 
     links_after_true : (earlier rs : List (Rule N S)) → All (IsTrueRule u root) earlier → All (IsTrueRule u root) rs →
         AllByRecursion IsTrueLink (links_after same_name earlier rs)

@@ -17,12 +17,12 @@ none_in s h = absurd (omega (arith, h.1))
 
 obeys_alone : {N S : Type 0} (u : Universe N S) (root : Demands) (set : List S) → IsValid u root set [] → (rule : Rule N S) → IsTrueRule u root rule →
     ObeysAlone set (statement_of rule)
-obeys_alone {N} {S} u root set ok (Requires by requirement candidates when) (r, asked, same, are, implied) = λ here meets.
-    let met = ok.required r (requires_by u root set by r here asked) (active_by u set _ r.condition implied meets) in
+obeys_alone {N} {S} u root set ok (Requires by requirement candidates when) (r, stated, same, are, implied) = λ here meets.
+    let met = ok.required r (requires_by u root set by r here stated) (active_by u set _ r.condition implied meets) in
     let HasMember : List S → Type 0 = λ xs. Meets xs set in
     subst HasMember (ap (requirement_candidates u) same ∙ sym are) met
-obeys_alone u root set ok (Constrains by v candidate) (asked, other) =
-    λ here inside. ok.constrained v (constrains_by u root set by v here asked) candidate inside other
+obeys_alone u root set ok (Constrains by v candidate) (stated, other) =
+    λ here inside. ok.constrained v (constrains_by u root set by v here stated) candidate inside other
 obeys_alone u root set ok (Lock locked forbidden) (lock, listed, apart) =
     λ inside. ok.not_locked_out forbidden inside (λ none. none_in forbidden none) (locked, lock, listed, apart)
 obeys_alone u root set ok (Excluded s reason) h = λ inside.

@@ -17,7 +17,7 @@ use Rattle.resolver_report.specs.WorkLists.{AreTended, IsReady, IsRight, IsSameW
 use Rattle.resolver_report.specs.WorkLists.{WaitsAt, Work, advanced, after_waits, has_mark, implied_at, is_ready, left_at, moved, up_to_unmarked, waits}
 use Rattle.resolver_report.proofs.AlikeLemmas.{itself_number, same_numbers}
 use Rattle.resolver_report.proofs.LeastLemmas.{IsWithinMarks}
-use Rattle.resolver_report.proofs.AskedLemmas.{cases_lt_suc}
+use Rattle.resolver_report.proofs.CandidateListLemmas.{cases_lt_suc}
 use Rattle.resolver_clause_store.proofs.BoolLemmas.{and_left as left_true, and_right as right_true}
 use Rattle.resolver_clause_store.proofs.ListLemmas.{Contains-cons_cases}
 use Rattle.resolver_report.proofs.MonotoneLemmas.{and_within, some_within}

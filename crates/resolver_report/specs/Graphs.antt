@@ -36,19 +36,19 @@ abbrev pub requirement_links : {S : Type 0} → ConflictNode S → Requirement �
 requirement_links source requirement [] = requirement_link source requirement UnresolvedDependency ∷ []
 requirement_links source requirement (c ∷ cs) = map (λ d. requirement_link source requirement (Solvable d)) (c ∷ cs)
 
--- of rules, the latest first, the instance that the latest mark of a name has
-abbrev pub marked_last : {N S : Type 0} → (N → N → Bool) → N → List (Rule N S) → Option S
-marked_last same n [] = None
-marked_last same n (OnePerPackage name instance ∷ earlier) = if same name n then Some instance else marked_last same n earlier
-marked_last same n (Requires by requirement candidates when ∷ earlier) = marked_last same n earlier
-marked_last same n (Constrains by version_set candidate ∷ earlier) = marked_last same n earlier
-marked_last same n (Lock locked forbidden ∷ earlier) = marked_last same n earlier
-marked_last same n (Excluded solvable reason ∷ earlier) = marked_last same n earlier
+-- of rules, the latest first, the last instance that they list of a package
+abbrev pub last_instance : {N S : Type 0} → (N → N → Bool) → N → List (Rule N S) → Option S
+last_instance same n [] = None
+last_instance same n (OnePerPackage name instance ∷ earlier) = if same name n then Some instance else last_instance same n earlier
+last_instance same n (Requires by requirement candidates when ∷ earlier) = last_instance same n earlier
+last_instance same n (Constrains by version_set candidate ∷ earlier) = last_instance same n earlier
+last_instance same n (Lock locked forbidden ∷ earlier) = last_instance same n earlier
+last_instance same n (Excluded solvable reason ∷ earlier) = last_instance same n earlier
 
--- a mark is linked to the one before it
-abbrev pub mark_links : {S : Type 0} → Option S → S → List (Link S)
-mark_links None instance = []
-mark_links (Some before) instance = record { source = Solvable before; target = Solvable instance; weight = Conflict ForbidMultipleInstances } ∷ []
+-- an instance is linked to the one listed before it
+abbrev pub instance_links : {S : Type 0} → Option S → S → List (Link S)
+instance_links None instance = []
+instance_links (Some before) instance = record { source = Solvable before; target = Solvable instance; weight = Conflict ForbidMultipleInstances } ∷ []
 
 -- what a rule links, given the rules before it, the latest first
 abbrev pub links_of : {N S : Type 0} → (N → N → Bool) → List (Rule N S) → Rule N S → List (Link S)
@@ -57,7 +57,7 @@ links_of same earlier (Constrains by version_set candidate) =
     record { source = node_by by; target = Solvable candidate; weight = Conflict (ByConstraint version_set) } ∷ []
 links_of same earlier (Lock locked forbidden) = record { source = Root; target = Solvable forbidden; weight = Conflict (Locked locked) } ∷ []
 links_of same earlier (Excluded solvable reason) = record { source = Solvable solvable; target = Reason reason; weight = Conflict ByExclusion } ∷ []
-links_of same earlier (OnePerPackage name instance) = mark_links (marked_last same name earlier) instance
+links_of same earlier (OnePerPackage name instance) = instance_links (last_instance same name earlier) instance
 
 abbrev pub links_after : {N S : Type 0} → (N → N → Bool) → List (Rule N S) → List (Rule N S) → List (Link S)
 links_after same earlier [] = []

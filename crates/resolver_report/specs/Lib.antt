@@ -1,6 +1,6 @@
 pub mod ReachedRules
 pub mod Listed
-pub mod Asked
+pub mod CandidateLists
 pub mod Reaching
 pub mod TrueEdges
 pub mod ReachedPlaces
@@ -16,7 +16,7 @@ pub mod Keys
 pub mod Classes
 pub mod Simplified
 pub mod Places
-pub mod LastMarks
+pub mod LastInstances
 pub mod Causes
 pub mod Runs
 pub mod EdgeRuns

@@ -16,14 +16,14 @@ pub data IsReachedBy {N S : Type 0} (rules : List (Rule N S)) : S → Type 0 whe
       Contains rules (Requires (Solvable t) requirement candidates when) → Contains candidates.items s → IsReachedBy rules s
 
 -- the root is always reached
-abbrev pub IsAskerReached : {N S : Type 0} → List (Rule N S) → By S → Type 0
-IsAskerReached rules Root = ⊤
-IsAskerReached rules (Solvable s) = IsReachedBy rules s
+abbrev pub IsRequirerReached : {N S : Type 0} → List (Rule N S) → By S → Type 0
+IsRequirerReached rules Root = ⊤
+IsRequirerReached rules (Solvable s) = IsReachedBy rules s
 
--- who asks, or what is forbidden or marked, is reached
+-- the requirer, and what is forbidden or listed as an instance, is reached
 abbrev pub IsKept : {N S : Type 0} → List (Rule N S) → Rule N S → Type 0
-IsKept rules (Requires by requirement candidates when) = IsAskerReached rules by
-IsKept rules (Constrains by version_set candidate) = IsAskerReached rules by × IsReachedBy rules candidate
+IsKept rules (Requires by requirement candidates when) = IsRequirerReached rules by
+IsKept rules (Constrains by version_set candidate) = IsRequirerReached rules by × IsReachedBy rules candidate
 IsKept rules (Lock locked forbidden) = IsReachedBy rules forbidden
 IsKept rules (Excluded solvable reason) = IsReachedBy rules solvable
 IsKept rules (OnePerPackage name instance) = IsReachedBy rules instance

@@ -30,16 +30,16 @@ IsReasonWith P (Solvable s) = ⊥
 IsReasonWith P UnresolvedDependency = ⊥
 IsReasonWith P (Reason r) = P r
 
--- the node is the root or a solvable, and P holds of what it asks for
-abbrev pub IsAskerWith : {N S : Type 0} → Universe N S → Demands → (Demands → Type 0) → ConflictNode S → Type 0
-IsAskerWith u root P Root = P root
-IsAskerWith u root P (Solvable s) = P (demands_of (u.needs s))
-IsAskerWith u root P UnresolvedDependency = ⊥
-IsAskerWith u root P (Reason r) = ⊥
+-- the node is the root or a solvable, and P holds of its demands
+abbrev pub IsRequirerWith : {N S : Type 0} → Universe N S → Demands → (Demands → Type 0) → ConflictNode S → Type 0
+IsRequirerWith u root P Root = P root
+IsRequirerWith u root P (Solvable s) = P (demands_of (u.needs s))
+IsRequirerWith u root P UnresolvedDependency = ⊥
+IsRequirerWith u root P (Reason r) = ⊥
 
--- the requirement is asked for, whatever its condition
-abbrev pub AsksFor : Requirement → Demands → Type 0
-AsksFor requirement d = (r : ConditionalRequirement) × Contains d.requirements r × (r.requirement ≡ requirement)
+-- the demands have the requirement, whatever its condition
+abbrev pub HasRequirement : Requirement → Demands → Type 0
+HasRequirement requirement d = (r : ConditionalRequirement) × Contains d.requirements r × (r.requirement ≡ requirement)
 
 -- the node is one of the candidates, or the unresolved node where there are none
 abbrev pub IsCandidateNode : {S : Type 0} → List S → ConflictNode S → Type 0
@@ -50,9 +50,9 @@ IsCandidateNode candidates (Reason r) = ⊥
 
 -- from the first node to the second, the weight says what the provider and the problem say
 abbrev pub IsTrueBetween : {N S : Type 0} → Universe N S → Demands → ConflictNode S → ConflictEdge S → ConflictNode S → Type 0
-IsTrueBetween u root source (Required requirement) target = IsAskerWith u root (AsksFor requirement) source ×
+IsTrueBetween u root source (Required requirement) target = IsRequirerWith u root (HasRequirement requirement) source ×
     IsCandidateNode (requirement_candidates u requirement) target
-IsTrueBetween u root source (Conflict (ByConstraint v)) target = IsAskerWith u root (λ d. Contains d.constraints v) source ×
+IsTrueBetween u root source (Conflict (ByConstraint v)) target = IsRequirerWith u root (λ d. Contains d.constraints v) source ×
     IsSolvableWith (Contains (others u v)) target
 IsTrueBetween u root source (Conflict (Locked locked)) target = (source ≡ Root) × IsSolvableWith (λ s. IsTrueRule u root (Lock locked s)) target
 IsTrueBetween u root source (Conflict ByExclusion) target = IsSolvableWith (λ s. IsReasonWith (λ r. IsTrueRule u root (Excluded s r)) target) source

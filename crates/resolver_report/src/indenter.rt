@@ -1,7 +1,7 @@
 //! What stands in front of a line.
 
 ghost use Rattle.std.specs.Prelude.{◌≡◌, ◌+◌, ◌-◌, ◌<◌, ◌==◌, ◌++◌, ◌∷◌, [], Bool, List, IfOk, IfErr, OnOk, length, map, string_bytes};
-ghost use Rattle.resolver_report.specs.Forests.{branch_mark, indent, indent_from, stem_mark};
+ghost use Rattle.resolver_report.specs.Forests.{branch_text, indent, indent_from, stem_text};
 ghost use Rattle.resolver_report.specs.Indents.{is_last_child, levels_in};
 
 use resolver_clause_store::Exhausted;
@@ -48,7 +48,7 @@ impl ChildOrder {
 
 /// Writes what the deepest level says.
 pub fn write_branch(order: ChildOrder, out: &mut String) -> Result<(), Exhausted>
-    ensures ok { OnOk result (string_bytes out.new ≡ string_bytes out.old ++ branch_mark (is_last_child order)) }
+    ensures ok { OnOk result (string_bytes out.new ≡ string_bytes out.old ++ branch_text (is_last_child order)) }
     ensures memory { IfErr result (λ e. e ≡ Exhausted.Memory) }
 {
     match order {
@@ -65,7 +65,7 @@ pub fn write_branch(order: ChildOrder, out: &mut String) -> Result<(), Exhausted
 
 /// Writes what a level above the deepest one says.
 fn write_stem(order: ChildOrder, out: &mut String) -> Result<(), Exhausted>
-    ensures ok { OnOk result (string_bytes out.new ≡ string_bytes out.old ++ stem_mark (is_last_child order)) }
+    ensures ok { OnOk result (string_bytes out.new ≡ string_bytes out.old ++ stem_text (is_last_child order)) }
     ensures memory { IfErr result (λ e. e ≡ Exhausted.Memory) }
 {
     match order {

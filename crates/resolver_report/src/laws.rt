@@ -25,7 +25,7 @@ pub fn valid_sets_obey_true_rules<N, S>()
 ///
 /// A solvable is reached if it is a candidate of a requirement of the root or of a reached solvable, whatever the
 /// conditions. Of a set that obeys the rules that are left, the part that is reached obeys them all: what a requirement of
-/// that part asks for is reached, too, and the rules that went are by, or about, solvables outside that part. The call
+/// that part requires is reached, too, and the rules that went are by, or about, solvables outside that part. The call
 /// does nothing: its contract is the law.
 pub fn kept_rules_stay_refuted<N, S>()
     ensures { (rules kept : List (Rule N S)) → LeavesKept rules kept → IsRefuted rules → IsRefuted kept }
@@ -33,7 +33,7 @@ pub fn kept_rules_stay_refuted<N, S>()
 
 /// Of true rules the graph has true edges alone.
 ///
-/// At both numbers of each edge a node stands. An edge that requires is from the root or a solvable that asks for the
+/// At both numbers of each edge a node stands. An edge that requires is from the root or a solvable that requires the
 /// requirement to one of its candidates, or to the unresolved node where it has none. An edge of a constraint is from who
 /// states it to a solvable that it rules out, and an edge of a lock from the root to a solvable that the lock rules out.
 /// An edge of an exclusion is from a solvable to the reason why it is excluded, and an edge between instances is between

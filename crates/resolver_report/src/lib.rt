@@ -1,7 +1,7 @@
 //! Rules that explain a conflict, a plain search over them, and their graph.
 #![tactic(auto)]
 
-mod askers;
+mod candidate_lists;
 mod classes;
 mod findings;
 mod graph;

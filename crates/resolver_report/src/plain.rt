@@ -5,8 +5,8 @@ ghost use Rattle.resolver_clause_store.specs.Laws.{IsIdentity};
 ghost use Rattle.resolver_clause_store.specs.Lists.{HasNoRepeats};
 ghost use Rattle.resolver_clause_store.specs.Statements.{AllMeet, IsPresent, lists_of};
 ghost use Rattle.resolver_clause_store.specs.Rules.{AllNeeded, IsRefuted, Obeys};
-ghost use Rattle.resolver_report.specs.Plain.{BreaksSome, Clashes, HasTwo, IsAllowed, IsAloneMarked, IsForbidden, IsMet, IsOpen, IsUnmet, MarksNoOther};
-ghost use Rattle.resolver_report.specs.Plain.{MarksOther};
+ghost use Rattle.resolver_report.specs.Plain.{BreaksSome, Clashes, HasTwo, IsAllowed, IsOnlyInstance, IsForbidden, IsMet, IsOpen, IsUnmet, HasNoOtherInstance};
+ghost use Rattle.resolver_report.specs.Plain.{HasOtherInstance};
 ghost use Rattle.resolver_report.specs.Searching.{IsChosen, IsSearching, IsStep, Shows, search_work, untried_view, work_of_choice};
 
 use resolver_clause_store::{By, Exhausted, Rule, has, meets};
@@ -23,7 +23,7 @@ fn is_present<S: Eq>(by: &By<S>, set: &[S]) -> bool
     }
 }
 
-/// Whether the set holds what a rule forbids. Of a requirement and of a mark nothing is said.
+/// Whether the set holds what a rule forbids. Of a requirement and of an instance nothing is said.
 fn is_forbidden<N, S: Eq>(rule: &Rule<N, S>, set: &[S]) -> bool
     requires { IsIdentity S.eq }
     ensures { MatchBool result (IsForbidden set.now rule.now) (IsAllowed set.now rule.now) }
@@ -92,11 +92,11 @@ fn breaks_some<N, S: Eq>(rules: &[Rule<N, S>], set: &[S]) -> bool
     false
 }
 
-/// Whether a rule marks another instance in the set for this name.
-fn marks_other<N: Eq, S: Eq>(rule: &Rule<N, S>, set: &[S], name: &N, instance: &S) -> bool
+/// Whether a rule lists another instance of this package that is in the set.
+fn lists_other_instance<N: Eq, S: Eq>(rule: &Rule<N, S>, set: &[S], name: &N, instance: &S) -> bool
     requires names { IsIdentity N.eq }
     requires solvables { IsIdentity S.eq }
-    ensures { MatchBool result (MarksOther set.now name.now instance.now rule.now) (MarksNoOther set.now name.now instance.now rule.now) }
+    ensures { MatchBool result (HasOtherInstance set.now name.now instance.now rule.now) (HasNoOtherInstance set.now name.now instance.now rule.now) }
 {
     match rule {
         Rule::OnePerPackage {
@@ -118,25 +118,25 @@ fn marks_other<N: Eq, S: Eq>(rule: &Rule<N, S>, set: &[S], name: &N, instance: &
     }
 }
 
-/// Whether some rule marks another instance in the set for this name.
+/// Whether some rule lists another instance of this package that is in the set.
 fn has_other<N: Eq, S: Eq>(rules: &[Rule<N, S>], set: &[S], name: &N, instance: &S) -> bool
     requires names { IsIdentity N.eq }
     requires solvables { IsIdentity S.eq }
-    ensures { MatchBool result (Any (MarksOther set.now name.now instance.now) rules.now) (All (MarksNoOther set.now name.now instance.now) rules.now) }
+    ensures { MatchBool result (Any (HasOtherInstance set.now name.now instance.now) rules.now) (All (HasNoOtherInstance set.now name.now instance.now) rules.now) }
 {
     for rule in rules {
-        if marks_other(rule, set, name, instance) {
+        if lists_other_instance(rule, set, name, instance) {
             return true;
         }
     }
     false
 }
 
-/// Whether the rule marks an instance in the set beside which another is marked for its name.
+/// Whether the rule lists an instance in the set, and some rule another one of its package that is in the set.
 fn clashes<N: Eq, S: Eq>(rule: &Rule<N, S>, rules: &[Rule<N, S>], set: &[S]) -> bool
     requires names { IsIdentity N.eq }
     requires solvables { IsIdentity S.eq }
-    ensures { MatchBool result (Clashes set.now rules.now rule.now) (IsAloneMarked set.now rules.now rule.now) }
+    ensures { MatchBool result (Clashes set.now rules.now rule.now) (IsOnlyInstance set.now rules.now rule.now) }
 {
     match rule {
         Rule::OnePerPackage { name, instance } => {
@@ -152,11 +152,11 @@ fn clashes<N: Eq, S: Eq>(rule: &Rule<N, S>, rules: &[Rule<N, S>], set: &[S]) -> 
     }
 }
 
-/// Whether the set has two instances that are marked for one name.
+/// Whether the set has two listed instances of one package.
 fn has_two<N: Eq, S: Eq>(rules: &[Rule<N, S>], set: &[S]) -> bool
     requires names { IsIdentity N.eq }
     requires solvables { IsIdentity S.eq }
-    ensures { MatchBool result (HasTwo set.now rules.now) (All (IsAloneMarked set.now rules.now) rules.now) }
+    ensures { MatchBool result (HasTwo set.now rules.now) (All (IsOnlyInstance set.now rules.now) rules.now) }
 {
     for rule in rules {
         if clashes(rule, rules, set) {
@@ -326,7 +326,7 @@ fn search<'r, N: Eq, S: Copy + Eq + Drop>(
 /// A set that obeys the rules, or `None` where no set does.
 ///
 /// The set lists its solvables in the order in which they were chosen. It starts empty. As long as the set lacks what
-/// some requirement asks for, the candidates of the first such rule are tried in their order. So each solvable is there
+/// some requirement calls for, the candidates of the first such rule are tried in their order. So each solvable is there
 /// by need, and none stands twice.
 /// The clauses say neither the order, nor which set it is where several obey the rules.
 ///

@@ -10,7 +10,7 @@ ghost use Rattle.resolver_report.specs.Reaching.{IsAbout, IsReachedSet};
 ghost use Rattle.resolver_clause_store.specs.Statements.{IsPresent};
 ghost use Rattle.resolver_clause_store.specs.Rules.{IsRefuted};
 
-use crate::askers::{Asked, asked_of};
+use crate::candidate_lists::{CandidateLists, candidates_by_requirer};
 use indexmap::IndexSet;
 use resolver_clause_store::{By, Exhausted, Rule};
 use std::alloc::Global;
@@ -46,16 +46,16 @@ fn add_all<S: Copy + Eq + Hash + Drop>(set: &mut IndexSet<S>, more: &[S]) -> Res
     Ok(())
 }
 
-/// Adds what a solvable asks for.
-fn add_asked_by<S: Copy + Eq + Hash + Drop>(
+/// Adds the candidates that a solvable requires.
+fn add_candidates_of<S: Copy + Eq + Hash + Drop>(
     set: &mut IndexSet<S>,
-    asked: &Asked<S>,
+    candidate_lists: &CandidateLists<S>,
     solvable: S,
 ) -> Result<(), Exhausted>
-    ensures added { IfOk result (λ _. set.new.keys ≡ insert_all S.eq set.old.keys (items_at (get S.eq asked.now.by_solvable solvable))) }
+    ensures added { IfOk result (λ _. set.new.keys ≡ insert_all S.eq set.old.keys (items_at (get S.eq candidate_lists.now.by_solvable solvable))) }
     ensures memory { IfErr result (λ e. e ≡ Exhausted.Memory) }
 {
-    match asked.by_solvable.get(&solvable) {
+    match candidate_lists.by_solvable.get(&solvable) {
         Some(more) => {
             add_all(set, more)?;
             Ok(())
@@ -64,7 +64,7 @@ fn add_asked_by<S: Copy + Eq + Hash + Drop>(
     }
 }
 
-/// What the rules reach: what the root asks for, then what each of these asks for, one after another.
+/// What the rules reach: what the root requires, then what each of these requires, one after another.
 fn reached_by<N, S: Copy + Eq + Hash + Drop>(
     alloc: Global,
     rules: &[Rule<N, S>],
@@ -73,13 +73,13 @@ fn reached_by<N, S: Copy + Eq + Hash + Drop>(
     ensures reached { IfOk result (λ set. IsReachedSet rules.now set.keys) }
     ensures memory { IfErr result (λ e. e ≡ Exhausted.Memory) }
 {
-    let asked = asked_of(alloc, rules)?;
+    let candidate_lists = candidates_by_requirer(alloc, rules)?;
     let mut set = IndexSet::new(alloc);
-    add_all(&mut set, &asked.by_root)?;
+    add_all(&mut set, &candidate_lists.by_root)?;
     let mut next = 0;
     while next < set.len() {
         let solvable = set[next];
-        add_asked_by(&mut set, &asked, solvable)?;
+        add_candidates_of(&mut set, &candidate_lists, solvable)?;
         next += 1;
     }
     Ok(set)
@@ -110,7 +110,7 @@ fn retain_about<N: Drop, S: Eq + Hash + Drop>(rules: &mut Vec<Rule<N, S>>, set: 
 /// The rules that are about what is reached, in their order.
 ///
 /// A solvable is reached if it is a candidate of a requirement of the root or of a reached solvable, whatever the
-/// conditions. A rule is left if its asker is the root or reached, and so is the solvable that it forbids or marks. Where
+/// conditions. A rule is left if its requirer is the root or reached, and so is the solvable that it forbids or marks. Where
 /// no set obeys the rules, none obeys those that are left; and of the rules that are left each would be left again.
 ///
 /// The time grows with the rules and the candidates that they list.

@@ -1,14 +1,14 @@
 //! The graph of a list of rules: what the rules mention and link, and where nodes stand.
 
 ghost use Rattle.std.specs.Prelude.{◌≡◌, IfOk, IfErr, ◌++◌, ◌∷◌, [], OnOk, map, ◌<◌};
-ghost use Rattle.resolver_report.specs.Graphs.{place_in, links, mark_links, mentioned, mentions, node_by as node_of, requirement_links, edge_in};
+ghost use Rattle.resolver_report.specs.Graphs.{place_in, links, instance_links, mentioned, mentions, node_by as node_of, requirement_links, edge_in};
 ghost use Rattle.resolver_report.specs.Graphs.{graph_of as graph_of_rules, is_entered as is_entered_by};
 ghost use Rattle.resolver_report.specs.Places.{HasPlaces};
 ghost use Rattle.resolver_clause_store.specs.Laws.{IsIdentity};
 ghost use Rattle.resolver_clause_store.specs.Lists.{without_repeats};
 ghost use Rattle.std.specs.HashMap.{get};
 ghost use Rattle.std.specs.Option.{option_copied};
-ghost use Rattle.resolver_report.specs.LastMarks.{links_marked, marked_after};
+ghost use Rattle.resolver_report.specs.LastInstances.{links_with_last, last_after};
 ghost use Rattle.resolver_report.specs.Same.{same_node};
 ghost use Rattle.resolver_report.specs.ConflictGraphs.{shape_of};
 
@@ -53,7 +53,7 @@ pub fn place<S: Copy + Eq + Hash + Drop>(
     }
 }
 
-/// The node of who asks.
+/// The node of the requirer.
 fn node_by<S: Copy>(by: &By<S>) -> ConflictNode<S>
     ensures { result ≡ node_of by.now }
 {
@@ -112,13 +112,13 @@ fn add_conflict<S: Copy + Drop>(
     Ok(())
 }
 
-/// Links the instance of the mark before, if there is one, to this one.
+/// Links the instance that was listed before, if there is one, to this one.
 fn add_second_instance<S: Copy + Drop>(
     found: &mut Vec<Link<S>>,
     before: Option<&S>,
     instance: S,
 ) -> Result<(), Exhausted>
-    ensures ok { OnOk result (found.new.items ≡ found.old.items ++ mark_links (option_copied before.entry) instance) }
+    ensures ok { OnOk result (found.new.items ≡ found.old.items ++ instance_links (option_copied before.entry) instance) }
     ensures memory { IfErr result (λ e. e ≡ Exhausted.Memory) }
 {
     let Some(before) = before else {
@@ -130,13 +130,13 @@ fn add_second_instance<S: Copy + Drop>(
     Ok(())
 }
 
-/// Adds what a rule links, given the last marks before it.
+/// Adds what a rule links, given the last instance of each package before it.
 fn add_links<N: Copy + Eq + Hash + Drop, S: Copy + Drop>(
     found: &mut Vec<Link<S>>,
-    marks: &HashMap<N, S>,
+    last_instances: &HashMap<N, S>,
     rule: &Rule<N, S>,
 ) -> Result<(), Exhausted>
-    ensures ok { OnOk result (found.new.items ≡ found.old.items ++ links_marked (get N.eq marks.now) rule.now) }
+    ensures ok { OnOk result (found.new.items ≡ found.old.items ++ links_with_last (get N.eq last_instances.now) rule.now) }
     ensures memory { IfErr result (λ e. e ≡ Exhausted.Memory) }
 {
     match rule {
@@ -172,23 +172,23 @@ fn add_links<N: Copy + Eq + Hash + Drop, S: Copy + Drop>(
             Ok(())
         }
         Rule::OnePerPackage { name, instance } => {
-            add_second_instance(found, marks.get(name), *instance)?;
+            add_second_instance(found, last_instances.get(name), *instance)?;
             Ok(())
         }
     }
 }
 
-/// Keeps the mark of a rule, if it is one, as the last of its name.
-fn keep_mark<N: Copy + Eq + Hash + Drop, S: Copy + Drop>(
-    marks: &mut HashMap<N, S>,
+/// Keeps the instance that a rule lists, if it does, as the last of its package.
+fn keep_instance<N: Copy + Eq + Hash + Drop, S: Copy + Drop>(
+    last_instances: &mut HashMap<N, S>,
     rule: &Rule<N, S>,
 ) -> Result<(), Exhausted>
-    ensures ok { OnOk result ((n : N) → get N.eq marks.new n ≡ marked_after N.eq rule.now n (get N.eq marks.old n)) }
+    ensures ok { OnOk result ((n : N) → get N.eq last_instances.new n ≡ last_after N.eq rule.now n (get N.eq last_instances.old n)) }
     ensures memory { IfErr result (λ e. e ≡ Exhausted.Memory) }
 {
     match rule {
         Rule::OnePerPackage { name, instance } => {
-            marks.insert(*name, *instance)?;
+            last_instances.insert(*name, *instance)?;
             Ok(())
         }
         Rule::Requires { .. }
@@ -207,10 +207,10 @@ pub fn all_links<N: Copy + Eq + Hash + Drop, S: Copy + Drop>(
     ensures memory { IfErr result (λ e. e ≡ Exhausted.Memory) }
 {
     let mut found = Vec::new(alloc);
-    let mut marks = HashMap::new(alloc);
+    let mut last_instances = HashMap::new(alloc);
     for rule in rules {
-        add_links(&mut found, &marks, rule)?;
-        keep_mark(&mut marks, rule)?;
+        add_links(&mut found, &last_instances, rule)?;
+        keep_instance(&mut last_instances, rule)?;
     }
     Ok(found)
 }

@@ -65,8 +65,8 @@ pub(crate) fn excluded(solvable: u32) -> Row<'static> {
     }
 }
 
-/// An instance is marked for a name.
-pub(crate) fn marked(name: u32, instance: u32) -> Row<'static> {
+/// An instance is instance_of for a name.
+pub(crate) fn instance_of(name: u32, instance: u32) -> Row<'static> {
     Row::Marked { name, instance }
 }
 

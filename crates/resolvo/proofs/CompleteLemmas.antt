@@ -21,7 +21,7 @@ use Rattle.resolvo.proofs.LineLemmas.{some_at, kept_here, kept_there, kept_cases
 use Rattle.resolvo.proofs.LineLemmas.{bit_line_in, member_line, member_line_in, line_in, rule_of_line}
 use Rattle.resolver_encoding.specs.Codes.{bit}
 use Rattle.resolvo.specs.Minimal.{marked}
-use Rattle.resolvo.specs.RuleClauses.{Line, atom, plain, asking, asker_atoms, list_atoms, candidate_atoms, condition_lines, lines_of, all_lines, IsLiteralOf}
+use Rattle.resolvo.specs.RuleClauses.{Line, atom, plain, requirement_line, requirer_atoms, list_atoms, candidate_atoms, condition_lines, lines_of, all_lines, IsLiteralOf}
 use Rattle.resolvo.specs.RuleClauses.{IsClauseOf, HasCode, AreClausesOf, MakesMarkedTrue}
 use Rattle.resolvo.specs.declared.minimal.rule_clauses.Atom.{Atom}
 use Rattle.resolvo.specs.declared.minimal.rule_clauses.Proposition.{Proposition}
@@ -142,7 +142,7 @@ module _ {N S : Type 0} (propositions : List (Proposition N S)) (values : ℕ �
     is_chosen : (s : S) → Is (Member s) true → Contains chosen s
     is_chosen s is = member_in values propositions is.variable s is.stands is.value
 
-    not_absent : (by : By S) → IsPresent by chosen → Some_of (asker_atoms by) → ⊥
+    not_absent : (by : By S) → IsPresent by chosen → Some_of (requirer_atoms by) → ⊥
     not_absent Root present absent = absent
     not_absent (Solvable s) present absent = ⊎_elim
         (λ (out : Is (Member s) false). not_left_out s present out)
@@ -178,9 +178,9 @@ module _ {N S : Type 0} (propositions : List (Proposition N S)) (values : ℕ �
 
     alone : (width place code : ℕ) (rule : Rule N S) → AreTrue width place code rule → ObeysAlone chosen (statement_of rule)
     alone width place code (Requires by requirement candidates when) are_true = λ present meet.
-        let first : Line N S = asking place (asker_atoms by ++ (list_atoms place (length when.items) ++ candidate_atoms candidates.items)) in
+        let first : Line N S = requirement_line place (requirer_atoms by ++ (list_atoms place (length when.items) ++ candidate_atoms candidates.items)) in
         ⊎_elim
-        (λ (absent : Some_of (asker_atoms by)). absurd (not_absent by present absent))
+        (λ (absent : Some_of (requirer_atoms by)). absurd (not_absent by present absent))
         (λ (rest : Some_of (list_atoms place (length when.items) ++ candidate_atoms candidates.items)). ⊎_elim
         (λ (unmet : Some_of (list_atoms place (length when.items))).
         let w = some_list place (length when.items) unmet in
@@ -189,14 +189,14 @@ module _ {N S : Type 0} (propositions : List (Proposition N S)) (values : ℕ �
         let w = some_candidate candidates.items met in
         record { shared = w.0; in_first = w.1; in_second = is_chosen w.0 w.2 })
         (some_in_parts (list_atoms place (length when.items)) (candidate_atoms candidates.items) rest))
-        (some_in_parts (asker_atoms by) (list_atoms place (length when.items) ++ candidate_atoms candidates.items)
+        (some_in_parts (requirer_atoms by) (list_atoms place (length when.items) ++ candidate_atoms candidates.items)
         (are_true first (here first (condition_lines place 0 when.items))))
     alone width place code (Constrains by version_set candidate) are_true = λ present inside.
-        let only : Line N S = plain place (asker_atoms by ++ atom (Member candidate) false ∷ []) in
+        let only : Line N S = plain place (requirer_atoms by ++ atom (Member candidate) false ∷ []) in
         ⊎_elim
-        (λ (absent : Some_of (asker_atoms by)). not_absent by present absent)
+        (λ (absent : Some_of (requirer_atoms by)). not_absent by present absent)
         (λ (rest : Some_of (atom (Member candidate) false ∷ [])). out_alone candidate rest inside)
-        (some_in_parts (asker_atoms by) (atom (Member candidate) false ∷ []) (are_true only (here only [])))
+        (some_in_parts (requirer_atoms by) (atom (Member candidate) false ∷ []) (are_true only (here only [])))
     alone width place code (Lock locked forbidden) are_true = λ inside. let only : Line N S = plain place (atom (Member forbidden) false ∷ []) in
         out_alone forbidden (are_true only (here only [])) inside
     alone width place code (Excluded solvable reason) are_true = λ inside. let only : Line N S = plain place (atom (Member solvable) false ∷ []) in

@@ -13,7 +13,7 @@ use Rattle.resolver_clause_store.specs.declared.Rule.TheVariants.{Requires, Cons
 use Rattle.resolvo.proofs.CompleteLemmas.{members, chosen_obeys}
 use Rattle.resolvo.proofs.LineLemmas.{All-each, zip_left, bit_line_from, member_line_from, line_from, rule_of_line}
 use Rattle.resolvo.proofs.SoundLemmas.{values_true}
-use Rattle.resolvo.specs.RuleClauses.{Line, atom, plain, asking, asker_atoms, list_atoms, candidate_atoms, condition_lines, lines_of, all_lines, IsLiteralOf}
+use Rattle.resolvo.specs.RuleClauses.{Line, atom, plain, requirement_line, requirer_atoms, list_atoms, candidate_atoms, condition_lines, lines_of, all_lines, IsLiteralOf}
 use Rattle.resolvo.specs.RuleClauses.{IsClauseOf, AreClausesOf, IsGuarded, DecideRules}
 use Rattle.resolvo.specs.declared.minimal.rule_clauses.Atom.{Atom}
 use Rattle.resolvo.specs.declared.minimal.rule_clauses.Proposition.{Proposition}
@@ -28,14 +28,14 @@ AreGuarded (first ∷ []) = first.positive ≡ false
 AreGuarded (first ∷ second ∷ []) = first.positive ≡ false
 AreGuarded (first ∷ second ∷ third ∷ rest) = ⊥
 
-asker_guarded : (N : Type 0) {S : Type 0} (by : By S) (s : S) → AreGuarded {N = N} (asker_atoms by ++ atom (Member s) false ∷ [])
-asker_guarded N Root s = refl
-asker_guarded N (Solvable t) s = refl
+requirer_guarded : (N : Type 0) {S : Type 0} (by : By S) (s : S) → AreGuarded {N = N} (requirer_atoms by ++ atom (Member s) false ∷ [])
+requirer_guarded N Root s = refl
+requirer_guarded N (Solvable t) s = refl
 
 module _ {N S : Type 0} where
-  -- the line asks, or is guarded
+  -- the line is_requirement, or is guarded
   abbrev IsOrderly : Line N S → Type 0
-  IsOrderly line = line.asks ≡ false → AreGuarded line.atoms
+  IsOrderly line = line.is_requirement ≡ false → AreGuarded line.atoms
 
   only_guarded : (only line : Line N S) → AreGuarded only.atoms → Contains (only ∷ []) line → IsOrderly line
   only_guarded only line guarded inside = λ plain_one. ⊎_elim
@@ -45,15 +45,15 @@ module _ {N S : Type 0} where
 
   line_orderly : (width place code : ℕ) (rule : Rule N S) (line : Line N S) → Contains (lines_of width place code rule) line → IsOrderly line
   line_orderly width place code (Requires by requirement candidates when) line inside = λ plain_one.
-      let first : Line N S = asking place (asker_atoms by ++ (list_atoms place (length when.items) ++ candidate_atoms candidates.items)) in
-      let Asks : Line N S → Bool = λ (l : Line N S). l.asks in
+      let first : Line N S = requirement_line place (requirer_atoms by ++ (list_atoms place (length when.items) ++ candidate_atoms candidates.items)) in
+      let IsRequirement : Line N S → Bool = λ (l : Line N S). l.is_requirement in
       let Guarded : Line N S → Type 0 = λ (l : Line N S). AreGuarded l.atoms in
       ⊎_elim
-      (λ (same : first ≡ line). absurd (false≢true (sym plain_one ∙ sym (ap Asks same))))
+      (λ (same : first ≡ line). absurd (false≢true (sym plain_one ∙ sym (ap IsRequirement same))))
       (λ (later : Contains (condition_lines place 0 when.items) line). let w = member_line_from place 0 when.items line later in subst Guarded w.is refl)
       (cons_cases first (condition_lines place 0 when.items) line inside)
   line_orderly width place code (Constrains by version_set candidate) line inside =
-      only_guarded (plain place (asker_atoms by ++ atom (Member candidate) false ∷ [])) line (asker_guarded N by candidate) inside
+      only_guarded (plain place (requirer_atoms by ++ atom (Member candidate) false ∷ [])) line (requirer_guarded N by candidate) inside
   line_orderly width place code (Lock locked forbidden) line inside = only_guarded (plain place (atom (Member forbidden) false ∷ [])) line refl inside
   line_orderly width place code (Excluded solvable reason) line inside = only_guarded (plain place (atom (Member solvable) false ∷ [])) line refl inside
   line_orderly width place code (OnePerPackage name instance) line inside = λ plain_one.
@@ -85,11 +85,11 @@ pub clauses_decide : {N S : Type 0} (names : N → N → Bool) (solvables : S �
 clauses_decide names solvables same_names same_solvables rules propositions clauses are = record {
   sound = λ marks set size obeys. values_true names solvables same_names same_solvables rules propositions clauses are marks set obeys;
   complete = λ marks values size makes refuted. refuted (members values propositions) (chosen_obeys rules propositions clauses are marks values makes);
-  guarded = All-each (λ (clause : RuleClause). clause.asks ≡ false → IsGuarded clause.literals.items) clauses (λ clause inside plain_one.
+  guarded = All-each (λ (clause : RuleClause). clause.is_requirement ≡ false → IsGuarded clause.literals.items) clauses (λ clause inside plain_one.
       let w = zip_left (IsClauseOf propositions) clauses (all_lines are.width 0 rules are.codes) are.lines clause inside in
       let at = line_from are.width 0 rules are.codes w.0 w.1 in
       guarded_literals propositions clause.literals.items w.0.atoms w.2.literals
-      (line_orderly are.width (0 + at.index) at.code at.rule w.0 at.inside (sym w.2.asks ∙ plain_one)));
+      (line_orderly are.width (0 + at.index) at.code at.rule w.0 at.inside (sym w.2.is_requirement ∙ plain_one)));
   places = All-each (λ (clause : RuleClause). clause.rule < length rules) clauses (λ clause inside.
       let w = zip_left (IsClauseOf propositions) clauses (all_lines are.width 0 rules are.codes) are.lines clause inside in
       let at = line_from are.width 0 rules are.codes w.0 w.1 in

@@ -1,4 +1,4 @@
--- A promise that is met: the provider that writes down its questions, and a root that asks for one version set, whose first candidate is the favored one.
+-- A promise that is met: the provider that writes down its questions, and a root that requires_it for one version set, whose first candidate is the favored one.
 use Rattle.std.proofs.Common.{◌≡◌, ℕ, [], ◌∷◌, Some, None, Contains, inl, inr, refl, sym, ap, ◌∙◌, subst}
 use Rattle.std.proofs.lemmas.Option.{none-some, same_Some}
 use Rattle.std.proofs.lemmas.List.Elements.{All-contains, All-cons, All-nil}
@@ -31,13 +31,13 @@ only {X} x y h = All-contains (λ z. z ≡ x) (x ∷ []) y (All-cons (λ z. z �
 none_of : {X : Type 0} (y : X) → Contains [] y → ⊥
 none_of {X} y h = All-contains (λ z. ⊥) [] y (All-nil (λ z. ⊥)) h
 
--- what the chosen one asks for is nothing
-one_asks : (s : ℕ) (r : ConditionalRequirement) → s ≡ 11 → Contains (demands_of ((test_universe []).needs s)).requirements r → ⊥
-one_asks s r e h = let Asks : ℕ → Type 0 = λ t. Contains (demands_of ((test_universe []).needs t)).requirements r in none_of r (subst Asks e h)
+-- what the chosen one requires_it for is nothing
+one_requires : (s : ℕ) (r : ConditionalRequirement) → s ≡ 11 → Contains (demands_of ((test_universe []).needs s)).requirements r → ⊥
+one_requires s r e h = let Asks : ℕ → Type 0 = λ t. Contains (demands_of ((test_universe []).needs t)).requirements r in none_of r (subst Asks e h)
 
-asks_is : (r : ConditionalRequirement) → Requires (test_universe []) root (Contains (11 ∷ [])) r → r ≡ asked
-asks_is r (inl h) = only asked r h
-asks_is r (inr (s, inside, h)) = absurd (one_asks s r (only 11 s inside) h)
+requires_is : (r : ConditionalRequirement) → Requires (test_universe []) root (Contains (11 ∷ [])) r → r ≡ asked
+requires_is r (inl h) = only asked r h
+requires_is r (inr (s, inside, h)) = absurd (one_requires s r (only 11 s inside) h)
 
 -- no other version set is asked for
 named : (r : ConditionalRequirement) (v : VersionSetId) → r ≡ asked → r.requirement ≡ Single v → v ≡ wanted
@@ -46,10 +46,10 @@ named r v e single =
     cc
 
 next_in : (s : ℕ) → IsFirstNext (test_universe []) root (Contains (11 ∷ [])) s → Contains (11 ∷ []) s
-next_in s (r, v, asks, active, single, choice) =
+next_in s (r, v, requires_it, active, single, choice) =
     let Chooses : VersionSetId → Type 0 = λ w. first_choice (test_universe []) w ≡ Some s in
     let In : ℕ → Type 0 = λ t. Contains (11 ∷ []) t in
-    subst In (same_Some 11 s (subst Chooses (named r v (asks_is r asks) single) choice)) (first_in 11 [])
+    subst In (same_Some 11 s (subst Chooses (named r v (requires_is r requires_it) single) choice)) (first_in 11 [])
 
 -- it is in the set after one round
 is_first : (s : ℕ) → s ≡ 11 → IsFirst (test_universe []) root s
@@ -70,7 +70,7 @@ constrains_none v (inr (s, inside, h)) =
 answers : IsValid (test_universe []) root (11 ∷ []) []
 answers = record {
   known_needs = λ s h. let Known : ℕ → Type 0 = λ t. IsKnown ((test_universe []).needs t) in subst Known (sym (only 11 s h)) tt;
-  required = λ r asks active. met r (asks_is r asks);
+  required = λ r requires_it active. met r (requires_is r requires_it);
   constrained = λ v named s h other. constrains_none v named;
   one_each = λ s t h k same. only 11 s h ∙ sym (only 11 t k);
   not_locked_out = λ s h free out. let Out : ℕ → Type 0 = λ t. IsLockedOut (test_universe []) t in none_locked (subst Out (only 11 s h) out);
@@ -92,5 +92,5 @@ pub example : IsPromised (test_universe []) root (11 ∷ [])
 example = record {
   members = λ s. (λ h. is_first s (only 11 s h), IsFirst-least (test_universe []) root (Contains (11 ∷ [])) next_in s);
   valid = answers;
-  no_union = λ r asks active m union. no_unions r m (asks_is r asks) union;
+  no_union = λ r requires_it active m union. no_unions r m (requires_is r requires_it) union;
 }

@@ -11,7 +11,7 @@ use Rattle.resolver_clause_store.specs.declared.Rule.{Rule}
 use Rattle.resolver_clause_store.specs.declared.Rule.TheVariants.{Requires, Constrains, Lock, Excluded, OnePerPackage}
 use Rattle.resolver_encoding.specs.Codes.{bit}
 use Rattle.resolvo.specs.Minimal.{marked}
-use Rattle.resolvo.specs.RuleClauses.{Line, atom, plain, asking, asker_atoms, list_atoms, candidate_atoms, member_lines, condition_lines, bit_lines, lines_of}
+use Rattle.resolvo.specs.RuleClauses.{Line, atom, plain, requirement_line, requirer_atoms, list_atoms, candidate_atoms, member_lines, condition_lines, bit_lines, lines_of}
 use Rattle.resolvo.specs.RuleClauses.{all_lines}
 use Rattle.resolver_clause_store.proofs.ListLemmas.{Contains-cons_cases as cons_cases, Contains-here as here, Contains-map, Contains-map_back}
 use Rattle.resolver_clause_store.proofs.ListLemmas.{Contains-none as none_in, Contains-there as there}
@@ -205,13 +205,13 @@ pub rule_of_line : {N S : Type 0} (width place code : ℕ) (rule : Rule N S) (li
     line.rule ≡ place
 rule_of_line {N} {S} width place code (Requires by requirement candidates when) line h =
     let Of : Line N S → ℕ = λ (l : Line N S). l.rule in
-    let first : Line N S = asking place (asker_atoms by ++ (list_atoms place (length when.items) ++ candidate_atoms candidates.items)) in
+    let first : Line N S = requirement_line place (requirer_atoms by ++ (list_atoms place (length when.items) ++ candidate_atoms candidates.items)) in
     ⊎_elim
     (λ (same : first ≡ line). sym (ap Of same))
     (λ (later : Contains (condition_lines place 0 when.items) line). sym (ap Of (member_line_from place 0 when.items line later).is))
     (cons_cases first (condition_lines place 0 when.items) line h)
 rule_of_line width place code (Constrains by version_set candidate) line h =
-    only_one place (plain place (asker_atoms by ++ atom (Member candidate) false ∷ [])) line refl h
+    only_one place (plain place (requirer_atoms by ++ atom (Member candidate) false ∷ [])) line refl h
 rule_of_line width place code (Lock locked forbidden) line h = only_one place (plain place (atom (Member forbidden) false ∷ [])) line refl h
 rule_of_line width place code (Excluded solvable reason) line h = only_one place (plain place (atom (Member solvable) false ∷ [])) line refl h
 rule_of_line {N} {S} width place code (OnePerPackage name instance) line h = let Of : Line N S → ℕ = λ (l : Line N S). l.rule in

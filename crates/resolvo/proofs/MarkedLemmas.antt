@@ -80,14 +80,14 @@ module _ (marks : List Bool) (from : List RuleClause) (clauses : List (Vec (Lite
       omega (arith, count, below, more) in subst P at last)
       (cases_lt number (length clauses))
 
-  module _ (within : IsWithin numbers more) (listed : clause.asks ≡ true → Contains more (length clauses))
+  module _ (within : IsWithin numbers more) (listed : clause.is_requirement ≡ true → Contains more (length clauses))
       (inside : All (λ number. number < length clauses + 1) more) where
     still : (c : RuleClause) → (IsMarked marks c → IsThere clauses numbers c) → IsMarked marks c → IsThere now_clauses more c
     still c there m = let it = there m in record {
       number = it.number;
       inside = omega (arith, count, it.inside);
       literals = clause_at-push clauses copy it.number it.inside ∙ it.literals;
-      listed = λ asks. within it.number (it.listed asks);
+      listed = λ is_requirement. within it.number (it.listed is_requirement);
     }
 
     pub added : AreMarkedClauses marks (from ++ clause ∷ []) now_clauses now_places more
@@ -103,22 +103,22 @@ module _ (marks : List Bool) (from : List RuleClause) (clauses : List (Vec (Lite
     }
 
 pub added_plain : (marks : List Bool) (from : List RuleClause) (clauses : List (Vec (Literal) Global)) (places numbers : List ℕ) (clause : RuleClause)
-    (copy : Vec (Literal) Global) → copy.items ≡ clause.literals.items → clause.asks ≡ false → IsMarked marks clause →
+    (copy : Vec (Literal) Global) → copy.items ≡ clause.literals.items → clause.is_requirement ≡ false → IsMarked marks clause →
     AreMarkedClauses marks from clauses places numbers →
     AreMarkedClauses marks (from ++ clause ∷ []) (clauses ++ copy ∷ []) (places ++ clause.rule ∷ []) numbers
 added_plain marks from clauses places numbers clause copy same plain marked so =
-    added marks from clauses places numbers numbers clause copy marked same so (λ x inside. inside) (λ asks. absurd (false≢true (sym plain ∙ asks)))
+    added marks from clauses places numbers numbers clause copy marked same so (λ x inside. inside) (λ is_requirement. absurd (false≢true (sym plain ∙ is_requirement)))
     (All-weaker (λ number. number < length clauses) (λ number. number < length clauses + 1) (λ n below. omega (arith, below)) numbers so.inside)
 
-pub added_asking : (marks : List Bool) (from : List RuleClause) (clauses : List (Vec (Literal) Global)) (places numbers : List ℕ) (clause : RuleClause)
+pub added_requirement : (marks : List Bool) (from : List RuleClause) (clauses : List (Vec (Literal) Global)) (places numbers : List ℕ) (clause : RuleClause)
     (copy : Vec (Literal) Global) (number : ℕ) → copy.items ≡ clause.literals.items → number ≡ length clauses → IsMarked marks clause →
     AreMarkedClauses marks from clauses places numbers →
     AreMarkedClauses marks (from ++ clause ∷ []) (clauses ++ copy ∷ []) (places ++ clause.rule ∷ []) (numbers ++ number ∷ [])
-added_asking marks from clauses places numbers clause copy number same is marked so =
+added_requirement marks from clauses places numbers clause copy number same is marked so =
     let P : ℕ → Type 0 = λ n. Contains (numbers ++ number ∷ []) n in
     added marks from clauses places numbers (numbers ++ number ∷ []) clause copy marked same so
     (λ x inside. Contains-append_left numbers (number ∷ []) x inside)
-    (λ asks. subst P is (at_end numbers number))
+    (λ is_requirement. subst P is (at_end numbers number))
     (All-append (λ n. n < length clauses + 1) numbers (number ∷ [])
     (All-weaker (λ n. n < length clauses) (λ n. n < length clauses + 1) (λ n below. omega (arith, below)) numbers so.inside)
     (All-cons (λ n. n < length clauses + 1) number [] (omega (arith, is)) (All-nil _)))

@@ -109,7 +109,7 @@ module _ {N S : Type 0} (u : Universe N S) (root : Demands) (notes : Notes N S) 
       let Stands : List Literal → Type 0 = λ clause. Contains clause literal in
       let Asks : List ℕ → Type 0 = λ list. Contains list w.0 in
       let there = Contains-append_right c.before (literal ∷ c.after) literal (here literal c.after) in
-      let asked : Contains notes.requirements w.0 = subst Asks (sym has.asking.is) (Contains-append_left has.numbers has.asking.more w.0 w.1) in
+      let asked : Contains notes.requirements w.0 = subst Asks (sym has.requiring.is) (Contains-append_left has.numbers has.requiring.more w.0 w.1) in
       let s = asked_candidate u root notes encoding w.0 asked literal (subst Stands (sym is) there) refl in
       (c.value, s.0, s.1)
 

@@ -98,14 +98,14 @@ so_far_less u root part set notes within h = record {
 -- all was loaded, and stays so while the search runs
 pub loaded_all : (table clauses : List (Vec Literal Global)) (numbers : List ℕ) (requirements : List RequirementClause) (old mid : ClauseSearch) →
     HasLoaded table numbers old → clauses ≡ table → numbers_of requirements ≡ numbers →
-    ((given : List (Vec Literal Global)) (asking : List ℕ) → IsLoaded given asking old → (more : List (Vec Literal Global)) → clauses ≡ given ++ more →
-    (more_asking : List ℕ) → numbers_of requirements ≡ asking ++ more_asking → IsLoaded clauses (numbers_of requirements) mid) →
+    ((given : List (Vec Literal Global)) (requiring : List ℕ) → IsLoaded given requiring old → (more : List (Vec Literal Global)) → clauses ≡ given ++ more →
+    (more_requiring : List ℕ) → numbers_of requirements ≡ requiring ++ more_requiring → IsLoaded clauses (numbers_of requirements) mid) →
     IsLoaded table numbers mid
-loaded_all table clauses numbers requirements old mid l are asks loads =
-    let all = loads l.given l.numbers l.loaded l.clauses.more (are ∙ l.clauses.is) l.asking.more (asks ∙ l.asking.is) in
-    let Loaded : List (Vec Literal Global) → List ℕ → Type 0 = λ given asking. IsLoaded given asking mid in
+loaded_all table clauses numbers requirements old mid l are are_numbers loads =
+    let all = loads l.given l.numbers l.loaded l.clauses.more (are ∙ l.clauses.is) l.requiring.more (are_numbers ∙ l.requiring.is) in
+    let Loaded : List (Vec Literal Global) → List ℕ → Type 0 = λ given requiring. IsLoaded given requiring mid in
     let Given : List (Vec Literal Global) → Type 0 = λ given. Loaded given (numbers_of requirements) in
-    subst (Loaded table) asks (subst Given are all)
+    subst (Loaded table) are_numbers (subst Given are all)
 
 module _ {N S : Type 0} where
   -- the root was read
@@ -126,7 +126,7 @@ module _ {N S : Type 0} where
           numbers = [];
           loaded = fresh.loaded;
           clauses = record { more = (notes_in encoding).table; is = refl };
-          asking = record { more = (notes_in encoding).requirements; is = refl };
+          requiring = record { more = (notes_in encoding).requirements; is = refl };
         };
         variables = omega (arith, fresh.variables);
         mark = record {
@@ -172,7 +172,7 @@ module _ {N S : Type 0} where
       numbers = (notes_of old).requirements;
       loaded = loaded;
       clauses = record { more = []; is = sym (append-nil (notes_of old).table) };
-      asking =
+      requiring =
           record { more = []; is = sym (append-nil (notes_of old).requirements) };
     };
     variables = omega (arith, size);
@@ -283,7 +283,7 @@ module _ {N S : Type 0} where
           numbers = (notes_of mid).requirements;
           loaded = following.loaded.loaded;
           clauses = more.table;
-          asking = more.requirements;
+          requiring = more.requirements;
         };
         variables = omega (arith, longer, following.loaded.variables);
         mark = record {

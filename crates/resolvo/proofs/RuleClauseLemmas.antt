@@ -67,7 +67,7 @@ IsClauseOf-keeps : {N S : Type 0} (old new : List (Proposition N S)) → Keeps o
 IsClauseOf-keeps old new keeps c l is = record {
   rule = is.rule;
   literals = zip_weaker (IsLiteralOf old) (IsLiteralOf new) (IsLiteralOf-keeps old new keeps) c.literals.items l.atoms is.literals;
-  asks = is.asks;
+  is_requirement = is.is_requirement;
 }
 
 pub Adds-none : {N S : Type 0} (propositions : List (Proposition N S)) (clauses : List RuleClause) → Adds propositions propositions clauses clauses []

@@ -173,7 +173,7 @@ module _ {N S : Type 0} where
   rounds_added u old encoding rounds bounded adds =
       let longer : length (notes_of old).origins ≤ length (notes_in encoding).origins =
       Keeps-longer (notes_of old).origins (notes_in encoding).origins Root adds.origins in
-      let Asking : List ℕ → Type 0 = λ list. Extends rounds.loaded.numbers list in
+      let Requiring : List ℕ → Type 0 = λ list. Extends rounds.loaded.numbers list in
       let mark : HasMark old = rounds.mark in
       record {
         bounded = bounded;
@@ -184,7 +184,7 @@ module _ {N S : Type 0} where
           numbers = rounds.loaded.numbers;
           loaded = rounds.loaded.loaded;
           clauses = Extends-trans rounds.loaded.given (notes_of old).table (notes_in encoding).table rounds.loaded.clauses adds.table;
-          asking = subst Asking (sym adds.requirements) rounds.loaded.asking;
+          requiring = subst Requiring (sym adds.requirements) rounds.loaded.requiring;
         };
         variables = omega (arith, rounds.variables, longer);
         mark = record {
@@ -378,7 +378,7 @@ module _ {N S : Type 0} where
           numbers = (notes_of new).requirements;
           loaded = following.loaded.loaded;
           clauses = Extends-same (notes_of new).table;
-          asking = Extends-same (notes_of new).requirements;
+          requiring = Extends-same (notes_of new).requirements;
         };
         variables = omega (arith, following.loaded.variables);
         mark = following.mark;
@@ -819,7 +819,7 @@ module _ {N S : Type 0} where
       let origins : (notes_of old).origins ≡ (notes_in encoding).origins = sym (ap (λ (n : Notes N S). n.origins) only) in
       let Follow : List (Origin N S) → Type 0 = λ os. Follows old.chosen os rounds.mark.base (length_of rounds.mark.base) in
       let Table : List (Vec Literal Global) → Type 0 = λ table. Extends rounds.loaded.given table in
-      let Asking : List ℕ → Type 0 = λ list. Extends rounds.loaded.numbers list in
+      let Requiring : List ℕ → Type 0 = λ list. Extends rounds.loaded.numbers list in
       record {
         bounded = bounded;
         reading = record { root = rounds.reading.root; so_far = stays rounds.reading.root (chosen_of old) rounds.reading.so_far };
@@ -829,7 +829,7 @@ module _ {N S : Type 0} where
           numbers = rounds.loaded.numbers;
           loaded = loads rounds.loaded.given rounds.loaded.numbers rounds.loaded.loaded;
           clauses = subst Table (sym (ap (λ (n : Notes N S). n.table) only)) rounds.loaded.clauses;
-          asking = subst Asking (sym (ap (λ (n : Notes N S). n.requirements) only)) rounds.loaded.asking;
+          requiring = subst Requiring (sym (ap (λ (n : Notes N S). n.requirements) only)) rounds.loaded.requiring;
         };
         variables = omega (arith, size, rounds.variables, ap length origins);
         mark = record {

@@ -22,7 +22,7 @@ use Rattle.resolver_clause_store.specs.declared.Rule.TheVariants.{Requires, Cons
 use Rattle.resolvo.proofs.LineLemmas.{All-each, marked_in, zip_left, zip_both, bit_line_from, member_line_from, line_from, rule_of_line}
 use Rattle.resolver_encoding.specs.Codes.{bit}
 use Rattle.resolvo.specs.Minimal.{marked}
-use Rattle.resolvo.specs.RuleClauses.{Line, atom, plain, asking, asker_atoms, list_atoms, candidate_atoms, condition_lines, lines_of, all_lines, IsLiteralOf}
+use Rattle.resolvo.specs.RuleClauses.{Line, atom, plain, requirement_line, requirer_atoms, list_atoms, candidate_atoms, condition_lines, lines_of, all_lines, IsLiteralOf}
 use Rattle.resolvo.specs.RuleClauses.{IsClauseOf, HasCode, AreClausesOf, MakesMarkedTrue}
 use Rattle.resolvo.specs.declared.minimal.rule_clauses.Atom.{Atom}
 use Rattle.resolvo.specs.declared.minimal.rule_clauses.Proposition.{Proposition}
@@ -213,7 +213,7 @@ module _ {N S : Type 0} (names : N → N → Bool) (solvables : S → S → Bool
   in_set : (s : S) → has s ≡ true → Contains set s
   in_set s e = Contains-from_any {K = S} {eq = solvables} same_solvables.alone s set e
 
-  present : (by : By S) → None_true (asker_atoms by) → IsPresent by set
+  present : (by : By S) → None_true (requirer_atoms by) → IsPresent by set
   present Root h = tt
   present (Solvable s) h = in_set s h.0
 
@@ -243,11 +243,11 @@ module _ {N S : Type 0} (names : N → N → Bool) (solvables : S → S → Bool
         (λ (none : Contains [] line). none_in line none)
         (cons_cases only [] line inside)
 
-    asking_line : (by : By S) (candidates : Vec S Global) (lists : List (Vec S Global)) → ((j : ℕ) → value (Listed place j) ≡ passes (slice_get lists j)) →
+    requirement_line_is : (by : By S) (candidates : Vec S Global) (lists : List (Vec S Global)) → ((j : ℕ) → value (Listed place j) ≡ passes (slice_get lists j)) →
         (IsPresent by set → AllMeet set (lists_of lists) → Meets candidates.items set) →
-        None_true (asker_atoms by ++ (list_atoms place (length lists) ++ candidate_atoms candidates.items)) → ⊥
-    asking_line by candidates lists is alone wrong =
-        let first = false_parts value (asker_atoms by) (list_atoms place (length lists) ++ candidate_atoms candidates.items) wrong in
+        None_true (requirer_atoms by ++ (list_atoms place (length lists) ++ candidate_atoms candidates.items)) → ⊥
+    requirement_line_is by candidates lists is alone wrong =
+        let first = false_parts value (requirer_atoms by) (list_atoms place (length lists) ++ candidate_atoms candidates.items) wrong in
         let second = false_parts value (list_atoms place (length lists)) (candidate_atoms candidates.items) first.1 in
         let met = alone (present by first.0) (lists_meet lists (λ j below. sym (is j) ∙ false_lists value place (length lists) second.0 j below)) in
         both_ways (has met.shared) (false_candidates value candidates.items second.1 met.shared met.in_first) (has_it met.shared met.in_second)
@@ -291,16 +291,16 @@ module _ {N S : Type 0} (names : N → N → Bool) (solvables : S → S → Bool
     line_true : (rule : Rule N S) → slice_get rules place ≡ Some rule → slice_get are.codes place ≡ Some code → (line : Line N S) →
         Contains (lines_of are.width place code rule) line → None_true line.atoms → ⊥
     line_true (Requires by requirement candidates when) at coded line inside wrong =
-        let first : Line N S = asking place (asker_atoms by ++ (list_atoms place (length when.items) ++ candidate_atoms candidates.items)) in
+        let first : Line N S = requirement_line place (requirer_atoms by ++ (list_atoms place (length when.items) ++ candidate_atoms candidates.items)) in
         let Wrong : Line N S → Type 0 = λ (l : Line N S). None_true l.atoms in
         let rule : Rule N S = Requires by requirement candidates when in
         ⊎_elim
-        (λ (same : first ≡ line). asking_line by candidates when.items (λ j. listed_is place j rule at) (obeyed rule at) (subst Wrong (sym same) wrong))
+        (λ (same : first ≡ line). requirement_line_is by candidates when.items (λ j. listed_is place j rule at) (obeyed rule at) (subst Wrong (sym same) wrong))
         (λ (later : Contains (condition_lines place 0 when.items) line). member_line_true when.items (λ j. listed_is place j rule at) line later wrong)
         (cons_cases first (condition_lines place 0 when.items) line inside)
     line_true (Constrains by version_set candidate) at coded line inside wrong =
-        only_line (plain place (asker_atoms by ++ atom (Member candidate) false ∷ [])) line
-        (λ h. let parts = false_parts value (asker_atoms by) (atom (Member candidate) false ∷ []) h in
+        only_line (plain place (requirer_atoms by ++ atom (Member candidate) false ∷ [])) line
+        (λ h. let parts = false_parts value (requirer_atoms by) (atom (Member candidate) false ∷ []) h in
         obeyed (Constrains by version_set candidate) at (present by parts.0) (in_set candidate parts.1.0))
         inside wrong
     line_true (Lock locked forbidden) at coded line inside wrong =

@@ -102,20 +102,20 @@ named P requirements all = All-map P (λ (requirement : RequirementClause). requ
 -- a search that ended with values makes the clauses of the marked rules true
 pub finished_true : (marks : List Bool) (from : List RuleClause) (clauses : List (Vec Literal Global)) (places : List ℕ) (requirements : List RequirementClause)
     (trail : Trail) → AreMarkedClauses marks from clauses places (numbers_of requirements) →
-    All (λ (clause : RuleClause). clause.asks ≡ false → IsGuarded clause.literals.items) from → IsFinished clauses requirements trail →
+    All (λ (clause : RuleClause). clause.is_requirement ≡ false → IsGuarded clause.literals.items) from → IsFinished clauses requirements trail →
     MakesMarkedTrue (reads trail) marks from
 finished_true marks from clauses places requirements trail are guarded finished = λ k d below marked_one.
     let clause : RuleClause = get_or from k d in
     let there = are.all k d below marked_one in
     let P : List Literal → Type 0 = λ literals. clause_true (reads trail) literals ≡ true in
     subst P there.literals (⊎_elim
-    (λ (asks : clause.asks ≡ true). met_true trail (clause_at clauses there.number)
+    (λ (is_requirement : clause.is_requirement ≡ true). met_true trail (clause_at clauses there.number)
     (All-contains (λ number. IsMet trail (clause_at clauses number)) (numbers_of requirements) there.number
-    (named (λ number. IsMet trail (clause_at clauses number)) requirements finished.met) (there.listed asks)))
-    (λ (plain : clause.asks ≡ false). let Q : List Literal → Type 0 = IsGuarded in
+    (named (λ number. IsMet trail (clause_at clauses number)) requirements finished.met) (there.listed is_requirement)))
+    (λ (plain : clause.is_requirement ≡ false). let Q : List Literal → Type 0 = IsGuarded in
     guarded_true trail (clause_at clauses there.number) (subst Q (sym there.literals) (guarded k d below plain))
     (finished.propagated there.number there.inside))
-    (cases_Bool clause.asks))
+    (cases_Bool clause.is_requirement))
 
 pub obeyed : {N S : Type 0} (rules : List (Rule N S)) (variables : ℕ) (marks : List Bool) (from : List RuleClause) (clauses : List (Vec Literal Global))
     (places : List ℕ) (requirements : List RequirementClause) (trail : Trail) → length marks ≡ length rules → DecideRules rules variables from →

@@ -34,7 +34,7 @@ pub record IsThere (clauses : List (Vec Literal Global)) (numbers : List ℕ) (c
   pub number : ℕ
   pub inside : number < length clauses
   pub literals : clause_at clauses number ≡ clause.literals.items
-  pub listed : clause.asks ≡ true → Contains numbers number
+  pub listed : clause.is_requirement ≡ true → Contains numbers number
 
 -- these are the clauses of the marked rules
 pub record AreMarkedClauses (marks : List Bool) (from : List RuleClause) (clauses : List (Vec Literal Global)) (places numbers : List ℕ) : Type 0 where

@@ -44,7 +44,7 @@ pub record HasLoaded (table : List (Vec Literal Global)) (requirements : List â„
   pub numbers : List â„•
   pub loaded : IsLoaded given numbers search
   pub clauses : Extends given table
-  pub asking : Extends numbers requirements
+  pub requiring : Extends numbers requirements
 
 -- After the turn of a solvable these are taken, chosen and exempt, and it is chosen or not.
 pub data IsTurned {N S : Type 0} (u : Universe N S) (root : Demands) (taken chosen exempt : List S) (asked : List N) (s : S) :

@@ -25,19 +25,19 @@ atom p b = record { proposition = p; positive = b }
 pub record Line (N S : Type 0) : Type 0 where
   pub rule : ℕ
   pub atoms : List (Atom N S)
-  pub asks : Bool
+  pub is_requirement : Bool
 
 -- a clause whose candidates are to be tried, and one of which that is not so
-abbrev pub asking : {N S : Type 0} → ℕ → List (Atom N S) → Line N S
-asking rule atoms = record { rule = rule; atoms = atoms; asks = true }
+abbrev pub requirement_line : {N S : Type 0} → ℕ → List (Atom N S) → Line N S
+requirement_line rule atoms = record { rule = rule; atoms = atoms; is_requirement = true }
 
 abbrev pub plain : {N S : Type 0} → ℕ → List (Atom N S) → Line N S
-plain rule atoms = record { rule = rule; atoms = atoms; asks = false }
+plain rule atoms = record { rule = rule; atoms = atoms; is_requirement = false }
 
--- who asks is not there; the root always is
-abbrev pub asker_atoms : {N S : Type 0} → By S → List (Atom N S)
-asker_atoms Root = []
-asker_atoms (Solvable s) = atom (Member s) false ∷ []
+-- who is_requirement is not there; the root always is
+abbrev pub requirer_atoms : {N S : Type 0} → By S → List (Atom N S)
+requirer_atoms Root = []
+requirer_atoms (Solvable s) = atom (Member s) false ∷ []
 
 -- of one of the first so many lists of the rule's condition no member is there
 abbrev pub list_atoms : {N S : Type 0} → ℕ → ℕ → List (Atom N S)
@@ -66,8 +66,8 @@ bit_lines rule name instance code (suc n) = bit_lines rule name instance code n 
 -- the clauses of the rule at a place; of a mark, with the code of its instance in so many bits
 abbrev pub lines_of : {N S : Type 0} → ℕ → ℕ → ℕ → Rule N S → List (Line N S)
 lines_of width place code (Requires by requirement candidates when) =
-    asking place (asker_atoms by ++ (list_atoms place (length when.items) ++ candidate_atoms candidates.items)) ∷ condition_lines place 0 when.items
-lines_of width place code (Constrains by version_set candidate) = plain place (asker_atoms by ++ atom (Member candidate) false ∷ []) ∷ []
+    requirement_line place (requirer_atoms by ++ (list_atoms place (length when.items) ++ candidate_atoms candidates.items)) ∷ condition_lines place 0 when.items
+lines_of width place code (Constrains by version_set candidate) = plain place (requirer_atoms by ++ atom (Member candidate) false ∷ []) ∷ []
 lines_of width place code (Lock locked forbidden) = plain place (atom (Member forbidden) false ∷ []) ∷ []
 lines_of width place code (Excluded solvable reason) = plain place (atom (Member solvable) false ∷ []) ∷ []
 lines_of width place code (OnePerPackage name instance) = bit_lines place name instance code width
@@ -87,7 +87,7 @@ pub record IsLiteralOf {N S : Type 0} (propositions : List (Proposition N S)) (l
 pub record IsClauseOf {N S : Type 0} (propositions : List (Proposition N S)) (clause : RuleClause) (line : Line N S) : Type 0 where
   pub rule : clause.rule ≡ line.rule
   pub literals : AllZip (IsLiteralOf propositions) clause.literals.items line.atoms
-  pub asks : clause.asks ≡ line.asks
+  pub is_requirement : clause.is_requirement ≡ line.is_requirement
 
 -- a mark has the place of its instance as its code
 abbrev pub HasCode : {N S : Type 0} → List S → Rule N S → ℕ → Type 0
@@ -126,6 +126,6 @@ pub record DecideRules {N S : Type 0} (rules : List (Rule N S)) (variables : ℕ
   pub complete : (marks : List Bool) (values : ℕ → Bool) → length marks ≡ length rules → MakesMarkedTrue values marks clauses → IsRefuted (marked marks rules) →
       ⊥
   -- only a clause whose candidates are to be tried may have more than one literal that is no negation
-  pub guarded : All (λ (clause : RuleClause). clause.asks ≡ false → IsGuarded clause.literals.items) clauses
+  pub guarded : All (λ (clause : RuleClause). clause.is_requirement ≡ false → IsGuarded clause.literals.items) clauses
   pub places : All (λ (clause : RuleClause). clause.rule < length rules) clauses
   pub below : All (λ (clause : RuleClause). IsBelow variables clause.literals.items) clauses

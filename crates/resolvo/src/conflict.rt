@@ -29,7 +29,7 @@ const LEARNT_LIMIT: usize = 2000;
 
 /// Rules that no set of solvables obeys together.
 ///
-/// They name no solvable as asker, forbidden or marked that their requirements do not reach from the root on.
+/// They name no solvable as requirer, forbidden or marked that their requirements do not reach from the root on.
 #[derive(Drop)]
 pub struct Conflict<N, S> {
     pub(crate) rules: Vec<Rule<N, S>>,

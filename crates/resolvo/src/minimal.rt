@@ -222,7 +222,7 @@ fn is_needed(form: &Option<RuleClauses>, turns: &Turns) -> bool
 /// The turn of the rule behind the first ones: it is kept if some set obeys the others.
 ///
 /// A rule outside of the core is left out without a search, and one that is known to be needed is kept without one. The core
-/// is there as long as none of its rules is left out, which asks for a search.
+/// is there as long as none of its rules is left out, which is_requirement for a search.
 fn take_turn<N: Copy + Eq + Drop, S: Copy + Eq + Drop>(
     alloc: Global,
     rules: &[Rule<N, S>],

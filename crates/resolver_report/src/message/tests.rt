@@ -8,7 +8,7 @@ ghost use Rattle.std.proofs.lemmas.Bool.{eqb-true, eq-eqb};
 ghost use Rattle.resolver_report.specs.TestTexts.{name_number, name_text, set_number, set_text, test_texts, version_text};
 
 use super::DisplayUnsat;
-use crate::test_rules::{Row, graph_of_rows, marked, required_in};
+use crate::test_rules::{Row, graph_of_rows, instance_of, required_in};
 use resolver_clause_store::{
     By, Condition, ConditionId, Exhausted, Interner, StringId, VersionSetId, VersionSetUnionId,
 };
@@ -176,8 +176,8 @@ fn two_versions_of_a_shared_dependency(rt: HostRuntime) -> Result<(), Fail> {
         required_in(By::Root, 4, &[3]),
         required_in(By::Solvable(3), 5, &[4]),
         required_in(By::Root, 6, &[5]),
-        marked(3, 5),
-        marked(3, 4),
+        instance_of(3, 5),
+        instance_of(3, 4),
     ];
     let text = "The following packages are incompatible
 ├─ bluesky-widgets >=0, <100 can be installed with any of the following options:

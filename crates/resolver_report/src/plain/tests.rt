@@ -3,7 +3,7 @@
 //! The tests own nothing: what they call makes the rules, searches, and says whether it found what is wanted.
 
 use super::*;
-use crate::test_rules::{Row, constrained, excluded, marked, required, rules_of};
+use crate::test_rules::{Row, constrained, excluded, instance_of, required, rules_of};
 
 fn found(alloc: Global, rows: &[Row<'_>]) -> Result<Option<Vec<u32>>, Exhausted> {
     let rules = rules_of(alloc, rows)?;
@@ -72,17 +72,17 @@ fn marks(rt: HostRuntime) {
     let one_name = [
         required(By::Root, &[1]),
         required(By::Root, &[2]),
-        marked(7, 1),
-        marked(7, 2),
+        instance_of(7, 1),
+        instance_of(7, 2),
     ];
     assert!(rt; refutes(rt.alloc(), &one_name));
     let two_names = [
         required(By::Root, &[1]),
         required(By::Root, &[2]),
-        marked(7, 1),
-        marked(8, 2),
-        marked(7, 3),
-        marked(7, 1),
+        instance_of(7, 1),
+        instance_of(8, 2),
+        instance_of(7, 3),
+        instance_of(7, 1),
     ];
     assert!(rt; finds(rt.alloc(), &two_names, &[1, 2]));
 }

@@ -3,7 +3,7 @@
 //! The tests own nothing: what they call makes the rules, and says whether the wanted ones are left.
 
 use super::*;
-use crate::test_rules::{Row, constrained, excluded, marked, required, rules_of};
+use crate::test_rules::{Row, constrained, excluded, instance_of, required, rules_of};
 
 fn kept_of(alloc: Global, rows: &[Row<'_>]) -> Result<Vec<Rule<u32, u32>>, Exhausted> {
     let rules = rules_of(alloc, rows)?;
@@ -86,8 +86,8 @@ fn both_sides_of_a_constraint_count(rt: HostRuntime) {
         constrained(By::Root, 1),
         constrained(By::Root, 2),
         constrained(By::Solvable(2), 1),
-        marked(7, 1),
-        marked(7, 2),
+        instance_of(7, 1),
+        instance_of(7, 2),
     ];
     assert!(rt; matches!(keeps_both_sides(rt.alloc(), &rows), Ok(true)));
 }

@@ -4,7 +4,7 @@
 
 use super::*;
 use crate::graph::{ConflictCause, ConflictEdge, Graph, Incoming, Outgoing};
-use crate::test_rules::{Row, graph_of_rows, marked, required};
+use crate::test_rules::{Row, graph_of_rows, instance_of, required};
 use resolver_clause_store::{By, Requirement, StringId, VersionSetId};
 use std::test::Fail;
 
@@ -91,18 +91,18 @@ fn no_candidates(rt: HostRuntime) -> Result<(), Fail> {
 }
 
 #[test]
-fn mark_listed_twice(rt: HostRuntime) -> Result<(), Fail> {
+fn instance_listed_twice(rt: HostRuntime) -> Result<(), Fail> {
     let second = ConflictEdge::Conflict(ConflictCause::ForbidMultipleInstances);
-    let rows = [marked(5, 1), marked(5, 1)];
+    let rows = [instance_of(5, 1), instance_of(5, 1)];
     let nodes = [ConflictNode::Root, ConflictNode::Solvable(1)];
     assert!(rt; is_graph(rt.alloc(), &rows, &nodes, &[edge(1, 1, second)], None)?);
     Ok(())
 }
 
 #[test]
-fn mark_of_another_name_between(rt: HostRuntime) -> Result<(), Fail> {
+fn instance_of_another_name_between(rt: HostRuntime) -> Result<(), Fail> {
     let second = ConflictEdge::Conflict(ConflictCause::ForbidMultipleInstances);
-    let rows = [marked(5, 1), marked(6, 2), marked(5, 3)];
+    let rows = [instance_of(5, 1), instance_of(6, 2), instance_of(5, 3)];
     let nodes = [
         ConflictNode::Root,
         ConflictNode::Solvable(3),

@@ -65,7 +65,7 @@ fn add_clause(marked: &mut MarkedClauses, clause: &RuleClause) -> Result<(), All
     let copy = Vec::from_slice(alloc, &clause.literals)?;
     marked.clauses.push(copy)?;
     marked.places.push(clause.rule)?;
-    if !clause.asks {
+    if !clause.is_requirement {
         return Ok(());
     }
     add_requirement(alloc, &mut marked.requirements, number)?;

@@ -6,7 +6,7 @@ ghost use Rattle.resolver_clause_store.specs.Laws.{IsIdentity};
 ghost use Rattle.resolver_clause_store.specs.Variables.{AreDistinct, Keeps};
 ghost use Rattle.resolver_clause_store.specs.declared.Rule.{Rule};
 ghost use Rattle.resolvo.specs.AddedLines.{Adds};
-ghost use Rattle.resolvo.specs.RuleClauses.{AreClausesOf, DecideRules, IsLiteralOf, all_lines, asker_atoms, asking, atom, bit_lines, candidate_atoms};
+ghost use Rattle.resolvo.specs.RuleClauses.{AreClausesOf, DecideRules, IsLiteralOf, all_lines, requirer_atoms, requirement_line, atom, bit_lines, candidate_atoms};
 ghost use Rattle.resolvo.specs.RuleClauses.{condition_lines, lines_of, list_atoms, member_lines, plain};
 ghost use Rattle.resolvo.specs.declared.minimal.rule_clauses.Proposition.{Proposition};
 ghost use Rattle.resolvo.specs.declared.minimal.rule_clauses.Proposition.TheVariants.{Member};
@@ -44,7 +44,7 @@ pub struct RuleClause {
     pub rule: usize,
     pub literals: Vec<Literal>,
     /// Whether its candidates are to be tried, in their order.
-    pub asks: bool,
+    pub is_requirement: bool,
 }
 
 /// Clauses of rules decide whether a set obeys some of them.
@@ -128,7 +128,7 @@ fn literals_of<N: Copy + Eq + Hash + Drop, S: Copy + Eq + Hash + Drop>(
 }
 
 /// Puts the clause of these atoms behind the others, whose candidates are to be tried.
-fn add_asking<N: Copy + Eq + Hash + Drop, S: Copy + Eq + Hash + Drop>(
+fn add_requirement_clause<N: Copy + Eq + Hash + Drop, S: Copy + Eq + Hash + Drop>(
     propositions: &mut IndexSet<Proposition<N, S>>,
     clauses: &mut Vec<RuleClause>,
     rule: usize,
@@ -136,13 +136,13 @@ fn add_asking<N: Copy + Eq + Hash + Drop, S: Copy + Eq + Hash + Drop>(
 ) -> Result<(), Exhausted>
     requires names { IsIdentity N.eq }
     requires solvables { IsIdentity S.eq }
-    ensures { OnOk result (Adds propositions.old.keys propositions.new.keys clauses.old.items clauses.new.items (asking rule atoms.now ∷ [])) }
+    ensures { OnOk result (Adds propositions.old.keys propositions.new.keys clauses.old.items clauses.new.items (requirement_line rule atoms.now ∷ [])) }
 {
     let literals = literals_of(*clauses.allocator(), propositions, atoms)?;
     clauses.push(RuleClause {
         rule,
         literals,
-        asks: true,
+        is_requirement: true,
     })?;
     Ok(())
 }
@@ -163,7 +163,7 @@ fn add_single<N: Copy + Eq + Hash + Drop, S: Copy + Eq + Hash + Drop>(
     clauses.push(RuleClause {
         rule,
         literals,
-        asks: false,
+        is_requirement: false,
     })?;
     Ok(())
 }
@@ -186,7 +186,7 @@ fn add_pair<N: Copy + Eq + Hash + Drop, S: Copy + Eq + Hash + Drop>(
     clauses.push(RuleClause {
         rule,
         literals,
-        asks: false,
+        is_requirement: false,
     })?;
     Ok(())
 }
@@ -263,9 +263,9 @@ fn add_bits<N: Copy + Eq + Hash + Drop, S: Copy + Eq + Hash + Drop>(
     Ok(())
 }
 
-/// Puts the atom behind the others which is true where who asks is not there.
-fn push_asker<N: Copy, S: Copy>(atoms: &mut Vec<Atom<N, S>>, by: By<S>) -> Result<(), AllocError>
-    ensures { OnOk result (atoms.new.items ≡ atoms.old.items ++ asker_atoms by) }
+/// Puts the atom behind the others which is true where who is_requirement is not there.
+fn push_requirer<N: Copy, S: Copy>(atoms: &mut Vec<Atom<N, S>>, by: By<S>) -> Result<(), AllocError>
+    ensures { OnOk result (atoms.new.items ≡ atoms.old.items ++ requirer_atoms by) }
 {
     match by {
         By::Root => Ok(()),
@@ -312,19 +312,19 @@ fn push_candidates<N: Copy, S: Copy>(
     Ok(())
 }
 
-/// The atoms of a requirement's clause: who asks is not there, a list of the condition has no member, or a candidate is
+/// The atoms of a requirement's clause: who is_requirement is not there, a list of the condition has no member, or a candidate is
 /// there.
-fn asking_atoms<N: Copy, S: Copy>(
+fn requirement_atoms<N: Copy, S: Copy>(
     alloc: Global,
     rule: usize,
     by: By<S>,
     count: usize,
     candidates: &[S],
 ) -> Result<Vec<Atom<N, S>>, AllocError>
-    ensures { IfOk result (λ made. made.items ≡ asker_atoms by ++ (list_atoms rule count ++ candidate_atoms candidates.now)) }
+    ensures { IfOk result (λ made. made.items ≡ requirer_atoms by ++ (list_atoms rule count ++ candidate_atoms candidates.now)) }
 {
     let mut atoms = Vec::new(alloc);
-    push_asker(&mut atoms, by)?;
+    push_requirer(&mut atoms, by)?;
     push_lists(&mut atoms, rule, count)?;
     push_candidates(&mut atoms, candidates)?;
     Ok(atoms)
@@ -342,15 +342,15 @@ fn add_requirement<N: Copy + Eq + Hash + Drop, S: Copy + Eq + Hash + Drop>(
     requires names { IsIdentity N.eq }
     requires solvables { IsIdentity S.eq }
     ensures { OnOk result (Adds propositions.old.keys propositions.new.keys clauses.old.items clauses.new.items
-        (asking rule (asker_atoms by ++ (list_atoms rule (length when.now) ++ candidate_atoms candidates.now)) ∷ condition_lines rule 0 when.now)) }
+        (requirement_line rule (requirer_atoms by ++ (list_atoms rule (length when.now) ++ candidate_atoms candidates.now)) ∷ condition_lines rule 0 when.now)) }
 {
-    let atoms = asking_atoms(*clauses.allocator(), rule, by, when.len(), candidates)?;
-    add_asking(propositions, clauses, rule, &atoms)?;
+    let atoms = requirement_atoms(*clauses.allocator(), rule, by, when.len(), candidates)?;
+    add_requirement_clause(propositions, clauses, rule, &atoms)?;
     add_condition(propositions, clauses, rule, when)?;
     Ok(())
 }
 
-/// Puts the clause behind the others that who asks is not there, or the candidate is not.
+/// Puts the clause behind the others that who is_requirement is not there, or the candidate is not.
 fn add_constraint<N: Copy + Eq + Hash + Drop, S: Copy + Eq + Hash + Drop>(
     propositions: &mut IndexSet<Proposition<N, S>>,
     clauses: &mut Vec<RuleClause>,
@@ -361,7 +361,7 @@ fn add_constraint<N: Copy + Eq + Hash + Drop, S: Copy + Eq + Hash + Drop>(
     requires names { IsIdentity N.eq }
     requires solvables { IsIdentity S.eq }
     ensures { OnOk result (Adds propositions.old.keys propositions.new.keys clauses.old.items clauses.new.items
-        (plain rule (asker_atoms by ++ atom (Member candidate) false ∷ []) ∷ [])) }
+        (plain rule (requirer_atoms by ++ atom (Member candidate) false ∷ []) ∷ [])) }
 {
     let excluded = Atom {
         proposition: Proposition::Member(candidate),

@@ -13,7 +13,7 @@ use std::test::Fail;
 /// What a rule states, but for the number of its place, which it was read from.
 #[derive(Clone, Copy)]
 enum Stated<'x> {
-    /// Who asks, the candidates, and the lists of the condition.
+    /// Who is_requirement, the candidates, and the lists of the condition.
     Requires(By<u32>, &'x [u32], &'x [&'x [u32]]),
     Constrains(By<u32>, u32),
     Lock(u32),

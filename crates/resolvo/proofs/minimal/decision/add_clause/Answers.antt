@@ -1,6 +1,6 @@
 use Rattle.std.proofs.Common.{rules, ◌∙◌}
 use Rattle.resolvo.specs.ClauseSearches.{numbers_of}
-use Rattle.resolvo.proofs.MarkedLemmas.{added_asking, added_plain}
+use Rattle.resolvo.proofs.MarkedLemmas.{added_requirement, added_plain}
 use Rattle.resolvo.proofs.minimal.decision.add_clause.Goals as goal
 
 -- src/minimal/decision.rt:48:9
@@ -13,6 +13,6 @@ returns-then-not-clause c = λ marks from marked so. rw (c.in_ok-push.ensures.it
 -- src/minimal/decision.rt:39:1
 pub returns : goal.returns
 returns c = λ marks from marked so. rw (c.in_ok-push.ensures.items, c.in_ok-push-2.ensures.items, c.in_ok-add_requirement.ensures)
-    (added_asking marks from c.args.marked.now.clauses.items c.args.marked.now.places.items
+    (added_requirement marks from c.args.marked.now.clauses.items c.args.marked.now.places.items
     (numbers_of c.args.marked.now.requirements.items) c.args.clause.now c.in_ok-copy.copy c.len-number.result
     (c.in_ok-copy.ensures.items ∙ c.deref.ensures.value) (search (rules, c.len-number.ensures)) marked so)

@@ -1,8 +1,8 @@
-//! What the requirements of each asker list.
+//! The candidates that the root and each solvable require.
 
 ghost use Rattle.std.specs.Prelude.{◌≡◌, ◌++◌, IfOk, IfErr, OnOk};
 ghost use Rattle.std.specs.HashMap.{get};
-ghost use Rattle.resolver_report.specs.Asked.{HasAsked, asked_in, root_asked_in};
+ghost use Rattle.resolver_report.specs.CandidateLists.{HasCandidateLists, candidates_for, root_candidates_of};
 ghost use Rattle.resolver_report.specs.Listed.{items_at};
 
 use crate::listed::extend_at;
@@ -13,20 +13,20 @@ use std::hash::Hash;
 
 /// The candidates of all requirements of the root, and of those of each solvable that has some.
 #[derive(Drop)]
-pub struct Asked<S: Eq + Hash> {
+pub struct CandidateLists<S: Eq + Hash> {
     pub(crate) by_root: Vec<S>,
     pub(crate) by_solvable: HashMap<S, Vec<S>>,
 }
 
-/// Adds what a rule asks for, if it does.
-fn add_asked<N, S: Copy + Eq + Hash + Drop>(
+/// Adds the candidates of a rule that is a requirement.
+fn add_candidates<N, S: Copy + Eq + Hash + Drop>(
     alloc: Global,
     by_root: &mut Vec<S>,
     by_solvable: &mut HashMap<S, Vec<S>>,
     rule: &Rule<N, S>,
 ) -> Result<(), Exhausted>
-    ensures root { OnOk result (by_root.new.items ≡ by_root.old.items ++ root_asked_in rule.now) }
-    ensures solvables { OnOk result ((s : S) → items_at (get S.eq by_solvable.new s) ≡ items_at (get S.eq by_solvable.old s) ++ asked_in S.eq s rule.now) }
+    ensures root { OnOk result (by_root.new.items ≡ by_root.old.items ++ root_candidates_of rule.now) }
+    ensures solvables { OnOk result ((s : S) → items_at (get S.eq by_solvable.new s) ≡ items_at (get S.eq by_solvable.old s) ++ candidates_for S.eq s rule.now) }
     ensures memory { IfErr result (λ e. e ≡ Exhausted.Memory) }
 {
     match rule {
@@ -53,20 +53,20 @@ fn add_asked<N, S: Copy + Eq + Hash + Drop>(
     }
 }
 
-/// What the requirements of each asker list.
-pub fn asked_of<N, S: Copy + Eq + Hash + Drop>(
+/// What the requirements of each requirer list.
+pub fn candidates_by_requirer<N, S: Copy + Eq + Hash + Drop>(
     alloc: Global,
     rules: &[Rule<N, S>],
-) -> Result<Asked<S>, Exhausted>
-    ensures value { IfOk result (HasAsked S.eq rules.now) }
+) -> Result<CandidateLists<S>, Exhausted>
+    ensures value { IfOk result (HasCandidateLists S.eq rules.now) }
     ensures memory { IfErr result (λ e. e ≡ Exhausted.Memory) }
 {
     let mut by_root = Vec::new(alloc);
     let mut by_solvable = HashMap::new(alloc);
     for rule in rules {
-        add_asked(alloc, &mut by_root, &mut by_solvable, rule)?;
+        add_candidates(alloc, &mut by_root, &mut by_solvable, rule)?;
     }
-    Ok(Asked {
+    Ok(CandidateLists {
         by_root,
         by_solvable,
     })
