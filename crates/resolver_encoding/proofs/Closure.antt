@@ -89,18 +89,18 @@ module _ {N S : Type 0} (u : Universe N S) (root : Demands) (lawful : HasLawfulS
   optional_or (Some c) = holds_or (suc (u.condition_rank c)) c (omega arith)
 
   -- some active requirement of the list has it among its candidates
-  pub record Asks (rs : List ConditionalRequirement) (s : S) : Type 0 where
+  pub record ListsCandidate (rs : List ConditionalRequirement) (s : S) : Type 0 where
     pub r : ConditionalRequirement
     pub listed : Contains rs r
     pub active : Active r
     pub candidate : Contains (requirement_candidates u r.requirement) s
 
-  asks_or : (rs : List ConditionalRequirement) (s : S) → Asks rs s ⊎ (Asks rs s → ⊥)
-  asks_or [] s = inr (λ a. none_in a.r a.listed)
-  asks_or (r ∷ rs) s = ⊎_elim
+  lists_or : (rs : List ConditionalRequirement) (s : S) → ListsCandidate rs s ⊎ (ListsCandidate rs s → ⊥)
+  lists_or [] s = inr (λ a. none_in a.r a.listed)
+  lists_or (r ∷ rs) s = ⊎_elim
       (λ a. inl (record { r = a.r; listed = there r rs a.r a.listed; active = a.active; candidate = a.candidate }))
       (λ none.
-      let only : ((Active r × Contains (requirement_candidates u r.requirement) s) → ⊥) → Asks (r ∷ rs) s → ⊥ = λ off a. ⊎_elim
+      let only : ((Active r × Contains (requirement_candidates u r.requirement) s) → ⊥) → ListsCandidate (r ∷ rs) s → ⊥ = λ off a. ⊎_elim
       (λ e. let IsIt : ConditionalRequirement → Type 0 = λ q. Active q × Contains (requirement_candidates u q.requirement) s in
       off (subst IsIt (sym e) (a.active, a.candidate)))
       (λ t. none (record { r = a.r; listed = t; active = a.active; candidate = a.candidate }))
@@ -112,29 +112,29 @@ module _ {N S : Type 0} (u : Universe N S) (root : Demands) (lawful : HasLawfulS
       (contains_or (requirement_candidates u r.requirement) s))
       (λ off. inr (only (λ w. off w.0)))
       (optional_or r.condition))
-      (asks_or rs s)
+      (lists_or rs s)
 
-  -- one of these asks for it
-  pub record AsksOne (done : List S) (s : S) : Type 0 where
+  -- one of these lists_it for it
+  pub record ListsFromOne (done : List S) (s : S) : Type 0 where
     pub by : S
     pub among : Contains done by
-    pub asks : Asks (demands_of (u.needs by)).requirements s
+    pub lists_it : ListsCandidate (demands_of (u.needs by)).requirements s
 
-  asks_one_or : (done : List S) (s : S) → AsksOne done s ⊎ (AsksOne done s → ⊥)
-  asks_one_or [] s = inr (λ a. none_in a.by a.among)
-  asks_one_or (t ∷ ts) s = ⊎_elim
-      (λ a. inl (record { by = a.by; among = there t ts a.by a.among; asks = a.asks }))
+  lists_one_or : (done : List S) (s : S) → ListsFromOne done s ⊎ (ListsFromOne done s → ⊥)
+  lists_one_or [] s = inr (λ a. none_in a.by a.among)
+  lists_one_or (t ∷ ts) s = ⊎_elim
+      (λ a. inl (record { by = a.by; among = there t ts a.by a.among; lists_it = a.lists_it }))
       (λ none. ⊎_elim
-      (λ a. inl (record { by = t; among = here t ts; asks = a }))
+      (λ a. inl (record { by = t; among = here t ts; lists_it = a }))
       (λ off. inr (λ a. ⊎_elim
-      (λ e. let AskedBy : S → Type 0 = λ q. Asks (demands_of (u.needs q)).requirements s in off (subst AskedBy (sym e) a.asks))
-      (λ among. none (record { by = a.by; among = among; asks = a.asks }))
+      (λ e. let ListedBy : S → Type 0 = λ q. ListsCandidate (demands_of (u.needs q)).requirements s in off (subst ListedBy (sym e) a.lists_it))
+      (λ among. none (record { by = a.by; among = among; lists_it = a.lists_it }))
       (cons_cases t ts a.by a.among)))
-      (asks_or (demands_of (u.needs t)).requirements s))
-      (asks_one_or ts s)
+      (lists_or (demands_of (u.needs t)).requirements s))
+      (lists_one_or ts s)
 
   abbrev pub Next : List S → S → Type 0
-  Next done s = Contains seeds s ⊎ (Asks root.requirements s ⊎ AsksOne done s)
+  Next done s = Contains seeds s ⊎ (ListsCandidate root.requirements s ⊎ ListsFromOne done s)
 
   next_or : (done : List S) (s : S) → Next done s ⊎ (Next done s → ⊥)
   next_or done s = ⊎_elim
@@ -144,8 +144,8 @@ module _ {N S : Type 0} (u : Universe N S) (root : Demands) (lawful : HasLawfulS
       (λ nor. ⊎_elim
       (λ c. inl (inr (inr c)))
       (λ neither. inr (λ n. ⊎_elim no (λ m. ⊎_elim nor neither m) n))
-      (asks_one_or done s))
-      (asks_or root.requirements s))
+      (lists_one_or done s))
+      (lists_or root.requirements s))
       (contains_or seeds s)
 
   record Picked (done rest : List S) : Type 0 where
@@ -186,7 +186,7 @@ module _ {N S : Type 0} (u : Universe N S) (root : Demands) (lawful : HasLawfulS
       (λ seed. by_seed seed inside)
       (λ m. ⊎_elim
       (λ a. by_root a.r a.listed a.active a.candidate inside)
-      (λ a. by_reached a.asks.r (before a.by a.among) a.asks.listed a.asks.active a.asks.candidate inside)
+      (λ a. by_reached a.lists_it.r (before a.by a.among) a.lists_it.listed a.lists_it.active a.lists_it.candidate inside)
       m)
       n
 

@@ -4,25 +4,25 @@ use Rattle.std.proofs.lemmas.List.{take_all, take_more}
 use Rattle.std.proofs.lemmas.List.Elements.{Contains-append_left, Contains-push, Contains-push_cases}
 use Rattle.resolver_clause_store.specs.declared.Rule.{Rule}
 use Rattle.resolver_clause_store.specs.declared.Rule.TheVariants.{OnePerPackage}
-use Rattle.resolver_encoding.specs.Listing.{AddsRules, AreRulesOf, HasMarks, SomeOf}
+use Rattle.resolver_encoding.specs.Listing.{AddsRules, AreRulesOf, HasInstances, SomeOf}
 use Rattle.resolver_clause_store.specs.Statements.{Statement, one_per_package, statement_of}
 use Rattle.resolver_encoding.specs.declared.listing.Listing.{Listing}
 use Rattle.resolver_clause_store.proofs.ListLemmas.{Contains-none as none_in}
-use Rattle.resolver_encoding.specs.declared.listing.Mark.{Mark}
+use Rattle.resolver_encoding.specs.declared.listing.Instance.{Instance}
 
 module _ {N S : Type 0} (old new : Listing N S) where
-  -- one more rule, whose mark may be noted
-  pub pushed_with : (rule : Rule N S) → HasMarks old → new.rules.items ≡ old.rules.items ++ rule ∷ [] →
-      ((m : Mark N S) → Contains new.marked.keys m → Contains old.marked.keys m ⊎ (one_per_package m.name m.instance ≡ statement_of rule)) →
+  -- one more rule, whose instance may be noted
+  pub pushed_with : (rule : Rule N S) → HasInstances old → new.rules.items ≡ old.rules.items ++ rule ∷ [] →
+      ((m : Instance N S) → Contains new.instances.keys m → Contains old.instances.keys m ⊎ (one_per_package m.name m.instance ≡ statement_of rule)) →
       AddsRules (λ st. st ≡ statement_of rule) old new
-  pushed_with rule marks items noted =
+  pushed_with rule instances items noted =
       let Has : List (Rule N S) → Rule N S → Type 0 = λ list r. Contains list r in
       let kept : (r : Rule N S) → Contains old.rules.items r → Contains new.rules.items r =
       λ r h. subst (λ list. Has list r) (sym items) (Contains-append_left old.rules.items (rule ∷ []) r h) in
       let last : Contains new.rules.items rule = subst (λ list. Has list rule) (sym items) (Contains-push old.rules.items rule) in
       record {
-        marks = λ m h. ⊎_elim
-            (λ a. let w = marks m a in (w.0, kept w.0 w.1, w.2))
+        instances = λ m h. ⊎_elim
+            (λ a. let w = instances m a in (w.0, kept w.0 w.1, w.2))
             (λ e. (rule, last, sym e))
             (noted m h);
         kept = kept;
@@ -34,27 +34,27 @@ module _ {N S : Type 0} (old new : Listing N S) where
       }
 
   -- one more rule
-  pub pushed : (rule : Rule N S) → HasMarks old → new.rules.items ≡ old.rules.items ++ rule ∷ [] → new.marked.keys ≡ old.marked.keys →
+  pub pushed : (rule : Rule N S) → HasInstances old → new.rules.items ≡ old.rules.items ++ rule ∷ [] → new.instances.keys ≡ old.instances.keys →
       AddsRules (λ st. st ≡ statement_of rule) old new
-  pushed rule marks items noted = let Has : List (Mark N S) → Mark N S → Type 0 = λ list m. Contains list m in
-      pushed_with rule marks items (λ m h. inl (subst (λ list. Has list m) noted h))
+  pushed rule instances items noted = let Has : List (Instance N S) → Instance N S → Type 0 = λ list m. Contains list m in
+      pushed_with rule instances items (λ m h. inl (subst (λ list. Has list m) noted h))
 
-  -- one more mark, which is noted
-  pub marked_first : (m : Mark N S) → HasMarks old → new.rules.items ≡ old.rules.items ++ OnePerPackage m.name m.instance ∷ [] →
-      new.marked.keys ≡ old.marked.keys ++ m ∷ [] → AddsRules (λ st. st ≡ one_per_package m.name m.instance) old new
-  marked_first m marks items noted =
-      let Has : List (Mark N S) → Mark N S → Type 0 = λ list q. Contains list q in
-      let Of : Mark N S → Statement N S = λ q. one_per_package q.name q.instance in
-      pushed_with (OnePerPackage m.name m.instance) marks items (λ q h. ⊎_elim
+  -- one more instance, which is noted
+  pub marked_first : (m : Instance N S) → HasInstances old → new.rules.items ≡ old.rules.items ++ OnePerPackage m.name m.instance ∷ [] →
+      new.instances.keys ≡ old.instances.keys ++ m ∷ [] → AddsRules (λ st. st ≡ one_per_package m.name m.instance) old new
+  marked_first m instances items noted =
+      let Has : List (Instance N S) → Instance N S → Type 0 = λ list q. Contains list q in
+      let Of : Instance N S → Statement N S = λ q. one_per_package q.name q.instance in
+      pushed_with (OnePerPackage m.name m.instance) instances items (λ q h. ⊎_elim
       (λ a. inl a)
       (λ (e : m ≡ q). inr (ap Of (sym e)))
-      (Contains-push_cases old.marked.keys m q (subst (λ list. Has list q) noted h)))
+      (Contains-push_cases old.instances.keys m q (subst (λ list. Has list q) noted h)))
 
   -- the same statements in other words
   pub added_same : (P Q : Statement N S → Type 0) → ((st : Statement N S) → P st → Q st) → ((st : Statement N S) → Q st → P st) → AddsRules P old new →
       AddsRules Q old new
   added_same P Q there back adds = record {
-    marks = adds.marks;
+    instances = adds.instances;
     kept = adds.kept;
     listed = λ st q. adds.listed st (back st q);
     only = λ r h. ⊎_elim (λ a. inl a) (λ p. inr (there (statement_of r) p)) (adds.only r h);
@@ -88,12 +88,12 @@ module _ {N S : Type 0} (old : Listing N S) where
         only = λ r h. absurd (none_in r (subst (λ list. Has list r) none h));
       }
 
-  -- a mark that is there already
-  pub marked_before : (m : Mark N S) → HasMarks old → Contains old.marked.keys m → AddsRules (λ st. st ≡ one_per_package m.name m.instance) old old
-  marked_before m marks inside = record {
-    marks = marks;
+  -- an instance that is there already
+  pub marked_before : (m : Instance N S) → HasInstances old → Contains old.instances.keys m → AddsRules (λ st. st ≡ one_per_package m.name m.instance) old old
+  marked_before m instances inside = record {
+    instances = instances;
     kept = λ r h. h;
-    listed = λ st e. let w = marks m inside in (w.0, w.1, w.2 ∙ sym e);
+    listed = λ st e. let w = instances m inside in (w.0, w.1, w.2 ∙ sym e);
     only = λ r h. inl h;
   }
 
@@ -101,7 +101,7 @@ module _ {N S : Type 0} (old mid new : Listing N S) where
   -- rules and then more rules
   pub added_both : (P Q : Statement N S → Type 0) → AddsRules P old mid → AddsRules Q mid new → AddsRules (λ st. P st ⊎ Q st) old new
   added_both P Q first second = record {
-    marks = second.marks;
+    instances = second.instances;
     kept = λ r h. second.kept r (first.kept r h);
     listed = λ st h. ⊎_elim
         (λ p. let w = first.listed st p in (w.0, second.kept w.0 w.1, w.2))

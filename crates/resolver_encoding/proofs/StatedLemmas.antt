@@ -16,7 +16,7 @@ use Rattle.resolver_encoding.specs.Atoms.{IsStated, states_requires, states_cons
 use Rattle.resolver_encoding.specs.Atoms.{states_excluded}
 use Rattle.resolver_encoding.specs.Core.{IsExplained, implied_in}
 use Rattle.resolver_encoding.specs.Encodings.{IsEncoding, Notes}
-use Rattle.resolver_encoding.specs.Listing.{AreRulesOf, MarksBit, SomeOf, States}
+use Rattle.resolver_encoding.specs.Listing.{AreRulesOf, ListsBit, SomeOf, States}
 use Rattle.resolver_encoding.specs.Sources.{AreSources}
 use Rattle.resolver_encoding.specs.declared.sources.Sources.{Sources}
 use Rattle.resolver_clause_store.specs.Statements.{Statement, statement_of}
@@ -33,8 +33,8 @@ module _ {N S : Type 0} (u : Universe N S) (same_name : N → N → Bool) (names
   abbrev Stated : Statement N S → Type 0
   Stated st = IsStated u implies kinds st
 
-  -- the mark of a solvable from which a helper follows
-  bit_stated : (helper : Origin N S) (s : S) (st : Statement N S) → Contains kinds (AnyOf helper s) → MarksBit helper s st → IsStated u implies kinds st
+  -- the instance from which a helper follows
+  bit_stated : (helper : Origin N S) (s : S) (st : Statement N S) → Contains kinds (AnyOf helper s) → ListsBit helper s st → IsStated u implies kinds st
   bit_stated Root s st inside h = absurd h
   bit_stated (Solvable t) s st inside h = absurd h
   bit_stated (Bit n i) s st inside h = subst Stated (sym h) (states_bit n s i (implied-any u same_name names same kinds (Bit n i) s tt inside))

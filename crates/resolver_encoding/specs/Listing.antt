@@ -12,7 +12,7 @@ use Rattle.resolver_clause_store.specs.declared.Rule.{Rule}
 use Rattle.resolver_encoding.specs.Groups.{IsNamed}
 use Rattle.resolver_clause_store.specs.Statements.{Statement, requires, constrains, lock, excluded, one_per_package, statement_of}
 use Rattle.resolver_encoding.specs.declared.listing.Listing.{Listing}
-use Rattle.resolver_encoding.specs.declared.listing.Mark.{Mark}
+use Rattle.resolver_encoding.specs.declared.listing.Instance.{Instance}
 use Rattle.resolver_encoding.specs.declared.sources.Sources.{Sources}
 
 -- a rule of the list states it
@@ -24,13 +24,13 @@ pub record AreRulesOf {N S : Type 0} (Stated : Statement N S → Type 0) (rules 
   pub listed : (st : Statement N S) → Stated st → IsListed rules st
   pub only : (rule : Rule N S) → Contains rules rule → Stated (statement_of rule)
 
--- each mark that was noted is listed
-abbrev pub HasMarks : {N S : Type 0} → Listing N S → Type 0
-HasMarks {N} {S} listing = (m : Mark N S) → Contains listing.marked.keys m → IsListed listing.rules.items (one_per_package m.name m.instance)
+-- each instance that was noted is listed
+abbrev pub HasInstances : {N S : Type 0} → Listing N S → Type 0
+HasInstances {N} {S} listing = (m : Instance N S) → Contains listing.instances.keys m → IsListed listing.rules.items (one_per_package m.name m.instance)
 
 -- rules were added that state these statements, and no others
 pub record AddsRules {N S : Type 0} (Stated : Statement N S → Type 0) (old new : Listing N S) : Type 0 where
-  pub marks : HasMarks new
+  pub instances : HasInstances new
   pub kept : (rule : Rule N S) → Contains old.rules.items rule → Contains new.rules.items rule
   pub listed : (st : Statement N S) → Stated st → IsListed new.rules.items st
   pub only : (rule : Rule N S) → Contains new.rules.items rule → Contains old.rules.items rule ⊎ Stated (statement_of rule)
@@ -40,33 +40,33 @@ abbrev pub SomeOf : {X N S : Type 0} → List X → (X → Statement N S → Typ
 SomeOf {X} xs Says st = (x : X) × Contains xs x × Says x st
 
 -- what the clause asks of sets, where the sources say from which solvables a helper follows
-abbrev pub Asks : {N S : Type 0} → Universe N S → Sources S → ClauseKind N S → Statement N S → Type 0
-Asks u sources InstallRoot st = ⊥
-Asks u sources (Requires by disjunct r) st = st ≡ requires by r (requirement_candidates u r) (map (matching u) disjunct.items)
-Asks u sources (AnyOf helper s) st = ⊥
-Asks u sources (Constrains by v s) st = st ≡ constrains by v s
-Asks {N} {S} u sources (GateRequires r) st = (s : S) × IsNamed sources.gates r s × (st ≡ requires (BySolvable s) r (requirement_candidates u r) [])
-Asks u sources (ConstrainsExcluded s v) st = ⊥
-Asks {N} {S} u sources (ConstrainsParent by v) st = (s : S) × IsNamed sources.helpers v s × (st ≡ constrains by v s)
-Asks u sources (HasBit n s i b) st = ⊥
-Asks u sources (Lock s t) st = st ≡ lock s t
-Asks u sources (Excluded s reason) st = st ≡ excluded s reason
+abbrev pub StatesRule : {N S : Type 0} → Universe N S → Sources S → ClauseKind N S → Statement N S → Type 0
+StatesRule u sources InstallRoot st = ⊥
+StatesRule u sources (Requires by disjunct r) st = st ≡ requires by r (requirement_candidates u r) (map (matching u) disjunct.items)
+StatesRule u sources (AnyOf helper s) st = ⊥
+StatesRule u sources (Constrains by v s) st = st ≡ constrains by v s
+StatesRule {N} {S} u sources (GateRequires r) st = (s : S) × IsNamed sources.gates r s × (st ≡ requires (BySolvable s) r (requirement_candidates u r) [])
+StatesRule u sources (ConstrainsExcluded s v) st = ⊥
+StatesRule {N} {S} u sources (ConstrainsParent by v) st = (s : S) × IsNamed sources.helpers v s × (st ≡ constrains by v s)
+StatesRule u sources (HasBit n s i b) st = ⊥
+StatesRule u sources (Lock s t) st = st ≡ lock s t
+StatesRule u sources (Excluded s reason) st = st ≡ excluded s reason
 
--- which mark tells that the solvable has a bit
-abbrev pub MarksBit : {N S : Type 0} → Origin N S → S → Statement N S → Type 0
-MarksBit Root s st = ⊥
-MarksBit (Solvable t) s st = ⊥
-MarksBit (Bit n i) s st = st ≡ one_per_package n s
-MarksBit (Gate r) s st = ⊥
-MarksBit (ConstraintHelper v) s st = ⊥
-MarksBit (ConditionHelper v) s st = ⊥
+-- the instance that has the bit
+abbrev pub ListsBit : {N S : Type 0} → Origin N S → S → Statement N S → Type 0
+ListsBit Root s st = ⊥
+ListsBit (Solvable t) s st = ⊥
+ListsBit (Bit n i) s st = st ≡ one_per_package n s
+ListsBit (Gate r) s st = ⊥
+ListsBit (ConstraintHelper v) s st = ⊥
+ListsBit (ConditionHelper v) s st = ⊥
 
--- which marks the clause makes
-abbrev pub Marks : {N S : Type 0} → ClauseKind N S → Statement N S → Type 0
-Marks (AnyOf helper s) st = MarksBit helper s st
-Marks (HasBit n s i b) st = st ≡ one_per_package n s
-Marks kind st = ⊥
+-- the instance that the clause lists
+abbrev pub ListsInstance : {N S : Type 0} → ClauseKind N S → Statement N S → Type 0
+ListsInstance (AnyOf helper s) st = ListsBit helper s st
+ListsInstance (HasBit n s i b) st = st ≡ one_per_package n s
+ListsInstance kind st = ⊥
 
 -- what the clause states
 abbrev pub States : {N S : Type 0} → Universe N S → Sources S → ClauseKind N S → Statement N S → Type 0
-States u sources kind st = Asks u sources kind st ⊎ Marks kind st
+States u sources kind st = StatesRule u sources kind st ⊎ ListsInstance kind st

@@ -7,7 +7,7 @@ ghost use Rattle.resolver_clause_store.specs.Interruptions.{IsInterruption};
 ghost use Rattle.resolver_clause_store.specs.Laws.{IsIdentity};
 ghost use Rattle.resolver_clause_store.specs.declared.By.TheVariants.{Solvable as BySolvable};
 ghost use Rattle.resolver_encoding.specs.Core.{implied_in};
-ghost use Rattle.resolver_encoding.specs.Listing.{AddsRules, Asks, HasMarks, Marks, MarksBit, SomeOf, States};
+ghost use Rattle.resolver_encoding.specs.Listing.{AddsRules, StatesRule, HasInstances, ListsInstance, ListsBit, SomeOf, States};
 ghost use Rattle.resolver_encoding.specs.Sources.{HasGroups};
 ghost use Rattle.resolver_clause_store.specs.Statements.{constrains, requires};
 ghost use Rattle.resolver_encoding.specs.Truth.{AreListed, AreStated};
@@ -52,7 +52,7 @@ fn add_requirement<D: DependencyProvider>(
     disjunct: &[VersionSetId],
 ) -> Result<(), Interrupted<D::Cancel>>
     requires is_true { IsTrueCache (D.universe provider.now) cache.old }
-    requires marks { HasMarks listing.old }
+    requires instances { HasInstances listing.old }
     ensures is_true { IsTrueCache (D.universe provider.now) cache.new }
     ensures added { OnOk result (AddsRules (λ st.
         st ≡ requires by requirement (candidates_of (D.universe provider.now) requirement)
@@ -72,7 +72,7 @@ fn require_each<N: Copy + Eq + Hash + Drop, S: Copy + Eq + Hash + Drop>(
     requirement: Requirement,
     candidates: &[S],
 ) -> Result<(), Exhausted>
-    requires { HasMarks listing.old }
+    requires { HasInstances listing.old }
     ensures added { OnOk result (AddsRules
         (SomeOf requirers.now (λ s st. st ≡ requires (BySolvable s) requirement candidates.now [])) listing.old listing.new) }
     ensures memory { IfErr result (λ e. e ≡ Exhausted.Memory) }
@@ -94,7 +94,7 @@ fn add_gate<D: DependencyProvider>(
     requirement: Requirement,
 ) -> Result<(), Interrupted<D::Cancel>>
     requires is_true { IsTrueCache (D.universe provider.now) cache.old }
-    requires marks { HasMarks listing.old }
+    requires instances { HasInstances listing.old }
     ensures is_true { IsTrueCache (D.universe provider.now) cache.new }
     ensures added { OnOk result (AddsRules
         (SomeOf requirers.now (λ s st.
@@ -113,7 +113,7 @@ fn constrain_each<N: Copy + Eq + Hash + Drop, S: Copy + Eq + Hash + Drop>(
     version_set: VersionSetId,
     candidates: &[S],
 ) -> Result<(), Exhausted>
-    requires { HasMarks listing.old }
+    requires { HasInstances listing.old }
     ensures added { OnOk result (AddsRules (SomeOf candidates.now (λ s st. st ≡ constrains by version_set s)) listing.old listing.new) }
     ensures memory { IfErr result (λ e. e ≡ Exhausted.Memory) }
 {
@@ -133,9 +133,9 @@ fn add_rules<D: DependencyProvider>(
 ) -> Result<(), Interrupted<D::Cancel>>
     requires is_true { IsTrueCache (D.universe provider.now) cache.old }
     requires groups { HasGroups sources.now }
-    requires marks { HasMarks listing.old }
+    requires instances { HasInstances listing.old }
     ensures is_true { IsTrueCache (D.universe provider.now) cache.new }
-    ensures added { OnOk result (AddsRules (Asks (D.universe provider.now) sources.now kind.now) listing.old listing.new) }
+    ensures added { OnOk result (AddsRules (StatesRule (D.universe provider.now) sources.now kind.now) listing.old listing.new) }
     ensures refusal { IfErr result (IsInterruption (D.may_cancel provider.now)) }
 {
     match kind {
@@ -189,45 +189,45 @@ fn add_rules<D: DependencyProvider>(
     }
 }
 
-/// Adds the mark of a solvable from which a bit follows.
-fn mark_bit<N: Copy + Eq + Hash + Drop, S: Copy + Eq + Hash + Drop>(
+/// Adds the instance of a package that a bit of its code follows from.
+fn list_bit<N: Copy + Eq + Hash + Drop, S: Copy + Eq + Hash + Drop>(
     listing: &mut Listing<N, S>,
     helper: &Origin<N, S>,
     candidate: S,
 ) -> Result<(), Exhausted>
     requires names { IsIdentity N.eq }
     requires solvables { IsIdentity S.eq }
-    requires marks { HasMarks listing.old }
-    ensures added { OnOk result (AddsRules (MarksBit helper.now candidate) listing.old listing.new) }
+    requires instances { HasInstances listing.old }
+    ensures added { OnOk result (AddsRules (ListsBit helper.now candidate) listing.old listing.new) }
     ensures memory { IfErr result (λ e. e ≡ Exhausted.Memory) }
 {
     match helper {
         Origin::Bit { name, .. } => {
-            listing.mark(*name, candidate)?;
+            listing.list_instance(*name, candidate)?;
             Ok(())
         }
         _ => Ok(()),
     }
 }
 
-/// Adds the marks of a clause that tells instances of a name apart.
-fn add_marks<N: Copy + Eq + Hash + Drop, S: Copy + Eq + Hash + Drop>(
+/// Adds the instance of a clause that keeps instances of a package apart.
+fn add_instances<N: Copy + Eq + Hash + Drop, S: Copy + Eq + Hash + Drop>(
     listing: &mut Listing<N, S>,
     kind: &ClauseKind<N, S>,
 ) -> Result<(), Exhausted>
     requires names { IsIdentity N.eq }
     requires solvables { IsIdentity S.eq }
-    requires marks { HasMarks listing.old }
-    ensures added { OnOk result (AddsRules (Marks kind.now) listing.old listing.new) }
+    requires instances { HasInstances listing.old }
+    ensures added { OnOk result (AddsRules (ListsInstance kind.now) listing.old listing.new) }
     ensures memory { IfErr result (λ e. e ≡ Exhausted.Memory) }
 {
     match kind {
         ClauseKind::AnyOf { helper, candidate } => {
-            mark_bit(listing, helper, *candidate)?;
+            list_bit(listing, helper, *candidate)?;
             Ok(())
         }
         ClauseKind::HasBit { name, instance, .. } => {
-            listing.mark(*name, *instance)?;
+            listing.list_instance(*name, *instance)?;
             Ok(())
         }
         _ => Ok(()),
@@ -244,20 +244,20 @@ fn add_stated<D: DependencyProvider>(
 ) -> Result<(), Interrupted<D::Cancel>>
     requires is_true { IsTrueCache (D.universe provider.now) cache.old }
     requires groups { HasGroups sources.now }
-    requires marks { HasMarks listing.old }
+    requires instances { HasInstances listing.old }
     ensures is_true { IsTrueCache (D.universe provider.now) cache.new }
     ensures added { OnOk result (AddsRules (States (D.universe provider.now) sources.now kind.now) listing.old listing.new) }
     ensures refusal { IfErr result (IsInterruption (D.may_cancel provider.now)) }
 {
     add_rules(provider, cache, sources, listing, kind)?;
-    add_marks(listing, kind)?;
+    add_instances(listing, kind)?;
     Ok(())
 }
 
 /// The rules that the clauses with these numbers state, in the order of the numbers.
 ///
 /// No rule names a helper: what a gate or the helper of a constraint joins is stated of each solvable from which it
-/// follows by these clauses. A solvable is marked once for a name.
+/// follows by these clauses. An instance is listed once for its package.
 pub fn rules_of_clauses<D: DependencyProvider>(
     alloc: Global,
     provider: &D,

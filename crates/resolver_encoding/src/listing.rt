@@ -1,4 +1,4 @@
-//! Rules as they are listed, each mark once.
+//! Lists of rules, with each instance of a package once.
 
 ghost use Rattle.std.specs.Prelude.{◌≡◌, [], IfErr, OnOk, map};
 ghost use Rattle.resolver_clause_store.specs.Laws.{IsIdentity};
@@ -11,33 +11,33 @@ use resolver_clause_store::{
 use std::alloc::Global;
 use std::hash::Hash;
 
-/// An instance that is marked for a name.
+/// An instance of a package, as a rule `OnePerPackage` lists it.
 #[derive(Clone, Copy, PartialEq, Eq, Hash)]
-pub(crate) struct Mark<N, S> {
+pub(crate) struct Instance<N, S> {
     pub name: N,
     pub instance: S,
 }
 
-/// Rules in the order in which they came, and the marks that are among them.
+/// Rules in the order in which they came, and the instances that some of them list.
 #[derive(Drop)]
 pub(crate) struct Listing<N: Copy + Eq + Hash + Drop, S: Copy + Eq + Hash + Drop> {
     alloc: Global,
     rules: Vec<Rule<N, S>>,
-    marked: IndexSet<Mark<N, S>>,
+    instances: IndexSet<Instance<N, S>>,
 }
 
 impl<N: Copy + Eq + Hash + Drop, S: Copy + Eq + Hash + Drop> Listing<N, S> {
-    ghost use Rattle.resolver_encoding.specs.Listing.{AddsRules, HasMarks};
+    ghost use Rattle.resolver_encoding.specs.Listing.{AddsRules, HasInstances};
 
     /// No rules.
     pub(crate) fn new(alloc: Global) -> Self
-        ensures marks { HasMarks result }
+        ensures instances { HasInstances result }
         ensures none { result.rules.items ≡ [] }
     {
         Listing {
             alloc,
             rules: Vec::new(alloc),
-            marked: IndexSet::new(alloc),
+            instances: IndexSet::new(alloc),
         }
     }
 
@@ -61,7 +61,7 @@ impl<N: Copy + Eq + Hash + Drop, S: Copy + Eq + Hash + Drop> Listing<N, S> {
         candidates: Vec<S>,
         when: Vec<Vec<S>>,
     ) -> Result<(), Exhausted>
-        requires { HasMarks self.old }
+        requires { HasInstances self.old }
         ensures added { OnOk result (AddsRules (λ st. st ≡ requires by requirement candidates.items (map (λ list. list.items) when.items)) self.old self.new) }
         ensures memory { IfErr result (λ e. e ≡ Exhausted.Memory) }
     {
@@ -81,7 +81,7 @@ impl<N: Copy + Eq + Hash + Drop, S: Copy + Eq + Hash + Drop> Listing<N, S> {
         version_set: VersionSetId,
         candidate: S,
     ) -> Result<(), Exhausted>
-        requires { HasMarks self.old }
+        requires { HasInstances self.old }
         ensures added { OnOk result (AddsRules (λ st. st ≡ constrains by version_set candidate) self.old self.new) }
         ensures memory { IfErr result (λ e. e ≡ Exhausted.Memory) }
     {
@@ -95,7 +95,7 @@ impl<N: Copy + Eq + Hash + Drop, S: Copy + Eq + Hash + Drop> Listing<N, S> {
 
     /// Adds a lock.
     pub(crate) fn lock(&mut self, locked: S, forbidden: S) -> Result<(), Exhausted>
-        requires { HasMarks self.old }
+        requires { HasInstances self.old }
         ensures added { OnOk result (AddsRules (λ st. st ≡ lock locked forbidden) self.old self.new) }
         ensures memory { IfErr result (λ e. e ≡ Exhausted.Memory) }
     {
@@ -105,7 +105,7 @@ impl<N: Copy + Eq + Hash + Drop, S: Copy + Eq + Hash + Drop> Listing<N, S> {
 
     /// Adds an exclusion.
     pub(crate) fn exclude(&mut self, solvable: S, reason: StringId) -> Result<(), Exhausted>
-        requires { HasMarks self.old }
+        requires { HasInstances self.old }
         ensures added { OnOk result (AddsRules (λ st. st ≡ excluded solvable reason) self.old self.new) }
         ensures memory { IfErr result (λ e. e ≡ Exhausted.Memory) }
     {
@@ -113,19 +113,19 @@ impl<N: Copy + Eq + Hash + Drop, S: Copy + Eq + Hash + Drop> Listing<N, S> {
         Ok(())
     }
 
-    /// Adds a mark, if it is not there yet.
-    pub(crate) fn mark(&mut self, name: N, instance: S) -> Result<(), Exhausted>
+    /// Adds a rule `OnePerPackage` for an instance, unless the list has one.
+    pub(crate) fn list_instance(&mut self, name: N, instance: S) -> Result<(), Exhausted>
         requires names { IsIdentity N.eq }
         requires solvables { IsIdentity S.eq }
-        requires marks { HasMarks self.old }
+        requires instances { HasInstances self.old }
         ensures added { OnOk result (AddsRules (λ st. st ≡ one_per_package name instance) self.old self.new) }
         ensures memory { IfErr result (λ e. e ≡ Exhausted.Memory) }
     {
-        let mark = Mark { name, instance };
-        if is_among(&self.marked, &mark) {
+        let listed = Instance { name, instance };
+        if is_among(&self.instances, &listed) {
             return Ok(());
         }
-        append(&mut self.marked, mark)?;
+        append(&mut self.instances, listed)?;
         self.rules.push(Rule::OnePerPackage { name, instance })?;
         Ok(())
     }

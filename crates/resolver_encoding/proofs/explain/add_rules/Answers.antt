@@ -5,7 +5,7 @@ use Rattle.resolver_clause_store.specs.declared.ClauseKind.{ClauseKind}
 use Rattle.resolver_clause_store.specs.declared.VersionSetId.{VersionSetId}
 use Rattle.resolver_clause_store.specs.declared.By.TheVariants.{Solvable as BySolvable}
 use Rattle.resolver_encoding.specs.Groups.{IsNamed}
-use Rattle.resolver_encoding.specs.Listing.{AddsRules, Asks, SomeOf}
+use Rattle.resolver_encoding.specs.Listing.{AddsRules, StatesRule, SomeOf}
 use Rattle.resolver_clause_store.specs.Statements.{constrains, requires}
 use Rattle.resolver_encoding.proofs.ListingLemmas.{added_same}
 use Rattle.resolver_encoding.proofs.explain.add_rules.Goals as goal
@@ -14,7 +14,7 @@ pub returns-in_ok-add_requirement-in-Requires-clause-added : goal.returns-in_ok-
 returns-in_ok-add_requirement-in-Requires-clause-added g c =
     let u = g.D.Interner.universe c.args.provider.now in
     let Adds : ClauseKind g.row.D-NameId.Denot g.row.D-SolvableId.Denot → Type 0 =
-    λ k. AddsRules (Asks u c.args.sources.now k) c.args.listing.now c.add_requirement.new.listing in
+    λ k. AddsRules (StatesRule u c.args.sources.now k) c.args.listing.now c.add_requirement.new.listing in
     let Of : List VersionSetId → Type 0 =
     λ list. AddsRules (λ st. st ≡ requires c.in-Requires.parent c.in-Requires.requirement (requirement_candidates u c.in-Requires.requirement)
     (map (matching u) list)) c.args.listing.now c.add_requirement.new.listing in
@@ -25,7 +25,7 @@ returns-in_ok-add_gate-in-GateRequires-clause-added g c =
     let u = g.D.Interner.universe c.args.provider.now in
     let r = c.in-GateRequires.requirement in
     let Adds : ClauseKind g.row.D-NameId.Denot g.row.D-SolvableId.Denot → Type 0 =
-    λ k. AddsRules (Asks u c.args.sources.now k) c.args.listing.now c.add_gate.new.listing in
+    λ k. AddsRules (StatesRule u c.args.sources.now k) c.args.listing.now c.add_gate.new.listing in
     let named = IsNamed c.args.sources.now.gates r in
     subst Adds (sym c.in-GateRequires.is) (added_same c.args.listing.now c.add_gate.new.listing
     (SomeOf c.requirers.result.now (λ s st. st ≡ requires (BySolvable s) r (requirement_candidates u r) [])) _
@@ -39,7 +39,7 @@ returns-in_ok-constrain_each-in-ConstrainsParent-clause-added g c =
     let by = c.in-ConstrainsParent.parent in
     let v = c.in-ConstrainsParent.version_set in
     let Adds : ClauseKind g.row.D-NameId.Denot g.row.D-SolvableId.Denot → Type 0 =
-    λ k. AddsRules (Asks u c.args.sources.now k) c.args.listing.now c.constrain_each.new.listing in
+    λ k. AddsRules (StatesRule u c.args.sources.now k) c.args.listing.now c.constrain_each.new.listing in
     let named = IsNamed c.args.sources.now.helpers v in
     subst Adds (sym c.in-ConstrainsParent.is) (added_same c.args.listing.now c.constrain_each.new.listing
     (SomeOf c.excluded.result.now (λ s st. st ≡ constrains by v s)) _

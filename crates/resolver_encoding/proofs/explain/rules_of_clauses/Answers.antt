@@ -21,7 +21,7 @@ bounds-kinds-number g c = c.requires.within c.loop-number.number-index 0 (search
 pub loop-number-init : goal.loop-number-init
 loop-number-init g c = record {
   is_true = c.requires.is_true;
-  marks = c.new-listing.ensures.marks;
+  instances = c.new-listing.ensures.instances;
   rules = no_rules c.new-listing.result (States (g.D.Interner.universe c.args.provider.now) c.in_ok-sources.sources) c.new-listing.ensures.none;
 }
 
@@ -37,7 +37,7 @@ loop-number-preserved g c =
     λ ks. AreRulesOf (SomeOf ks says) c.add_stated.new.listing.rules.items in
     record {
       is_true = c.in_ok-add_stated.ensures.is_true;
-      marks = adds.marks;
+      instances = adds.instances;
       rules = subst Are (sym (kinds_next c.args.kinds.now c.args.numbers.now i n k (search rules) (get_or_default c.args.numbers.now i 0 n (search rules))
           (c.index-kinds-number.is ∙ get_or_default c.args.kinds.now n k InstallRoot (c.requires.within i 0 (search rules)))))
           (rules_next c.loop-number.listing c.add_stated.new.listing
