@@ -34,7 +34,7 @@ requirement_line rule atoms = record { rule = rule; atoms = atoms; is_requiremen
 abbrev pub plain : {N S : Type 0} → ℕ → List (Atom N S) → Line N S
 plain rule atoms = record { rule = rule; atoms = atoms; is_requirement = false }
 
--- who is_requirement is not there; the root always is
+-- the requirer is not in the set; the root always is
 abbrev pub requirer_atoms : {N S : Type 0} → By S → List (Atom N S)
 requirer_atoms Root = []
 requirer_atoms (Solvable s) = atom (Member s) false ∷ []
