@@ -105,7 +105,7 @@ fn spare<
 }
 
 /// What there is after a round of reading: what it did, how many clauses and how many deferred disjuncts there are, how
-/// many packages were asked, and which of these were asked for their candidates.
+/// many packages were asked, and the provider's log of the packages whose candidates it gave.
 type Round = (Progress, usize, usize, usize, u32);
 
 /// Appends the solvable that a variable stands for, if it stands for one. Returns whether there is such a variable.
