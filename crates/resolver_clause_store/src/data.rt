@@ -58,7 +58,7 @@ pub enum HintDependenciesAvailable<S> {
     Some(Vec<S>),
 }
 
-/// A package: its candidates, and which of them are favored, locked, excluded or hinted.
+/// A package: its candidates, those that are favored, locked or excluded, and a hint about dependencies.
 #[derive(Drop)]
 pub struct Candidates<S> {
     pub candidates: Vec<S>,
