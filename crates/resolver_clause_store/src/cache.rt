@@ -18,8 +18,8 @@ use std::hash::Hash;
 /// Keeps the answers of a provider. A `fetch` method asks the provider unless the answer is there; it may be refused or
 /// stop the search. The method of the same name without `fetch` then borrows the answer.
 ///
-/// Before each question that is new, the provider may stop the search. However a call ends, the cache has true answers
-/// only.
+/// Before the provider is asked for candidates or dependencies, it may stop the search. However a call ends, the cache
+/// has true answers only.
 #[derive(Drop)]
 pub struct Cache<N: Copy + Eq + Hash + Drop, S: Copy + Eq + Hash + Drop> {
     alloc: Global,
