@@ -6,15 +6,15 @@ use Rattle.std.specs.Bool.{beq}
 use Rattle.std.specs.declared.alloc.Global.{Global}
 use Rattle.resolver_clause_store.specs.declared.literals.Literal.{Literal}
 
--- whether the literal is true under the values
+-- the literal is true under the values
 abbrev pub literal_true : (ℕ → Bool) → Literal → Bool
 literal_true values literal = beq (values literal.variable) literal.positive
 
--- whether some literal of the clause is true
+-- some literal of the clause is true
 abbrev pub clause_true : (ℕ → Bool) → List Literal → Bool
 clause_true values clause = list_any (literal_true values) clause
 
--- the literals of the clause with this number, and none where there is no such clause
+-- the literals of the clause with this number, or none if there is no such clause
 abbrev pub clause_at : List (Vec Literal Global) → ℕ → List Literal
 clause_at table number = option_map_or (λ (clause : Vec Literal Global). clause.items) (slice_get table number) []
 
@@ -22,7 +22,7 @@ clause_at table number = option_map_or (λ (clause : Vec Literal Global). clause
 abbrev pub MakesTrue : (ℕ → Bool) → List (Vec Literal Global) → List ℕ → Type 0
 MakesTrue values table numbers = All (λ number. clause_true values (clause_at table number) ≡ true) numbers
 
--- the clause is true wherever the clauses with these numbers are
+-- the clause is true whenever the clauses with these numbers are
 abbrev pub FollowsFrom : List (Vec Literal Global) → List ℕ → List Literal → Type 0
 FollowsFrom table numbers clause =
     (values : ℕ → Bool) → MakesTrue values table numbers → clause_true values clause ≡ true

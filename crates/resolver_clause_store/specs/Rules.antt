@@ -1,4 +1,4 @@
--- When a set obeys a list of rules, what it holds by need, and when the list is refuted.
+-- Sets that obey a list of rules, what such a set needs, and lists that no set obeys.
 use Rattle.std.specs.Prelude.{◌≡◌, ℕ, ◌<◌, List, Contains, remove, length, Vec}
 use Rattle.std.proofs.Common.{Global}
 use Rattle.resolver_clause_store.specs.Statements.{lists_of, statement_of, AllMeet, ObeysAlone}
@@ -7,12 +7,12 @@ use Rattle.resolver_clause_store.specs.declared.data.By.TheVariants.{Root, Solva
 use Rattle.resolver_clause_store.specs.declared.rules.Rule.{Rule}
 use Rattle.resolver_clause_store.specs.declared.rules.Rule.TheVariants.{Requires, OnePerPackage}
 
--- the set obeys each rule, and has at most one of the instances that are marked for a name
+-- the set obeys each rule, and has at most one of the instances that the rules list for one name
 pub record Obeys {N S : Type 0} (set : List S) (rules : List (Rule N S)) : Type 0 where
   pub each : (r : Rule N S) → Contains rules r → ObeysAlone set (statement_of r)
   pub one_each : (n : N) (s t : S) → Contains rules (OnePerPackage n s) → Contains rules (OnePerPackage n t) → Contains set s → Contains set t → s ≡ t
 
--- s is in the set, and by need: it is a candidate of a rule whose `by` is the root or there by need, and whose lists have members in the set
+-- s is in the set, and is a candidate of a rule whose requirer is the root or needed, and whose lists all have members in the set
 pub data IsNeeded {N S : Type 0} (rules : List (Rule N S)) (set : List S) : S → Type 0 where
   by_root : {s : S} {requirement : Requirement} {candidates : Vec S Global} {when : Vec (Vec S Global) Global} →
       Contains rules (Requires Root requirement candidates when) → AllMeet set (lists_of when.items) → Contains candidates.items s → Contains set s →
@@ -21,7 +21,7 @@ pub data IsNeeded {N S : Type 0} (rules : List (Rule N S)) (set : List S) : S �
       Contains rules (Requires (Solvable t) requirement candidates when) → AllMeet set (lists_of when.items) → Contains candidates.items s → Contains set s →
       IsNeeded rules set s
 
--- each member is there by need
+-- every member of the set is needed
 abbrev pub AllNeeded : {N S : Type 0} → List (Rule N S) → List S → Type 0
 AllNeeded {N} {S} rules set = (s : S) → Contains set s → IsNeeded rules set s
 
@@ -29,6 +29,6 @@ AllNeeded {N} {S} rules set = (s : S) → Contains set s → IsNeeded rules set 
 abbrev pub IsRefuted : {N S : Type 0} → List (Rule N S) → Type 0
 IsRefuted {N} {S} rules = (set : List S) → Obeys set rules → ⊥
 
--- no set obeys the rules, and this is not so without any one of them
+-- no set obeys the rules, but without any one of them some set obeys the others
 abbrev pub IsIrreducible : {N S : Type 0} → List (Rule N S) → Type 0
 IsIrreducible rules = IsRefuted rules × ((k : ℕ) → k < length rules → IsRefuted (remove rules k) → ⊥)

@@ -1,4 +1,4 @@
--- Which statements and rules are true of a provider and a problem.
+-- Statements and rules that are true of a provider and a problem.
 use Rattle.std.specs.Prelude.{◌≡◌, ◌≢◌, ◌⊎◌, List, [], Option, Some, None, Contains}
 use Rattle.resolver_clause_store.specs.Universe.{Universe, Demands, unknown}
 use Rattle.resolver_clause_store.specs.Candidates.{others, requirement_candidates}
@@ -11,17 +11,17 @@ use Rattle.resolver_clause_store.specs.declared.data.By.{By}
 use Rattle.resolver_clause_store.specs.declared.data.By.TheVariants.{Root, Solvable}
 use Rattle.resolver_clause_store.specs.declared.rules.Rule.{Rule}
 
--- what the root or a solvable asks for
+-- the demands of the root or of a solvable
 abbrev pub demands_by : {N S : Type 0} → Universe N S → Demands → By S → Demands
 demands_by u root Root = root
 demands_by u root (Solvable s) = demands_of (u.needs s)
 
--- in each set that meets the lists the condition holds; without a condition there are none
+-- the condition holds in every set that meets the lists; a requirement without a condition has no lists
 abbrev pub Implies : {N S : Type 0} → Universe N S → List (List S) → Option ConditionId → Type 0
 Implies u when None = when ≡ []
 Implies {N} {S} u when (Some c) = (set : List S) → AllMeet set when → ConditionHolds u (Contains set) c
 
--- the statement says what the provider and the problem say
+-- the provider or the problem states this
 abbrev pub IsTrueStatement : {N S : Type 0} → Universe N S → Demands → Statement N S → Type 0
 IsTrueStatement u root (requires by requirement candidates when) =
     (r : ConditionalRequirement) × Contains (demands_by u root by).requirements r × (r.requirement ≡ requirement) ×
@@ -34,6 +34,6 @@ IsTrueStatement u root (excluded solvable reason) = Contains (u.package_named (u
     (u.needs solvable ≡ unknown reason)
 IsTrueStatement u root (one_per_package name instance) = u.name instance ≡ name
 
--- the rule says what the provider and the problem say
+-- the provider or the problem states what the rule says
 abbrev pub IsTrueRule : {N S : Type 0} → Universe N S → Demands → Rule N S → Type 0
 IsTrueRule u root rule = IsTrueStatement u root (statement_of rule)

@@ -1,4 +1,4 @@
-//! The answers of a provider, each asked for once.
+//! The cache of a provider's answers.
 
 ghost use Rattle.std.specs.Prelude.{◌≡◌, ◌↔◌, IfErr, IsTrue, OnOk, Some};
 ghost use Rattle.resolver_clause_store.specs.Candidates.{matching as matching_in, others, sorted_candidates};
@@ -15,11 +15,11 @@ use std::alloc::Global;
 use std::collections::HashMap;
 use std::hash::Hash;
 
-/// Keeps what a provider answered. Whoever needs an answer first asks for it, which may be refused or stop the
-/// search, and then looks it up, which lends it.
+/// Keeps the answers of a provider. A `fetch` method asks the provider unless the answer is there; it may be refused or
+/// stop the search. The method of the same name without `fetch` then borrows the answer.
 ///
-/// Before each question that the provider was not asked yet it is given the chance to stop the search. Whatever
-/// happens, the cache holds true answers alone.
+/// Before the provider is asked for candidates or dependencies, it may stop the search. However a call ends, the cache
+/// has true answers only.
 #[derive(Drop)]
 pub struct Cache<N: Copy + Eq + Hash + Drop, S: Copy + Eq + Hash + Drop> {
     alloc: Global,
@@ -34,7 +34,7 @@ impl<N: Copy + Eq + Hash + Drop, S: Copy + Eq + Hash + Drop> Cache<N, S> {
     ghost use Rattle.resolver_clause_store.specs.Caches.{HasCandidates, HasDependencies, HasMatching, HasNonMatching, HasSorted, IsAvailable, IsTrueCache};
     ghost use Rattle.resolver_clause_store.specs.Caches.{KeepsAnswers};
 
-    /// A cache without answers.
+    /// An empty cache.
     pub fn new(alloc: Global) -> Self
         ensures { (u : Universe N S) → IsTrueCache u result }
     {
@@ -48,12 +48,12 @@ impl<N: Copy + Eq + Hash + Drop, S: Copy + Eq + Hash + Drop> Cache<N, S> {
         }
     }
 
-    /// From where it takes its memory.
+    /// The allocator of the cache.
     pub(crate) fn allocator(&self) -> Global {
         self.alloc
     }
 
-    /// Asks for what a package lists.
+    /// Fetches the candidates of a package.
     pub fn fetch_candidates<D: DependencyProvider<NameId = N, SolvableId = S>>(
         &mut self,
         provider: &D,
@@ -73,7 +73,7 @@ impl<N: Copy + Eq + Hash + Drop, S: Copy + Eq + Hash + Drop> Cache<N, S> {
         Ok(())
     }
 
-    /// What a package lists: nothing, where the provider does not know it.
+    /// The candidates of a package, none if the provider does not know it.
     pub fn candidates(&self, name: N) -> &Candidates<S>
         requires names { IsIdentity N.eq }
         requires has { HasCandidates self.now name }
@@ -82,7 +82,7 @@ impl<N: Copy + Eq + Hash + Drop, S: Copy + Eq + Hash + Drop> Cache<N, S> {
         &self.packages[&name]
     }
 
-    /// Asks for the listed candidates that a version set takes.
+    /// Fetches the candidates in a version set.
     pub fn fetch_matching<D: DependencyProvider<NameId = N, SolvableId = S>>(
         &mut self,
         provider: &D,
@@ -105,7 +105,7 @@ impl<N: Copy + Eq + Hash + Drop, S: Copy + Eq + Hash + Drop> Cache<N, S> {
         Ok(())
     }
 
-    /// The listed candidates of its package that a version set takes.
+    /// The candidates in a version set.
     pub fn matching(&self, version_set: VersionSetId) -> &[S]
         requires { HasMatching self.now version_set }
         ensures { (u : Universe N S) → IsTrueCache u self.now → result.now ≡ matching_in u version_set }
@@ -113,7 +113,7 @@ impl<N: Copy + Eq + Hash + Drop, S: Copy + Eq + Hash + Drop> Cache<N, S> {
         &self.matching[&version_set]
     }
 
-    /// Asks for the listed candidates that a version set does not take.
+    /// Fetches the candidates of its package that are outside a version set.
     pub fn fetch_non_matching<D: DependencyProvider<NameId = N, SolvableId = S>>(
         &mut self,
         provider: &D,
@@ -136,7 +136,7 @@ impl<N: Copy + Eq + Hash + Drop, S: Copy + Eq + Hash + Drop> Cache<N, S> {
         Ok(())
     }
 
-    /// The listed candidates of its package that a version set does not take.
+    /// The candidates of its package that are outside a version set.
     pub fn non_matching(&self, version_set: VersionSetId) -> &[S]
         requires { HasNonMatching self.now version_set }
         ensures { (u : Universe N S) → IsTrueCache u self.now → result.now ≡ others u version_set }
@@ -144,7 +144,7 @@ impl<N: Copy + Eq + Hash + Drop, S: Copy + Eq + Hash + Drop> Cache<N, S> {
         &self.non_matching[&version_set]
     }
 
-    /// Asks for the candidates of a version set in the order in which they are to be tried.
+    /// Fetches the candidates in a version set, in the order in which they are to be tried.
     pub fn fetch_sorted<D: DependencyProvider<NameId = N, SolvableId = S>>(
         &mut self,
         provider: &D,
@@ -169,7 +169,7 @@ impl<N: Copy + Eq + Hash + Drop, S: Copy + Eq + Hash + Drop> Cache<N, S> {
         Ok(())
     }
 
-    /// What a version set takes, preferred first, and before all the favored one.
+    /// The candidates in a version set, by preference, but with the favored one first.
     pub fn sorted(&self, version_set: VersionSetId) -> &[S]
         requires { HasSorted self.now version_set }
         ensures { (u : Universe N S) → IsTrueCache u self.now → result.now ≡ sorted_candidates u version_set }
@@ -177,7 +177,7 @@ impl<N: Copy + Eq + Hash + Drop, S: Copy + Eq + Hash + Drop> Cache<N, S> {
         &self.sorted[&version_set]
     }
 
-    /// Asks for what a solvable requires and constrains.
+    /// Fetches the dependencies of a solvable.
     pub fn fetch_dependencies<D: DependencyProvider<NameId = N, SolvableId = S>>(
         &mut self,
         provider: &D,
@@ -197,7 +197,7 @@ impl<N: Copy + Eq + Hash + Drop, S: Copy + Eq + Hash + Drop> Cache<N, S> {
         Ok(())
     }
 
-    /// What a solvable requires and constrains, or why nobody knows.
+    /// The dependencies of a solvable, or why they are unknown.
     pub fn dependencies(&self, solvable: S) -> &Dependencies
         requires solvables { IsIdentity S.eq }
         requires has { HasDependencies self.now solvable }
@@ -206,7 +206,7 @@ impl<N: Copy + Eq + Hash + Drop, S: Copy + Eq + Hash + Drop> Cache<N, S> {
         &self.dependencies[&solvable]
     }
 
-    /// Whether the dependencies of a solvable are at hand: asked for already, or hinted to be cheap to ask for.
+    /// Whether the dependencies of a solvable are available: fetched already, or hinted to be cheap.
     pub fn are_dependencies_available_for<D: DependencyProvider<NameId = N, SolvableId = S>>(
         &self,
         provider: &D,

@@ -1,4 +1,4 @@
-//! Conditions in disjunctive form.
+//! Conditions in disjunctive normal form.
 
 ghost use Rattle.std.specs.Prelude.{◌≡◌, ◌↔◌, ◌∷◌, Contains, IfErr, IfOk, List, OnOk, map, reverse};
 ghost use Rattle.resolver_clause_store.specs.Conditions.{ConditionHolds};
@@ -12,14 +12,14 @@ use crate::ids::{ConditionId, VersionSetId};
 use crate::provider::Interner;
 use std::alloc::Global;
 
-/// A disjunct on its way: the conditions that are still to be put into it, the next one last, and what it has.
+/// An unfinished disjunct: the conditions still to be added to it, the next one last, and the version sets that it has.
 #[derive(Drop)]
 struct Partial {
     pending: Vec<ConditionId>,
     chosen: Vec<VersionSetId>,
 }
 
-/// Puts a condition into a disjunct, and the disjuncts that come of it onto the stack.
+/// Takes one step on a condition of a disjunct, and pushes the one or two disjuncts that result.
 fn put<I: Interner>(
     alloc: Global,
     interner: &I,
@@ -57,7 +57,7 @@ fn put<I: Interner>(
     }
 }
 
-/// The disjunctive form of a condition. A condition that is nested deeper takes no more of the call stack.
+/// The disjunctive normal form of a condition. The depth of the call stack does not depend on the condition.
 pub fn convert_conditions_to_dnf<I: Interner>(
     alloc: Global,
     interner: &I,

@@ -1,4 +1,4 @@
-//! What a provider answers.
+//! The data that a provider answers with.
 
 ghost use Rattle.std.specs.Prelude.{◌≡◌};
 ghost use Rattle.resolver_clause_store.specs.declared.data.Exhausted.TheVariants.{Memory};
@@ -7,49 +7,50 @@ ghost use Rattle.resolver_clause_store.specs.declared.data.Interrupted.TheVarian
 use crate::ids::{ConditionId, StringId, VersionSetId, VersionSetUnionId};
 use std::alloc::{AllocError, AllocFailed};
 
-/// One version set, or any of a union.
+/// One version set, or a union: any of several.
 #[derive(Clone, Copy, Debug, PartialEq, Eq, PartialOrd, Ord, Hash)]
 pub enum Requirement {
     Single(VersionSetId),
     Union(VersionSetUnionId),
 }
 
-/// A requirement, and the condition under which it is active.
+/// A requirement that is active while its condition holds. Without a condition it is always active.
 #[derive(Clone, Copy, PartialEq, Eq)]
 pub struct ConditionalRequirement {
     pub condition: Option<ConditionId>,
     pub requirement: Requirement,
 }
 
-/// How a condition joins its two parts.
+/// How a condition joins two others.
 #[derive(Clone, Copy, PartialEq, Eq)]
 pub enum LogicalOperator {
     And,
     Or,
 }
 
-/// A version set of which a candidate is chosen, or two conditions joined.
+/// A condition: a candidate of this version set is chosen, or two conditions are joined.
 #[derive(Clone, Copy, PartialEq, Eq)]
 pub enum Condition {
     Requirement(VersionSetId),
     Binary(LogicalOperator, ConditionId, ConditionId),
 }
 
-/// What a solvable or a problem requires, and which version sets bind the versions of their packages.
+/// The requirements of a solvable or a problem, and its constraints: version sets that restrict packages without
+/// requiring them.
 #[derive(Drop)]
 pub struct KnownDependencies {
     pub requirements: Vec<ConditionalRequirement>,
     pub constrains: Vec<VersionSetId>,
 }
 
-/// What a solvable needs, or why nobody knows.
+/// The dependencies of a solvable, or the reason why they are unknown.
 #[derive(Drop)]
 pub enum Dependencies {
     Known(KnownDependencies),
     Unknown(StringId),
 }
 
-/// Of which candidates the dependencies are cheap to ask for.
+/// The candidates whose dependencies are cheap to get.
 #[derive(Drop)]
 pub enum HintDependenciesAvailable<S> {
     None,
@@ -57,7 +58,7 @@ pub enum HintDependenciesAvailable<S> {
     Some(Vec<S>),
 }
 
-/// What the provider says of a package.
+/// A package: its candidates, those that are favored, locked or excluded, and a hint about dependencies.
 #[derive(Drop)]
 pub struct Candidates<S> {
     pub candidates: Vec<S>,
@@ -67,28 +68,28 @@ pub struct Candidates<S> {
     pub excluded: Vec<(S, StringId)>,
 }
 
-/// What an answer is to hold where it can: this solvable, or one that the version set takes.
+/// A soft requirement: this solvable, or any candidate of this version set.
 #[derive(Clone, Copy, PartialEq, Eq)]
 pub enum SoftRequirement<Id> {
     Solvable(Id),
     Matching(VersionSetId),
 }
 
-/// Who asks for something: the problem, or a solvable.
+/// A requirer: the root, which stands for the problem, or a solvable.
 #[derive(Clone, Copy, PartialEq, Eq)]
 pub enum By<S> {
     Root,
     Solvable(S),
 }
 
-/// What ran out: memory, or ids of some kind.
+/// What has run out: memory, or ids of some kind.
 #[derive(Clone, Copy, Debug, PartialEq, Eq)]
 pub enum Exhausted {
     Memory,
     Ids,
 }
 
-/// Why a question was left unanswered: the provider stopped the search with a value, or something ran out.
+/// Why a call to the provider was not answered: the provider stopped the search, or something ran out.
 #[derive(Debug, Drop)]
 pub enum Interrupted<C> {
     Cancelled(C),

@@ -1,4 +1,4 @@
-//! Sets that keep the order in which their members came.
+//! Sets that keep the order in which members were added.
 
 ghost use Rattle.std.specs.Prelude.{◌≡◌, [], ◌∷◌, ◌++◌, Contains, IfErr, IfNone, IfOk, IfSome, MatchBool, Some, length, slice_get, ◌<◌};
 ghost use Rattle.resolver_clause_store.specs.Laws.{IsIdentity};
@@ -7,7 +7,7 @@ use crate::data::Exhausted;
 use indexmap::IndexSet;
 use std::hash::Hash;
 
-/// Whether the set has a member.
+/// Whether `member` is in the set.
 pub fn is_among<T: Eq + Hash>(set: &IndexSet<T>, member: &T) -> bool
     requires { IsIdentity T.eq }
     ensures { MatchBool result (Contains set.now.keys member.now) (Contains set.now.keys member.now → ⊥) }
@@ -15,7 +15,7 @@ pub fn is_among<T: Eq + Hash>(set: &IndexSet<T>, member: &T) -> bool
     set.contains(member)
 }
 
-/// Where a member stands.
+/// The place of a member.
 pub fn place_of<T: Eq + Hash>(set: &IndexSet<T>, member: &T) -> Option<usize>
     requires { IsIdentity T.eq }
     ensures place { IfSome result (λ i. slice_get set.now.keys i ≡ Some member.now) }
@@ -28,7 +28,7 @@ pub fn place_of<T: Eq + Hash>(set: &IndexSet<T>, member: &T) -> Option<usize>
     }
 }
 
-/// Puts a new member behind the others.
+/// Appends a new member.
 pub fn append<T: Copy + Eq + Hash + Drop>(set: &mut IndexSet<T>, member: T) -> Result<(), Exhausted>
     requires identity { IsIdentity T.eq }
     requires absent { Contains set.old.keys member → ⊥ }

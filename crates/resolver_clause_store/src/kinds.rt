@@ -1,4 +1,4 @@
-//! What variables stand for, and what clauses say.
+//! What variables stand for, and what clauses state.
 
 use crate::data::{By, Requirement};
 use crate::ids::{StringId, VersionSetId};
@@ -8,23 +8,23 @@ use crate::ids::{StringId, VersionSetId};
 pub enum Origin<N, S> {
     Root,
     Solvable(S),
-    /// A bit of the code by which the instances of a name are told apart.
+    /// A bit of the code that distinguishes the instances of a name.
     Bit { name: N, index: u32 },
-    /// Stands for each solvable that asks for the requirement without a condition.
+    /// Follows from each solvable that has the requirement without a condition.
     Gate(Requirement),
-    /// Stands for each candidate that does not match.
+    /// Follows from each candidate outside the version set of a constraint.
     ConstraintHelper(VersionSetId),
-    /// Stands for each candidate that matches.
+    /// Follows from each candidate in the version set of a condition.
     ConditionHelper(VersionSetId),
 }
 
-/// What a clause says, in the provider's ids.
+/// What a clause states, in the provider's ids.
 #[derive(Drop)]
 pub enum ClauseKind<N, S> {
-    /// The root is there.
+    /// The root is true.
     InstallRoot,
-    /// Where the requirer is there, and a candidate of each version set of the disjunct, one of the requirement's
-    /// candidates is.
+    /// If the requirer is true, and so is a candidate of each version set of the disjunct, then one of the
+    /// requirement's candidates is.
     Requires {
         parent: By<S>,
         disjunct: Vec<VersionSetId>,
@@ -35,27 +35,28 @@ pub enum ClauseKind<N, S> {
         helper: Origin<N, S>,
         candidate: S,
     },
-    /// Not both are there.
+    /// The requirer and the candidate are not both true.
     Constrains {
         parent: By<S>,
         version_set: VersionSetId,
         candidate: S,
     },
-    /// The gate of a requirement needs one of its candidates.
+    /// If the gate of a requirement is true, so is one of its candidates.
     GateRequires {
         requirement: Requirement,
     },
-    /// The helper of a constraint follows from a candidate that does not match.
+    /// The helper of a constraint follows from a candidate outside the version set.
     ConstrainsExcluded {
         candidate: S,
         version_set: VersionSetId,
     },
-    /// Who states the constraint excludes its helper.
+    /// The requirer of a constraint excludes the constraint's helper.
     ConstrainsParent {
         parent: By<S>,
         version_set: VersionSetId,
     },
-    /// An instance has, or lacks, a bit in its code. Codes of two instances of a name differ in a bit, so not both are there.
+    /// A bit of an instance's code is set, or is not. The codes of two instances of a name differ in a bit, so not both
+    /// are true.
     HasBit {
         name: N,
         instance: S,

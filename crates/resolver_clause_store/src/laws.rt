@@ -1,4 +1,4 @@
-//! Laws of the definitions: which sets are least, and what a run over no soft requirements is.
+//! Laws of the definitions: two closures are least, and a run over no soft requirements changes nothing.
 
 ghost use Rattle.std.specs.Prelude.{◌≡◌, Bool, Contains, List, [], true};
 ghost use Rattle.resolver_clause_store.specs.FirstChoice.{IsFirst, IsFirstNext};
@@ -6,8 +6,9 @@ ghost use Rattle.resolver_clause_store.specs.Near.{IsNear, IsNext};
 ghost use Rattle.resolver_clause_store.specs.SoftRun.{SoftRun};
 ghost use Rattle.resolver_clause_store.specs.Universe.{Demands, Universe};
 
-/// The need closure of some seeds is the least set that has them and all candidates of each requirement, active in it, of
-/// the root or of its members: it is in each set, as a test gives one, of which that is so.
+/// The need closure of some seeds is the least set that has the seeds and all candidates of its active requirements,
+/// those of the root and of its members. Here a test stands for a set: the closure is within each test that has them
+/// all.
 pub fn the_need_closure_is_least_closed<N, S>()
     ensures seeds { (u : Universe N S) (root : Demands) (seeds : List S) (s : S) → Contains seeds s → IsNear u root seeds s }
     ensures closed { (u : Universe N S) (root : Demands) (seeds : List S) (s : S) → IsNext u root (IsNear u root seeds) s → IsNear u root seeds s }
@@ -15,15 +16,16 @@ pub fn the_need_closure_is_least_closed<N, S>()
         ((s : S) → IsNext u root (λ t. closed t ≡ true) s → closed s ≡ true) → (s : S) → IsNear u root seeds s → closed s ≡ true }
 {}
 
-/// The first choices are the least set that has the first choice of each requirement, active in it, of the root or of its
-/// members that is no union: it is in each set, as a test gives one, of which that is so.
+/// The first choices are the least set that has the first choice of each of its active requirements that is no union,
+/// those of the root and of its members. Here a test stands for a set: the first choices are within each test that has
+/// them all.
 pub fn first_choices_are_least_closed<N, S>()
     ensures closed { (u : Universe N S) (root : Demands) (s : S) → IsFirstNext u root (IsFirst u root) s → IsFirst u root s }
     ensures least { (u : Universe N S) (root : Demands) (closed : S → Bool) → ((s : S) → IsFirstNext u root (λ t. closed t ≡ true) s → closed s ≡ true) →
         (s : S) → IsFirst u root s → closed s ≡ true }
 {}
 
-/// A run over no soft requirements ends with the answer that it starts from, and with nothing exempt.
+/// A run over no soft requirements ends with the answer that it starts from and with no exemptions.
 pub fn a_run_over_nothing_is_its_first_answer<N, S>()
     ensures chosen { (u : Universe N S) (root : Demands) (first taken chosen exempt : List S) (asked : List N) →
         SoftRun u root first [] taken chosen exempt asked → chosen ≡ first }

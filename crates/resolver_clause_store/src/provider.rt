@@ -1,4 +1,4 @@
-//! The traits of a provider, and what is required of one.
+//! The traits of a provider, and their laws.
 
 ghost use Rattle.std.specs.Prelude.{◌≡◌, if◌then◌else◌, IfOk, IfErr, OnOk, IfSome};
 ghost use Rattle.resolver_clause_store.specs.Laws.{HasLawfulIds, HasLawfulPackages, IsIdentity};
@@ -9,24 +9,25 @@ use crate::data::{Candidates, Condition, Dependencies, Exhausted};
 use crate::ids::{ConditionId, StringId, VersionSetId, VersionSetUnionId};
 use std::hash::Hash;
 
-/// Looks ids up and writes their texts. Look-ups take no memory.
+/// Resolves ids, and writes the texts of what they name. Resolving an id allocates nothing.
 ///
-/// A text call appends to `out`. Refused, it leaves in front what stood there, and whatever it had written behind it.
+/// Each `display` method appends to `out`. When it is refused, what `out` held stays, followed by whatever was already
+/// written.
 pub trait Interner {
     /// Names a package.
     type NameId: Copy + Eq + Ord + Hash + Drop;
 
-    /// Names one version of a package.
+    /// Names a solvable: one version of a package.
     type SolvableId: Copy + Eq + Ord + Hash + Drop;
 
-    /// What the ids mean. What it says of packages and solvables is the provider's.
+    /// What the ids mean. For packages and solvables that is up to the provider.
     ghost universe: { Self → Universe Self.NameId Self.SolvableId };
 
-    /// The package that a solvable is a version of.
+    /// The package of a solvable.
     fn solvable_name(&self, solvable: Self::SolvableId) -> Self::NameId
         ensures { result ≡ (universe self.now).name solvable };
 
-    /// The package whose versions a version set takes from.
+    /// The package of a version set.
     fn version_set_name(&self, version_set: VersionSetId) -> Self::NameId
         ensures { result ≡ (universe self.now).version_set_name version_set };
 
@@ -34,7 +35,7 @@ pub trait Interner {
     fn version_sets_in_union(&self, version_set_union: VersionSetUnionId) -> &[VersionSetId]
         ensures { result.now ≡ (universe self.now).union_members version_set_union };
 
-    /// One step of a condition.
+    /// Resolves a condition by one step: to a version set, or to two conditions.
     fn resolve_condition(&self, condition: ConditionId) -> Condition
         ensures { result ≡ (universe self.now).condition condition };
 
@@ -43,7 +44,7 @@ pub trait Interner {
         ensures text { Appends out.old out.new ((universe self.now).name_text name) result }
         ensures memory { IfErr result (λ e. e ≡ Exhausted.Memory) };
 
-    /// Writes the versions that a version set takes, without the package's name.
+    /// Writes the versions in a version set, without the name of the package.
     fn display_version_set(
         &self,
         version_set: VersionSetId,
@@ -52,12 +53,12 @@ pub trait Interner {
         ensures text { Appends out.old out.new ((universe self.now).version_set_text version_set) result }
         ensures memory { IfErr result (λ e. e ≡ Exhausted.Memory) };
 
-    /// Writes a reason.
+    /// Writes the text of a reason.
     fn display_string(&self, string: StringId, out: &mut String) -> Result<(), Exhausted>
         ensures text { Appends out.old out.new ((universe self.now).string_text string) result }
         ensures memory { IfErr result (λ e. e ≡ Exhausted.Memory) };
 
-    /// Writes several versions of one package as one.
+    /// Writes several versions of one package together.
     fn display_merged_solvables(
         &self,
         solvables: &[Self::SolvableId],
@@ -79,18 +80,18 @@ pub trait Interner {
     ghost solvables_compare: { (it : Self) → (universe it).same_solvable ≡ Self.SolvableId.eq };
 }
 
-/// Says which candidates a package has and what they depend on.
+/// Lists the candidates of packages, and their dependencies.
 ///
-/// Each answer is a function of what was asked, the cancel value aside, and is refused for want of memory alone.
+/// Each answer is a function of the arguments, except for the cancel value. A call is refused only for lack of memory.
 pub trait DependencyProvider: Interner {
-    /// What a search is stopped with.
+    /// The value that a search is stopped with.
     type Cancel: Drop;
 
-    /// With which values it may stop a search.
+    /// The values with which the provider may stop a search.
     ghost may_cancel: { Self → Self.Cancel → Type 0 };
 
-    /// The candidates of a package. `None` is read as a package without candidates, of which nothing is locked,
-    /// favored, excluded or hinted.
+    /// The candidates of a package. `None` counts as a package without candidates, and so without locked, favored,
+    /// excluded or hinted ones.
     fn get_candidates(
         &self,
         name: Self::NameId,
@@ -98,12 +99,12 @@ pub trait DependencyProvider: Interner {
         ensures answer { IfOk result (λ answer. package_of answer ≡ (Self.universe self.now).package_named name) }
         ensures memory { IfErr result (λ e. e ≡ Exhausted.Memory) };
 
-    /// What a solvable requires and constrains.
+    /// The requirements and constraints of a solvable, or why they are unknown.
     fn get_dependencies(&self, solvable: Self::SolvableId) -> Result<Dependencies, Exhausted>
         ensures answer { IfOk result (λ answer. needs_of answer ≡ (Self.universe self.now).needs solvable) }
         ensures memory { IfErr result (λ e. e ≡ Exhausted.Memory) };
 
-    /// Those of the candidates that the version set takes, or with `inverse` the others.
+    /// Keeps the candidates in the version set, or with `inverse` those outside it.
     fn filter_candidates(
         &self,
         candidates: &[Self::SolvableId],
@@ -115,15 +116,16 @@ pub trait DependencyProvider: Interner {
             else (Self.universe self.now).matching_of candidates.now version_set)) }
         ensures memory { IfErr result (λ e. e ≡ Exhausted.Memory) };
 
-    /// Sorts candidates, preferred ones first. After a refusal nothing is said of the list.
+    /// Sorts candidates by preference, the best first. After a refusal the order and content of the list are
+    /// unspecified.
     fn sort_candidates(&self, candidates: &mut Vec<Self::SolvableId>) -> Result<(), Exhausted>
         ensures sorted { OnOk result (candidates.new.items ≡ (Self.universe self.now).sorted_of candidates.old.items) }
         ensures memory { IfErr result (λ e. e ≡ Exhausted.Memory) };
 
-    /// A value to stop the search with, or none. It may answer otherwise each time.
+    /// A value to stop the search with, or `None` to let it go on. The result may change from call to call.
     fn should_cancel_with_value(&self) -> Option<Self::Cancel>
         ensures { IfSome result (may_cancel self.now) };
 
-    /// Packages list what bears their name, filtering splits a list, and sorting permutes it.
+    /// A package lists only solvables of its name, filtering splits a list in two, and sorting permutes it.
     ghost lawful_packages: { (it : Self) → HasLawfulPackages (Self.universe it) };
 }

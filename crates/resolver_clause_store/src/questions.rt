@@ -1,4 +1,4 @@
-//! Questions to a provider.
+//! Calls to a provider.
 
 ghost use Rattle.std.specs.Prelude.{◌≡◌, IfErr, IfOk, Some};
 ghost use Rattle.resolver_clause_store.specs.Candidates.{favored_first};
@@ -10,7 +10,7 @@ use crate::data::{Candidates, Dependencies, Exhausted, HintDependenciesAvailable
 use crate::provider::{DependencyProvider, Interner};
 use std::alloc::Global;
 
-/// Gives the provider the chance to stop the search.
+/// Lets the provider stop the search.
 pub fn check_cancel<D: DependencyProvider>(provider: &D) -> Result<(), Interrupted<D::Cancel>>
     ensures { IfErr result (IsInterruption (D.may_cancel provider.now)) }
 {
@@ -20,7 +20,7 @@ pub fn check_cancel<D: DependencyProvider>(provider: &D) -> Result<(), Interrupt
     }
 }
 
-/// A package without candidates, of which nothing is said.
+/// An unknown package, without candidates.
 fn unknown_package<S>(alloc: Global) -> Candidates<S>
     ensures { package_of (Some result) ≡ package_of None }
 {
@@ -33,7 +33,7 @@ fn unknown_package<S>(alloc: Global) -> Candidates<S>
     }
 }
 
-/// Asks what a package lists.
+/// Gets the candidates of a package from the provider.
 pub(crate) fn fetch_candidates<D: DependencyProvider>(
     alloc: Global,
     provider: &D,
@@ -49,7 +49,7 @@ pub(crate) fn fetch_candidates<D: DependencyProvider>(
     }
 }
 
-/// Asks what a solvable requires and constrains.
+/// Gets the dependencies of a solvable from the provider.
 pub(crate) fn fetch_dependencies<D: DependencyProvider>(
     provider: &D,
     solvable: D::SolvableId,
@@ -80,7 +80,7 @@ fn with_first<S: Copy + Eq + Drop>(alloc: Global, list: &[S], first: S) -> Resul
     Ok(moved)
 }
 
-/// A copy of the candidates, sorted by the provider, and the favored one in front, if they have it.
+/// Copies the candidates, sorted by the provider, with the favored one in front if it is among them.
 pub(crate) fn sorted_favored_first<D: DependencyProvider>(
     alloc: Global,
     provider: &D,

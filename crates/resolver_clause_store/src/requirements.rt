@@ -14,8 +14,8 @@ use crate::provider::{DependencyProvider, Interner};
 use indexmap::IndexSet;
 use std::hash::Hash;
 
-/// The candidates of a requirement in the order in which they are to be tried. Of those that several version sets of a
-/// union take, the first place stays.
+/// The candidates of a requirement, in the order in which they are to be tried. A candidate of several version sets of
+/// a union keeps its first place.
 pub fn requirement_candidates<D: DependencyProvider>(
     cache: &mut Cache<D::NameId, D::SolvableId>,
     provider: &D,
@@ -60,7 +60,7 @@ fn union_candidates<D: DependencyProvider>(
     Ok(Vec::from_slice(cache.allocator(), candidates.as_slice())?)
 }
 
-/// Adds what is not there yet at the end.
+/// Appends the candidates that are not there yet.
 fn add_all<S: Copy + Eq + Hash + Drop>(
     candidates: &mut IndexSet<S>,
     more: &[S],

@@ -1,4 +1,4 @@
-//! What a conflict says of sets of solvables.
+//! The rules of a conflict, which sets of solvables obey or break.
 
 ghost use Rattle.std.specs.Prelude.{◌≡◌, IfErr, IfOk};
 ghost use Rattle.resolver_clause_store.specs.Statements.{StatesTheSame, lists_of};
@@ -9,30 +9,30 @@ use std::alloc::AllocError;
 
 /// A rule that a set of solvables obeys or breaks.
 ///
-/// The root is always there; a solvable is there if it is in the set. What a rule was read from, as `requirement`,
-/// `version_set`, `locked` and `reason`, explains it, and has no part in whether a set obeys it.
+/// The root is always present; a solvable is present if it is in the set. The fields `requirement`, `version_set`,
+/// `locked` and `reason` say where the rule comes from. They play no part in whether a set obeys it.
 #[derive(Drop)]
 pub enum Rule<N, S> {
-    /// If `by` is there and each list of `when` has a member in the set, then one of `candidates` is in the set.
+    /// If `by` is present and each list of `when` has a member in the set, then one of `candidates` is in the set.
     ///
-    /// Without lists the requirement has no condition. Without candidates nothing can meet it.
+    /// An empty `when` means that the requirement has no condition. No set can meet a requirement without candidates.
     Requires {
         by: By<S>,
         requirement: Requirement,
         candidates: Vec<S>,
         when: Vec<Vec<S>>,
     },
-    /// Not both `by` and `candidate`, which the version set does not take.
+    /// `by` and `candidate`, which is outside the version set, are not both present.
     ///
-    /// By the root: `candidate` is not in the set.
+    /// If `by` is the root: `candidate` is not in the set.
     Constrains {
         by: By<S>,
         version_set: VersionSetId,
         candidate: S,
     },
-    /// `forbidden` is not in the set, since its package is locked to `locked`.
+    /// `forbidden` is not in the set, because its package is locked to `locked`.
     ///
-    /// The locked one may be in the set, and need not be.
+    /// The locked solvable itself may be in the set or not.
     Lock {
         locked: S,
         forbidden: S,
@@ -42,16 +42,16 @@ pub enum Rule<N, S> {
         solvable: S,
         reason: StringId,
     },
-    /// A mark: of the instances that a list of rules marks for one name at most one is in the set.
+    /// Lists an instance of a package. The set has at most one of the instances that the rules list for one name.
     ///
-    /// A mark alone asks for nothing, and two marks of the same instance ask for no more than one.
+    /// A single instance forbids nothing, and listing an instance twice means the same as listing it once.
     OnePerPackage {
         name: N,
         instance: S,
     },
 }
 
-/// A copy of each list, in their order.
+/// Copies each list, in order.
 fn copy_lists<S: Copy + Drop>(lists: &Vec<Vec<S>>) -> Result<Vec<Vec<S>>, AllocError>
     ensures { IfOk result (λ copies. lists_of lists.now.items ≡ lists_of copies.items) }
 {
@@ -65,7 +65,7 @@ fn copy_lists<S: Copy + Drop>(lists: &Vec<Vec<S>>) -> Result<Vec<Vec<S>>, AllocE
 }
 
 impl<N: Copy, S: Copy + Drop> Rule<N, S> {
-    /// A copy, which states the same.
+    /// A copy that states the same.
     ///
     /// The error is [`Exhausted::Memory`] alone.
     pub fn clone(&self) -> Result<Rule<N, S>, Exhausted>

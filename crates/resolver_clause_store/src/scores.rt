@@ -1,4 +1,4 @@
-//! Scores of packages, which grow with learnt clauses and fade.
+//! Scores of packages, which grow with learnt clauses and decay.
 
 ghost use Rattle.std.specs.Prelude.{◌<◌, ◌≡◌, ◌≢◌, ◌≤◌, ◌+◌, ◌-◌, ◌^◌, ℕ, OnOk, length, min, suc};
 ghost use Rattle.resolver_clause_store.specs.Scores.{activity_in, after_decay, after_decays, kept_at, kept_in, kept_score, score_in};
@@ -6,7 +6,7 @@ ghost use Rattle.resolver_clause_store.specs.declared.scores.Scores.{Scores as A
 
 use std::alloc::{AllocError, Global};
 
-/// How scores grow and fade.
+/// How scores grow and decay.
 #[derive(Clone, Copy)]
 pub struct Activity {
     /// What a solvable in a learnt clause adds to the score of its package.
@@ -16,7 +16,7 @@ pub struct Activity {
 }
 
 impl Activity {
-    /// Scores in millionths, of which a twentieth fades.
+    /// Scores in millionths, which lose a twentieth with each learnt clause.
     pub fn standard() -> Self
         ensures add { result.add ≡ 1000000 }
         ensures decay { result.decay ≡ 950000 }
@@ -35,7 +35,7 @@ pub fn decayed(score: u64, decay: u64) -> u64
     score.saturating_mul(decay) / 1_000_000
 }
 
-/// What is left of a score after so many learnt clauses.
+/// What is left of a score after `times` learnt clauses.
 pub fn decayed_often(score: u64, decay: u64, times: u64) -> u64
     ensures { result ≡ after_decays decay times score }
 {
@@ -50,16 +50,16 @@ pub fn decayed_often(score: u64, decay: u64, times: u64) -> u64
     left
 }
 
-/// A score as it was when so many clauses were learnt.
+/// A score, and how many clauses were learnt when it had this value.
 #[derive(Clone, Copy)]
 pub struct Score {
     value: u64,
     learnt: u64,
 }
 
-/// The scores of packages, by their numbers. One that was never added to is 0.
+/// The scores of packages, by number. A score that was never raised is 0.
 ///
-/// A score is kept as it was when it was last added to, and fades when it is read.
+/// A score is stored as it was when it was last raised, and decays when it is read.
 #[derive(Drop)]
 pub struct Scores {
     activity: Activity,
@@ -77,7 +77,7 @@ impl Scores {
         }
     }
 
-    /// The score of a package, as it was kept.
+    /// The stored score of a package.
     fn kept(&self, number: usize) -> Score
         ensures { result ≡ kept_score self.now.scores.items number }
     {
@@ -90,7 +90,7 @@ impl Scores {
         }
     }
 
-    /// The score of a package after so many learnt clauses.
+    /// The score of a package after `learnt` learnt clauses.
     pub fn of(&self, number: usize, learnt: u64) -> u64
         ensures { result ≡ score_in self.now number learnt }
     {
@@ -102,7 +102,7 @@ impl Scores {
         )
     }
 
-    /// The score of a package after so many learnt clauses, which is kept.
+    /// The score of a package after `learnt` learnt clauses, which is stored.
     pub fn read(&mut self, number: usize, learnt: u64) -> u64
         ensures value { result ≡ score_in self.old number learnt }
         ensures same { kept_at self.old number ≤ learnt → (other later : ℕ) → learnt ≤ later → score_in self.new other later ≡ score_in self.old other later }
@@ -114,7 +114,7 @@ impl Scores {
         value
     }
 
-    /// Keeps this score for a package.
+    /// Stores a score for a package.
     fn keep(&mut self, number: usize, score: Score)
         requires { number < length self.old.scores.items }
         ensures here { kept_score self.new.scores.items number ≡ score }
@@ -124,7 +124,7 @@ impl Scores {
         self.scores[number] = score;
     }
 
-    /// Makes scores of 0 for the packages up to this one that have none.
+    /// Makes scores of 0 for all packages up to this one that have none.
     fn reach(&mut self, number: usize) -> Result<(), AllocError>
         ensures same { (other : ℕ) → kept_score self.new.scores.items other ≡ kept_score self.old.scores.items other }
         ensures activity { self.new.activity ≡ self.old.activity }
@@ -139,7 +139,7 @@ impl Scores {
         Ok(())
     }
 
-    /// Adds to the score of a package after so many learnt clauses.
+    /// Raises the score of a package after `learnt` learnt clauses.
     pub fn add(&mut self, number: usize, learnt: u64) -> Result<(), AllocError>
         ensures here { OnOk result (score_in self.new number learnt ≡ min (score_in self.old number learnt + (activity_in self.old).add) (2 ^ 64 - 1)) }
         ensures dated { OnOk result (kept_at self.new number ≡ learnt) }
@@ -153,7 +153,7 @@ impl Scores {
     }
 }
 
-/// A score that is read one learnt clause later has faded once more.
+/// A score that is read one learnt clause later has decayed once more.
 pub fn scores_fade()
     ensures { (scores : AllScores) (number learnt : ℕ) → (kept_score scores.scores.items number).learnt ≤ learnt →
         score_in scores number (suc learnt) ≡ after_decay scores.activity.decay (score_in scores number learnt) }

@@ -1,4 +1,4 @@
-//! How requirements stand under a trail.
+//! The state of requirements under a trail.
 
 ghost use Rattle.resolver_clause_store.specs.Formula.{IsBelow};
 ghost use Rattle.resolver_clause_store.specs.TrailView.{variable_count};
@@ -8,18 +8,19 @@ ghost use Rattle.resolver_clause_store.specs.Settled.{IsSettled};
 use crate::literals::{Literal, Variable};
 use crate::trail::Trail;
 
-/// How a requirement stands under a trail.
+/// The state of a requirement under a trail.
 #[derive(Clone, Copy)]
 pub enum Standing {
-    /// It depends on this variable, which is not true.
+    /// The requirement is inactive: it depends on this variable, which is not true.
     Waiting(Variable),
-    /// This candidate of it is true.
+    /// The requirement is met: this candidate is true.
     Met(Variable),
-    /// All that it depends on is true, no candidate is, and the one at this place of its clause is the first with no value.
+    /// The requirement is active and no candidate is true. The candidate at this place of the clause is the first
+    /// without a value.
     Open(usize),
 }
 
-/// How the requirement of a clause stands.
+/// The state of a clause's requirement.
 pub fn standing_of(trail: &Trail, clause: &[Literal]) -> Standing
     requires below { IsBelow (variable_count trail.now) clause.now }
     requires settled { IsSettled trail.now clause.now }

@@ -11,7 +11,7 @@ use indexmap::IndexSet;
 use std::alloc::Global;
 use std::hash::Hash;
 
-/// What each variable stands for, by its number. No two stand for the same.
+/// What each variable stands for, by number. No two stand for the same.
 #[derive(Drop)]
 pub struct Variables<N: Copy + Eq + Hash + Drop, S: Copy + Eq + Hash + Drop> {
     origins: IndexSet<Origin<N, S>>,
@@ -21,7 +21,7 @@ pub struct Variables<N: Copy + Eq + Hash + Drop, S: Copy + Eq + Hash + Drop> {
 impl<N: Copy + Eq + Hash + Drop, S: Copy + Eq + Hash + Drop> Variables<N, S> {
     ghost use Rattle.resolver_clause_store.specs.Variables.{AreDistinct, IsBounded, IsFull, Keeps, limit_in, origins_in};
 
-    /// No variables. There may be as many as the limit says, at most 2147483648.
+    /// No variables yet. The limit is at most 2147483648.
     pub fn new(alloc: Global, limit: usize) -> Self
         requires { limit ≤ 2 ^ 31 }
         ensures bounded { IsBounded result }
@@ -34,24 +34,24 @@ impl<N: Copy + Eq + Hash + Drop, S: Copy + Eq + Hash + Drop> Variables<N, S> {
         }
     }
 
-    /// How many there are.
+    /// The number of variables.
     pub fn len(&self) -> usize
         ensures { result ≡ length (origins_in self.now) }
     {
         self.origins.len()
     }
 
-    /// What a variable stands for, where there is such a variable.
+    /// What a variable stands for, or `None` if there is no such variable.
     pub fn origin(&self, variable: Variable) -> Option<Origin<N, S>>
         ensures { result ≡ slice_get (origins_in self.now) variable }
     {
         self.origins.get_index(variable.index()).copied()
     }
 
-    /// The variable that stands for the origin: the one that does already, or a new one.
+    /// The variable of an origin, which is made if it does not exist yet.
     ///
-    /// `Ids` where a new one would be needed and there are as many variables as the limit says. Whatever is refused,
-    /// nothing changes.
+    /// The error is `Ids` if a new variable is needed and there are as many as the limit allows. After any refusal
+    /// nothing has changed.
     pub fn intern(&mut self, origin: Origin<N, S>) -> Result<Variable, Exhausted>
         requires names { IsIdentity N.eq }
         requires solvables { IsIdentity S.eq }

@@ -1,4 +1,4 @@
--- The candidates that the root and each solvable require.
+-- The candidates of each requirer: of the root and of each solvable.
 use Rattle.std.specs.Prelude.{◌≡◌, Bool, List, []}
 use Rattle.std.specs.List.{flat_map}
 use Rattle.std.specs.HashMap.{get}
@@ -8,7 +8,7 @@ use Rattle.resolver_report.specs.Listed.{items_at, items_if}
 use Rattle.resolver_clause_store.specs.declared.Rule.{Rule}
 use Rattle.resolver_clause_store.specs.declared.Rule.TheVariants.{Requires, Constrains, Lock, Excluded, OnePerPackage}
 
--- the candidates of a requirement of the root
+-- the candidates of the rule, if it is a requirement of the root
 abbrev pub root_candidates_of : {N S : Type 0} → Rule N S → List S
 root_candidates_of (Requires Root requirement candidates when) = candidates.items
 root_candidates_of (Requires (Solvable t) requirement candidates when) = []
@@ -17,7 +17,7 @@ root_candidates_of (Lock locked forbidden) = []
 root_candidates_of (Excluded solvable reason) = []
 root_candidates_of (OnePerPackage name instance) = []
 
--- the candidates of a requirement of this solvable
+-- the candidates of the rule, if it is a requirement of this solvable
 abbrev pub candidates_for : {N S : Type 0} → (S → S → Bool) → S → Rule N S → List S
 candidates_for same s (Requires Root requirement candidates when) = []
 candidates_for same s (Requires (Solvable t) requirement candidates when) = items_if (same t s) candidates.items
@@ -26,7 +26,7 @@ candidates_for same s (Lock locked forbidden) = []
 candidates_for same s (Excluded solvable reason) = []
 candidates_for same s (OnePerPackage name instance) = []
 
--- just the candidates of the requirements that rules list, each with its requirer
+-- the lists have just the candidates of the rules' requirements, by requirer
 pub record HasCandidateLists {N S : Type 0} (same : S → S → Bool) (rules : List (Rule N S)) (lists : CandidateLists S) : Type 0 where
   pub root : lists.by_root.items ≡ flat_map root_candidates_of rules
   pub solvables : (s : S) → items_at (get same lists.by_solvable s) ≡ flat_map (candidates_for same s) rules

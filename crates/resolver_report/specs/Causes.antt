@@ -1,4 +1,4 @@
--- What an edge says of its two ends.
+-- Tests of what an edge says of its ends.
 use Rattle.std.specs.Prelude.{Bool, true, false, List, Option, Some, None}
 use Rattle.std.specs.List.{list_any}
 use Rattle.resolver_clause_store.specs.declared.VersionSetId.{VersionSetId}
@@ -19,12 +19,12 @@ abbrev pub is_second_instance : {S : Type 0} → ConflictEdge S → Bool
 is_second_instance (Conflict ForbidMultipleInstances) = true
 is_second_instance w = false
 
--- the version set of a constraint
+-- the version set of a constraint edge
 abbrev pub constraint : {S : Type 0} → ConflictEdge S → Option VersionSetId
 constraint (Conflict (Constrains v)) = Some v
 constraint w = None
 
--- some edge is of the kind
+-- some edge is a conflict, or an exclusion
 abbrev pub has_conflict : {S : Type 0} → List (Edge S) → Bool
 has_conflict es = list_any (λ e. is_conflict e.weight) es
 

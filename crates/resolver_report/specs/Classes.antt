@@ -1,4 +1,4 @@
--- What a map of classes says.
+-- Classes of nodes, as a map from keys.
 use Rattle.std.specs.Prelude.{◌≡◌, ℕ, Bool, false, List, length, filter, Option, Some, None, slice_get, Vec}
 use Rattle.std.proofs.Common.{Global}
 use Rattle.std.specs.List.{range_with_len}
@@ -12,16 +12,16 @@ use Rattle.resolver_report.specs.Keys.{same_key}
 abbrev pub Classes : Type 0
 Classes = HashMap NodeKey (Vec ℕ Global) (BuildHasherDefault FoldHasher)
 
--- at a place there is this key
+-- the entry is this key
 abbrev pub has_key : NodeKey → Option (Option NodeKey) → Bool
 has_key q (Some (Some k)) = same_key k q
 has_key q (Some None) = false
 has_key q None = false
 
--- the places of a key, among the first ones
+-- of the first `count` places, those with this key
 abbrev pub places_of_key : List (Option NodeKey) → ℕ → NodeKey → List ℕ
 places_of_key keys count q = filter (λ n. has_key q (slice_get keys n)) (range_with_len 0 count)
 
--- the map has the places of each key, in their order
+-- the map has the places of each key, in order
 abbrev pub HasClasses : (NodeKey → NodeKey → Bool) → List (Option NodeKey) → Classes → Type 0
 HasClasses same keys m = (q : NodeKey) → items_at (get same m q) ≡ places_of_key keys (length keys) q

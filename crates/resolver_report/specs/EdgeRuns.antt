@@ -1,4 +1,4 @@
--- What an `EdgeRun` is, and runs with one edge more.
+-- An `EdgeRun` as a run, and runs with one more edge.
 use Rattle.std.specs.Prelude.{List, [], ◌∷◌, ◌++◌, if◌then◌else◌}
 use Rattle.resolver_clause_store.specs.declared.Requirement.{Requirement}
 use Rattle.resolver_report.specs.declared.graph.NodeId.{NodeId}
@@ -12,7 +12,7 @@ run_view run = record { requirement = run.requirement; targets = run.targets.ite
 abbrev pub new_run : Requirement → List NodeId → Run
 new_run r ns = record { requirement = r; targets = ns }
 
--- the runs after one more edge, at the end
+-- the runs, with one more edge at the end
 abbrev pub and_then : Requirement → NodeId → List Run → List Run
 and_then r n [] = record { requirement = r; targets = n ∷ [] } ∷ []
 and_then r n (run ∷ []) = if same_requirement run.requirement r

@@ -20,7 +20,7 @@ abbrev pub node_by : {S : Type 0} → By S → ConflictNode S
 node_by ByRoot = Root
 node_by (BySolvable s) = Solvable s
 
--- the nodes that a rule mentions, in its order
+-- the nodes that a rule mentions, in order
 abbrev pub mentioned : {N S : Type 0} → Rule N S → List (ConflictNode S)
 mentioned (Requires by requirement candidates when) = node_by by ∷ map Solvable candidates.items
 mentioned (Constrains by version_set candidate) = node_by by ∷ Solvable candidate ∷ []
@@ -31,12 +31,12 @@ mentioned (OnePerPackage name instance) = Solvable instance ∷ []
 abbrev pub requirement_link : {S : Type 0} → ConflictNode S → Requirement → ConflictNode S → Link S
 requirement_link source requirement target = record { source = source; target = target; weight = Required requirement }
 
--- a requirer is linked to each candidate, or to the unresolved node
+-- a requirer is linked to each candidate, or to the unresolved node if there is none
 abbrev pub requirement_links : {S : Type 0} → ConflictNode S → Requirement → List S → List (Link S)
 requirement_links source requirement [] = requirement_link source requirement UnresolvedDependency ∷ []
 requirement_links source requirement (c ∷ cs) = map (λ d. requirement_link source requirement (Solvable d)) (c ∷ cs)
 
--- of rules, the latest first, the last instance that they list of a package
+-- the last instance of a package that rules list; the rules come latest first
 abbrev pub last_instance : {N S : Type 0} → (N → N → Bool) → N → List (Rule N S) → Option S
 last_instance same n [] = None
 last_instance same n (OnePerPackage name instance ∷ earlier) = if same name n then Some instance else last_instance same n earlier
@@ -50,7 +50,7 @@ abbrev pub instance_links : {S : Type 0} → Option S → S → List (Link S)
 instance_links None instance = []
 instance_links (Some before) instance = record { source = Solvable before; target = Solvable instance; weight = Conflict ForbidMultipleInstances } ∷ []
 
--- what a rule links, given the rules before it, the latest first
+-- the links of a rule, given the rules before it, latest first
 abbrev pub links_of : {N S : Type 0} → (N → N → Bool) → List (Rule N S) → Rule N S → List (Link S)
 links_of same earlier (Requires by requirement candidates when) = requirement_links (node_by by) requirement candidates.items
 links_of same earlier (Constrains by version_set candidate) =
@@ -63,15 +63,15 @@ abbrev pub links_after : {N S : Type 0} → (N → N → Bool) → List (Rule N 
 links_after same earlier [] = []
 links_after same earlier (rule ∷ rules) = links_of same earlier rule ++ links_after same (rule ∷ earlier) rules
 
--- what the rules link, rule by rule
+-- the links of all rules, in order
 abbrev pub links : {N S : Type 0} → (N → N → Bool) → List (Rule N S) → List (Link S)
 links same rules = links_after same [] rules
 
--- the root and the unresolved node, and what the rules mention, rule by rule
+-- the root, the unresolved node, and the nodes that the rules mention, in order
 abbrev pub mentions : {N S : Type 0} → List (Rule N S) → List (ConflictNode S)
 mentions rules = Root ∷ UnresolvedDependency ∷ flat_map mentioned rules
 
--- each of these by its first mention
+-- the first mention of each node
 abbrev pub first_mentions : {N S : Type 0} → (S → S → Bool) → List (Rule N S) → List (ConflictNode S)
 first_mentions same rules = without_repeats (same_node same) (mentions rules)
 
@@ -79,11 +79,11 @@ first_mentions same rules = without_repeats (same_node same) (mentions rules)
 abbrev pub is_entered : {S : Type 0} → (S → S → Bool) → List (Link S) → Bool
 is_entered same ls = list_any (λ l. same_node same l.target UnresolvedDependency) ls
 
--- where a node stands
+-- the place of a node
 abbrev pub place_in : {S : Type 0} → (S → S → Bool) → List (ConflictNode S) → ConflictNode S → ℕ
 place_in same nodes n = position_or_len (λ m. same_node same m n) nodes
 
--- the link as an edge
+-- the link as an edge between places
 abbrev pub edge_in : {S : Type 0} → (S → S → Bool) → List (ConflictNode S) → Link S → Edge S
 edge_in same nodes l = record { source = record { 0 = place_in same nodes l.source }; target = record { 0 = place_in same nodes l.target }; weight = l.weight }
 

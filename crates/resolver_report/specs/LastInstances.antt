@@ -1,4 +1,4 @@
--- What a rule links, given the last instance of each package before it.
+-- The links of a rule, given the last listed instance of each package.
 use Rattle.std.specs.Prelude.{Bool, if◌then◌else◌, List, [], ◌∷◌, Option, Some}
 use Rattle.resolver_report.specs.declared.graph.ConflictNode.TheVariants.{Root, Solvable, Excluded as Reason}
 use Rattle.resolver_report.specs.declared.graph.ConflictCause.TheVariants.{Locked, Constrains as ByConstraint, Excluded as ByExclusion}
@@ -16,7 +16,7 @@ links_with_last last (Lock locked forbidden) = record { source = Root; target = 
 links_with_last last (Excluded solvable reason) = record { source = Solvable solvable; target = Reason reason; weight = Conflict ByExclusion } ∷ []
 links_with_last last (OnePerPackage name instance) = instance_links (last name) instance
 
--- the last instance of a package after a rule, where it was `last` before
+-- the last listed instance of a package after a rule, if it was `last` before
 abbrev pub last_after : {N S : Type 0} → (N → N → Bool) → Rule N S → N → Option S → Option S
 last_after same (OnePerPackage name instance) n last = if same name n then Some instance else last
 last_after same (Requires by requirement candidates when) n last = last

@@ -1,8 +1,8 @@
--- The list of a key.
+-- Lists of a map from keys.
 use Rattle.std.specs.Prelude.{Bool, if◌then◌else◌, List, [], Option, Some, None, Vec}
 use Rattle.std.proofs.Common.{Global}
 
--- where there is none, it is empty
+-- the list of a key, which is empty if there is none
 abbrev pub items_at : {X : Type 0} → Option (Vec X Global) → List X
 items_at None = []
 items_at (Some v) = v.items

@@ -1,4 +1,4 @@
--- Which solvables of a graph are alike, and so told of together.
+-- Alike solvables of a graph, which a message tells of together.
 use Rattle.std.specs.Prelude.{ℕ, Bool, true, false, ◌==◌, ◌&&◌, List, [], ◌∷◌, length, map, filter, count_by, Option, Some, None, slice_get, nat_eq}
 use lib.Pointwise.{pointwise}
 use Rattle.std.specs.List.{list_all, filter_map, range_with_len}
@@ -10,7 +10,7 @@ use Rattle.resolver_report.specs.declared.graph.Side.{Side}
 use Rattle.resolver_report.specs.Same.{same_requirement}
 use Rattle.resolver_report.specs.Shapes.{Shape, places, solvable_at, outgoing, incoming, required}
 
--- what the edges to a node say, and those from it: what each requires, if it does, and its other end
+-- the sides of a node's incoming and outgoing edges: the requirement of the edge, if it has one, and its other end
 abbrev pub side_in : {S : Type 0} → Edge S → Side
 side_in e = record { required = required e.weight; other = e.source }
 
@@ -32,15 +32,15 @@ same_required None (Some q) = false
 abbrev pub same_side : Side → Side → Bool
 same_side a b = same_required a.required b.required && a.other.0 == b.other.0
 
--- x stands as often in one list as in the other
+-- x is as often in one list as in the other
 abbrev pub has_count : {X : Type 0} → (X → X → Bool) → List X → List X → X → Bool
 has_count same xs ys x = count_by (same x) xs == count_by (same x) ys
 
--- each element of either list does
+-- the lists have each element equally often
 abbrev pub same_counts : {X : Type 0} → (X → X → Bool) → List X → List X → Bool
 same_counts same xs ys = list_all (has_count same xs ys) xs && list_all (has_count same xs ys) ys
 
--- what is compared: the name text of a solvable, and the sides
+-- what is compared of two nodes: the name text of the solvable, and the sides of its edges
 pub record Key : Type 0 where
   pub name : Option (List ℕ)
   pub sides_in : List Side
@@ -58,7 +58,7 @@ same_texts (Some a) (Some b) = pointwise nat_eq a b
 same_texts None b = false
 same_texts (Some a) None = false
 
--- both are of solvables, with one name text, the same sides in and the same sides out
+-- both are solvables, with one name text, the same incoming and the same outgoing sides
 abbrev pub are_alike : Key → Key → Bool
 are_alike k l = same_texts k.name l.name && same_counts same_side k.sides_in l.sides_in && same_counts same_side k.sides_out l.sides_out
 
@@ -67,7 +67,7 @@ are_alike_if_there (Some k) (Some l) = are_alike k l
 are_alike_if_there None l = false
 are_alike_if_there (Some k) None = false
 
--- the nodes that are alike with this one, in their order
+-- the class of a node: the nodes alike with it, in order
 abbrev pub class_in : List Key → ℕ → List ℕ
 class_in ks n = filter (λ m. are_alike_if_there (slice_get ks n) (slice_get ks m)) (range_with_len 0 (length ks))
 
@@ -76,7 +76,7 @@ first_of_two [] = None
 first_of_two (m ∷ []) = None
 first_of_two (m ∷ n ∷ ns) = Some m
 
--- the first of at least two alike nodes stands for their group
+-- the group of a node whose class has at least two members, by the place of the first of them
 abbrev pub group_in : List Key → ℕ → Option ℕ
 group_in ks n = first_of_two (class_in ks n)
 

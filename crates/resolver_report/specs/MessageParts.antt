@@ -1,4 +1,4 @@
--- What a message is written from.
+-- A message in its parts.
 use Rattle.std.specs.Prelude.{ℕ, List, ◌++◌}
 use Rattle.resolver_clause_store.specs.Universe.{Universe}
 use Rattle.resolver_report.specs.declared.message.MessageParts.{MessageParts}

@@ -21,7 +21,7 @@ use Rattle.resolver_report.specs.Runs.{Run, runs_of}
 use Rattle.resolver_report.specs.Marks.{is_marked, some_marked, is_place, installable, missing}
 use Rattle.resolver_report.specs.Forests.{Forest, nothing, silent, line, Piece, quiet, said, put, text_of}
 
--- What is told, and which groups are reported by then. A mark at the first node of a group says that it is.
+-- Something that is told, and the groups that are reported afterwards. A group is reported if its first node is marked.
 pub record Told (X : Type 0) : Type 0 where
   pub value : X
   pub reported : List Bool
@@ -39,7 +39,7 @@ joined_texts (t ∷ t' ∷ ts) = t ++ codes " | " ++ joined_texts (t' ∷ ts)
 abbrev pub requirement_text : {N S : Type 0} → Universe N S → Requirement → List ℕ
 requirement_text u r = joined_texts (map (version_set_text u) (version_sets u r))
 
--- what is said of a run: at the top, or below a candidate
+-- the line of a run, at the top or below a candidate
 
 abbrev pub is_unresolved : Option ℕ → List NodeId → Bool
 is_unresolved unresolved (n ∷ []) = is_place unresolved n.0
@@ -61,18 +61,18 @@ run_after false false false = codes ", which cannot be installed because there a
 abbrev pub run_text : (top unresolved viable : Bool) → List ℕ → List ℕ
 run_text top unresolved viable r = run_before top unresolved ++ r ++ run_after top unresolved viable
 
--- of equal neighbours the first alone
+-- one of each run of equal neighbours
 abbrev pub once_each : List VersionSetId → List VersionSetId
 once_each [] = []
 once_each (v ∷ []) = v ∷ []
 once_each (v ∷ w ∷ vs) = if v.0 == w.0 then once_each (w ∷ vs) else v ∷ once_each (w ∷ vs)
 
--- lines with nothing below them, one beside the other
+-- lines side by side, with nothing below them
 abbrev pub lines_of : List (List ℕ) → Forest
 lines_of [] = nothing
 lines_of (t ∷ ts) = line t nothing (lines_of ts)
 
--- what is put side by side, each told which groups were reported before it
+-- siblings side by side; each is told after the groups of those before it are reported
 abbrev pub side_by_side : {X : Type 0} → (X → List Bool → Told Piece) → List X → List Bool → Told Forest
 side_by_side tell [] reported = record { value = nothing; reported = reported }
 side_by_side tell (x ∷ xs) reported =
@@ -80,7 +80,7 @@ side_by_side tell (x ∷ xs) reported =
     let rest = side_by_side tell xs first.reported in
     record { value = put first.value rest.value; reported = rest.reported }
 
--- What is to be said of a candidate. An excluded one has the place of the reason.
+-- What is said of a candidate. An exclusion has the place of its reason.
 pub data Verdict : Type 0 where
   excluded : NodeId → Verdict
   alone : Verdict
@@ -88,11 +88,11 @@ pub data Verdict : Type 0 where
   constrains : List VersionSetId → Verdict
   requires : Verdict
 
--- where the edges lead that exclude something
+-- the targets of the exclusion edges
 abbrev pub reasons : {S : Type 0} → List (Edge S) → List NodeId
 reasons out = map (λ e. e.target) (filter (λ e. is_exclusion e.weight) out)
 
--- the version sets of the edges that constrain something
+-- the version sets of the constraint edges
 abbrev pub constraints : {S : Type 0} → List (Edge S) → List VersionSetId
 constraints out = filter_map (λ e. constraint e.weight) out
 
@@ -108,7 +108,7 @@ abbrev pub verdict_by : {S : Type 0} → Option NodeId → List (Edge S) → Ver
 verdict_by None out = verdict_unless_excluded out
 verdict_by (Some n) out = excluded n
 
--- what the edges from a candidate, newest first, say of it
+-- the verdict on a candidate, given its outgoing edges, newest first
 abbrev pub verdict_of : {S : Type 0} → List (Edge S) → Verdict
 verdict_of out = verdict_by (slice_get (reasons out) 0) out
 
@@ -119,7 +119,7 @@ abbrev pub lock_text : {N S : Type 0} → Universe N S → S → List ℕ
 lock_text u s = u.merged_text (s ∷ []) ++ codes " is locked, but another version is required as reported above"
 
 module _ {N S : Type 0} (u : Universe N S) where
-  -- what the root itself forbids
+  -- the root's own conflicts, one line each
   abbrev pub conflict_line : ConflictEdge S → Forest → Forest
   conflict_line (Conflict (Constrains v)) after = line (constraint_text u v) nothing after
   conflict_line (Conflict (Locked s)) after = line (lock_text u s) nothing after
@@ -131,14 +131,14 @@ module _ {N S : Type 0} (u : Universe N S) where
   conflict_lines [] = nothing
   conflict_lines (e ∷ es) = conflict_line e.weight (conflict_lines es)
 
-  -- the lines by themselves
+  -- the text of these lines
   abbrev pub conflict_text : List (Edge S) → List ℕ
   conflict_text out = text_of true [] (conflict_lines out)
 
   abbrev pub constraint_line : VersionSetId → List ℕ
   constraint_line v = version_set_text u v ++ codes ", which conflicts with any installable versions previously reported"
 
--- the text of the reason that a node stands for
+-- the text of a reason's node
 abbrev pub reason_text : {N S : Type 0} → Universe N S → Option (ConflictNode S) → List ℕ
 reason_text u (Some (Reason r)) = u.string_text r
 reason_text u (Some Root) = []
@@ -146,7 +146,7 @@ reason_text u (Some (Solvable s)) = []
 reason_text u (Some UnresolvedDependency) = []
 reason_text u None = []
 
--- what is told of a run: what it requires, whether that has no candidates at all, whether some of it can be installed, and its candidates
+-- what is told of a run: its requirement, whether that has no candidates at all, whether a target can be installed, and the candidates
 pub record RunTold : Type 0 where
   pub requirement : Requirement
   pub unresolved : Bool
@@ -166,27 +166,27 @@ abbrev pub with_group : Option ℕ → List Bool → List Bool
 with_group None reported = reported
 with_group (Some group) reported = slice_set reported group true
 
--- no node is marked
+-- marks of no node
 abbrev pub unmarked : {S : Type 0} → Shape S → List Bool
 unmarked g = replicate (length g.nodes) false
 
--- the groups of the nodes and what can be installed are handed in
+-- given the groups of the nodes, and the marks of those that can be installed
 module _ {S : Type 0} (g : ConflictShape S) (group_of : ℕ → Option ℕ) (marks : List Bool) where
-  -- both are in one group
+  -- both nodes are in one group
   abbrev pub same_group : ℕ → ℕ → Bool
   same_group m n = same_group_as (group_of m) (group_of n)
 
   abbrev pub is_viable : Run → Bool
   is_viable run = some_marked marks run.targets
 
-  -- the runs in the order in which they are told of: first those that are viable, and of these the older first
+  -- the order in which runs are told of: viable ones first, and older ones first among each
   abbrev pub runs_in_order : List (Edge S) → List Run
   runs_in_order edges = let runs = reverse (runs_of edges) in filter is_viable runs ++ filter (λ run. not (is_viable run)) runs
 
   abbrev pub is_candidate : Bool → ℕ → Bool
   is_candidate viable n = is_some (solvable_at g.shape n) && (not viable || is_marked marks n)
 
-  -- the candidates of a run that are told of, oldest first: of one group the newest alone
+  -- the candidates of a run that are told of, oldest first, and of each group the newest
   abbrev pub candidates_of : Run → List NodeId
   candidates_of run = reverse (without_repeats (λ m n. same_group m.0 n.0) (filter (λ n. is_candidate (is_viable run) n.0) run.targets))
 
@@ -198,13 +198,13 @@ module _ {S : Type 0} (g : ConflictShape S) (group_of : ℕ → Option ℕ) (mar
     candidates = candidates_of run;
   }
 
-  -- what is told of edges, newest first
+  -- what is told of edges that come newest first
   abbrev pub told_of : List (Edge S) → List RunTold
   told_of edges = map told_of_run (runs_in_order edges)
 
--- the keys of the nodes and what can be installed are handed in
+-- given the keys of the nodes, and the marks of those that can be installed
 module _ {N S : Type 0} (u : Universe N S) (g : ConflictShape S) (ks : List Key) (marks : List Bool) where
-  -- the nodes that are told of with this one
+  -- the nodes of this one's group, or the node alone
   abbrev pub told_with : Option ℕ → ℕ → List ℕ
   told_with None n = n ∷ []
   told_with (Some group) n = class_in ks n
@@ -212,7 +212,7 @@ module _ {N S : Type 0} (u : Universe N S) (g : ConflictShape S) (ks : List Key)
   abbrev pub version_text : ℕ → List ℕ
   version_text n = u.merged_text (solvables_at g.shape (told_with (group_in ks n) n))
 
-  -- the lines of a candidate; below gives those of what it requires
+  -- the lines of a candidate; below gives the lines of its requirements
   abbrev pub tell_verdict : (List Bool → Told Forest) → List ℕ → Verdict → List Bool → Told Piece
   tell_verdict below version (excluded reason) reported =
       record { value = said (version ++ codes " is excluded because " ++ reason_text u (slice_get g.shape.nodes reason.0)) nothing; reported = reported }
@@ -227,21 +227,21 @@ module _ {N S : Type 0} (u : Universe N S) (g : ConflictShape S) (ks : List Key)
   abbrev pub run_line : Bool → RunTold → List ℕ
   run_line top run = run_text top run.unresolved run.viable (requirement_text u run.requirement)
 
-  -- the line of a run, and below it the candidates; tell gives the lines of one
+  -- the line of a run with its candidates below; tell gives the lines of one
   abbrev pub tell_run : (ℕ → List Bool → Told Piece) → Bool → RunTold → List Bool → Told Piece
   tell_run tell top run reported =
       if run.unresolved then record { value = said (run_line top run) nothing; reported = reported }
       else (let told = side_by_side (λ n. tell n.0) run.candidates reported in record { value = said (run_line top run) told.value; reported = told.reported })
 
-  -- the tree over what is told of some edges
+  -- the tree of runs
   abbrev pub tree_over : (ℕ → List Bool → Told Piece) → Bool → List RunTold → List Bool → Told Forest
   tree_over tell top runs reported = side_by_side (tell_run tell top) runs reported
 
-  -- nothing is told of what is no solvable, of a group that is reported, and of what stands above in the branch
+  -- a node is not told of if it is no solvable, its group is reported, or it is on the branch above
   abbrev pub is_quiet : List Bool → ℕ → List Bool → Bool
   is_quiet branch n reported = not (is_some (solvable_at g.shape n)) || is_reported (group_in ks n) reported || is_marked branch n
 
-  -- The lines of a candidate below those of its branch. The first number bounds how many candidates may stand on a branch.
+  -- The lines of a candidate below its branch. The first number bounds how many candidates the branch may still have.
   abbrev pub tell_candidate : ℕ → List Bool → ℕ → List Bool → Told Piece
   tell_candidate zero branch n reported = record { value = quiet; reported = reported }
   tell_candidate (suc depth) branch n reported =
@@ -250,16 +250,16 @@ module _ {N S : Type 0} (u : Universe N S) (g : ConflictShape S) (ks : List Key)
       tell_verdict (tree_over (tell_candidate depth (slice_set branch n true)) false (told_of g (group_in ks) marks out)) (version_text n) (verdict_of out)
       (with_group (group_in ks n) reported))
 
-  -- the tree over some of the root's edges
+  -- the tree of some of the root's edges
   abbrev pub tree : List (Edge S) → Forest
   tree edges = (tree_over (tell_candidate (length g.shape.nodes) (unmarked g.shape)) true (told_of g (group_in ks) marks edges) (unmarked g.shape)).value
 
-  -- what cannot be had at all
+  -- the part about requirements that nothing can fulfil
   abbrev pub missing_part : List (Edge S) → List ℕ
   missing_part [] = []
   missing_part (e ∷ es) = text_of false [] (tree (e ∷ es))
 
-  -- what does not go together, where the root's edges are out
+  -- the part about what is incompatible; out has all of the root's edges
   abbrev pub conflict_part : List (Edge S) → List (Edge S) → List ℕ
   conflict_part out [] = []
   conflict_part out (e ∷ es) =
@@ -267,7 +267,7 @@ module _ {N S : Type 0} (u : Universe N S) (g : ConflictShape S) (ks : List Key)
       ++ text_of true [] (tree (e ∷ es))
       ++ conflict_text u out
 
--- the message
+-- the whole message
 abbrev pub message : {N S : Type 0} → Universe N S → ConflictShape S → List ℕ
 message {N} {S} u g =
     let out = outgoing g.shape.edges g.root in

@@ -1,4 +1,4 @@
--- What implies that a node of a graph is marked.
+-- The implications by which the nodes of a graph are marked.
 use Rattle.std.specs.Prelude.{ℕ, if◌then◌else◌, List, [], ◌∷◌, map}
 use Rattle.std.specs.List.{flat_map}
 use Rattle.resolver_report.specs.declared.graph.NodeId.{NodeId}
@@ -8,20 +8,20 @@ use Rattle.resolver_report.specs.Marks.{is_place}
 use Rattle.resolver_report.specs.Runs.{Run, runs_of}
 use Rattle.resolver_report.specs.Shapes.{ConflictShape, incoming, outgoing, places}
 
--- each node as a group of its own
+-- each node in a group of its own
 abbrev pub each_alone : List NodeId → List (List NodeId)
 each_alone ns = map (λ n. n ∷ []) ns
 
 abbrev pub all_of_run : ℕ → Run → Implied
 all_of_run n run = record { groups = each_alone run.targets; node = n }
 
--- a node can be installed: of each run something can be
+-- a node can be installed if each run has a target that can be
 abbrev pub installable_by : {S : Type 0} → ConflictShape S → ℕ → List Implied
 installable_by g n = if is_place g.unresolved n then [] else if has_exclusion (incoming g.shape.edges n) then [] else if has_conflict
     (outgoing g.shape.edges n) then []
     else record { groups = map (λ run. run.targets) (runs_of (outgoing g.shape.edges n)); node = n } ∷ []
 
--- a node is missing: it is the unresolved one, or all of some run is
+-- a node is missing if it is the unresolved one, or all targets of a run are missing
 abbrev pub missing_by : {S : Type 0} → ConflictShape S → ℕ → List Implied
 missing_by g n = if is_place g.unresolved n then record { groups = []; node = n } ∷ [] else if has_conflict (outgoing g.shape.edges n) then []
     else map (all_of_run n) (runs_of (outgoing g.shape.edges n))

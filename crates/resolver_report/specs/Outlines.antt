@@ -1,4 +1,4 @@
--- What the code that writes a message is given, as the definitions take it.
+-- Outlines, as the definitions of a message take them.
 use Rattle.std.specs.Prelude.{◌≡◌, ℕ, Bool, true, false, nat_eq, not, List, map, Option, Some, None, slice_get}
 use Rattle.std.specs.List.{list_any}
 use Rattle.std.specs.HashSet.{HashSet, contains}
@@ -28,7 +28,7 @@ groups_in f n = group_at f.groups.items n
 abbrev pub run_told_view : RunOutline → RunTold
 run_told_view s = record { requirement = s.requirement; unresolved = s.is_unresolved; viable = s.is_viable; candidates = s.candidates.items }
 
--- some of the run can be installed, or not, as is wanted
+-- the viability of the run is the wanted one
 abbrev pub has_viability : {S : Type 0} → Findings S → Bool → Run → Bool
 has_viability f true run = is_viable (shape_of f.graph.now) (groups_in f) f.installable.items run
 has_viability f false run = not (is_viable (shape_of f.graph.now) (groups_in f) f.installable.items run)
@@ -50,6 +50,6 @@ node_view s = record { group = s.group; verdict = verdict_view s.verdict; runs =
 abbrev pub GroupsTold : Type 0
 GroupsTold = HashSet ℕ (BuildHasherDefault FoldHasher)
 
--- the set has the groups of these nodes, and nothing else
+-- the set has just the groups of these nodes
 abbrev pub HasGroupsOf : List (Option ℕ) → List NodeId → GroupsTold → Type 0
 HasGroupsOf groups found told = (k : ℕ) → contains nat_eq told k ≡ list_any (λ m. same_group_as (Some k) (group_at groups m.0)) found

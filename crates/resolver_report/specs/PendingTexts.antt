@@ -14,7 +14,7 @@ use Rattle.resolver_report.specs.Shapes.{outgoing}
 use Rattle.resolver_report.specs.Outlines.{run_told_view}
 use Rattle.resolver_report.specs.Tellings.{candidate_in, graph_in, keys_in, marks_in, tree_in}
 
--- a candidate whose tree is being told, and what comes after it
+-- a candidate whose tree is being told, and what comes after that tree
 pub record FrameTold : Type 0 where
   pub node : ℕ
   pub candidates : List NodeId
@@ -23,7 +23,7 @@ pub record FrameTold : Type 0 where
 abbrev pub frame_view : Frame → FrameTold
 frame_view f = record { node = f.node.0; candidates = f.candidates.now; runs = map run_told_view f.runs.now }
 
--- What is still to be told: the candidates of a run, the runs after it, and then what comes after each candidate above, the nearest first.
+-- What is still to be told: the candidates of the present run, the runs after it, and then what comes after each candidate above, nearest first.
 pub record PendingTold : Type 0 where
   pub top_indent : Bool
   pub limit : ℕ
@@ -51,16 +51,16 @@ abbrev pub is_none : {X : Type 0} → List X → Bool
 is_none [] = true
 is_none (x ∷ xs) = false
 
--- a candidate stands two levels below the tree that its run is in
+-- a candidate stands two levels below the tree of its run
 abbrev pub levels_of : List FrameTold → List Bool
 levels_of [] = []
 levels_of (f ∷ fs) = levels_of fs ++ (length f.runs == 0) ∷ (length f.candidates == 0) ∷ []
 
--- the levels stand in the indenter
+-- the indenter has these levels
 abbrev pub HasLevels : Pending → Type 0
 HasLevels p = levels_in p.indenter ≡ levels_of (frames_view p.frames.items)
 
--- nothing is told yet
+-- a whole tree, of which nothing is told yet
 abbrev pub whole_tree : Bool → ℕ → List RunTold → PendingTold
 whole_tree top_indent limit runs =
     record {
@@ -73,7 +73,7 @@ whole_tree top_indent limit runs =
       branch = replicate limit false;
     }
 
--- in the tree of a candidate, with what comes after it put aside
+-- the tree of a candidate comes next; what comes after it is put into a frame
 abbrev pub entered : PendingTold → ℕ → List NodeId → List RunTold → Bool → PendingTold
 entered p n candidates runs top_indent = record {
   top_indent = top_indent;
@@ -85,7 +85,7 @@ entered p n candidates runs top_indent = record {
   branch = slice_set p.branch n true;
 }
 
--- a tree is told, and what comes after its candidate is next
+-- a tree is finished, and what comes after its candidate is next
 abbrev pub left_to : List FrameTold → PendingTold → PendingTold
 left_to [] p = p
 left_to (f ∷ fs) p = record {
@@ -101,11 +101,11 @@ left_to (f ∷ fs) p = record {
 abbrev pub left : PendingTold → PendingTold
 left p = left_to p.frames p
 
--- the candidates that are told of below a run
+-- the candidates to tell of below a run
 abbrev pub below_run : RunTold → List NodeId
 below_run run = if run.unresolved then [] else run.candidates
 
--- the steps that nodes and runs take at most, where work bounds those of a candidate
+-- a bound of the steps for nodes and runs, given one for a candidate
 abbrev pub nodes_work : (ℕ → ℕ) → List NodeId → ℕ
 nodes_work work [] = 0
 nodes_work work (n ∷ ns) = work n.0 + nodes_work work ns
@@ -115,14 +115,14 @@ runs_work work [] = 0
 runs_work work (run ∷ runs) = 1 + nodes_work work run.candidates + runs_work work runs
 
 module _ {I N S : Type 0} (universe : I → Universe N S) (outline : Outline I N S) where
-  -- the text of the candidates of a run that are left, and of the runs after it
+  -- the text of the candidates left in a run, and of the runs after it
   abbrev pub left_told : Bool → List Bool → ℕ → List Bool → Bool → List NodeId → List RunTold → List Bool → Told (List ℕ)
   left_told top_indent levels depth branch top candidates runs reported =
       let told = side_by_side (λ n. candidate_in universe outline depth branch n.0) candidates reported in
       let rest = tree_in universe outline depth branch top runs told.reported in
       record { value = text_of top_indent (levels ++ (length runs == 0) ∷ []) told.value ++ text_of top_indent levels rest.value; reported = rest.reported }
 
-  -- the text of what comes after the candidates whose trees are being told
+  -- the text of what comes after each candidate whose tree is being told
   abbrev pub frames_text : Bool → ℕ → List FrameTold → List Bool → List Bool → List ℕ
   frames_text top_indent limit [] branch reported = []
   frames_text top_indent limit (f ∷ fs) branch reported =
@@ -139,7 +139,7 @@ module _ {I N S : Type 0} (universe : I → Universe N S) (outline : Outline I N
   runs_at n = told_of (graph_in universe outline) (group_in (keys_in universe outline)) (marks_in universe outline)
       (outgoing (graph_in universe outline).shape.edges n)
 
-  -- the steps that a candidate takes at most
+  -- a bound of the steps for a candidate
   abbrev pub candidate_work : ℕ → ℕ → ℕ
   candidate_work zero n = 1
   candidate_work (suc depth) n = 2 + runs_work (candidate_work depth) (runs_at n)
@@ -154,7 +154,7 @@ module _ {I N S : Type 0} (universe : I → Universe N S) (outline : Outline I N
   abbrev pub pending_work : PendingTold → ℕ
   pending_work p = left_work (p.limit - length p.frames) p.candidates p.runs + frames_work p.limit p.frames
 
-  -- one step: what is written and what is still to be told is the same text, and less is left to do
+  -- one step: the text written and the text still to be told are together the same, and less is left to do
   pub record IsTellStep (old new : PendingTold) (out out' : List ℕ) : Type 0 where
     pub text : out' ++ pending_text new ≡ out ++ pending_text old
     pub work : pending_work new < pending_work old

@@ -1,4 +1,4 @@
--- What a map of places says.
+-- Maps from nodes to places.
 use Rattle.std.specs.Prelude.{◌≡◌, ℕ, ◌+◌, Bool, List, ◌++◌, length}
 use Rattle.std.specs.Option.{unwrap_or}
 use Rattle.std.specs.HashMap.{HashMap, get}
@@ -11,11 +11,11 @@ use Rattle.resolver_report.specs.Graphs.{place_in}
 abbrev pub Places : Type 0 → Type 0
 Places S = HashMap (ConflictNode S) ℕ (BuildHasherDefault FoldHasher)
 
--- the map has the place of each of the nodes, and nothing else
+-- the map has just the place of each node
 abbrev pub HasPlaces : {S : Type 0} → (S → S → Bool) → List (ConflictNode S) → Places S → Type 0
 HasPlaces {S} same nodes m = (n : ConflictNode S) → unwrap_or (get (same_node same) m n) (length nodes) ≡ place_in same nodes n
 
--- the map has the places of the nodes after the first ones
+-- the map has just the places of the nodes that follow `first`
 pub record HasPlacesFrom {S : Type 0} (same : S → S → Bool) (nodes first : List (ConflictNode S)) (m : Places S) : Type 0 where
   pub rest : List (ConflictNode S)
   pub are : nodes ≡ first ++ rest

@@ -1,4 +1,4 @@
--- Sets that have what the rules reach, and rules that are about what is in a set.
+-- Sets of all that rules reach, and rules about what is in a set.
 use Rattle.std.specs.Prelude.{List, Contains}
 use Rattle.resolver_clause_store.specs.declared.Rule.{Rule}
 use Rattle.resolver_clause_store.specs.declared.Rule.TheVariants.{Requires, Constrains, Lock, Excluded, OnePerPackage}
@@ -10,7 +10,7 @@ pub record IsReachedSet {N S : Type 0} (rules : List (Rule N S)) (set : List S) 
   pub sound : (s : S) → Contains set s → IsReachedBy rules s
   pub complete : (s : S) → IsReachedBy rules s → Contains set s
 
--- what the rule is about is in the set
+-- everything that the rule is about is in the set
 abbrev pub IsAbout : {N S : Type 0} → List S → Rule N S → Type 0
 IsAbout set (Requires by requirement candidates when) = IsPresent by set
 IsAbout set (Constrains by version_set candidate) = IsPresent by set × Contains set candidate

@@ -1,4 +1,4 @@
--- Neighbouring edges that require one thing.
+-- Runs: neighbouring edges with one requirement.
 use Rattle.std.specs.Prelude.{if◌then◌else◌, List, [], ◌∷◌}
 use Rattle.resolver_clause_store.specs.declared.Requirement.{Requirement}
 use Rattle.resolver_report.specs.declared.graph.NodeId.{NodeId}
@@ -7,7 +7,7 @@ use Rattle.resolver_report.specs.declared.graph.ConflictEdge.TheVariants.{Requir
 use Rattle.resolver_report.specs.declared.graph.Edge.{Edge}
 use Rattle.resolver_report.specs.Same.{same_requirement}
 
--- neighbouring edges with one requirement, and where they lead
+-- neighbouring edges with one requirement, and their targets
 pub record Run : Type 0 where
   pub requirement : Requirement
   pub targets : List NodeId
@@ -22,7 +22,7 @@ abbrev pub with_edge : {S : Type 0} → ConflictEdge S → NodeId → List Run �
 with_edge (Requires r) n runs = joined r n runs
 with_edge (Conflict c) n runs = runs
 
--- the runs of the edges that require something
+-- the runs of the requirement edges
 abbrev pub runs_of : {S : Type 0} → List (Edge S) → List Run
 runs_of [] = []
 runs_of (e ∷ es) = with_edge e.weight e.target (runs_of es)

@@ -1,4 +1,4 @@
--- When two parts of a graph are the same, as a test.
+-- Equality tests for the parts of a graph.
 use Rattle.std.specs.Prelude.{Bool, true, false, ◌==◌}
 use Rattle.resolver_clause_store.specs.declared.Requirement.{Requirement}
 use Rattle.resolver_clause_store.specs.declared.Requirement.TheVariants.{Single, Union}

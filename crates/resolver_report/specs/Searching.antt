@@ -1,4 +1,4 @@
--- What is left of a plain search, and a bound of the steps that it takes.
+-- The state of a plain search, and a bound of the steps that it has left.
 use Rattle.std.specs.Prelude.{◌≡◌, ◌<◌, ◌+◌, ◌-◌, ◌*◌, ℕ, zero, suc, Bool, cond, List, [], ◌∷◌, ◌++◌, length, map, reverse, take, All, Contains, ⊤}
 use Rattle.std.specs.List.{list_any}
 use Rattle.resolver_clause_store.specs.Lists.{HasNoRepeats}
@@ -12,22 +12,22 @@ use Rattle.resolver_clause_store.specs.declared.Rule.TheVariants.{Requires, Cons
 use Rattle.resolver_clause_store.specs.Rules.{AllNeeded, IsRefuted, Obeys}
 use Rattle.resolver_report.specs.Plain.{IsOpen, IsRefutedFrom}
 
--- what the set shows of the rules
+-- the result of testing the set against the rules
 abbrev pub Shows : {N S : Type 0} → List (Rule N S) → List S → Examined S → Type 0
 Shows rules set Hopeless = IsRefutedFrom set rules
 Shows rules set Meets = Obeys set rules
 Shows rules set (Open wanted) = IsOpen set rules wanted.now
 
--- the candidates that were not tried, those of the last choice first
+-- the untried candidates of each choice, the last choice first
 abbrev pub untried_view : {S : Type 0} → List (Untried S) → List (List S)
 untried_view {S} us = map (λ (u : Untried S). u.candidates.now) (reverse us)
 
--- each candidate that was not tried, with the choices before it
+-- P holds for each untried candidate and the choices before it
 abbrev pub AllUntried : {S : Type 0} → (List S → S → Type 0) → List S → List (List S) → Type 0
 AllUntried P set [] = ⊤
 AllUntried P set (list ∷ lists) = All (P (take (length lists) set)) list × AllUntried P set lists
 
--- s is a candidate of a requirement that the set does not meet, and each member of the set is there by need, once
+-- s is a candidate of a requirement that the set does not meet, and each member of the set is needed and stands once
 pub record IsChoice {N S : Type 0} (rules : List (Rule N S)) (set : List S) (s : S) : Type 0 where
   pub wanted : List S
   pub open_there : IsOpen set rules wanted
@@ -35,11 +35,11 @@ pub record IsChoice {N S : Type 0} (rules : List (Rule N S)) (set : List S) (s :
   pub needed : AllNeeded rules set
   pub once : HasNoRepeats set
 
--- no set that holds the set and s obeys the rules
+-- no set that contains this one and s obeys the rules
 abbrev pub IsRefutedWith : {N S : Type 0} → List (Rule N S) → List S → S → Type 0
 IsRefutedWith rules set s = IsRefutedFrom (set ++ s ∷ []) rules
 
--- between two steps: some set obeys the rules only where one holds a candidate that was not tried, with the choices before it
+-- between two steps: the rules are refuted if none of the untried candidates, with the choices before it, is in a set that obeys them
 pub record IsSearching {N S : Type 0} (rules : List (Rule N S)) (set : List S) (untried : List (List S)) : Type 0 where
   pub depth : length set ≡ length untried - 1
   pub choices : AllUntried (IsChoice rules) set untried
@@ -53,7 +53,7 @@ pub record IsChosen {N S : Type 0} (rules : List (Rule N S)) (set : List S) (unt
   pub needed : AllNeeded rules set
   pub once : HasNoRepeats set
 
--- the candidates that the rules require
+-- the candidates of the rule, if it is a requirement
 abbrev pub candidates_in : {N S : Type 0} → Rule N S → List S
 candidates_in (Requires by requirement candidates when) = candidates.items
 candidates_in (Constrains by version_set candidate) = []
@@ -65,12 +65,12 @@ abbrev pub all_candidates : {N S : Type 0} → List (Rule N S) → List S
 all_candidates [] = []
 all_candidates (rule ∷ rules) = candidates_in rule ++ all_candidates rules
 
--- how many of a list are outside the set
+-- how many members of a list are outside the set
 abbrev pub count_outside : {S : Type 0} → (S → S → Bool) → List S → List S → ℕ
 count_outside same set [] = 0
 count_outside same set (x ∷ xs) = cond (list_any (λ y. same y x) set) (count_outside same set xs) (suc (count_outside same set xs))
 
--- the steps that a choice takes at most, of lists no longer than the width
+-- a bound of the steps for a choice, with lists no longer than `width`
 abbrev pub choice_work : ℕ → ℕ → ℕ
 choice_work width zero = 1
 choice_work width (suc outside) = 2 + width * choice_work width outside
@@ -78,7 +78,7 @@ choice_work width (suc outside) = 2 + width * choice_work width outside
 abbrev pub work_at : {N S : Type 0} → (S → S → Bool) → List (Rule N S) → List S → ℕ
 work_at same rules set = choice_work (length (all_candidates rules)) (count_outside same set (all_candidates rules))
 
--- the steps that are left at most
+-- a bound of the steps that are left
 abbrev pub search_work : {N S : Type 0} → (S → S → Bool) → List (Rule N S) → List S → List (List S) → ℕ
 search_work same rules set [] = 0
 search_work same rules set (list ∷ lists) = 1 + length list * work_at same rules (take (length lists) set) + search_work same rules set lists
@@ -87,13 +87,13 @@ abbrev pub work_of_choice : {N S : Type 0} → (S → S → Bool) → List (Rule
 work_of_choice same rules set untried =
     choice_work (length (all_candidates rules)) (suc (count_outside same set (all_candidates rules))) + search_work same rules set untried
 
--- what holds after a step
+-- what each result of a step means
 abbrev pub IsStep : {N S : Type 0} → (S → S → Bool) → List (Rule N S) → List S → List (List S) → ℕ → Step → Type 0
 IsStep same rules set untried bound GoesOn = IsSearching rules set untried × (search_work same rules set untried < bound)
 IsStep same rules set untried bound Found = Obeys set rules × AllNeeded rules set × HasNoRepeats set
 IsStep same rules set untried bound Refuted = IsRefuted rules
 
--- the steps that are left after one, where the set is not there yet
+-- how many steps are left at most after one that gave this result
 abbrev pub steps_left : Step → ℕ → ℕ
 steps_left GoesOn work = suc work
 steps_left Found work = 0

@@ -1,4 +1,4 @@
--- What a graph is: nodes, and edges between them.
+-- A graph: nodes, and edges between them.
 use Rattle.std.specs.Prelude.{ℕ, ◌<◌, ◌==◌, List, length, filter, reverse, All, Option, Some, None, slice_get}
 use Rattle.std.specs.List.{range_with_len}
 use Rattle.resolver_clause_store.specs.Lists.{HasNoRepeats}
@@ -13,7 +13,7 @@ pub record Shape (S : Type 0) : Type 0 where
   pub nodes : List (ConflictNode S)
   pub edges : List (Edge S)
 
--- both ends of each edge are among the nodes, and no node stands twice
+-- both ends of each edge are nodes, and no node stands twice
 pub record IsShape {S : Type 0} (g : Shape S) : Type 0 where
   pub sources : All (λ e. e.source.0 < length g.nodes) g.edges
   pub targets : All (λ e. e.target.0 < length g.nodes) g.edges
@@ -44,11 +44,11 @@ as_solvable (Some UnresolvedDependency) = None
 as_solvable (Some (Excluded reason)) = None
 as_solvable None = None
 
--- the solvable of a node
+-- the solvable of a node, if it is one
 abbrev pub solvable_at : {S : Type 0} → Shape S → ℕ → Option S
 solvable_at g n = as_solvable (slice_get g.nodes n)
 
--- what an edge requires, if it does
+-- the requirement of an edge, or `None` if it is a conflict
 abbrev pub required : {S : Type 0} → ConflictEdge S → Option Requirement
 required (Requires r) = Some r
 required (Conflict c) = None

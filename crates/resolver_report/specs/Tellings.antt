@@ -1,4 +1,4 @@
--- What the code that writes a tree writes, as the definitions take it.
+-- What the code writes for a tree, as the definitions take it.
 use Rattle.std.specs.Prelude.{◌≡◌, ℕ, Bool, true, false, List, [], ◌∷◌, ◌++◌, IsSome, codes, map, slice_get}
 use Rattle.resolver_clause_store.specs.Universe.{Universe}
 use Rattle.resolver_report.specs.declared.outline.NodeOutline.{NodeOutline}
@@ -13,7 +13,7 @@ use Rattle.resolver_report.specs.Shapes.{ConflictShape, places, solvable_at}
 use Rattle.resolver_report.specs.Simplified.{IsSimplified}
 use Rattle.resolver_report.specs.Outlines.{groups_in, node_told, node_view}
 
--- the text of a piece at these levels
+-- the text of a sibling at these levels
 abbrev pub text_at : Bool → List Bool → Piece → List ℕ
 text_at top levels quiet = []
 text_at top levels (said text below) = indent_from top levels ++ text ++ 10 ∷ [] ++ text_of top levels below
@@ -50,20 +50,20 @@ module _ {I N S : Type 0} (universe : I → Universe N S) (outline : Outline I N
   abbrev pub version_text_in : ℕ → List ℕ
   version_text_in n = version_text meaning graph_in keys_in marks_in n
 
-  -- the outline has what is told of each node
+  -- the outline has the groups, the marks and what is told of each node
   pub record IsOutline (same : S → S → Bool) : Type 0 where
     pub found_groups : (n : ℕ) → groups_in outline.findings n ≡ group_in keys_in n
     pub found_marks : outline.findings.installable.items ≡ marks_in
     pub groups : IsSimplified same meaning outline.findings.graph.now.graph outline.groups
     pub nodes : map node_view outline.nodes.items ≡ map (node_told graph_in (group_in keys_in) marks_in) (places outline.findings.graph.now.graph)
 
-  -- a node of which something is told
+  -- a node that is told of
   pub record IsToldNode (branch : List Bool) (n : ℕ) (reported : List Bool) (node : NodeOutline) : Type 0 where
     pub loud : is_quiet meaning graph_in keys_in marks_in branch n reported ≡ false
     pub solvable : IsSome (solvable_at outline.findings.graph.now.graph n)
     pub view : node_view node ≡ node_told graph_in (group_in keys_in) marks_in n
 
-  -- what follows a candidate's versions, but for what it requires
+  -- what follows the versions of a candidate, up to its requirements
   abbrev pub verdict_rest : Bool → List Bool → Verdict → List ℕ
   verdict_rest top levels (excluded reason) =
       codes " is excluded because " ++ reason_text meaning (slice_get outline.findings.graph.now.graph.nodes reason.0) ++

@@ -1,4 +1,4 @@
--- A few packages with texts, for tests.
+-- A few packages and their texts, for tests.
 use Rattle.std.specs.Prelude.{ℕ, cond, nat_eq, List, [], ◌∷◌, ◌++◌, codes, None}
 use Rattle.resolver_clause_store.specs.Universe.{Universe, hint_none, unknown}
 use Rattle.resolver_clause_store.specs.declared.Condition.TheVariants.{Requirement as Matched}
@@ -22,7 +22,7 @@ set_text v = cond (nat_eq v 1) (codes ">=2, <3")
     (cond (nat_eq v 3) (codes ">=2, <3")
     (cond (nat_eq v 4) (codes ">=0, <100") (cond (nat_eq v 5) (codes ">=0, <54") (cond (nat_eq v 6) (codes ">=54, <100") (codes "*")))))
 
--- the name and the version of the first
+-- the name and version of the first solvable
 abbrev pub merged_text : List ℕ → List ℕ
 merged_text [] = []
 merged_text (s ∷ ss) = name_text (name_number s) ++ codes " " ++ version_text s

@@ -1,4 +1,4 @@
--- Which edges of a graph are true of a provider and a problem.
+-- Edges that are true of a provider and a problem.
 use Rattle.std.specs.Prelude.{◌≡◌, List, [], Some, All, Contains, slice_get}
 use Rattle.resolver_clause_store.specs.Universe.{Universe, Demands}
 use Rattle.resolver_clause_store.specs.Candidates.{others, requirement_candidates}
@@ -48,7 +48,7 @@ IsCandidateNode candidates (Solvable s) = Contains candidates s
 IsCandidateNode candidates UnresolvedDependency = candidates ≡ []
 IsCandidateNode candidates (Reason r) = ⊥
 
--- from the first node to the second, the weight says what the provider and the problem say
+-- what the edge says from the first node to the second is stated by the provider or the problem
 abbrev pub IsTrueBetween : {N S : Type 0} → Universe N S → Demands → ConflictNode S → ConflictEdge S → ConflictNode S → Type 0
 IsTrueBetween u root source (Required requirement) target = IsRequirerWith u root (HasRequirement requirement) source ×
     IsCandidateNode (requirement_candidates u requirement) target
@@ -58,7 +58,7 @@ IsTrueBetween u root source (Conflict (Locked locked)) target = (source ≡ Root
 IsTrueBetween u root source (Conflict ByExclusion) target = IsSolvableWith (λ s. IsReasonWith (λ r. IsTrueRule u root (Excluded s r)) target) source
 IsTrueBetween u root source (Conflict ForbidMultipleInstances) target = IsSolvableWith (λ s. IsSolvableWith (λ t. u.name s ≡ u.name t) target) source
 
--- nodes stand at both numbers of the edge, and what it says is true between them
+-- both ends of the edge are nodes, and what it says is true between them
 pub record IsTrueEdge {N S : Type 0} (u : Universe N S) (root : Demands) (g : Shape S) (e : Edge S) : Type 0 where
   pub source : ConflictNode S
   pub target : ConflictNode S

@@ -1,4 +1,4 @@
--- What a `Verdict` says.
+-- A `Verdict` as the definition's.
 use Rattle.resolver_report.specs.declared.verdict.Verdict.{Verdict as Said}
 use Rattle.resolver_report.specs.declared.verdict.Verdict.TheVariants.{Excluded, Alone, Second, Constrains, Requires}
 use Rattle.resolver_report.specs.Messages.{Verdict, excluded, alone, second, constrains, requires}

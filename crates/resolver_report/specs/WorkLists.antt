@@ -1,4 +1,4 @@
--- What waits for marks, and one step of marking.
+-- Implications that wait for marks, and one step of marking.
 use Rattle.std.specs.Prelude.{◌≡◌, ◌≢◌, ◌⊎◌, ℕ, zero, suc, ◌<◌, ◌≤◌, ◌-◌, ◌==◌, Bool, true, false, ◌&&◌, if◌then◌else◌, Contains, List, [], ◌∷◌, ◌++◌, drop}
 use Rattle.std.specs.Prelude.{length, slice_index_or, slice_set}
 use Rattle.resolver_report.specs.declared.implications.Marking.{Marking}
@@ -26,17 +26,17 @@ left_at w c = slice_index_or w.left c 0
 abbrev pub waits : ℕ → ℕ → Waiting
 waits c left = record { implication = c; left = left }
 
--- the last of so many groups has a mark
+-- the last of the first groups has a mark
 abbrev pub has_mark : List Bool → List (List NodeId) → ℕ → Bool
 has_mark marks groups zero = false
 has_mark marks groups (suc k) = some_marked marks (slice_index_or groups k [])
 
--- of so many groups as many as there are up to the last one without a mark
+-- how many of the first groups are left once the marked ones at the end are dropped
 abbrev pub up_to_unmarked : List Bool → List (List NodeId) → ℕ → ℕ
 up_to_unmarked marks groups zero = zero
 up_to_unmarked marks groups (suc k) = if some_marked marks (slice_index_or groups k []) then up_to_unmarked marks groups k else suc k
 
--- what woke the implication still counts
+-- the woken implication still waits for a mark in the group that woke it
 abbrev pub is_ready : List Implied → Work → Waiting → Bool
 is_ready is w x = left_at w x.implication == x.left && has_mark w.marks (implied_at is x.implication).groups x.left
 
@@ -50,12 +50,12 @@ after_mark w n = record {
       slice_index_or w.waiting n [];
 }
 
--- something waits at each of these nodes
+-- x waits at each of these nodes
 abbrev pub after_waits : List (List Waiting) → List NodeId → Waiting → List (List Waiting)
 after_waits table [] x = table
 after_waits table (n ∷ ns) x = after_waits (appended table n.0 x) ns x
 
--- the implication goes on to so many groups: it marks its node, or waits at the last of them
+-- the implication has `left` groups left: it waits at the last of them, or marks its node if there is none
 abbrev pub moved : Implied → Work → ℕ → ℕ → Work
 moved i w c zero = after_mark (record { marks = w.marks; left = slice_set w.left c zero; waiting = w.waiting; woken = w.woken }) i.node
 moved i w c (suc k) = record {
@@ -68,7 +68,7 @@ moved i w c (suc k) = record {
 abbrev pub advanced : List Implied → Work → ℕ → Work
 advanced is w c = moved (implied_at is c) w c (up_to_unmarked w.marks (implied_at is c).groups (left_at w c))
 
--- Of the groups that are not left each has a mark, and each mark is in all marks that obey the implications.
+-- Each group that is not left has a mark, and each mark is in all marks that obey the implications.
 pub record IsRight (is : List Implied) (w : Work) : Type 0 where
   pub tables : length w.waiting ≡ length w.marks
   pub long : length w.left ≡ length is
@@ -77,12 +77,12 @@ pub record IsRight (is : List Implied) (w : Work) : Type 0 where
   pub met : (c : ℕ) → c < length is → each_marked w.marks (drop (left_at w c) (implied_at is c).groups) ≡ true
   pub sound : (others : List Bool) → IsClosed (length w.marks) (follows is) others → (n : ℕ) → is_marked w.marks n ≡ true → is_marked others n ≡ true
 
--- Something waits at each of these nodes that has no mark, and was woken by each that has one.
+-- x waits at each node of the group without a mark, and was woken by each node with one.
 pub record WaitsAt (marks : List Bool) (waiting : List (List Waiting)) (woken : List Waiting) (group : List NodeId) (x : Waiting) : Type 0 where
   pub waits : (n : NodeId) → Contains group n → is_marked marks n.0 ≡ false → n.0 < length waiting → Contains (slice_index_or waiting n.0 []) x
   pub wakes : (n : NodeId) → Contains group n → is_marked marks n.0 ≡ true → Contains woken x
 
--- The implication waits so at the last group that is left.
+-- The implication waits in this way at the last of its groups that are left.
 pub record IsWaitingWith (is : List Implied) (w : Work) (c left : ℕ) : Type 0 where
   pub some : 0 < left
   pub there : WaitsAt w.marks w.waiting w.woken (slice_index_or (implied_at is c).groups (left - 1) []) (waits c left)
@@ -93,21 +93,21 @@ IsWaiting is w c = IsWaitingWith is w c (left_at w c)
 abbrev pub IsTended : List Implied → Work → ℕ → Type 0
 IsTended is w c = (is_marked w.marks (implied_at is c).node ≡ true) ⊎ IsWaiting is w c
 
--- what is tended in the first is so in the second
+-- what is tended in the first work list is tended in the second
 abbrev pub KeepsTended : List Implied → Work → Work → Type 0
 KeepsTended is v w = (c : ℕ) → IsTended is v c → IsTended is w c
 
--- the same, but for one implication
+-- the same, except for one implication
 abbrev pub KeepsOthersTended : List Implied → Work → Work → ℕ → Type 0
 KeepsOthersTended is v w d = (c : ℕ) → c ≢ d → IsTended is v c → IsTended is w c
 
--- nothing but what was woken is another
+-- the work lists are equal, except for what is woken
 pub record IsSameWork (v w : Work) : Type 0 where
   pub marks : w.marks ≡ v.marks
   pub left : w.left ≡ v.left
   pub waiting : w.waiting ≡ v.waiting
 
--- the implication can go on
+-- the implication can move on: the last of its groups that are left has a mark
 pub record IsReady (is : List Implied) (w : Work) (c : ℕ) : Type 0 where
   pub within : c < length is
   pub marked : has_mark w.marks (implied_at is c).groups (left_at w c) ≡ true

@@ -1,4 +1,4 @@
-//! The candidates that the root and each solvable require.
+//! The candidates of each requirer: of the root and of each solvable.
 
 ghost use Rattle.std.specs.Prelude.{◌≡◌, ◌++◌, IfOk, IfErr, OnOk};
 ghost use Rattle.std.specs.HashMap.{get};
@@ -11,14 +11,14 @@ use std::alloc::Global;
 use std::collections::HashMap;
 use std::hash::Hash;
 
-/// The candidates of all requirements of the root, and of those of each solvable that has some.
+/// The candidates of the root's requirements, and those of each solvable that has requirements.
 #[derive(Drop)]
 pub struct CandidateLists<S: Eq + Hash> {
     pub(crate) by_root: Vec<S>,
     pub(crate) by_solvable: HashMap<S, Vec<S>>,
 }
 
-/// Adds the candidates of a rule that is a requirement.
+/// Appends the candidates of a `Requires` rule to the list of its requirer.
 fn add_candidates<N, S: Copy + Eq + Hash + Drop>(
     alloc: Global,
     by_root: &mut Vec<S>,
@@ -53,7 +53,7 @@ fn add_candidates<N, S: Copy + Eq + Hash + Drop>(
     }
 }
 
-/// What the requirements of each requirer list.
+/// Collects the candidates of all requirements by requirer.
 pub fn candidates_by_requirer<N, S: Copy + Eq + Hash + Drop>(
     alloc: Global,
     rules: &[Rule<N, S>],

@@ -1,4 +1,4 @@
-//! Which nodes are alike, by their keys.
+//! Classes of alike nodes, by their keys.
 
 ghost use Rattle.std.specs.Prelude.{◌≡◌, ◌<◌, ◌++◌, ◌∷◌, [], List, Some, IfOk, IfErr, OnOk, length};
 ghost use Rattle.std.specs.HashMap.{get};
@@ -14,7 +14,7 @@ use resolver_clause_store::Exhausted;
 use std::alloc::Global;
 use std::collections::HashMap;
 
-/// Another key that says the same.
+/// A copy of a key.
 fn copy_of(alloc: Global, key: &NodeKey) -> Result<NodeKey, Exhausted>
     ensures value { IfOk result (λ k. key_view k ≡ key_view key.now) }
     ensures memory { IfErr result (λ e. e ≡ Exhausted.Memory) }
@@ -29,7 +29,7 @@ fn copy_of(alloc: Global, key: &NodeKey) -> Result<NodeKey, Exhausted>
     })
 }
 
-/// Adds a node to the class of its key, if it has one.
+/// Appends a node to the class of its key. A node without a key joins none.
 fn add_member(
     alloc: Global,
     classes: &mut HashMap<NodeKey, Vec<usize>>,
@@ -51,7 +51,7 @@ fn add_member(
     }
 }
 
-/// The nodes of each key, in their order.
+/// Groups the nodes by key, each class in node order.
 pub fn classes_of(
     alloc: Global,
     keys: &[Option<NodeKey>],
@@ -66,7 +66,7 @@ pub fn classes_of(
     Ok(classes)
 }
 
-/// The nodes that are alike with this one, in their order.
+/// The class of a node, in node order. It is empty for a node without a key.
 pub fn class_at<'a>(
     keys: &[Option<NodeKey>],
     classes: &'a HashMap<NodeKey, Vec<usize>>,

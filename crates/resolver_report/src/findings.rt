@@ -1,4 +1,4 @@
-//! What is found out of the nodes of a graph before a message is written.
+//! The groups and marks of a graph's nodes, which a message is written from.
 
 ghost use Rattle.std.specs.Prelude.{◌≡◌, ℕ, IfOk, IfErr, IsNone, MatchOption, None, Some};
 ghost use Rattle.std.specs.HashMap.{get};
@@ -20,7 +20,7 @@ use std::collections::HashMap;
 use std::hash::Hash;
 use std::rc::Rc;
 
-/// What a solvable is mapped to.
+/// Looks up the group of a solvable.
 fn mapped<'a, S: Copy + Eq + Hash + Drop>(
     groups: &'a HashMap<S, Rc<MergedConflictNode<S>>>,
     solvable: S,
@@ -30,7 +30,7 @@ fn mapped<'a, S: Copy + Eq + Hash + Drop>(
     groups.get(&solvable)
 }
 
-/// The group of a node, if it has one.
+/// The group of a node, or `None` if it stands alone or is no solvable.
 pub fn group_at_node<'a, I: Interner>(
     _interner: &I,
     graph: &ConflictGraph<I::SolvableId>,
@@ -47,7 +47,7 @@ pub fn group_at_node<'a, I: Interner>(
     mapped(groups, solvable)
 }
 
-/// The place of the first node of a node's group, if it has one.
+/// The place of the first node of a node's group, or `None` if it has no group.
 fn first_of_group<I: Interner>(
     interner: &I,
     graph: &ConflictGraph<I::SolvableId>,
@@ -70,7 +70,7 @@ fn first_of_group<I: Interner>(
     Some(place(nodes, places, &ConflictNode::Solvable(first)))
 }
 
-/// For each node the place of the first node of its group, if it has one.
+/// For each node, the place of the first node of its group, or `None` if it has no group.
 fn groups_of<I: Interner>(
     alloc: Global,
     interner: &I,
@@ -90,7 +90,7 @@ fn groups_of<I: Interner>(
     Ok(found)
 }
 
-/// What is found out of the nodes, given the groups of the solvables.
+/// Collects what the message needs to know of the nodes, given the groups of the solvables.
 pub fn findings_of<'g, I: Interner>(
     alloc: Global,
     interner: &I,

@@ -1,4 +1,4 @@
-//! Graphs: nodes, edges, and where the edges of each node stand.
+//! Graphs: nodes, edges, and the places of the edges at each node.
 
 ghost use Rattle.std.specs.Prelude.{◌≡◌, ◌+◌, ◌<◌, All, IfOk, IfErr, OnOk, length, slice_get};
 ghost use Rattle.resolver_report.specs.EdgePlaces.{AreEmpty, HasPlacesOfEdges, appended, lists_in};
@@ -11,7 +11,7 @@ use resolver_clause_store::{Exhausted, Requirement, StringId, VersionSetId};
 use std::alloc::Global;
 use std::marker::Model;
 
-/// Stands for the root, a solvable, what has no candidates, or a reason.
+/// A node: the root, a solvable, the one node of all requirements without candidates, or a reason for an exclusion.
 #[derive(Clone, Copy, PartialEq, Eq, Hash)]
 pub enum ConflictNode<S> {
     Root,
@@ -20,7 +20,7 @@ pub enum ConflictNode<S> {
     Excluded(StringId),
 }
 
-/// Why two nodes do not go together.
+/// Why two nodes cannot be chosen together.
 #[derive(Clone, Copy, PartialEq, Eq, PartialOrd, Ord, Hash)]
 pub enum ConflictCause<S> {
     Locked(S),
@@ -29,18 +29,18 @@ pub enum ConflictCause<S> {
     Excluded,
 }
 
-/// What an edge says.
+/// What an edge says: its source requires its target, or the two conflict.
 #[derive(Clone, Copy, PartialEq, Eq, PartialOrd, Ord, Hash)]
 pub enum ConflictEdge<S> {
     Requires(Requirement),
     Conflict(ConflictCause<S>),
 }
 
-/// The place of a node among the nodes.
+/// The place of a node in the list of nodes.
 #[derive(Clone, Copy, PartialEq, Eq, PartialOrd, Ord, Hash)]
 pub struct NodeId(pub usize);
 
-/// From one node to another.
+/// A directed edge, by the places of its ends.
 #[derive(Clone, Copy, PartialEq, Eq)]
 pub struct Edge<S> {
     pub source: NodeId,
@@ -48,7 +48,7 @@ pub struct Edge<S> {
     pub weight: ConflictEdge<S>,
 }
 
-/// An edge whose ends are nodes and not yet their places.
+/// A directed edge, by its nodes, before they have places.
 #[derive(Clone, Copy, PartialEq, Eq)]
 pub struct Link<S> {
     pub source: ConflictNode<S>,
@@ -56,21 +56,21 @@ pub struct Link<S> {
     pub weight: ConflictEdge<S>,
 }
 
-/// What an edge requires, if it does, and its other end.
+/// One end of a node's edge: the requirement of the edge, if it has one, and the node at the other end.
 #[derive(Clone, Copy, PartialEq, Eq, PartialOrd, Ord, Hash)]
 pub struct Side {
     pub required: Option<Requirement>,
     pub other: NodeId,
 }
 
-/// For each node the places of the edges from it, and of those to it, oldest first.
+/// For each node, the places of its outgoing and of its incoming edges, oldest first.
 #[derive(Drop)]
 pub struct EdgePlaces {
     pub(crate) from: Vec<Vec<usize>>,
     pub(crate) to: Vec<Vec<usize>>,
 }
 
-/// So many empty lists.
+/// Makes `count` empty lists.
 pub fn empty_lists<X: Drop>(alloc: Global, count: usize) -> Result<Vec<Vec<X>>, Exhausted>
     ensures value { IfOk result (λ v. AreEmpty count (lists_in v.items)) }
     ensures memory { IfErr result (λ e. e ≡ Exhausted.Memory) }
@@ -82,7 +82,7 @@ pub fn empty_lists<X: Drop>(alloc: Global, count: usize) -> Result<Vec<Vec<X>>, 
     Ok(lists)
 }
 
-/// Appends an item to one of the lists.
+/// Appends an item to the list at `place`.
 pub fn push_at<X: Drop>(lists: &mut Vec<Vec<X>>, place: usize, item: X) -> Result<(), Exhausted>
     requires { place < length lists.old.items }
     ensures ok { OnOk result (lists_in lists.new.items ≡ appended (lists_in lists.old.items) place item) }
@@ -92,7 +92,7 @@ pub fn push_at<X: Drop>(lists: &mut Vec<Vec<X>>, place: usize, item: X) -> Resul
     Ok(())
 }
 
-/// Where the edges of each node stand, of so many nodes.
+/// Lists the places of each node's edges, for `count` nodes.
 pub fn edge_places<S>(
     alloc: Global,
     count: usize,
@@ -176,7 +176,7 @@ impl<'a, S> Iterator for Incoming<'a, S> {
     }
 }
 
-/// Nodes, and edges between them. No solvable stands on two nodes.
+/// Nodes, and edges between them. No solvable has two nodes.
 #[derive(Drop)]
 pub struct Graph<S> {
     nodes: Vec<ConflictNode<S>>,
@@ -201,7 +201,7 @@ impl<S> Graph<S> {
         *self.nodes.allocator()
     }
 
-    /// The nodes, each at the place that its id names.
+    /// The nodes, in the order of their ids.
     pub fn nodes(&self) -> &[ConflictNode<S>]
         ensures value { result.now ≡ self.now.nodes }
         ensures once { HasNoRepeats self.now.nodes }
@@ -264,7 +264,7 @@ impl<S: Drop> Graph<S> {
 }
 
 impl<S: Copy + Drop> Graph<S> {
-    /// Another graph with the same nodes and edges.
+    /// A copy with the same nodes and edges.
     fn copied(&self) -> Result<Graph<S>, Exhausted>
         ensures value { IfOk result (λ g. g ≡ self.now) }
         ensures memory { IfErr result (λ e. e ≡ Exhausted.Memory) }
@@ -287,7 +287,7 @@ pub struct ConflictGraph<S> {
 }
 
 impl<S: Copy + Drop> ConflictGraph<S> {
-    /// Another graph that equals this one.
+    /// A copy that equals this graph.
     ///
     /// The error is [`Exhausted::Memory`] alone.
     pub fn clone(&self) -> Result<ConflictGraph<S>, Exhausted>

@@ -1,4 +1,4 @@
-//! The fewest marks of nodes that obey implications, by a work list.
+//! The fewest marks of nodes that obey a list of implications, found with a work list.
 
 ghost use Rattle.std.specs.Prelude.{◌≡◌, ◌<◌, [], All, IfOk, IfErr, OnOk, MatchOption, length, map};
 ghost use Rattle.resolver_report.specs.EdgePlaces.{appended, lists_in};
@@ -11,29 +11,29 @@ use crate::marks::some_marked;
 use resolver_clause_store::Exhausted;
 use std::alloc::Global;
 
-/// Once of each group something is marked, the node is.
+/// An implication: if each group has a marked node, `node` is marked.
 #[derive(Drop)]
 pub struct Implication {
     pub groups: Vec<Vec<NodeId>>,
     pub node: NodeId,
 }
 
-/// An implication waits for a mark in the last of so many of its groups.
+/// An implication that waits for a mark in the last of its groups that are left.
 #[derive(Clone, Copy)]
 pub struct Waiting {
     implication: usize,
     left: usize,
 }
 
-/// Marks, and what waits for more of them.
+/// The marks so far, and the implications that wait for more.
 #[derive(Drop)]
 pub struct Marking {
     marks: Vec<bool>,
-    /// Of each implication how many groups are left. Those behind them have marks.
+    /// For each implication, how many groups are left. Each group after those has a mark.
     left: Vec<usize>,
-    /// For each node what waits for its mark.
+    /// For each node, what waits for its mark.
     waiting: Vec<Vec<Waiting>>,
-    /// What waited for a mark that came.
+    /// What a new mark has woken, and is still to be looked at.
     woken: Vec<Waiting>,
 }
 
@@ -47,7 +47,7 @@ fn left_of(marking: &Marking, place: usize) -> usize
     }
 }
 
-/// Whether the last of so many groups has a mark.
+/// Whether the last of the first `left` groups has a mark.
 fn has_mark(marks: &[bool], groups: &[Vec<NodeId>], left: usize) -> bool
     ensures { result ≡ has_mark_in marks.now (lists_in groups.now) left }
 {
@@ -60,7 +60,7 @@ fn has_mark(marks: &[bool], groups: &[Vec<NodeId>], left: usize) -> bool
     }
 }
 
-/// How many groups there are up to the last one without a mark.
+/// Drops marked groups from the end of the first `left`, and counts the others.
 fn up_to_unmarked(marks: &[bool], groups: &[Vec<NodeId>], left: usize) -> usize
     ensures { result ≡ up_to_unmarked_in marks.now (lists_in groups.now) left }
 {
@@ -71,7 +71,7 @@ fn up_to_unmarked(marks: &[bool], groups: &[Vec<NodeId>], left: usize) -> usize
     rest
 }
 
-/// Whether an implication still waits for the mark that woke it.
+/// Whether a woken implication still waits for a mark in the group that woke it.
 fn is_ready(implications: &[Implication], marking: &Marking, woken: Waiting) -> bool
     ensures { result ≡ is_ready_in (map implied implications.now) (work_view marking.now) woken }
 {
@@ -96,7 +96,7 @@ fn mark(marking: &mut Marking, n: NodeId) -> Result<(), Exhausted>
     Ok(())
 }
 
-/// Lets something wait at a node.
+/// Adds a waiting implication to a node's list. A node past the end of the table has none.
 fn wait_at(table: &mut Vec<Vec<Waiting>>, n: NodeId, waiting: Waiting) -> Result<(), Exhausted>
     ensures ok { OnOk result (lists_in table.new.items ≡ appended (lists_in table.old.items) n.0 waiting) }
     ensures memory { IfErr result (λ e. e ≡ Exhausted.Memory) }
@@ -108,7 +108,7 @@ fn wait_at(table: &mut Vec<Vec<Waiting>>, n: NodeId, waiting: Waiting) -> Result
     Ok(())
 }
 
-/// Lets something wait at each of these nodes.
+/// Adds a waiting implication to the list of each of these nodes.
 fn wait_at_each(
     table: &mut Vec<Vec<Waiting>>,
     nodes: &[NodeId],
@@ -123,7 +123,7 @@ fn wait_at_each(
     Ok(())
 }
 
-/// An implication goes on to its last group without a mark, and waits there, or marks its node.
+/// Moves an implication on to its last group without a mark, where it waits. If there is none, marks its node.
 fn advance(
     implications: &[Implication],
     marking: &mut Marking,
@@ -149,7 +149,7 @@ fn advance(
     Ok(())
 }
 
-/// The next implication that can go on, of those that were woken.
+/// Pops woken implications until one of them can move on.
 fn next_ready(implications: &[Implication], marking: &mut Marking) -> Option<usize>
     requires { IsRight (map implied implications.now) (work_view marking.old) }
     ensures same { IsSameWork (work_view marking.old) (work_view marking.new) }
@@ -166,7 +166,7 @@ fn next_ready(implications: &[Implication], marking: &mut Marking) -> Option<usi
     None
 }
 
-/// Nothing is marked, and nothing waits yet.
+/// The start: no node is marked, and no implication waits yet.
 fn unmarked(alloc: Global, count: usize, implications: &[Implication]) -> Result<Marking, Exhausted>
     requires { All (λ i. i.node.0 < count) implications.now }
     ensures right { IfOk result (λ m. IsRight (map implied implications.now) (work_view m)) }
@@ -186,7 +186,7 @@ fn unmarked(alloc: Global, count: usize, implications: &[Implication]) -> Result
     })
 }
 
-/// Lets each implication wait, or marks its node.
+/// Lets each implication wait for its first mark, or marks its node at once.
 fn start(implications: &[Implication], marking: &mut Marking) -> Result<(), Exhausted>
     requires { IsRight (map implied implications.now) (work_view marking.old) }
     ensures right { OnOk result (IsRight (map implied implications.now) (work_view marking.new)) }
@@ -200,7 +200,7 @@ fn start(implications: &[Implication], marking: &mut Marking) -> Result<(), Exha
     Ok(())
 }
 
-/// Follows all marks, until nothing is woken any more.
+/// Follows the marks until no woken implication is left.
 fn follow(implications: &[Implication], marking: &mut Marking) -> Result<(), Exhausted>
     requires right { IsRight (map implied implications.now) (work_view marking.old) }
     requires tended { AreTended (map implied implications.now) (work_view marking.old) }
@@ -213,9 +213,10 @@ fn follow(implications: &[Implication], marking: &mut Marking) -> Result<(), Exh
     Ok(())
 }
 
-/// The fewest marks of so many nodes that obey the implications.
+/// The fewest marks of `count` nodes that obey the implications.
 ///
-/// The time is linear in what the groups list together: a group is looked at when its implication comes to it, and when a mark in it came.
+/// The time is linear in the total length of the groups: a group is looked at when its implication comes to it, and
+/// once for each of its nodes that is marked later.
 pub fn least_marks(
     alloc: Global,
     count: usize,

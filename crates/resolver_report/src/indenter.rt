@@ -1,4 +1,4 @@
-//! What stands in front of a line.
+//! The indent of a line in a tree.
 
 ghost use Rattle.std.specs.Prelude.{◌≡◌, ◌+◌, ◌-◌, ◌<◌, ◌==◌, ◌++◌, ◌∷◌, [], Bool, List, IfOk, IfErr, OnOk, length, map, string_bytes};
 ghost use Rattle.resolver_report.specs.Forests.{branch_text, indent, indent_from, stem_text};
@@ -7,14 +7,14 @@ ghost use Rattle.resolver_report.specs.Indents.{is_last_child, levels_in};
 use resolver_clause_store::Exhausted;
 use std::alloc::Global;
 
-/// Whether more lines stand beside a line, after it.
+/// Whether a line has siblings below it.
 #[derive(Clone, Copy, PartialEq, Eq)]
 pub enum ChildOrder {
     HasRemainingSiblings,
     Last,
 }
 
-/// The levels of a line, from the top.
+/// The levels above a line, from the top, each with the order of its line.
 #[derive(Drop)]
 pub struct Indenter {
     levels: Vec<ChildOrder>,
@@ -22,7 +22,7 @@ pub struct Indenter {
 }
 
 impl ChildOrder {
-    /// The order of the child at this place among so many.
+    /// The order of the child at `place` among `count` children.
     pub fn at(place: usize, count: usize) -> ChildOrder
         requires { place < count }
         ensures { is_last_child result ≡ (count - (place + 1) == 0) }
@@ -34,7 +34,7 @@ impl ChildOrder {
         }
     }
 
-    /// The order of the child before these.
+    /// The order of the child that comes just before `rest`.
     pub fn before<T>(rest: &[T]) -> ChildOrder
         ensures { is_last_child result ≡ (length rest.now == 0) }
     {
@@ -46,7 +46,7 @@ impl ChildOrder {
     }
 }
 
-/// Writes what the deepest level says.
+/// Writes the branch at the deepest level of a line.
 pub fn write_branch(order: ChildOrder, out: &mut String) -> Result<(), Exhausted>
     ensures ok { OnOk result (string_bytes out.new ≡ string_bytes out.old ++ branch_text (is_last_child order)) }
     ensures memory { IfErr result (λ e. e ≡ Exhausted.Memory) }
@@ -63,7 +63,7 @@ pub fn write_branch(order: ChildOrder, out: &mut String) -> Result<(), Exhausted
     }
 }
 
-/// Writes what a level above the deepest one says.
+/// Writes the stem at a level above the deepest.
 fn write_stem(order: ChildOrder, out: &mut String) -> Result<(), Exhausted>
     ensures ok { OnOk result (string_bytes out.new ≡ string_bytes out.old ++ stem_text (is_last_child order)) }
     ensures memory { IfErr result (λ e. e ≡ Exhausted.Memory) }
@@ -80,7 +80,7 @@ fn write_stem(order: ChildOrder, out: &mut String) -> Result<(), Exhausted>
     }
 }
 
-/// Writes what one of the levels says, given those below it.
+/// Writes one level of an indent: a branch if no level is below it, else a stem.
 fn write_level(order: ChildOrder, below: &[ChildOrder], out: &mut String) -> Result<(), Exhausted>
     ensures ok { OnOk result (string_bytes out.new ++ indent (map is_last_child below.now) ≡ string_bytes out.old ++
         indent (is_last_child order ∷ map is_last_child below.now)) }
@@ -108,7 +108,7 @@ fn write_levels(levels: &[ChildOrder], out: &mut String) -> Result<(), Exhausted
 }
 
 impl Indenter {
-    /// No level yet. Without top level indent the first level writes nothing.
+    /// No levels yet. Without a top-level indent, the first level writes nothing.
     pub fn new(alloc: Global, top_level_indent: bool) -> Indenter
         ensures levels { levels_in result ≡ [] }
         ensures top { result.top_level_indent ≡ top_level_indent }
@@ -119,7 +119,7 @@ impl Indenter {
         }
     }
 
-    /// The levels of what stands one level deeper.
+    /// The levels of a child, one deeper.
     pub fn deeper(&self, order: ChildOrder) -> Result<Indenter, Exhausted>
         ensures levels { IfOk result (λ deeper. levels_in deeper ≡ levels_in self.now ++ is_last_child order ∷ []) }
         ensures top { IfOk result (λ deeper. deeper.top_level_indent ≡ self.now.top_level_indent) }
@@ -133,7 +133,7 @@ impl Indenter {
         })
     }
 
-    /// Leaves the deepest level.
+    /// Removes the deepest level.
     pub fn rise(&mut self)
         ensures levels { (levels : List Bool) (last : Bool) → levels_in self.old ≡ levels ++ last ∷ [] → levels_in self.new ≡ levels }
         ensures top { self.new.top_level_indent ≡ self.old.top_level_indent }

@@ -1,4 +1,4 @@
-//! What makes two solvables of a graph alike.
+//! Keys of nodes: nodes with equal keys are alike.
 
 ghost use Rattle.std.specs.Prelude.{◌≡◌, ◌<◌, IfOk, IfErr, length, string_bytes, Some};
 ghost use Rattle.std.specs.Option.{option_map};
@@ -11,7 +11,7 @@ use itertools::Itertools;
 use resolver_clause_store::{Exhausted, Interner, Requirement};
 use std::alloc::Global;
 
-/// The text of a solvable's name, and what the edges of its node say, in order.
+/// The name text of a node's solvable, and the sorted sides of its edges.
 #[derive(PartialEq, Eq, Hash, Drop)]
 pub struct NodeKey {
     pub(crate) name: String,
@@ -19,7 +19,7 @@ pub struct NodeKey {
     pub(crate) sides_out: Vec<Side>,
 }
 
-/// What an edge requires, if it does.
+/// The requirement of an edge, or `None` if it is a conflict.
 fn required<S>(weight: &ConflictEdge<S>) -> Option<Requirement>
     ensures { result ≡ required_by weight.now }
 {
@@ -29,7 +29,7 @@ fn required<S>(weight: &ConflictEdge<S>) -> Option<Requirement>
     }
 }
 
-/// What the edges to a node say, in order.
+/// The sides of the incoming edges, sorted.
 fn sides_in<S: Drop>(alloc: Global, graph: &Graph<S>, n: NodeId) -> Result<Vec<Side>, Exhausted>
     requires { n.0 < length graph.now.nodes }
     ensures value { IfOk result (λ v. IsInOrder ⟦<Side as Ord>⟧.cmp (sides_in_by graph.now n.0) v.items) }
@@ -42,7 +42,7 @@ fn sides_in<S: Drop>(alloc: Global, graph: &Graph<S>, n: NodeId) -> Result<Vec<S
     Ok(sides.sorted(alloc)?.collect_vec(alloc)?)
 }
 
-/// What the edges from a node say, in order.
+/// The sides of the outgoing edges, sorted.
 fn sides_out<S: Drop>(alloc: Global, graph: &Graph<S>, n: NodeId) -> Result<Vec<Side>, Exhausted>
     requires { n.0 < length graph.now.nodes }
     ensures value { IfOk result (λ v. IsInOrder ⟦<Side as Ord>⟧.cmp (sides_out_by graph.now n.0) v.items) }
@@ -55,7 +55,7 @@ fn sides_out<S: Drop>(alloc: Global, graph: &Graph<S>, n: NodeId) -> Result<Vec<
     Ok(sides.sorted(alloc)?.collect_vec(alloc)?)
 }
 
-/// The name text of a solvable's node.
+/// The name text of a solvable's node, or `None` for any other node.
 fn name_at<I: Interner>(
     alloc: Global,
     interner: &I,
@@ -77,7 +77,7 @@ fn name_at<I: Interner>(
     }
 }
 
-/// What is compared of a node, if it is a solvable's.
+/// The key of a node, or `None` if it is no solvable.
 fn key_at<I: Interner>(
     alloc: Global,
     interner: &I,

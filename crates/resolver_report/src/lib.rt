@@ -1,4 +1,4 @@
-//! Rules that explain a conflict, a plain search over them, and their graph.
+//! Reports of conflicts: a plain search over rules, the graph of a list of rules, and the message of that graph.
 #![tactic(auto)]
 
 mod candidate_lists;

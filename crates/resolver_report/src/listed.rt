@@ -1,4 +1,4 @@
-//! Lists by keys.
+//! Maps from keys to lists.
 
 ghost use Rattle.std.specs.Prelude.{◌≡◌, ◌++◌, IfErr, OnOk};
 ghost use Rattle.std.specs.HashMap.{get};
@@ -9,7 +9,7 @@ use std::alloc::Global;
 use std::collections::HashMap;
 use std::hash::Hash;
 
-/// Adds elements to the list of a key.
+/// Appends elements to the list of a key, which it makes if there is none.
 pub fn extend_at<K: Eq + Hash + Drop, T: Copy + Drop>(
     alloc: Global,
     lists: &mut HashMap<K, Vec<T>>,

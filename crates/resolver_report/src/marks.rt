@@ -19,7 +19,7 @@ use crate::runs::{EdgeRun, has_conflict, is_exclusion, outgoing, runs_of};
 use resolver_clause_store::Exhausted;
 use std::alloc::Global;
 
-/// Whether a node has a mark. One past the end of the marks has none.
+/// Whether a node is marked. Nodes past the end of the marks are not.
 pub fn is_marked(marks: &[bool], n: NodeId) -> bool
     ensures { result ≡ is_marked_in marks.now n.0 }
 {
@@ -29,14 +29,14 @@ pub fn is_marked(marks: &[bool], n: NodeId) -> bool
     }
 }
 
-/// Whether one of the nodes has a mark.
+/// Whether one of the nodes is marked.
 pub fn some_marked(marks: &[bool], nodes: &[NodeId]) -> bool
     ensures { result ≡ some_marked_in marks.now nodes.now }
 {
     nodes.iter().any(|n| is_marked(marks, *n))
 }
 
-/// Whether a node is the one at this place, if there is one.
+/// Whether `n` is the node at this place, if there is one.
 pub fn is_place(place: Option<NodeId>, n: NodeId) -> bool
     ensures { result ≡ is_place_at (option_map (λ m. m.0) place) n.0 }
 {
@@ -46,7 +46,7 @@ pub fn is_place(place: Option<NodeId>, n: NodeId) -> bool
     }
 }
 
-/// Whether some edge to a node excludes something.
+/// Whether an incoming edge of a node is an exclusion.
 fn is_excluded<S: Drop>(graph: &Graph<S>, n: NodeId) -> bool
     requires { n.0 < length graph.now.nodes }
     ensures { result ≡ has_exclusion (incoming graph.now.edges n.0) }
@@ -81,7 +81,7 @@ fn alone(alloc: Global, n: NodeId) -> Result<Vec<NodeId>, Exhausted>
     Ok(nodes)
 }
 
-/// Each node in a list of its own.
+/// Puts each node into a list of its own.
 fn alone_each(alloc: Global, nodes: &[NodeId]) -> Result<Vec<Vec<NodeId>>, Exhausted>
     ensures value { IfOk result (λ v. lists_in v.items ≡ each_alone nodes.now) }
     ensures memory { IfErr result (λ e. e ≡ Exhausted.Memory) }
@@ -93,7 +93,7 @@ fn alone_each(alloc: Global, nodes: &[NodeId]) -> Result<Vec<Vec<NodeId>>, Exhau
     Ok(groups)
 }
 
-/// Adds that a node is missing once all of some run is.
+/// Adds, for each run, that `n` is missing if all its targets are.
 fn add_runs(
     alloc: Global,
     runs: &[EdgeRun],
@@ -110,7 +110,7 @@ fn add_runs(
     Ok(())
 }
 
-/// Adds what implies that a node can be installed.
+/// Adds the implication by which a node can be installed, if it has one.
 fn add_installable<S: Copy + Drop>(
     alloc: Global,
     graph: &ConflictGraph<S>,
@@ -137,7 +137,7 @@ fn add_installable<S: Copy + Drop>(
     Ok(())
 }
 
-/// Adds what implies that a node is missing.
+/// Adds the implications by which a node is missing.
 fn add_missing<S: Copy + Drop>(
     alloc: Global,
     graph: &ConflictGraph<S>,
@@ -162,7 +162,7 @@ fn add_missing<S: Copy + Drop>(
     Ok(())
 }
 
-/// What implies that nodes can be installed.
+/// Collects the implications by which nodes can be installed.
 fn all_installable<S: Copy + Drop>(
     alloc: Global,
     graph: &ConflictGraph<S>,
@@ -177,7 +177,7 @@ fn all_installable<S: Copy + Drop>(
     Ok(found)
 }
 
-/// What implies that nodes are missing.
+/// Collects the implications by which nodes are missing.
 fn all_missing<S: Copy + Drop>(
     alloc: Global,
     graph: &ConflictGraph<S>,
@@ -192,7 +192,7 @@ fn all_missing<S: Copy + Drop>(
     Ok(found)
 }
 
-/// What can be installed.
+/// Marks the nodes that can be installed.
 pub fn installable<S: Copy + Drop>(
     alloc: Global,
     graph: &ConflictGraph<S>,
@@ -205,7 +205,7 @@ pub fn installable<S: Copy + Drop>(
     Ok(marks)
 }
 
-/// What is missing.
+/// Marks the nodes that are missing.
 pub fn missing<S: Copy + Drop>(
     alloc: Global,
     graph: &ConflictGraph<S>,
@@ -218,8 +218,9 @@ pub fn missing<S: Copy + Drop>(
     Ok(marks)
 }
 
-/// What can be installed, and what is missing, are the least sets that are closed under their rules: each node that the
-/// rule marks, given the marks, is marked, and any other marks of which that is so have these.
+/// The marks of the nodes that can be installed, and of those that are missing, are the least ones closed under their
+/// rules: each node that the rule marks, given the marks, is marked, and any other marks that are closed so have at
+/// least these.
 pub fn marks_are_least_closed<S>()
     ensures installable { (g : ConflictShape S) → IsLeastClosed (length g.shape.nodes) (can_be_installed_by g) (installable_in g) }
     ensures missing { (g : ConflictShape S) → IsLeastClosed (length g.shape.nodes) (must_be_missing_by g) (missing_in g) }

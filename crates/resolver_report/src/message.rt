@@ -1,4 +1,4 @@
-//! The message of a graph.
+//! The message of a conflict graph.
 
 ghost use Rattle.std.specs.Prelude.{◌≡◌, ◌++◌, ◌∷◌, ◌<◌, ◌≤◌, [], true, Some, IfOk, IfErr, IfNone, IfSome, IsTrue, OnOk, codes, filter, length, string_bytes};
 ghost use Rattle.resolver_report.specs.ConflictGraphs.{shape_of};
@@ -20,7 +20,7 @@ use resolver_clause_store::{Exhausted, Interner};
 use std::alloc::Global;
 use std::fmt;
 
-/// The edges whose target is marked, or the others, in their order.
+/// Filters the edges by whether their target is marked.
 fn edges_by_mark<S: Copy + Drop>(
     alloc: Global,
     edges: &[Edge<S>],
@@ -37,7 +37,7 @@ fn edges_by_mark<S: Copy + Drop>(
     Ok(found.collect_vec(alloc)?)
 }
 
-/// What a message of the graph is written from.
+/// Works out what the message tells of the graph.
 fn outline_of<'i, I: Interner>(
     interner: &'i I,
     graph: &'i ConflictGraph<I::SolvableId>,
@@ -59,7 +59,7 @@ fn outline_of<'i, I: Interner>(
     })
 }
 
-/// Writes what cannot be had at all.
+/// Writes the part about requirements that nothing can fulfil.
 fn write_missing_part<I: Interner>(
     outline: &Outline<'_, I>,
     edges: &[Edge<I::SolvableId>],
@@ -78,7 +78,7 @@ fn write_missing_part<I: Interner>(
     Ok(())
 }
 
-/// Writes a tree of what does not go together, and what the root itself forbids.
+/// Writes the tree of what is incompatible, and the conflicts of the root itself.
 fn write_incompatible<I: Interner>(
     outline: &Outline<'_, I>,
     root_edges: &[Edge<I::SolvableId>],
@@ -98,7 +98,7 @@ fn write_incompatible<I: Interner>(
     Ok(())
 }
 
-/// Writes what does not go together, and what the root itself forbids.
+/// Writes the part about what is incompatible, if there is anything.
 fn write_conflict_part<I: Interner>(
     outline: &Outline<'_, I>,
     root_edges: &[Edge<I::SolvableId>],
@@ -118,19 +118,19 @@ fn write_conflict_part<I: Interner>(
     Ok(())
 }
 
-/// What a message is written from.
+/// An outline, and the edges of the root in two parts.
 #[derive(Drop)]
 struct MessageParts<'i, I: Interner> {
     outline: Outline<'i, I>,
     /// The edges of the root, newest first.
     root_edges: Vec<Edge<I::SolvableId>>,
-    /// Those that lead to what cannot be had at all.
+    /// The root's edges to missing nodes.
     lost: Vec<Edge<I::SolvableId>>,
-    /// The others.
+    /// The root's other edges.
     left: Vec<Edge<I::SolvableId>>,
 }
 
-/// What the message of a graph is written from.
+/// Works out the parts of a graph's message.
 fn parts_of<'i, I: Interner>(
     interner: &'i I,
     graph: &'i ConflictGraph<I::SolvableId>,
@@ -153,7 +153,7 @@ fn parts_of<'i, I: Interner>(
     })
 }
 
-/// The text of a message.
+/// Writes a message into a text of its own.
 fn message_text<I: Interner>(
     alloc: Global,
     parts: &MessageParts<'_, I>,
@@ -168,7 +168,7 @@ fn message_text<I: Interner>(
     Ok(text)
 }
 
-/// Whether the two trees of a message have more bytes than a limit. They are counted no further than that.
+/// Whether the two trees of a message have more than `limit` bytes. Counting stops just above the limit.
 fn has_longer_trees<I: Interner>(
     alloc: Global,
     parts: &MessageParts<'_, I>,
@@ -184,7 +184,7 @@ fn has_longer_trees<I: Interner>(
     Ok(both > limit)
 }
 
-/// The text of a message, or `None` where it has more bytes than a limit.
+/// The text of a message, or `None` if it has more than `limit` bytes.
 fn message_text_within<I: Interner>(
     alloc: Global,
     parts: &MessageParts<'_, I>,
@@ -206,10 +206,10 @@ fn message_text_within<I: Interner>(
     Ok(Some(text))
 }
 
-/// The message of a conflict's graph: which packages are missing or do not go together, as a tree of lines.
+/// The message of a conflict's graph: a tree of lines that shows which packages are missing or incompatible.
 ///
-/// It is written by its `Display`. All of it is made before the first byte is written. An error comes only from the
-/// formatter, or where memory is refused.
+/// Its `Display` makes the whole text before it writes the first byte. An error comes only from the formatter, or where
+/// memory is refused.
 #[derive(Drop)]
 pub struct DisplayUnsat<'i, I: Interner> {
     graph: ConflictGraph<I::SolvableId>,
@@ -219,7 +219,7 @@ pub struct DisplayUnsat<'i, I: Interner> {
 impl<'i, I: Interner> DisplayUnsat<'i, I> {
     ghost use Rattle.resolver_report.specs.Displays.{displayed, displayed_graph, interner_in};
 
-    /// The message of a graph, with the texts of this interner.
+    /// The message of a graph, in the texts of this interner.
     pub fn new(graph: ConflictGraph<I::SolvableId>, interner: &'i I) -> Self
         ensures graph { displayed_graph result ≡ shape_of graph }
         ensures interner { interner_in result ≡ interner.now }
@@ -227,10 +227,10 @@ impl<'i, I: Interner> DisplayUnsat<'i, I> {
         DisplayUnsat { graph, interner }
     }
 
-    /// The message as a text, which takes half the memory that formatting it into a text takes.
+    /// The text of the message. This takes half the memory of formatting it into a `String`.
     ///
-    /// The error is [`Exhausted::Memory`] alone. A message that is too long for memory is counted first, and refused before
-    /// it is there.
+    /// The error is [`Exhausted::Memory`] alone. The bytes are counted first, so a message that is too long for memory
+    /// is refused before it is written.
     pub fn text(&self) -> Result<String, Exhausted>
         ensures value { IfOk result (λ text. string_bytes text ≡ displayed I.universe self.now) }
         ensures memory { IfErr result (λ e. e ≡ Exhausted.Memory) }
@@ -241,10 +241,10 @@ impl<'i, I: Interner> DisplayUnsat<'i, I> {
         Ok(text?)
     }
 
-    /// The message as a text, if that has at most so many bytes, and `None` if it is longer.
+    /// The text of the message if it has at most `limit` bytes, else `None`.
     ///
-    /// The error is [`Exhausted::Memory`] alone. The bytes are counted first, and no further than beyond the limit, so a message
-    /// that is much longer takes neither the memory nor the time to write it.
+    /// The error is [`Exhausted::Memory`] alone. The bytes are counted first, and counting stops just above the limit,
+    /// so a message that is much longer takes neither the memory nor the time to write it.
     pub fn text_within(&self, limit: usize) -> Result<Option<String>, Exhausted>
         ensures value { IfOk result (λ answer. IfSome answer (λ text. string_bytes text ≡ displayed I.universe self.now)) }
         ensures within { IfOk result (λ answer. IfSome answer (λ text. length (string_bytes text) ≤ limit)) }

@@ -1,4 +1,4 @@
-//! What a message tells of the edges from each node.
+//! What a message tells of each node.
 
 ghost use Rattle.std.specs.Prelude.{◌≡◌, ◌<◌, ◌++◌, ◌∷◌, [], if◌then◌else◌, IfOk, IfErr, OnOk, Option, filter, length, map, reverse};
 ghost use Rattle.std.specs.List.{list_any};
@@ -20,25 +20,25 @@ use resolver_clause_store::{Exhausted, Requirement};
 use std::alloc::Global;
 use std::collections::HashSet;
 
-/// What was found out of the nodes of a graph.
+/// A graph, with the groups of its nodes and the marks of those that can be installed.
 #[derive(Drop)]
 pub struct Findings<'g, S> {
     pub graph: &'g ConflictGraph<S>,
-    /// For each node the place of the first node of its group, if it has one.
+    /// For each node, the place of the first node of its group, or `None` if it has no group.
     pub groups: Vec<Option<usize>>,
     /// Which nodes can be installed.
     pub installable: Vec<bool>,
 }
 
-/// What is told of neighbouring edges with one requirement.
+/// What is told of a run: neighbouring edges with one requirement.
 #[derive(Drop)]
 pub struct RunOutline {
     pub requirement: Requirement,
-    /// The requirement has no candidates at all.
+    /// Whether the requirement has no candidates at all.
     pub is_unresolved: bool,
-    /// Some candidate can be installed.
+    /// Whether some candidate can be installed.
     pub is_viable: bool,
-    /// The candidates that are told of, oldest first.
+    /// The candidates to tell of, oldest first.
     pub candidates: Vec<NodeId>,
 }
 
@@ -60,7 +60,7 @@ fn group_at(groups: &[Option<usize>], n: NodeId) -> Option<usize>
     }
 }
 
-/// Adds a node, unless one of its group is there.
+/// Appends a node, unless one of its group is listed already.
 fn add_node(
     groups: &[Option<usize>],
     told: &mut HashSet<usize>,
@@ -86,7 +86,7 @@ fn add_node(
     Ok(())
 }
 
-/// Of the nodes of one group the first alone.
+/// Keeps the first node of each group, and each node without a group.
 fn first_of_groups(
     alloc: Global,
     groups: &[Option<usize>],
@@ -103,7 +103,7 @@ fn first_of_groups(
     Ok(found)
 }
 
-/// Whether a node is a solvable that a run tells of.
+/// Whether a run tells of a node: a solvable that can be installed, or any solvable if the run is not viable.
 fn is_candidate<S>(findings: &Findings<'_, S>, is_viable: bool, n: NodeId) -> bool
     ensures { result ≡ is_candidate_in (shape_of findings.now.graph.now) (groups_in findings.now) findings.now.installable.items is_viable n.0 }
 {
@@ -132,7 +132,7 @@ fn candidate_targets<S>(
     Ok(found.collect_vec(alloc)?)
 }
 
-/// Whether a run is one edge to the unresolved node.
+/// Whether a run is a single edge to the unresolved node.
 fn is_unresolved(unresolved: Option<NodeId>, targets: &[NodeId]) -> bool
     ensures { result ≡ is_unresolved_in (option_map (λ n. n.0) unresolved) targets.now }
 {
@@ -171,7 +171,7 @@ fn run_outline<S>(
     })
 }
 
-/// Adds what is told of a run, if it is viable as wanted.
+/// Appends what is told of a run, if its viability is the wanted one.
 fn add_outline<S>(
     alloc: Global,
     findings: &Findings<'_, S>,
@@ -191,7 +191,7 @@ fn add_outline<S>(
     Ok(())
 }
 
-/// Adds what is told of the runs that are viable as wanted, older ones first.
+/// Appends what is told of the runs with the wanted viability, oldest first.
 fn add_stories<S>(
     alloc: Global,
     findings: &Findings<'_, S>,
@@ -212,7 +212,7 @@ fn add_stories<S>(
     Ok(())
 }
 
-/// What is told of edges, newest first: the viable runs first, and of these the older first.
+/// What is told of edges that come newest first: viable runs before the others, and older ones first among each.
 pub fn outlines_of<S: Copy + Drop>(
     alloc: Global,
     findings: &Findings<'_, S>,

@@ -1,6 +1,6 @@
 //! What is still to be told of a tree.
 //!
-//! A tree is as deep as a chain of packages is long. So the place at which it is told is kept in a list, and not on the call stack.
+//! A tree is as deep as a chain of packages is long, so the position in it is kept in a list and not on the call stack.
 
 ghost use Rattle.std.specs.Prelude.{◌≡◌, IfErr, IfOk, OnOk, map, not, slice_set};
 ghost use Rattle.resolver_report.specs.PendingTexts.{HasLevels, entered, is_none, left, pending_view, whole_tree};
@@ -12,7 +12,7 @@ use crate::outline::RunOutline;
 use resolver_clause_store::Exhausted;
 use std::alloc::Global;
 
-/// Marks a place, or takes its mark away.
+/// Sets the mark of a node.
 pub fn set_mark(marks: &mut Vec<bool>, n: usize, mark: bool)
     ensures { marks.new.items ≡ slice_set marks.old.items n mark }
 {
@@ -21,13 +21,13 @@ pub fn set_mark(marks: &mut Vec<bool>, n: usize, mark: bool)
     }
 }
 
-/// A candidate whose tree is being told, and what comes after it.
+/// A candidate whose tree is being told, and what comes after that tree.
 #[derive(Drop)]
 pub struct Frame<'s> {
     pub node: NodeId,
-    /// The candidates after it, of the same run.
+    /// The candidates after this one in its run.
     pub candidates: &'s [NodeId],
-    /// The runs after that one.
+    /// The runs after that run.
     pub runs: &'s [RunOutline],
 }
 
@@ -36,22 +36,22 @@ pub struct Frame<'s> {
 pub struct Pending<'s> {
     /// The candidates whose trees are being told, from the top.
     pub frames: Vec<Frame<'s>>,
-    /// The candidates that are left of a run.
+    /// The candidates of the present run that are left.
     pub candidates: &'s [NodeId],
-    /// The runs after that one.
+    /// The runs after the present one.
     pub runs: &'s [RunOutline],
-    /// The levels of the tree that the runs are in.
+    /// The indent of the present tree.
     pub indenter: Indenter,
-    /// The groups that were reported.
+    /// The groups that are reported already.
     pub reported: Vec<bool>,
-    /// The candidates whose trees are being told.
+    /// The candidates on the present branch.
     pub branch: Vec<bool>,
-    /// How many candidates may stand on a branch.
+    /// How many candidates a branch may have.
     pub limit: usize,
 }
 
 impl<'s> Pending<'s> {
-    /// What is still to be told of a whole tree, where a branch has at most so many candidates.
+    /// A whole tree to be told, with at most `limit` candidates on a branch.
     pub fn whole(
         alloc: Global,
         runs: &'s [RunOutline],
@@ -73,7 +73,7 @@ impl<'s> Pending<'s> {
         })
     }
 
-    /// Goes down to the tree of a candidate.
+    /// Descends into the tree of a candidate.
     pub fn enter(
         &mut self,
         node: NodeId,
@@ -98,7 +98,7 @@ impl<'s> Pending<'s> {
         Ok(())
     }
 
-    /// Goes up from a tree that is told, unless it is the whole.
+    /// Returns from a finished tree to the one above. `false` if the whole tree is finished.
     pub fn leave(&mut self) -> bool
         requires { HasLevels self.old }
         ensures found { result ≡ not (is_none (pending_view self.old).frames) }

@@ -12,7 +12,7 @@ ghost use Rattle.resolver_report.specs.Searching.{IsChosen, IsSearching, IsStep,
 use resolver_clause_store::{By, Exhausted, Rule, has, meets};
 use std::alloc::Global;
 
-/// Whether the root or a solvable is there.
+/// Whether a requirer is present: a solvable if it is in the set, the root always.
 fn is_present<S: Eq>(by: &By<S>, set: &[S]) -> bool
     requires { IsIdentity S.eq }
     ensures { MatchBool result (IsPresent by.now set.now) (IsPresent by.now set.now → ⊥) }
@@ -23,7 +23,7 @@ fn is_present<S: Eq>(by: &By<S>, set: &[S]) -> bool
     }
 }
 
-/// Whether the set holds what a rule forbids. Of a requirement and of an instance nothing is said.
+/// Whether the rule is a constraint, lock or exclusion that the set breaks.
 fn is_forbidden<N, S: Eq>(rule: &Rule<N, S>, set: &[S]) -> bool
     requires { IsIdentity S.eq }
     ensures { MatchBool result (IsForbidden set.now rule.now) (IsAllowed set.now rule.now) }
@@ -36,7 +36,7 @@ fn is_forbidden<N, S: Eq>(rule: &Rule<N, S>, set: &[S]) -> bool
     }
 }
 
-/// Whether each list has a member in the set.
+/// Whether each of the lists has a member in the set.
 fn all_meet<S: Eq>(lists: &[Vec<S>], set: &[S]) -> bool
     requires { IsIdentity S.eq }
     ensures { MatchBool result (AllMeet set.now (lists_of lists.now)) (AllMeet set.now (lists_of lists.now) → ⊥) }
@@ -49,7 +49,8 @@ fn all_meet<S: Eq>(lists: &[Vec<S>], set: &[S]) -> bool
     true
 }
 
-/// The candidates of a rule that requires one of them, where the set has none.
+/// The candidates of a requirement that is not met: its requirer and its conditions are in the set, its candidates are
+/// not.
 fn open_candidates<'a, N, S: Eq>(rule: &'a Rule<N, S>, set: &[S]) -> Option<&'a [S]>
     requires { IsIdentity S.eq }
     ensures { MatchOption result (IsMet set.now rule.now) (λ wanted. IsUnmet set.now wanted.now rule.now) }
@@ -79,7 +80,7 @@ fn open_candidates<'a, N, S: Eq>(rule: &'a Rule<N, S>, set: &[S]) -> Option<&'a 
     }
 }
 
-/// Whether the set holds what some rule forbids.
+/// Whether the set has something that a rule forbids.
 fn breaks_some<N, S: Eq>(rules: &[Rule<N, S>], set: &[S]) -> bool
     requires { IsIdentity S.eq }
     ensures { MatchBool result (BreaksSome set.now rules.now) (All (IsAllowed set.now) rules.now) }
@@ -92,7 +93,7 @@ fn breaks_some<N, S: Eq>(rules: &[Rule<N, S>], set: &[S]) -> bool
     false
 }
 
-/// Whether a rule lists another instance of this package that is in the set.
+/// Whether a rule lists another instance of this package, and the set has that instance.
 fn lists_other_instance<N: Eq, S: Eq>(rule: &Rule<N, S>, set: &[S], name: &N, instance: &S) -> bool
     requires names { IsIdentity N.eq }
     requires solvables { IsIdentity S.eq }
@@ -118,7 +119,7 @@ fn lists_other_instance<N: Eq, S: Eq>(rule: &Rule<N, S>, set: &[S], name: &N, in
     }
 }
 
-/// Whether some rule lists another instance of this package that is in the set.
+/// Whether one of the rules lists another instance of this package, and the set has that instance.
 fn has_other<N: Eq, S: Eq>(rules: &[Rule<N, S>], set: &[S], name: &N, instance: &S) -> bool
     requires names { IsIdentity N.eq }
     requires solvables { IsIdentity S.eq }
@@ -132,7 +133,7 @@ fn has_other<N: Eq, S: Eq>(rules: &[Rule<N, S>], set: &[S], name: &N, instance: 
     false
 }
 
-/// Whether the rule lists an instance in the set, and some rule another one of its package that is in the set.
+/// Whether a rule lists an instance in the set, and another rule lists another instance of its package in the set.
 fn clashes<N: Eq, S: Eq>(rule: &Rule<N, S>, rules: &[Rule<N, S>], set: &[S]) -> bool
     requires names { IsIdentity N.eq }
     requires solvables { IsIdentity S.eq }
@@ -179,17 +180,17 @@ fn first_open<'a, N, S: Eq>(rules: &'a [Rule<N, S>], set: &[S]) -> Option<&'a [S
     None
 }
 
-/// What a set shows of the rules.
+/// The result of testing a set against the rules.
 enum Examined<'r, S> {
-    /// No larger set obeys them.
+    /// No set that contains this one obeys the rules.
     Refuted,
-    /// The set obeys them.
+    /// The set obeys the rules.
     Obeys,
-    /// These are the candidates of the first requirement that is not met.
+    /// The first requirement that is not met has these candidates.
     Open(&'r [S]),
 }
 
-/// What the set shows of the rules.
+/// Tests a set against the rules.
 fn examine<'r, N: Eq, S: Eq>(rules: &'r [Rule<N, S>], set: &[S]) -> Examined<'r, S>
     requires names { IsIdentity N.eq }
     requires solvables { IsIdentity S.eq }
@@ -207,24 +208,24 @@ fn examine<'r, N: Eq, S: Eq>(rules: &'r [Rule<N, S>], set: &[S]) -> Examined<'r,
     }
 }
 
-/// The candidates of a requirement that were not tried yet.
+/// The candidates of a requirement that have not been tried.
 #[derive(Drop)]
 pub struct Untried<'r, S> {
     pub candidates: &'r [S],
 }
 
-/// What a step of the search came to.
+/// The result of one step of the search.
 #[derive(Clone, Copy)]
 pub enum Step {
     /// The search goes on.
     GoesOn,
     /// The set obeys the rules.
     Found,
-    /// No set obeys them.
+    /// No set obeys the rules.
     Refuted,
 }
 
-/// Tests the set after a choice. Where no larger set obeys the rules, the choice is taken back.
+/// Tests the set after a choice. If no set that contains it obeys the rules, undoes the choice.
 fn enter<'r, N: Eq, S: Copy + Eq + Drop>(
     rules: &'r [Rule<N, S>],
     set: &mut Vec<S>,
@@ -250,7 +251,7 @@ fn enter<'r, N: Eq, S: Copy + Eq + Drop>(
     }
 }
 
-/// Chooses the first of the candidates that were not tried.
+/// Chooses the first untried candidate.
 fn choose<'r, N: Eq, S: Copy + Eq + Drop>(
     rules: &'r [Rule<N, S>],
     set: &mut Vec<S>,
@@ -273,7 +274,7 @@ fn choose<'r, N: Eq, S: Copy + Eq + Drop>(
     Ok(step)
 }
 
-/// Chooses the next candidate, or takes back the last choice where none is left.
+/// Chooses the next untried candidate, or undoes the last choice if none is left.
 fn advance<'r, N: Eq, S: Copy + Eq + Drop>(
     rules: &'r [Rule<N, S>],
     set: &mut Vec<S>,
@@ -323,14 +324,13 @@ fn search<'r, N: Eq, S: Copy + Eq + Drop>(
     }
 }
 
-/// A set that obeys the rules, or `None` where no set does.
+/// Finds a set that obeys the rules, or `None` if no set does.
 ///
-/// The set lists its solvables in the order in which they were chosen. It starts empty. As long as the set lacks what
-/// some requirement calls for, the candidates of the first such rule are tried in their order. So each solvable is there
-/// by need, and none stands twice.
-/// The clauses say neither the order, nor which set it is where several obey the rules.
+/// The search starts from the empty set. While a requirement is not met, it tries the candidates of the first such
+/// requirement in their order. So each solvable of the set is needed, and none is listed twice. The set is in the order
+/// of the choices. The clauses say neither which order that is, nor which set is found if several obey the rules.
 ///
-/// The time may be exponential in the number of rules. The choices stand in a list, so the machine's stack does not grow
+/// The time may be exponential in the number of rules. The choices are kept in a list, so the call stack does not grow
 /// with them.
 ///
 /// The error is [`Exhausted::Memory`] alone.

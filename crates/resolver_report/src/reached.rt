@@ -1,4 +1,4 @@
-//! The rules of a list that are about what its requirements reach.
+//! The rules that are about reached solvables.
 
 ghost use Rattle.std.specs.Prelude.{◌≡◌, All, Contains, IfErr, IfOk, MatchBool};
 ghost use Rattle.std.specs.HashMap.{get};
@@ -24,7 +24,7 @@ fn is_member<S: Eq + Hash>(set: &IndexSet<S>, solvable: &S) -> bool
     set.contains(solvable)
 }
 
-/// Whether the root or a solvable is there.
+/// Whether a requirer is present: a solvable if it is in the set, the root always.
 fn is_present<S: Eq + Hash>(by: &By<S>, set: &IndexSet<S>) -> bool
     requires { IsIdentity S.eq }
     ensures { MatchBool result (IsPresent by.now set.now.keys) (IsPresent by.now set.now.keys → ⊥) }
@@ -35,7 +35,7 @@ fn is_present<S: Eq + Hash>(by: &By<S>, set: &IndexSet<S>) -> bool
     }
 }
 
-/// Adds each solvable that is not there yet.
+/// Adds the solvables that are not in the set yet.
 fn add_all<S: Copy + Eq + Hash + Drop>(set: &mut IndexSet<S>, more: &[S]) -> Result<(), Exhausted>
     ensures added { IfOk result (λ _. set.new.keys ≡ insert_all S.eq set.old.keys more.now) }
     ensures memory { IfErr result (λ e. e ≡ Exhausted.Memory) }
@@ -64,7 +64,7 @@ fn add_candidates_of<S: Copy + Eq + Hash + Drop>(
     }
 }
 
-/// What the rules reach: what the root requires, then what each of these requires, one after another.
+/// Collects what the rules reach: what the root requires, then what each of these requires, and so on.
 fn reached_by<N, S: Copy + Eq + Hash + Drop>(
     alloc: Global,
     rules: &[Rule<N, S>],
@@ -85,7 +85,7 @@ fn reached_by<N, S: Copy + Eq + Hash + Drop>(
     Ok(set)
 }
 
-/// Whether what the rule is about is in the set.
+/// Whether everything that a rule is about is in the set.
 fn is_about<N, S: Eq + Hash>(rule: &Rule<N, S>, set: &IndexSet<S>) -> bool
     requires { IsIdentity S.eq }
     ensures { MatchBool result (IsAbout set.now.keys rule.now) (IsAbout set.now.keys rule.now → ⊥) }
@@ -99,7 +99,7 @@ fn is_about<N, S: Eq + Hash>(rule: &Rule<N, S>, set: &IndexSet<S>) -> bool
     }
 }
 
-/// Drops the rules that are about something that is not in the set.
+/// Drops each rule that is about something outside the set.
 fn retain_about<N: Drop, S: Eq + Hash + Drop>(rules: &mut Vec<Rule<N, S>>, set: &IndexSet<S>)
     requires { IsIdentity S.eq }
     ensures { LeavesJust (IsAbout set.now.keys) rules.old.items rules.new.items }
@@ -107,13 +107,14 @@ fn retain_about<N: Drop, S: Eq + Hash + Drop>(rules: &mut Vec<Rule<N, S>>, set: 
     rules.retain(|rule| is_about(rule, set));
 }
 
-/// The rules that are about what is reached, in their order.
+/// Keeps the rules that are about what is reached, in their order.
 ///
 /// A solvable is reached if it is a candidate of a requirement of the root or of a reached solvable, whatever the
-/// conditions. A rule is left if its requirer is the root or reached, and so is the solvable that it forbids or marks. Where
-/// no set obeys the rules, none obeys those that are left; and of the rules that are left each would be left again.
+/// conditions. A rule is kept if its requirer is reached, as the root is, and so is the solvable that it forbids or
+/// lists as an instance. If the rules are refuted, so are the kept ones, and keeping the reached ones of these drops
+/// none.
 ///
-/// The time grows with the rules and the candidates that they list.
+/// The time is linear in the rules and the candidates that they list.
 ///
 /// The error is [`Exhausted::Memory`] alone.
 pub fn keep_reached<N: Drop, S: Copy + Eq + Hash + Drop>(

@@ -1,4 +1,4 @@
-//! The graph of a list of rules: what the rules mention and link, and where nodes stand.
+//! The graph of a list of rules: the nodes that rules mention, the links between them, and the places of nodes.
 
 ghost use Rattle.std.specs.Prelude.{◌≡◌, IfOk, IfErr, ◌++◌, ◌∷◌, [], OnOk, map, ◌<◌};
 ghost use Rattle.resolver_report.specs.Graphs.{place_in, links, instance_links, mentioned, mentions, node_by as node_of, requirement_links, edge_in};
@@ -21,7 +21,7 @@ use std::alloc::Global;
 use std::collections::HashMap;
 use std::hash::Hash;
 
-/// The place of each node, and of one that stands twice the first.
+/// Maps each node to its place, the first if it stands twice.
 pub fn places_of<S: Copy + Eq + Hash + Drop>(
     alloc: Global,
     nodes: &[ConflictNode<S>],
@@ -38,7 +38,7 @@ pub fn places_of<S: Copy + Eq + Hash + Drop>(
     Ok(places)
 }
 
-/// Where a node stands, or how many nodes there are.
+/// The place of a node, or the number of nodes if it is not among them.
 pub fn place<S: Copy + Eq + Hash + Drop>(
     nodes: &[ConflictNode<S>],
     places: &HashMap<ConflictNode<S>, usize>,
@@ -53,7 +53,7 @@ pub fn place<S: Copy + Eq + Hash + Drop>(
     }
 }
 
-/// The node of the requirer.
+/// The node of a requirer.
 fn node_by<S: Copy>(by: &By<S>) -> ConflictNode<S>
     ensures { result ≡ node_of by.now }
 {
@@ -63,7 +63,7 @@ fn node_by<S: Copy>(by: &By<S>) -> ConflictNode<S>
     }
 }
 
-/// Links the requirer to each candidate, or to the unresolved node.
+/// Links a requirer to each candidate, or to the unresolved node if there is none.
 fn add_requirement<S: Copy + Drop>(
     found: &mut Vec<Link<S>>,
     source: ConflictNode<S>,
@@ -94,7 +94,7 @@ fn add_requirement<S: Copy + Drop>(
     Ok(())
 }
 
-/// Links two nodes that do not go together.
+/// Links two nodes that conflict.
 fn add_conflict<S: Copy + Drop>(
     found: &mut Vec<Link<S>>,
     source: ConflictNode<S>,
@@ -112,7 +112,7 @@ fn add_conflict<S: Copy + Drop>(
     Ok(())
 }
 
-/// Links the instance that was listed before, if there is one, to this one.
+/// Links the previous listed instance, if there is one, to this one.
 fn add_second_instance<S: Copy + Drop>(
     found: &mut Vec<Link<S>>,
     before: Option<&S>,
@@ -130,7 +130,7 @@ fn add_second_instance<S: Copy + Drop>(
     Ok(())
 }
 
-/// Adds what a rule links, given the last instance of each package before it.
+/// Appends the links of a rule, given the last listed instance of each package.
 fn add_links<N: Copy + Eq + Hash + Drop, S: Copy + Drop>(
     found: &mut Vec<Link<S>>,
     last_instances: &HashMap<N, S>,
@@ -178,7 +178,7 @@ fn add_links<N: Copy + Eq + Hash + Drop, S: Copy + Drop>(
     }
 }
 
-/// Keeps the instance that a rule lists, if it does, as the last of its package.
+/// If a rule lists an instance, remembers it as the last of its package.
 fn keep_instance<N: Copy + Eq + Hash + Drop, S: Copy + Drop>(
     last_instances: &mut HashMap<N, S>,
     rule: &Rule<N, S>,
@@ -198,7 +198,7 @@ fn keep_instance<N: Copy + Eq + Hash + Drop, S: Copy + Drop>(
     }
 }
 
-/// What the rules link, rule by rule.
+/// Collects the links of all rules, in order.
 pub fn all_links<N: Copy + Eq + Hash + Drop, S: Copy + Drop>(
     alloc: Global,
     rules: &[Rule<N, S>],
@@ -215,7 +215,7 @@ pub fn all_links<N: Copy + Eq + Hash + Drop, S: Copy + Drop>(
     Ok(found)
 }
 
-/// Adds the nodes that a rule mentions.
+/// Appends the nodes that a rule mentions.
 fn add_mentions<N, S: Copy + Drop>(
     found: &mut Vec<ConflictNode<S>>,
     rule: &Rule<N, S>,
@@ -250,7 +250,7 @@ fn add_mentions<N, S: Copy + Drop>(
     }
 }
 
-/// Adds the nodes of solvables.
+/// Appends the nodes of solvables.
 fn add_solvables<S: Copy + Drop>(
     found: &mut Vec<ConflictNode<S>>,
     solvables: &[S],
@@ -264,7 +264,7 @@ fn add_solvables<S: Copy + Drop>(
     Ok(())
 }
 
-/// The root, the unresolved node, and what the rules mention, rule by rule.
+/// The root, the unresolved node, and the nodes that the rules mention, in order.
 pub fn all_mentions<N, S: Copy + Drop>(
     alloc: Global,
     rules: &[Rule<N, S>],
@@ -281,7 +281,7 @@ pub fn all_mentions<N, S: Copy + Drop>(
     Ok(found)
 }
 
-/// Each node once, by its first place.
+/// Keeps the first mention of each node.
 pub fn first_of_each<S: Copy + Eq + Hash + Drop>(
     alloc: Global,
     nodes: &[ConflictNode<S>],
@@ -294,7 +294,7 @@ pub fn first_of_each<S: Copy + Eq + Hash + Drop>(
     Ok(found.copied().collect_vec(alloc)?)
 }
 
-/// Whether some link leads to the unresolved node.
+/// Whether a link leads to the unresolved node.
 fn is_entered<S: Eq>(links: &[Link<S>]) -> bool
     ensures { result ≡ is_entered_by S.eq links.now }
 {
@@ -306,7 +306,7 @@ fn is_entered<S: Eq>(links: &[Link<S>]) -> bool
     false
 }
 
-/// The link as an edge between these nodes.
+/// Turns a link into an edge between the places of its nodes.
 fn edge_of<S: Copy + Eq + Hash + Drop>(
     nodes: &[ConflictNode<S>],
     places: &HashMap<ConflictNode<S>, usize>,
@@ -322,7 +322,7 @@ fn edge_of<S: Copy + Eq + Hash + Drop>(
     }
 }
 
-/// The links as edges between these nodes.
+/// Turns links into edges between the places of their nodes.
 fn edges_of<S: Copy + Eq + Hash + Drop>(
     alloc: Global,
     nodes: &[ConflictNode<S>],
@@ -336,10 +336,10 @@ fn edges_of<S: Copy + Eq + Hash + Drop>(
     Ok(edges.collect_vec(alloc)?)
 }
 
-/// The graph of a list of rules.
+/// Makes the graph of a list of rules.
 ///
-/// The root is node 0, what has no candidates node 1, and the others follow by their first mention. Edges follow rule by
-/// rule. If no edge leads to node 1, it is removed, and the last node takes its place.
+/// The root is node 0, the unresolved node is node 1, and the others follow in the order of their first mention. Edges
+/// are in the order of the rules. If no edge leads to node 1, it is removed, and the last node takes its place.
 ///
 /// The error is [`Exhausted::Memory`] alone.
 pub fn graph_of<N: Copy + Eq + Hash + Drop, S: Copy + Eq + Hash + Drop>(

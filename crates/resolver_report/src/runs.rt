@@ -1,4 +1,4 @@
-//! Neighbouring edges that require one thing, and what else edges say.
+//! Runs: neighbouring edges with one requirement. And tests of what edges say.
 
 ghost use Rattle.std.specs.Prelude.{◌≡◌, ◌<◌, ◌++◌, ◌∷◌, [], IfOk, IfErr, OnOk, length, map};
 ghost use Rattle.resolver_report.specs.Causes.{has_conflict as has_conflict_in, has_second_instance as has_second_instance_in, is_conflict as is_conflict_in};
@@ -13,7 +13,7 @@ use itertools::Itertools;
 use resolver_clause_store::{Exhausted, Requirement};
 use std::alloc::Global;
 
-/// Neighbouring edges with one requirement, and where they lead.
+/// Neighbouring edges with one requirement, and their targets.
 #[derive(Drop)]
 pub struct EdgeRun {
     pub requirement: Requirement,
@@ -40,7 +40,7 @@ fn is_same_requirement(a: &Requirement, b: &Requirement) -> bool
     a == b
 }
 
-/// A new run of one edge, at the end.
+/// Appends a new run of one edge.
 fn add_run(
     alloc: Global,
     runs: &mut Vec<EdgeRun>,
@@ -59,7 +59,7 @@ fn add_run(
     Ok(())
 }
 
-/// One edge more, at the end.
+/// Appends an edge to the last run if that has its requirement, else to a new run.
 fn add_edge(
     alloc: Global,
     runs: &mut Vec<EdgeRun>,
@@ -83,7 +83,7 @@ fn add_edge(
     Ok(())
 }
 
-/// The runs of the edges that require something.
+/// Splits the requirement edges into runs.
 pub fn runs_of<S: Copy + Drop>(alloc: Global, edges: &[Edge<S>]) -> Result<Vec<EdgeRun>, Exhausted>
     ensures value { IfOk result (λ v. map run_view v.items ≡ runs_of_edges edges.now) }
     ensures memory { IfErr result (λ e. e ≡ Exhausted.Memory) }
@@ -107,7 +107,7 @@ pub fn is_exclusion<S>(edge: &Edge<S>) -> bool
     }
 }
 
-/// Whether the ends of an edge do not go together.
+/// Whether the ends of an edge conflict.
 fn is_conflict<S>(edge: &Edge<S>) -> bool
     ensures { result ≡ is_conflict_in edge.now.weight }
 {
@@ -117,7 +117,7 @@ fn is_conflict<S>(edge: &Edge<S>) -> bool
     }
 }
 
-/// Whether the ends of an edge are of one package.
+/// Whether the ends of an edge are instances of one package.
 fn is_second_instance<S>(edge: &Edge<S>) -> bool
     ensures { result ≡ is_second_instance_in edge.now.weight }
 {
@@ -127,14 +127,14 @@ fn is_second_instance<S>(edge: &Edge<S>) -> bool
     }
 }
 
-/// Whether the ends of some edge do not go together.
+/// Whether the ends of some edge conflict.
 pub fn has_conflict<S>(edges: &[Edge<S>]) -> bool
     ensures { result ≡ has_conflict_in edges.now }
 {
     edges.iter().any(|edge| is_conflict(edge))
 }
 
-/// Whether the ends of some edge are of one package.
+/// Whether the ends of some edge are instances of one package.
 pub fn has_second_instance<S>(edges: &[Edge<S>]) -> bool
     ensures { result ≡ has_second_instance_in edges.now }
 {

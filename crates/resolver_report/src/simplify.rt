@@ -1,4 +1,4 @@
-//! Which solvables of a graph are told of together.
+//! Groups of alike solvables, which a message tells of together.
 
 ghost use Rattle.std.specs.Prelude.{◌≡◌, ℕ, ◌+◌, List, IfOk, IfErr, OnOk, IfSome, IsNone, MatchOption};
 ghost use Rattle.resolver_clause_store.specs.Laws.{IsIdentity};
@@ -16,14 +16,14 @@ use std::collections::HashMap;
 use std::hash::Hash;
 use std::rc::Rc;
 
-/// Alike solvables, which are told of together.
+/// Alike solvables that a message tells of together.
 #[derive(Drop)]
 pub struct MergedConflictNode<S> {
     /// The solvables, in the order of their nodes.
     pub ids: Vec<S>,
 }
 
-/// The solvable of a node.
+/// The solvable of a node, if it is one.
 pub fn solvable_at<S: Copy>(graph: &Graph<S>, n: usize) -> Option<S>
     ensures { result ≡ solvable_at_place graph.now n }
 {
@@ -33,7 +33,7 @@ pub fn solvable_at<S: Copy>(graph: &Graph<S>, n: usize) -> Option<S>
     }
 }
 
-/// The solvables of nodes, in the order of these.
+/// The solvables of nodes, in the order of the nodes.
 fn solvables_at<S: Copy + Drop>(
     alloc: Global,
     graph: &Graph<S>,
@@ -46,7 +46,7 @@ fn solvables_at<S: Copy + Drop>(
     Ok(found.collect_vec(alloc)?)
 }
 
-/// The group to which the solvable of a node is mapped, if it is.
+/// The group that the solvable of a node is mapped to, if any.
 fn made_at<'a, S: Copy + Eq + Hash + Drop>(
     graph: &Graph<S>,
     n: usize,
@@ -58,7 +58,8 @@ fn made_at<'a, S: Copy + Eq + Hash + Drop>(
     groups.get(&solvable)
 }
 
-/// The group of a node whose class has at least two members. Where the first of these has it, that one is shared.
+/// The group of a node whose class has at least two members. It is shared with the first of them, if that is mapped
+/// already.
 fn group_of<S: Copy + Eq + Hash + Drop>(
     alloc: Global,
     graph: &Graph<S>,
@@ -105,11 +106,11 @@ fn add_group<S: Copy + Eq + Hash + Drop>(
 }
 
 impl<S: Copy + Eq + Hash + Drop> ConflictGraph<S> {
-    /// The groups of solvables that are told of together, each under every member of it.
+    /// The groups of alike solvables, each mapped from every member.
     ///
-    /// Solvables are alike if their packages have one name text, and the edges to them and from them say the same: what
-    /// each requires, or that it requires nothing, and its other end. A group has all that are alike with one another, at
-    /// least two. A solvable of no group is not in the map.
+    /// Two solvables are alike if their packages have the same name text and their edges say the same: as many edges
+    /// in, and as many out, with the same requirement, or none, and the same other end. A group is all solvables that are
+    /// alike, at least two. A solvable without a group is not in the map.
     ///
     /// The error is [`Exhausted::Memory`] alone.
     pub fn simplify<I: Interner<SolvableId = S>>(

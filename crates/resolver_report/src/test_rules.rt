@@ -1,4 +1,4 @@
-//! Rules as tests list them.
+//! Rules as the tests write them.
 
 use crate::graph::ConflictGraph;
 use crate::rule_graph::graph_of;
@@ -33,7 +33,7 @@ pub(crate) enum Row<'x> {
     },
 }
 
-/// Somebody requires one of these, by this version set.
+/// A requirement of one of these, by this version set.
 pub(crate) fn required_in(by: By<u32>, version_set: u32, candidates: &[u32]) -> Row<'_> {
     Row::Requires {
         by,
@@ -43,12 +43,12 @@ pub(crate) fn required_in(by: By<u32>, version_set: u32, candidates: &[u32]) -> 
     }
 }
 
-/// Somebody requires one of these, by version set 0.
+/// A requirement of one of these, by version set 0.
 pub(crate) fn required(by: By<u32>, candidates: &[u32]) -> Row<'_> {
     required_in(by, 0, candidates)
 }
 
-/// Somebody constrains a candidate, by version set 0.
+/// A constraint on a candidate, by version set 0.
 pub(crate) fn constrained(by: By<u32>, candidate: u32) -> Row<'static> {
     Row::Constrains {
         by,
@@ -57,7 +57,7 @@ pub(crate) fn constrained(by: By<u32>, candidate: u32) -> Row<'static> {
     }
 }
 
-/// A solvable is excluded, for reason 0.
+/// An exclusion of a solvable, for reason 0.
 pub(crate) fn excluded(solvable: u32) -> Row<'static> {
     Row::Excluded {
         solvable,
@@ -65,7 +65,7 @@ pub(crate) fn excluded(solvable: u32) -> Row<'static> {
     }
 }
 
-/// An instance is instance_of for a name.
+/// An instance of a name.
 pub(crate) fn instance_of(name: u32, instance: u32) -> Row<'static> {
     Row::Marked { name, instance }
 }

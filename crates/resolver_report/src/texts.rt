@@ -1,4 +1,4 @@
-//! Texts of version sets, requirements and versions, and the lines of the root's conflicts.
+//! The texts of version sets, requirements and versions, and the lines of the root's own conflicts.
 
 ghost use Rattle.std.specs.Prelude.{◌≡◌, ◌++◌, ◌∷◌, [], IfErr, OnOk, Some, map, string_bytes};
 ghost use Rattle.resolver_report.specs.ConflictTexts.{conflict_line_text};
@@ -11,7 +11,7 @@ use crate::graph::{ConflictCause, ConflictEdge, ConflictNode, Edge};
 use crate::indenter::{ChildOrder, write_branch};
 use resolver_clause_store::{Exhausted, Interner, Requirement, VersionSetId};
 
-/// Writes the name of a version set's package, and the version set.
+/// Writes the package name of a version set, then the version set.
 pub fn write_version_set<I: Interner>(
     interner: &I,
     version_set: VersionSetId,
@@ -26,7 +26,7 @@ pub fn write_version_set<I: Interner>(
     Ok(())
 }
 
-/// Writes version sets, with bars between them.
+/// Writes version sets, separated by bars.
 fn write_joined<I: Interner>(
     interner: &I,
     version_sets: &[VersionSetId],
@@ -68,7 +68,7 @@ fn write_requirement<I: Interner>(
     }
 }
 
-/// What stands before a requirement.
+/// The text before a requirement.
 fn run_before(top: bool, unresolved: bool) -> &'static str
     ensures { result.now ≡ before_run top unresolved }
 {
@@ -79,7 +79,7 @@ fn run_before(top: bool, unresolved: bool) -> &'static str
     }
 }
 
-/// What stands after it.
+/// The text after a requirement.
 fn run_after(top: bool, unresolved: bool, viable: bool) -> &'static str
     ensures { result.now ≡ after_run top unresolved viable }
 {
@@ -93,7 +93,7 @@ fn run_after(top: bool, unresolved: bool, viable: bool) -> &'static str
     }
 }
 
-/// Writes what is said of a run.
+/// Writes the line of a run, without its indent.
 pub fn write_run_text<I: Interner>(
     interner: &I,
     top: bool,
@@ -147,7 +147,7 @@ fn write_constraint<I: Interner>(
     Ok(())
 }
 
-/// Writes a solvable by itself.
+/// Writes a single solvable.
 pub fn write_version<I: Interner>(
     interner: &I,
     solvable: I::SolvableId,
@@ -176,7 +176,7 @@ fn write_lock<I: Interner>(
     Ok(())
 }
 
-/// Writes the line of one of the root's conflicts.
+/// Writes the line of one of the root's own conflicts.
 fn write_conflict_line<I: Interner>(
     interner: &I,
     weight: &ConflictEdge<I::SolvableId>,
@@ -203,7 +203,7 @@ fn write_conflict_line<I: Interner>(
     }
 }
 
-/// Writes what the root itself forbids, given the edges from it, newest first.
+/// Writes the root's own conflicts, given its edges, newest first.
 pub fn write_conflicts<I: Interner>(
     interner: &I,
     edges: &[Edge<I::SolvableId>],

@@ -27,18 +27,18 @@ use std::alloc::Global;
 use std::collections::HashMap;
 use std::rc::Rc;
 
-/// What a message is written from.
+/// All that a message is written from.
 #[derive(Drop)]
 pub struct Outline<'i, I: Interner> {
     pub interner: &'i I,
     pub findings: Findings<'i, I::SolvableId>,
-    /// The groups of the solvables that are told of together.
+    /// The groups of solvables that are told of together.
     pub groups: HashMap<I::SolvableId, Rc<MergedConflictNode<I::SolvableId>>>,
     /// What is told of each node.
     pub nodes: Vec<NodeOutline>,
 }
 
-/// Whether a group is reported.
+/// Whether a group is reported already.
 fn is_reported(group: Option<usize>, reported: &[bool]) -> bool
     ensures { result ≡ is_reported_in group reported.now }
 {
@@ -48,7 +48,7 @@ fn is_reported(group: Option<usize>, reported: &[bool]) -> bool
     }
 }
 
-/// Reports a group.
+/// Notes that a group is reported.
 fn report(group: Option<usize>, reported: &mut Vec<bool>)
     ensures { reported.new.items ≡ with_group group reported.old.items }
 {
@@ -58,7 +58,7 @@ fn report(group: Option<usize>, reported: &mut Vec<bool>)
     }
 }
 
-/// What is told of a node, unless it is no solvable, its group is reported, or it stands above in the branch.
+/// What is told of a node. `None` if it is no solvable, its group is reported already, or it is on the branch above.
 fn told_node<'s, I: Interner>(
     outline: &'s Outline<'_, I>,
     n: NodeId,
@@ -82,7 +82,7 @@ fn told_node<'s, I: Interner>(
     Some(node)
 }
 
-/// Writes a solvable as one version, or the versions of its group.
+/// Writes a solvable as one version, or as the versions of its group.
 fn write_versions<I: Interner>(
     outline: &Outline<'_, I>,
     n: NodeId,
@@ -127,7 +127,7 @@ fn write_constraint_line<I: Interner>(
     Ok(())
 }
 
-/// Writes the line of a version set that a candidate would constrain, given those after it.
+/// Writes the line of a version set that a candidate would constrain, given those that follow.
 fn write_next_constraint<I: Interner>(
     interner: &I,
     indenter: &Indenter,
@@ -167,7 +167,7 @@ fn write_constraint_lines<I: Interner>(
     Ok(())
 }
 
-/// Writes what follows a candidate's versions: the end of its line, and what it would constrain.
+/// Writes what follows the versions of a candidate: the end of its line, and the lines of what it would constrain.
 fn write_verdict<I: Interner>(
     outline: &Outline<'_, I>,
     indenter: &Indenter,
@@ -203,7 +203,7 @@ fn write_verdict<I: Interner>(
     }
 }
 
-/// Writes a text that ends a line.
+/// Writes a text and ends the line.
 pub fn write_end(text: &str, out: &mut String) -> Result<(), Exhausted>
     ensures ok { OnOk result (string_bytes out.new ≡ string_bytes out.old ++ (text.now ++ 10 ∷ [])) }
     ensures memory { IfErr result (λ e. e ≡ Exhausted.Memory) }
@@ -247,7 +247,7 @@ fn write_exclusion<I: Interner>(
     Ok(())
 }
 
-/// Writes the line of a candidate, and what it would constrain.
+/// Writes the line of a candidate, and the lines of what it would constrain.
 fn write_candidate<I: Interner>(
     outline: &Outline<'_, I>,
     indenter: &Indenter,
@@ -268,7 +268,7 @@ fn write_candidate<I: Interner>(
     Ok(())
 }
 
-/// Whether a candidate has a tree of what it requires.
+/// Whether a tree of requirements follows a candidate.
 fn requires_more(verdict: &Verdict) -> bool
     ensures { result ≡ is_requires (verdict_view verdict.now) }
 {
@@ -304,7 +304,7 @@ fn write_run_line<I: Interner>(
     Ok(())
 }
 
-/// The candidates that are told of below a run.
+/// The candidates to tell of below a run.
 fn below_run(run: &RunOutline) -> &[NodeId]
     ensures { result.now ≡ below_run_in (run_told_view run.now) }
 {
@@ -314,7 +314,7 @@ fn below_run(run: &RunOutline) -> &[NodeId]
     &run.candidates
 }
 
-/// Writes the line of a run, and goes on with its candidates.
+/// Writes the line of a run, and moves on to its candidates.
 fn tell_run<'s, I: Interner>(
     outline: &Outline<'_, I>,
     pending: &mut Pending<'s>,
@@ -339,7 +339,7 @@ fn tell_run<'s, I: Interner>(
     Ok(())
 }
 
-/// The levels of the candidate before these.
+/// The levels of the candidate that comes just before `rest`.
 fn candidate_levels(pending: &Pending<'_>, rest: &[NodeId]) -> Result<Indenter, Exhausted>
     ensures levels { IfOk result (λ deeper.
         levels_in deeper ≡ levels_in pending.now.indenter ++ (length pending.now.runs.now == 0) ∷ (length rest.now == 0) ∷ []) }
@@ -351,7 +351,7 @@ fn candidate_levels(pending: &Pending<'_>, rest: &[NodeId]) -> Result<Indenter, 
     Ok(candidate)
 }
 
-/// Writes the lines of a candidate of which something is told, and goes down to what it requires.
+/// Writes the lines of a candidate that is told of, and descends into its requirements.
 fn tell_node<'s, I: Interner>(
     outline: &'s Outline<'_, I>,
     pending: &mut Pending<'s>,
@@ -381,7 +381,7 @@ fn tell_node<'s, I: Interner>(
     Ok(())
 }
 
-/// Writes the lines of a candidate, and goes down to what it requires.
+/// Writes the lines of a candidate, unless it is not told of, and descends into its requirements.
 fn tell_candidate<'s, I: Interner>(
     outline: &'s Outline<'_, I>,
     pending: &mut Pending<'s>,
@@ -409,7 +409,7 @@ fn tell_candidate<'s, I: Interner>(
     Ok(())
 }
 
-/// Tells the next candidate or run, or goes up from a tree that is told. Whether something was left to do.
+/// Tells the next candidate or run, or returns from a finished tree. `false` if nothing was left to do.
 fn tell_next<'s, I: Interner>(
     outline: &'s Outline<'_, I>,
     pending: &mut Pending<'s>,
@@ -451,8 +451,9 @@ fn tell_pending<'s, I: Interner>(
     Ok(())
 }
 
-/// Makes room in a text for all that is still to be told. It is told once into a line that is thrown away. So a text
-/// that memory cannot hold is refused before it is there, and one that it can hold is not copied while it grows.
+/// Reserves room in a text for all that is still to be told. A first pass counts it, with each line written to a buffer
+/// and discarded. So a text that does not fit into memory is refused before it is written, and one that fits is not
+/// copied as it grows.
 fn reserve_pending<'s, I: Interner>(
     outline: &'s Outline<'_, I>,
     pending: &mut Pending<'s>,
@@ -473,7 +474,7 @@ fn reserve_pending<'s, I: Interner>(
     Ok(())
 }
 
-/// Makes room in a text for the tree over what is told of some edges.
+/// Reserves room in a text for the tree of these outlines.
 fn reserve_tree<'s, I: Interner>(
     outline: &'s Outline<'_, I>,
     runs: &'s [RunOutline],
@@ -492,7 +493,7 @@ fn reserve_tree<'s, I: Interner>(
     Ok(())
 }
 
-/// Writes the tree over what is told of some edges.
+/// Writes the tree of these outlines.
 fn tell_tree<'s, I: Interner>(
     outline: &'s Outline<'_, I>,
     runs: &'s [RunOutline],
@@ -513,7 +514,7 @@ fn tell_tree<'s, I: Interner>(
     Ok(())
 }
 
-/// Writes the tree over some of the root's edges, newest first.
+/// Writes the tree of some of the root's edges, newest first.
 pub fn tell_edges<I: Interner>(
     outline: &Outline<'_, I>,
     edges: &[Edge<I::SolvableId>],
@@ -532,8 +533,8 @@ pub fn tell_edges<I: Interner>(
     Ok(())
 }
 
-/// Tells the next candidate or run into an empty line, counts its bytes, and empties the line again. `None` where nothing was
-/// left to do.
+/// Tells the next candidate or run into an empty line, counts its bytes, and empties the line again. `None` if nothing
+/// was left to do.
 fn count_next<'s, I: Interner>(
     outline: &'s Outline<'_, I>,
     pending: &mut Pending<'s>,
@@ -560,7 +561,7 @@ fn count_next<'s, I: Interner>(
     Ok(Some(count))
 }
 
-/// Counts the bytes of all that is still to be told, or of a part of it that has more than a limit. No text is made.
+/// Counts the bytes of all that is still to be told. Counting may stop once it is above the limit. No text is made.
 fn count_pending<'s, I: Interner>(
     outline: &'s Outline<'_, I>,
     pending: &mut Pending<'s>,
@@ -583,7 +584,7 @@ fn count_pending<'s, I: Interner>(
     Ok(count)
 }
 
-/// Counts the bytes of the tree over what is told of some edges, or of a part of it that has more than a limit.
+/// Counts the bytes of the tree of these outlines. Counting may stop once it is above the limit.
 fn count_tree<'s, I: Interner>(
     alloc: Global,
     outline: &'s Outline<'_, I>,
@@ -605,7 +606,8 @@ fn count_tree<'s, I: Interner>(
     Ok(count)
 }
 
-/// Counts the bytes of the tree over some of the root's edges, newest first, or of a part of it that has more than a limit.
+/// Counts the bytes of the tree of some of the root's edges, newest first. Counting may stop once it is above the
+/// limit.
 pub fn count_edges<I: Interner>(
     alloc: Global,
     outline: &Outline<'_, I>,

@@ -1,4 +1,4 @@
-//! What is said of a candidate.
+//! Verdicts: what a message says of a candidate after its versions.
 
 ghost use Rattle.std.specs.Prelude.{◌≡◌, IfOk, IfErr, slice_get};
 ghost use Rattle.resolver_report.specs.Causes.{constraint as constraint_in};
@@ -11,22 +11,22 @@ use itertools::Itertools;
 use resolver_clause_store::{Exhausted, VersionSetId};
 use std::alloc::Global;
 
-/// What is said of a candidate.
+/// What a message says of a candidate after its versions.
 #[derive(Drop)]
 pub enum Verdict {
-    /// It is excluded, for the reason that this node stands for.
+    /// It is excluded, for the reason at this node.
     Excluded(NodeId),
-    /// It stands alone.
+    /// Nothing more.
     Alone,
-    /// Its package has another version above.
+    /// Another version of its package was reported above.
     Second,
-    /// It would constrain these, newest first.
+    /// It would constrain these version sets, newest first.
     Constrains(Vec<VersionSetId>),
-    /// It would require something.
+    /// It would require something, which its tree shows.
     Requires,
 }
 
-/// Where the newest edge leads that excludes something.
+/// The target of the newest exclusion edge.
 fn newest_reason<S>(edges: &[Edge<S>]) -> Option<NodeId>
     ensures { result ≡ slice_get (reasons edges.now) 0 }
 {
@@ -38,7 +38,7 @@ fn newest_reason<S>(edges: &[Edge<S>]) -> Option<NodeId>
     None
 }
 
-/// The version set of an edge that constrains something.
+/// The version set of a constraint edge.
 fn constraint<S>(weight: &ConflictEdge<S>) -> Option<VersionSetId>
     ensures { result ≡ constraint_in weight.now }
 {
@@ -48,7 +48,7 @@ fn constraint<S>(weight: &ConflictEdge<S>) -> Option<VersionSetId>
     }
 }
 
-/// The version sets of the edges that constrain something, of equal neighbours the first alone.
+/// The version sets of the constraint edges, one of each run of equal neighbours.
 fn constraints<S: Copy + Drop>(
     alloc: Global,
     edges: &[Edge<S>],
@@ -60,7 +60,7 @@ fn constraints<S: Copy + Drop>(
     Ok(named.dedup().collect_vec(alloc)?)
 }
 
-/// What the edges from a candidate, newest first, say of it.
+/// The verdict on a candidate, given its outgoing edges, newest first.
 pub fn verdict_of<S: Copy + Drop>(alloc: Global, edges: &[Edge<S>]) -> Result<Verdict, Exhausted>
     ensures value { IfOk result (λ v. verdict_view v ≡ verdict_by_edges edges.now) }
     ensures memory { IfErr result (λ e. e ≡ Exhausted.Memory) }

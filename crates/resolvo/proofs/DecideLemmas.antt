@@ -33,7 +33,7 @@ requirer_guarded N Root s = refl
 requirer_guarded N (Solvable t) s = refl
 
 module _ {N S : Type 0} where
-  -- the line is_requirement, or is guarded
+  -- the line is that of a requirement, or is guarded
   abbrev IsOrderly : Line N S → Type 0
   IsOrderly line = line.is_requirement ≡ false → AreGuarded line.atoms
 

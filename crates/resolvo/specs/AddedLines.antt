@@ -1,4 +1,4 @@
--- What building the clauses of rules adds at each step.
+-- What each step of building the clauses of rules adds.
 use Rattle.std.specs.Prelude.{◌≡◌, ℕ, ◌≤◌, ◌^◌, ◌++◌, List, length}
 use Rattle.std.specs.List.{AllZip}
 use Rattle.resolver_clause_store.specs.Variables.{AreDistinct, Keeps}
@@ -7,14 +7,14 @@ use Rattle.resolvo.specs.RuleClauses.{HasCode, IsClauseOf, Line}
 use Rattle.resolvo.specs.declared.minimal.rule_clauses.Proposition.{Proposition}
 use Rattle.resolvo.specs.declared.minimal.rule_clauses.RuleClause.{RuleClause}
 
--- each place keeps its proposition, and behind the clauses stand those of the lines
+-- each proposition keeps its place, and the clauses of the lines are appended
 pub record Adds {N S : Type 0} (old new : List (Proposition N S)) (before after : List RuleClause) (lines : List (Line N S)) : Type 0 where
   pub keeps : Keeps old new
   pub added : List RuleClause
   pub is : after ≡ before ++ added
   pub are : AllZip (IsClauseOf new) added lines
 
--- codes of the rules in so many bits, which tell the marked instances apart
+-- codes of the rules with `width` bits, which distinguish the listed instances
 pub record AreCodesOf {N S : Type 0} (rules : List (Rule N S)) (codes : List ℕ) (width : ℕ) : Type 0 where
   pub instances : List S
   pub coded : AllZip (HasCode instances) rules codes

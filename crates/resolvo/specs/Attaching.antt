@@ -1,4 +1,4 @@
--- What attaching clauses and cutting a trail do to what propagation keeps.
+-- Attaching clauses and cutting the trail: the effect on the state of propagation.
 use Rattle.std.specs.Prelude.{◌≡◌, ◌≢◌, ℕ, ◌<◌, ◌≤◌, ◌++◌, ◌∷◌, false, Option, Some, None, List, [], length, Vec, All, Contains}
 use Rattle.std.specs.Prelude.{slice_get, slice_index_or}
 use Rattle.std.specs.Bool.{beq}
@@ -13,7 +13,7 @@ use Rattle.resolvo.specs.Propagation.{Extends, IsJustified}
 use Rattle.resolver_clause_store.specs.Watches.{watched_pair}
 use Rattle.resolvo.specs.Propagators.{IsNoted}
 
--- the first places of the old trail are left, and with each of them all that is of no higher level
+-- the new trail is the first entries of the old one, with everything of their levels or lower ones
 pub record IsLower (old new : Trail) : Type 0 where
   pub size : variable_count new ≡ variable_count old
   pub places : KeepsPlaces old new (length_of new)
@@ -21,11 +21,11 @@ pub record IsLower (old new : Trail) : Type 0 where
   pub whole : (variable other : ℕ) (slot lower : Slot) → slot_of new variable ≡ Some slot → slot_of old other ≡ Some lower → lower.level ≤ slot.level →
       slot_of new other ≡ Some lower
 
--- the lengths that are noted never fall
+-- the noted lengths never fall
 abbrev pub IsRising : List Late → Type 0
 IsRising late = (k n : ℕ) (early later : Late) → k < n → slice_get late k ≡ Some early → slice_get late n ≡ Some later → early.length ≤ later.length
 
--- Late clauses at the end have to be looked at again: those that are noted with more than so many places.
+-- The late clauses at the end become pending: those that were noted with more than `count` entries.
 pub record Recalls (old new : List Late) (pending more : List ℕ) (count : ℕ) : Type 0 where
   pub gone : List Late
   pub late : old ≡ new ++ gone
@@ -33,11 +33,11 @@ pub record Recalls (old new : List Late) (pending more : List ℕ) (count : ℕ)
   pub inside : (bound : ℕ) → All (λ (l : Late). l.number < bound) old → All (λ number. number < bound) pending → All (λ number. number < bound) more
   pub within : IsRising old → All (λ (l : Late). l.length ≤ count) new
 
--- the literal is not false, or is so at the highest level
+-- the literal is not false, or is false at the highest level
 abbrev pub IsHigh : Trail → Literal → Type 0
 IsHigh trail literal = (slot : Slot) → slot_of trail literal.variable ≡ Some slot → beq slot.value literal.positive ≡ false → IsTop trail slot.level
 
--- two literals are watched, each of which is so
+-- two literals are watched, each of this kind
 pub record IsHighPair (trail : Trail) (pair : WatchedPair) : Type 0 where
   pub first : Literal
   pub second : Literal
@@ -45,11 +45,11 @@ pub record IsHighPair (trail : Trail) (pair : WatchedPair) : Type 0 where
   pub first_high : IsHigh trail first
   pub second_high : IsHigh trail second
 
--- the literal is not false before this place
+-- the literal does not become false before this place
 abbrev pub IsNotBefore : Trail → ℕ → Literal → Type 0
 IsNotBefore trail place literal = (slot : Slot) → slot_of trail literal.variable ≡ Some slot → beq slot.value literal.positive ≡ false → place ≤ slot.place
 
--- the number stands behind the others
+-- the number is the last
 pub record EndsWith (all : List ℕ) (number : ℕ) : Type 0 where
   pub rest : List ℕ
   pub is : all ≡ rest ++ number ∷ []
@@ -60,21 +60,21 @@ pub record AreApart (clause : List Literal) (first second : Literal) : Type 0 wh
   pub has_second : Contains clause second
   pub differ : first ≢ second
 
--- a literal of the clause, which is another one than the one at the place that is given, if one is given
+-- a literal of the clause that differs from the one at `other`, if that is given
 abbrev pub IsOther : List Literal → Option ℕ → ℕ → Type 0
 IsOther clause None place = place < length clause
 IsOther clause (Some other) place = (place < length clause) × ((d : Literal) → slice_index_or clause place d ≢ slice_index_or clause other d)
 
--- the same literal as the one at the place that is given
+-- the literal is the one at `other`, which is given
 abbrev pub IsAlike : List Literal → Option ℕ → ℕ → Type 0
 IsAlike clause None place = ⊥
 IsAlike clause (Some other) place = (d : Literal) → slice_index_or clause place d ≡ slice_index_or clause other d
 
--- each of so many first literals of the clause is so
+-- each of the first literals of the clause is
 abbrev pub AreAlike : List Literal → Option ℕ → ℕ → Type 0
 AreAlike clause other count = (place : ℕ) → place < count → IsAlike clause other place
 
--- what the clauses force is true now, as much of it as was found
+-- the trail grew by literals that the clauses force
 pub record Forces (table : List (Vec Literal Global)) (old new : Trail) : Type 0 where
   pub justified : IsJustified table new
   pub extends : Extends old new

@@ -1,6 +1,5 @@
--- What the provider of packages in a row says, and that it keeps the laws. Package n lists n alone, and version set n
--- takes n. Each solvable below a number requires the next version set. The last id bears the name 0, and is listed
--- nowhere.
+-- A provider of packages in a row, and its laws. Package n lists only n, which is also the only member of version set n. Each solvable below `reach`
+-- requires the next version set. The last id has the name 0, and no package lists it.
 use Rattle.std.specs.Prelude.{◌≡◌, ◌≢◌, ℕ, ◌+◌, Bool, true, false, cond, not, nat_eq, nat_lt, List, [], ◌∷◌, None, AllPairs, filter, refl, length, ◌≤◌}
 use Rattle.std.proofs.Common.{arith}
 use Rattle.std.proofs.lemmas.List.Elements.{All-nil, All-cons, All-contains}
@@ -13,15 +12,15 @@ use Rattle.resolver_clause_store.specs.declared.Requirement.TheVariants.{Single}
 use Rattle.resolver_clause_store.specs.declared.VersionSetId.{VersionSetId}
 use Rattle.resolver_clause_store.specs.declared.Condition.TheVariants.{Requirement}
 
--- what a solvable requires
+-- the requirements of a solvable
 abbrev pub required_below : ℕ → ℕ → List ConditionalRequirement
 required_below reach s = cond (nat_lt s reach) (record { condition = None; requirement = Single (record { 0 = s + 1 }) } ∷ []) []
 
--- the name that a solvable bears
+-- the name of a solvable
 abbrev pub name_in_chain : ℕ → ℕ
 name_in_chain s = cond (nat_lt s 4294967295) s 0
 
--- a package that the provider knows, and one that it does not
+-- a known package, and an unknown one
 abbrev pub listed_alone : ℕ → Package ℕ
 listed_alone n = record { listed = n ∷ []; favored = None; locked = None; excluded = []; hint = hint_none }
 

@@ -1,4 +1,4 @@
--- What callers see of a conflict.
+-- The view that callers have of a conflict.
 use Rattle.std.specs.Prelude.{List}
 use Rattle.resolver_clause_store.specs.declared.Rule.{Rule}
 use Rattle.resolvo.specs.declared.conflict.Conflict.{Conflict}

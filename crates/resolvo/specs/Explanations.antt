@@ -1,4 +1,4 @@
--- Rules that say why there is no answer.
+-- Rules that explain why there is no answer.
 use Rattle.std.specs.Prelude.{List, All}
 use Rattle.resolver_clause_store.specs.Universe.{Universe, Demands}
 use Rattle.resolver_clause_store.specs.declared.Rule.{Rule}
@@ -6,7 +6,7 @@ use Rattle.resolver_report.specs.ReachedRules.{IsKept}
 use Rattle.resolver_clause_store.specs.Rules.{IsRefuted}
 use Rattle.resolver_clause_store.specs.TrueRules.{IsTrueRule}
 
--- true rules that no set obeys together, each of them about what their requirements reach
+-- the rules are true, no set obeys them together, and each is about what their requirements reach
 pub record Explains {N S : Type 0} (u : Universe N S) (root : Demands) (rules : List (Rule N S)) : Type 0 where
   pub each_true : All (IsTrueRule u root) rules
   pub refuted : IsRefuted rules

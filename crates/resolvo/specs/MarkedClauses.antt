@@ -1,4 +1,4 @@
--- The clauses of the marked rules, as a search takes them, the marks of a core, and what is decided by both.
+-- The clauses of marked rules as a search takes them, the marks of a core, and the verdict.
 use Rattle.std.specs.Prelude.{◌≡◌, ℕ, ◌<◌, Bool, true, false, List, length, Vec, All, Contains, ⊤}
 use Rattle.std.specs.List.{slice_index_or}
 use Rattle.std.specs.declared.alloc.Global.{Global}
@@ -21,7 +21,7 @@ use Rattle.resolvo.specs.declared.minimal.rule_clauses.RuleClause.{RuleClause}
 abbrev pub IsMarked : List Bool → RuleClause → Type 0
 IsMarked marks clause = slice_index_or marks clause.rule false ≡ true
 
--- the clause with this number is one of a marked rule, whose place is known
+-- the clause with this number is a clause of a marked rule, at the noted place
 pub record IsMarkedClause (marks : List Bool) (from : List RuleClause) (clauses : List (Vec Literal Global)) (places : List ℕ) (number : ℕ) : Type 0 where
   pub clause : RuleClause
   pub among : Contains from clause
@@ -29,33 +29,33 @@ pub record IsMarkedClause (marks : List Bool) (from : List RuleClause) (clauses 
   pub literals : clause_at clauses number ≡ clause.literals.items
   pub place : slice_index_or places number 0 ≡ clause.rule
 
--- the clause stands among these, and if its candidates are to be tried, so does its number among these
+-- the clause is among these, and its number is listed if its candidates are to be tried
 pub record IsThere (clauses : List (Vec Literal Global)) (numbers : List ℕ) (clause : RuleClause) : Type 0 where
   pub number : ℕ
   pub inside : number < length clauses
   pub literals : clause_at clauses number ≡ clause.literals.items
   pub listed : clause.is_requirement ≡ true → Contains numbers number
 
--- these are the clauses of the marked rules
+-- these are just the clauses of the marked rules
 pub record AreMarkedClauses (marks : List Bool) (from : List RuleClause) (clauses : List (Vec Literal Global)) (places numbers : List ℕ) : Type 0 where
   pub size : length places ≡ length clauses
   pub each : (number : ℕ) → number < length clauses → IsMarkedClause marks from clauses places number
   pub all : All (λ (clause : RuleClause). IsMarked marks clause → IsThere clauses numbers clause) from
   pub inside : All (λ number. number < length clauses) numbers
 
--- marked are the rules of the clauses with these numbers, and no others
+-- just the rules of the clauses with these numbers are marked
 pub record AreMarksOf (places numbers : List ℕ) (count : ℕ) (marks : List Bool) : Type 0 where
   pub size : length marks ≡ count
   pub all : All (λ number. slice_index_or marks (slice_index_or places number 0) false ≡ true) numbers
   pub only : (place : ℕ) → slice_index_or marks place false ≡ true → (number : ℕ) × Contains numbers number × (slice_index_or places number 0 ≡ place)
 
--- a search without an assumption ended so, or nothing is known
+-- the result of a search without an assumption; `Refused` means nothing
 abbrev pub EndsWith : List (Vec Literal Global) → List ℕ → Trail → Outcome → Type 0
 EndsWith given numbers trail Finished = (requirements : List RequirementClause) → numbers_of requirements ≡ numbers → IsFinished given requirements trail
 EndsWith given numbers trail (Contradiction core) = IsCore given core.items
 EndsWith given numbers trail Refused = ⊤
 
--- some set obeys the marked rules, or none obeys those with these marks
+-- some set obeys the marked rules, or no set obeys those with the part's marks
 abbrev pub VerdictIs : {N S : Type 0} → List (Rule N S) → List Bool → Verdict → Type 0
 VerdictIs rules marks (Obeyed values) = IsRefuted (marked marks rules) → ⊥
 VerdictIs rules marks (Refuted part) = IsRefutedPart rules marks part.items

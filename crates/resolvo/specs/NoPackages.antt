@@ -1,4 +1,4 @@
--- A universe without packages, and that it keeps the laws.
+-- A universe without packages, and its laws.
 use Rattle.std.specs.Prelude.{◌≡◌, ◌≢◌, ℕ, ◌≤◌, List, [], ◌∷◌, nat_eq, None, AllPairs, refl, length}
 use Rattle.std.proofs.Common.{arith}
 use Rattle.std.proofs.lemmas.Bool.{eqb-true, eq-eqb}
@@ -9,7 +9,7 @@ use Rattle.resolver_clause_store.specs.Lists.{IsCut, cut_none, cut_left}
 use Rattle.resolver_clause_store.specs.Universe.{Universe, hint_none, unknown}
 use Rattle.resolver_clause_store.specs.declared.Condition.TheVariants.{Requirement}
 
--- a universe of which nobody asks anything
+-- a universe that is never looked at
 abbrev pub empty_universe : Universe ℕ ℕ
 empty_universe = record {
   name = λ s. s;

@@ -1,5 +1,5 @@
--- What the provider that writes down its questions says, and that it keeps the laws. Package n has the solvables 10 n +
--- 1 to 10 n + 3, and version set 10 n + k takes those up to 10 n + k.
+-- The provider that logs the calls to it, and its laws. Package n has the solvables 10 n + 1 to 10 n + 3, and version set 10 n + k has those up to 10
+-- n + k.
 use Rattle.std.specs.Prelude.{◌≡◌, ◌≢◌, ℕ, ◌+◌, ◌*◌, ◌/◌, ◌%◌, Bool, true, false, cond, not, nat_eq, nat_lt, nat_le, List, [], ◌∷◌, Some, None, All, AllPairs}
 use Rattle.std.specs.Prelude.{filter, reverse, codes, refl, length, ◌<◌}
 use Rattle.std.proofs.Common.{arith, ap}
@@ -13,11 +13,11 @@ use Rattle.resolver_clause_store.specs.Laws.{IsIdentity, HasLawfulIds, IsLawfulP
 use Rattle.resolver_clause_store.specs.declared.VersionSetId.{VersionSetId}
 use Rattle.resolver_clause_store.specs.declared.Condition.TheVariants.{Requirement}
 
--- whether a version set takes a solvable of its package
+-- whether a solvable of its package is in a version set
 abbrev pub takes : VersionSetId → ℕ → Bool
 takes v s = nat_le (s % 10) (v.0 % 10)
 
--- a package that the provider knows, and one that it does not
+-- a known package, and an unknown one
 abbrev pub known_package : ℕ → Package ℕ
 known_package n = record {
   listed = (10 * n + 1) ∷ (10 * n + 2) ∷ (10 * n + 3) ∷ [];
@@ -30,11 +30,11 @@ known_package n = record {
 abbrev pub unknown_package : Package ℕ
 unknown_package = record { listed = []; favored = None; locked = None; excluded = []; hint = hint_none }
 
--- nobody knows what the third version of a package needs
+-- the dependencies of the third version of a package are unknown
 abbrev pub needs : ℕ → Needs
 needs s = cond (nat_eq (s % 10) 3) (unknown (record { 0 = 9 })) (known (record { requirements = []; constraints = [] }))
 
--- the members are those of each union
+-- every union has these members
 abbrev pub test_universe : List VersionSetId → Universe ℕ ℕ
 test_universe members = record {
   name = λ s. s / 10;

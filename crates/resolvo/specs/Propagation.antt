@@ -1,4 +1,4 @@
--- Clauses under a trail, and what propagation does to it.
+-- Clauses under a trail, and the effect of propagation on it.
 use Rattle.std.specs.Prelude.{◌≡◌, ℕ, ◌<◌, ◌⊎◌, false, Option, Some, None, List, length, Vec, All, Contains, slice_index_or}
 use Rattle.std.specs.declared.alloc.Global.{Global}
 use Rattle.resolver_clause_store.specs.declared.Literal.{Literal}
@@ -14,19 +14,19 @@ use Rattle.resolver_clause_store.specs.Settled.{IsOpen}
 use Rattle.resolvo.specs.declared.clause_state.State.{State}
 use Rattle.resolvo.specs.declared.clause_state.State.TheVariants.{Satisfied, Falsified, Unit, Open}
 
--- each literal but this one is false
+-- each literal except this one is false
 abbrev pub IsUnit : Trail → Literal → List Literal → Type 0
 IsUnit trail literal clause =
     All (λ other. (other ≡ literal) ⊎ (literal_value trail other ≡ Some false)) clause
 
--- what the clause is under the trail
+-- the state of the clause under the trail
 abbrev pub StateIs : Trail → List Literal → State → Type 0
 StateIs trail clause Satisfied = IsSatisfied trail clause
 StateIs trail clause Falsified = IsFalsified trail clause
 StateIs trail clause (Unit literal) = (literal_value trail literal ≡ None) × Contains clause literal × IsUnit trail literal clause
 StateIs trail clause Open = IsOpen trail clause
 
--- what is known after some literals of the clause, where the one at this place was the only one with no value
+-- what is known from the first literals of the clause, where only the one at this place, if any, has no value
 abbrev pub HasSeen : Trail → List Literal → ℕ → Option ℕ → Type 0
 HasSeen trail clause count None = (k : ℕ) (d : Literal) → k < count → literal_value trail (slice_index_or clause k d) ≡ Some false
 HasSeen trail clause count (Some place) =
@@ -34,7 +34,7 @@ HasSeen trail clause count (Some place) =
     ((k : ℕ) (d : Literal) → k < count → (slice_index_or clause k d ≡ slice_index_or clause place d) ⊎
     (literal_value trail (slice_index_or clause k d) ≡ Some false))
 
--- each variable that a clause forced was forced by it, as one of its literals
+-- if a clause forced a variable, the value makes one of its literals true, and the other literals were false before
 pub record IsJustified (table : List (Vec Literal Global)) (trail : Trail) : Type 0 where
   pub within : (variable : ℕ) (slot : Slot) (number : ℕ) → slot_of trail variable ≡ Some slot → slot.reason ≡ Forced number → number < length table
   pub forced : (variable : ℕ) (slot : Slot) (number : ℕ) → slot_of trail variable ≡ Some slot → slot.reason ≡ Forced number →
@@ -42,17 +42,17 @@ pub record IsJustified (table : List (Vec Literal Global)) (trail : Trail) : Typ
   pub contains : (variable : ℕ) (slot : Slot) (number : ℕ) → slot_of trail variable ≡ Some slot → slot.reason ≡ Forced number →
       Contains (clause_at table number) (record { variable = variable; positive = slot.value })
 
--- each variable that was decided for a clause was decided for a requirement
+-- if a variable was decided, it was decided for a requirement
 pub record AreChosen (table : List (Vec Literal Global)) (requirements : List RequirementClause) (trail : Trail) : Type 0 where
   pub each : (variable : ℕ) (slot : Slot) (number : ℕ) → slot_of trail variable ≡ Some slot → slot.reason ≡ Decided number →
       IsChosen table requirements trail variable slot
 
--- the values stay, and no other variable was decided or assumed
+-- all values stay, and no new variable is decided or assumed
 pub record Extends (old new : Trail) : Type 0 where
   pub kept : (variable : ℕ) (slot : Slot) → slot_of old variable ≡ Some slot → slot_of new variable ≡ Some slot
   pub only : (variable : ℕ) (slot : Slot) → slot_of new variable ≡ Some slot → (slot_of old variable ≡ Some slot) ⊎ (is_decided slot.reason ≡ false)
 
--- no variable was assumed since
+-- no new variable is assumed
 pub record AssumesNone (old new : Trail) : Type 0 where
   pub was : (variable : ℕ) (slot : Slot) → slot_of new variable ≡ Some slot → slot.reason ≡ Assumed → slot_of old variable ≡ Some slot
 

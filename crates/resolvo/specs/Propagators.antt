@@ -1,4 +1,4 @@
--- What propagation by watched literals keeps.
+-- The state of propagation by watched literals.
 use Rattle.std.specs.Prelude.{◌≡◌, ◌≢◌, ◌⊎◌, ℕ, ◌*◌, ◌<◌, ◌≤◌, true, Some, List, [], length, Vec, All, Any, Contains, slice_get}
 use Rattle.std.specs.Bool.{beq}
 use Rattle.std.specs.declared.alloc.Global.{Global}
@@ -15,15 +15,15 @@ use Rattle.resolver_clause_store.specs.declared.WatchedPair.{WatchedPair}
 use Rattle.resolvo.specs.declared.propagator.Late.{Late}
 use Rattle.resolvo.specs.declared.propagator.Propagator.{Propagator}
 
--- how many first places of the trail were propagated
+-- how many entries of the trail have been propagated
 abbrev pub head_of : Propagator → ℕ
 head_of it = it.head
 
--- which clauses are true by what may be undone before a watched literal that is false
+-- the clauses that are satisfied by a literal that may be undone before a false watched literal
 abbrev pub late_of : Propagator → List Late
 late_of it = it.late.items
 
--- which clauses have to be looked at again
+-- the clauses that are pending
 abbrev pub pending_of : Propagator → List ℕ
 pending_of it = it.pending.items
 
@@ -38,14 +38,14 @@ pub record IsTrueAt (trail : Trail) (level : ℕ) (literal : Literal) : Type 0 w
   pub true_there : beq slot.value literal.positive ≡ true
   pub low : slot.level ≤ level
 
--- the literal is true, and was so before this place
+-- the literal is true, and became so before this place
 pub record IsTrueBefore (trail : Trail) (place : ℕ) (literal : Literal) : Type 0 where
   pub slot : Slot
   pub is : slot_of trail literal.variable ≡ Some slot
   pub true_there : beq slot.value literal.positive ≡ true
   pub earlier : slot.place < place
 
--- the clause has no two different literals
+-- the clause does not have two different literals
 abbrev pub IsConstant : List Literal → Type 0
 IsConstant clause = (one other : Literal) → Contains clause one → Contains clause other → one ≡ other
 
@@ -56,8 +56,7 @@ pub record WatchesTwo (pair : WatchedPair) : Type 0 where
   pub is : pair ≡ watched_pair first second
   pub differ : first ≢ second
 
--- All clauses of the table are attached. The literals that one watches are two different ones of its own; one that watches none
--- has no two different ones.
+-- All clauses of the table are attached. A clause watches two different literals of its own, or none if it does not have two.
 pub record AreWatched (table : List (Vec Literal Global)) (lists : List (Vec Watch Global)) (pairs : List WatchedPair) : Type 0 where
   pub attached : length pairs ≡ length table
   pub own : (number : ℕ) (literal : Literal) → IsWatching pairs number literal → Contains (clause_at table number) literal
@@ -65,13 +64,13 @@ pub record AreWatched (table : List (Vec Literal Global)) (lists : List (Vec Wat
   pub constant : (number : ℕ) → number < length pairs → pair_at pairs number ≡ unwatched → IsConstant (clause_at table number)
   pub blockers : HasBlockers table lists
 
--- each of these clauses is true by a literal before the place that is noted with it; these places never fall
+-- each of these clauses has a literal that is true before the noted place; the noted places never fall
 pub record AreLate (table : List (Vec Literal Global)) (trail : Trail) (late : List Late) : Type 0 where
   pub each : All (λ (l : Late). Any (IsTrueBefore trail l.length) (clause_at table l.number)) late
   pub within : All (λ (l : Late). l.length ≤ length_of trail) late
   pub rising : (k n : ℕ) (early later : Late) → k < n → slice_get late k ≡ Some early → slice_get late n ≡ Some later → early.length ≤ later.length
 
--- the clause is noted as late, or has to be looked at again
+-- the clause is noted as late or is pending
 abbrev pub IsNoted : List Late → List ℕ → ℕ → Type 0
 IsNoted late pending number = Any (λ (l : Late). l.number ≡ number) late ⊎ Contains pending number
 
@@ -80,13 +79,13 @@ abbrev pub IsExcused : List (Vec Literal Global) → Trail → List Late → Lis
 IsExcused table trail late pending level number =
     Any (IsTrueAt trail level) (clause_at table number) ⊎ IsNoted late pending number
 
--- Where a watched literal is false that was propagated, its clause is true by a literal of no higher level, or it is noted.
+-- If a watched literal is false and has been propagated, its clause is true by a literal of no higher level, or it is noted.
 pub record Covers (table : List (Vec Literal Global)) (trail : Trail) (pairs : List WatchedPair) (late : List Late) (pending : List ℕ) (head : ℕ) : Type 0 where
   pub watched : (number : ℕ) (literal : Literal) → IsWatching pairs number literal → (fails : IsFalseBefore trail head literal) →
       IsExcused table trail late pending fails.slot.level number
   pub constant : (number : ℕ) → number < length pairs → pair_at pairs number ≡ unwatched → IsNoted late pending number
 
--- what propagation keeps
+-- the invariant of propagation
 pub record IsPropagator (table : List (Vec Literal Global)) (trail : Trail) (it : Propagator) : Type 0 where
   pub lists : length (lists_of it.watches) ≡ 2 * variable_count trail
   pub watched : AreWatched table (lists_of it.watches) (pairs_of it.watches)
@@ -96,7 +95,7 @@ pub record IsPropagator (table : List (Vec Literal Global)) (trail : Trail) (it 
   pub head : head_of it ≤ length_of trail
   pub covers : Covers table trail (pairs_of it.watches) (late_of it) (pending_of it) (head_of it)
 
--- all clauses are attached, and none has to be looked at again
+-- all clauses are attached, and none is pending
 pub record IsAttached (table : List (Vec Literal Global)) (it : Propagator) : Type 0 where
   pub all : attached_of it ≡ length table
   pub none : pending_of it ≡ []

@@ -1,4 +1,4 @@
--- Marked variables that contradict clauses.
+-- Marked variables whose values contradict clauses.
 use Rattle.std.specs.Prelude.{◌≡◌, ◌≢◌, ℕ, ◌<◌, ◌≤◌, ◌⊎◌, Bool, true, false, not, Contains, Some, List, [], length, Vec, All, Any, slice_index_or}
 use Rattle.std.specs.Bool.{beq}
 use Rattle.std.specs.Option.{option_map_or}
@@ -19,14 +19,14 @@ use Rattle.resolvo.specs.declared.analyze.Analysis.TheVariants.{Contradiction, C
 abbrev pub is_marked : List Bool → ℕ → Bool
 is_marked marks number = slice_index_or marks number false
 
--- the variables of the clause are marked beside the old ones, and no others
+-- the variables of the clause are marked in addition to the old ones, and no others
 pub record MarksAlso (old new : List Bool) (clause : List Literal) : Type 0 where
   pub size : length new ≡ length old
   pub kept : (variable : ℕ) → is_marked old variable ≡ true → is_marked new variable ≡ true
   pub all : All (λ (literal : Literal). is_marked new literal.variable ≡ true) clause
   pub only : (variable : ℕ) → is_marked old variable ≡ false → All (λ (literal : Literal). literal.variable ≢ variable) clause → is_marked new variable ≡ false
 
--- each marked variable is listed, and each listed number is one of a variable
+-- each marked variable is listed, and each listed number is that of a variable
 pub record ListsMarks (marks : List Bool) (marked : List ℕ) : Type 0 where
   pub within : All (λ variable. variable < length marks) marked
   pub all : (variable : ℕ) → is_marked marks variable ≡ true → Contains marked variable
@@ -35,27 +35,27 @@ pub record ListsMarks (marks : List Bool) (marked : List ℕ) : Type 0 where
 abbrev pub IsUnmarked : List Bool → Type 0
 IsUnmarked marks = (variable : ℕ) → is_marked marks variable ≡ false
 
--- the values are those of the trail at the marked variables
+-- at the marked variables, the values are those of the trail
 abbrev pub AgreesOn : (ℕ → Bool) → Trail → List Bool → Type 0
 AgreesOn values trail marks =
     (variable : ℕ) (slot : Slot) → is_marked marks variable ≡ true → slot_of trail variable ≡ Some slot → values variable ≡ slot.value
 
--- the trail's values at the marked variables contradict the causes
+-- no values make the causes true and are those of the trail at the marked variables
 pub record Refutes (table : List (Vec Literal Global)) (trail : Trail) (marks : List Bool) (causes : List ℕ) : Type 0 where
   pub apart : (values : ℕ → Bool) → MakesTrue values table causes → AgreesOn values trail marks → ⊥
 
--- the literal stands in a clause with one of these numbers
+-- the literal is in a clause with one of these numbers
 pub record IsDrawn (table : List (Vec Literal Global)) (numbers : List ℕ) (literal : Literal) : Type 0 where
   pub number : ℕ
   pub listed : Contains numbers number
   pub stands : Contains (clause_at table number) literal
 
--- what negates a marked variable stands in one of the causes
+-- for each marked variable, the literal that is false on the trail is in one of the causes
 pub record AreDrawn (table : List (Vec Literal Global)) (trail : Trail) (marks : List Bool) (causes : List ℕ) : Type 0 where
   pub each : (variable : ℕ) (slot : Slot) → is_marked marks variable ≡ true → slot_of trail variable ≡ Some slot →
       IsDrawn table causes (record { variable = variable; positive = not slot.value })
 
--- the marks contradict the causes, which are clauses of the table
+-- the marked variables' values contradict the causes, which are clauses of the table
 pub record IsResolvent (table : List (Vec Literal Global)) (trail : Trail) (resolvent : Resolvent) : Type 0 where
   pub size : length resolvent.marks.items ≡ variable_count trail
   pub listed : ListsMarks resolvent.marks.items resolvent.marked.items
@@ -63,34 +63,33 @@ pub record IsResolvent (table : List (Vec Literal Global)) (trail : Trail) (reso
   pub refutes : Refutes table trail resolvent.marks.items resolvent.causes.items
   pub drawn : AreDrawn table trail resolvent.marks.items resolvent.causes.items
 
--- no level of a marked variable is higher than this one, and of those at this level none stands at a lower place than
--- `lowest`
+-- no marked variable is of a higher level, and none of this level is at a lower place than `lowest`
 pub record AreAtMost (trail : Trail) (marks : List Bool) (level lowest : ℕ) : Type 0 where
   pub top : (variable : ℕ) (slot : Slot) → is_marked marks variable ≡ true → slot_of trail variable ≡ Some slot → slot.level ≤ level
   pub least : (variable : ℕ) (slot : Slot) → is_marked marks variable ≡ true → slot_of trail variable ≡ Some slot → slot.level ≡ level → lowest ≤ slot.place
 
--- the level of a variable, if it has a value, and else 0
+-- the level of a variable, or 0 if it has no value
 abbrev pub level_in : Trail → ℕ → ℕ
 level_in trail variable = option_map_or (λ (slot : Slot). slot.level) (slot_of trail variable) 0
 
--- the variable has a value of this level, and stands at this place
+-- the variable has a value of this level at this place
 pub record StandsAt (trail : Trail) (level place variable : ℕ) : Type 0 where
   pub slot : Slot
   pub is : slot_of trail variable ≡ Some slot
   pub level_is : slot.level ≡ level
   pub place_is : slot.place ≡ place
 
--- a marked variable of this level stands at this place
+-- a marked variable of this level is at this place
 pub record HasMark (trail : Trail) (marks : List Bool) (level place : ℕ) : Type 0 where
   pub variable : ℕ
   pub marked : is_marked marks variable ≡ true
   pub stands : StandsAt trail level place variable
 
--- each marked variable stands before this place
+-- each marked variable is before this place
 pub record AllBefore (trail : Trail) (marks : List Bool) (place : ℕ) : Type 0 where
   pub before : (variable : ℕ) (slot : Slot) → is_marked marks variable ≡ true → slot_of trail variable ≡ Some slot → slot.place < place
 
--- one marked variable is of this level, and the others are of lower ones
+-- one marked variable is of this level, and the others are of lower levels
 pub record IsSingle (trail : Trail) (marks : List Bool) (level variable : ℕ) : Type 0 where
   pub slot : Slot
   pub is : slot_of trail variable ≡ Some slot
@@ -98,7 +97,7 @@ pub record IsSingle (trail : Trail) (marks : List Bool) (level variable : ℕ) :
   pub level_is : slot.level ≡ level
   pub others : (other : ℕ) (t : Slot) → is_marked marks other ≡ true → slot_of trail other ≡ Some t → other ≢ variable → t.level < level
 
--- how the levels and places of the marked variables lie: all stand before this place
+-- the levels and places of the marked variables, all of which are before this place
 pub record IsLevelled (trail : Trail) (resolvent : Resolvent) (place : ℕ) : Type 0 where
   pub at_most : AreAtMost trail resolvent.marks.items resolvent.level resolvent.lowest
   pub before : AllBefore trail resolvent.marks.items place
@@ -110,14 +109,14 @@ pub record IsReason (trail : Trail) (variable number : ℕ) : Type 0 where
   pub is : slot_of trail variable ≡ Some slot
   pub reason : slot.reason ≡ Forced number
 
--- the literals are false under the trail, and there is one for each marked variable that has a value
+-- the literals are false under the trail, one for each marked variable that has a value
 pub record Negates (trail : Trail) (marks : List Bool) (literals : List Literal) : Type 0 where
   pub falsified : IsFalsified trail literals
   pub only : All (λ (literal : Literal). is_marked marks literal.variable ≡ true) literals
   pub each : (variable : ℕ) (slot : Slot) → is_marked marks variable ≡ true → slot_of trail variable ≡ Some slot →
       Contains literals (record { variable = variable; positive = not slot.value })
 
--- the literal of the variable that is false is put behind the others, where the variable is marked and has a value
+-- if the variable is marked and has a value, its literal that is false is appended
 pub record AddsNegation (trail : Trail) (marks : List Bool) (variable : ℕ) (old new : List Literal) : Type 0 where
   pub kept : (literal : Literal) → Contains old literal → Contains new literal
   pub falsified : IsFalsified trail old → IsFalsified trail new
@@ -132,7 +131,7 @@ pub record IsFalseAt (trail : Trail) (level : ℕ) (literal : Literal) : Type 0 
   pub false_there : beq slot.value literal.positive ≡ false
   pub low : slot.level ≤ level
 
--- one literal of the clause is of a level above `backtrack_level`, which is the highest level of the others, or 0
+-- the asserting literal: it is of a level above `backtrack_level`, which is the highest level of the other literals, or 0
 pub record IsAsserting (trail : Trail) (backtrack_level : ℕ) (literal : Literal) (literals : List Literal) : Type 0 where
   pub contains : Contains literals literal
   pub slot : Slot
@@ -141,7 +140,7 @@ pub record IsAsserting (trail : Trail) (backtrack_level : ℕ) (literal : Litera
   pub others : All (λ (other : Literal). (other ≡ literal) ⊎ IsFalseAt trail backtrack_level other) literals
   pub reached : (backtrack_level ≡ 0) ⊎ Any (λ (other : Literal). (other ≢ literal) × (level_in trail other.variable ≡ backtrack_level)) literals
 
--- the clause follows from its causes, whose literals are the only ones that it has, and is false under the trail, and one literal alone is of its highest level
+-- the learnt clause follows from its causes, has only literals of theirs, is false under the trail, and has only one literal of its highest level
 pub record IsLearnt (table : List (Vec Literal Global)) (trail : Trail) (learnt : Learnt) : Type 0 where
   pub within : All (λ number. number < length table) learnt.causes.items
   pub follows : FollowsFrom table learnt.causes.items learnt.literals.items
@@ -149,7 +148,7 @@ pub record IsLearnt (table : List (Vec Literal Global)) (trail : Trail) (learnt 
   pub falsified : IsFalsified trail learnt.literals.items
   pub asserting : IsAsserting trail learnt.backtrack_level learnt.literal learnt.literals.items
 
--- clauses of the table that contradict each other, or a clause that follows from some
+-- an unsatisfiable core of the table, or a clause that follows from some of its clauses
 abbrev pub AnalysisIs : List (Vec Literal Global) → Trail → Analysis → Type 0
 AnalysisIs table trail (Contradiction causes) = All (λ number. number < length table) causes.items × FollowsFrom table causes.items []
 AnalysisIs table trail (Clause learnt) = IsLearnt table trail learnt

@@ -1,4 +1,4 @@
--- Values that make the clauses of all rules but one true.
+-- Values that make the clauses of all rules except one true.
 use Rattle.std.specs.Prelude.{◌≡◌, ◌≢◌, ℕ, Bool, true, false, IfSome, List, All, Option, Some, None, length}
 use Rattle.std.specs.List.{slice_index_or}
 use Rattle.resolver_clause_store.specs.Formula.{clause_true}
@@ -8,29 +8,29 @@ use Rattle.resolvo.specs.declared.minimal.Turns.{Turns}
 use Rattle.resolvo.specs.declared.minimal.rule_clauses.RuleClause.{RuleClause}
 use Rattle.resolvo.specs.declared.minimal.rule_clauses.RuleClauses.{RuleClauses}
 
--- the value of each variable; one that has none is false
+-- the value of each variable; a variable without one is false
 abbrev pub value_at : List Bool → ℕ → Bool
 value_at values variable = slice_index_or values variable false
 
--- rules have their turns, and this one is still there: it was kept, or has its turn yet
+-- the rule remains: it was kept, or its turn is still to come
 abbrev pub IsStillThere : List Bool → ℕ → Type 0
 IsStillThere kept rule = slice_index_or kept rule true ≡ true
 
--- the values make each clause of the rules that are still there true, but for those of one rule
+-- the values make the clauses of all remaining rules true, except perhaps those of one rule
 abbrev pub MakesOthersTrue : (ℕ → Bool) → List Bool → ℕ → List RuleClause → Type 0
 MakesOthersTrue values kept rule clauses =
     All (λ (clause : RuleClause). IsStillThere kept clause.rule → clause.rule ≢ rule → clause_true values clause.literals.items ≡ true) clauses
 
--- the rule that alone of those still there has a clause that the values make false, if they make one false
+-- the only remaining rule with a clause that the values make false, or `None` if they make none false
 abbrev pub BrokenIs : (ℕ → Bool) → List Bool → List RuleClause → Option ℕ → Type 0
 BrokenIs values kept clauses None = All (λ (clause : RuleClause). IsStillThere kept clause.rule → clause_true values clause.literals.items ≡ true) clauses
 BrokenIs values kept clauses (Some rule) = MakesOthersTrue values kept rule clauses
 
--- for each marked rule, some values make the clauses of all others that are still there true
+-- for each rule with a `needed` mark, some values make the clauses of all other remaining rules true
 abbrev pub AreNeeded : List RuleClause → List Bool → List Bool → Type 0
 AreNeeded clauses kept needed = (rule : ℕ) → slice_index_or needed rule false ≡ true → (values : ℕ → Bool) × MakesOthersTrue values kept rule clauses
 
--- Rules have their turns, and where they have clauses the marks of needed rules are right.
+-- The state between two turns. If the rules have clauses, the marks of needed rules are right.
 pub record AreUnderway {N S : Type 0} (rules : List (Rule N S)) (form : Option RuleClauses) (turns : Turns) : Type 0 where
   pub underway : IsUnderway rules turns.kept.items turns.core.items
   pub size : length turns.needed.items ≡ length rules

@@ -38,7 +38,7 @@ use Rattle.resolvo.specs.declared.rounds.Round.{Round}
 use Rattle.resolvo.specs.declared.rounds.Round.TheVariants.{Last, Fired, Read}
 use Rattle.resolvo.specs.declared.rounds.Rounds.{Rounds}
 
--- first parts of the clauses, and of the numbers of those that ask for candidates, were loaded
+-- the search was loaded with the first of the clauses, and the first of the numbers of requirement clauses
 pub record HasLoaded (table : List (Vec Literal Global)) (requirements : List ℕ) (search : ClauseSearch) : Type 0 where
   pub given : List (Vec Literal Global)
   pub numbers : List ℕ
@@ -46,7 +46,7 @@ pub record HasLoaded (table : List (Vec Literal Global)) (requirements : List �
   pub clauses : Extends given table
   pub requiring : Extends numbers requirements
 
--- After the turn of a solvable these are taken, chosen and exempt, and it is chosen or not.
+-- The taken, chosen and exempt solvables after the turn of a solvable, and whether it is chosen.
 pub data IsTurned {N S : Type 0} (u : Universe N S) (root : Demands) (taken chosen exempt : List S) (asked : List N) (s : S) :
     (taken_now chosen_now exempt_now : List S) → Bool → Type 0 where
   was_chosen : Contains chosen s → IsTurned u root taken chosen exempt asked s taken chosen exempt true
@@ -57,7 +57,7 @@ pub data IsTurned {N S : Type 0} (u : Universe N S) (root : Demands) (taken chos
   is_refused : {exempt_now : List S} → (Contains chosen s → ⊥) → Exempts u asked exempt s exempt_now → FitsNowhere u root chosen exempt_now s →
       IsTurned u root taken chosen exempt asked s taken chosen exempt false
 
--- After the turns of candidates none of which was chosen one is taken, or none.
+-- After the turns of candidates, none of which was chosen before, one is taken or none.
 pub data IsOneTaken {N S : Type 0} (u : Universe N S) (root : Demands) (taken chosen exempt candidates : List S) : (taken_now chosen_now : List S) → Bool →
     Type 0 where
   one_fits : {s : S} {chosen_now : List S} → Contains candidates s → IsWithin chosen chosen_now → Contains chosen_now s → IsValid u root chosen_now exempt →
@@ -65,20 +65,20 @@ pub data IsOneTaken {N S : Type 0} (u : Universe N S) (root : Demands) (taken ch
       IsOneTaken u root taken chosen exempt candidates (taken ++ s ∷ []) chosen_now true
   none_fits : ((s : S) → Contains candidates s → FitsNowhere u root chosen exempt s) → IsOneTaken u root taken chosen exempt candidates taken chosen false
 
--- the chosen ones are those of the trail as it was when it was last marked
+-- the chosen solvables are those of the trail as it was when its length was last noted
 pub record FollowsMark {N S : Type 0} (origins : List (Origin N S)) (chosen : Chosen S) (search : ClauseSearch) : Type 0 where
   pub base : Trail
   pub follows : Follows chosen origins base (length_of base)
   pub kept : KeepsPlaces base (trail_of search) (kept_of search)
   pub known : variable_count base ≤ length origins
 
--- the variable was assumed last
+-- the variable is the last assumption
 pub record HasAssumed (search : ClauseSearch) (variable : ℕ) : Type 0 where
   pub base : 0 < base_of search
   pub place : variable_at (trail_of search) (held_of search - 1) ≡ variable
 
 module _ {N S : Type 0} where
-  -- what was noted, what is chosen, and the values
+  -- the notes, the chosen solvables and the values
   abbrev pub notes_of : Rounds N S → Notes N S
   notes_of r = notes_in r.encoding
 
@@ -88,24 +88,24 @@ module _ {N S : Type 0} where
   abbrev pub search_of : Rounds N S → ClauseSearch
   search_of r = r.search
 
-  -- there may be so many clauses, and learnt clauses
+  -- the limits of clauses and of learnt clauses
   abbrev pub clause_limit_of : Rounds N S → ℕ
   clause_limit_of r = r.clause_limit
 
   abbrev pub learnt_limit_of : Rounds N S → ℕ
   learnt_limit_of r = r.learnt_limit
 
-  -- there may be as many of each as before
+  -- the limits are the same
   pub record KeepsRoom (old new : Rounds N S) : Type 0 where
     pub notes : KeepsLimits (notes_of old) (notes_of new)
     pub clauses : new.clause_limit ≡ old.clause_limit
     pub learnt : new.learnt_limit ≡ old.learnt_limit
 
-  -- the chosen ones follow the trail as it was when it was last marked
+  -- the chosen solvables follow the trail as it was when its length was last noted
   abbrev pub HasMark : Rounds N S → Type 0
   HasMark r = FollowsMark (notes_of r).origins r.chosen r.search
 
-  -- nothing was read
+  -- nothing is read yet
   pub record IsFresh (r : Rounds N S) : Type 0 where
     pub bounded : IsBounded r.encoding
     pub unread : IsUnread (notes_of r)
@@ -117,7 +117,7 @@ module _ {N S : Type 0} where
     pub turn : IsRootTurn r.search
     pub follows : (origins : List (Origin N S)) (trail : Trail) → Follows r.chosen origins trail 0
 
-  -- what holds before each round
+  -- the invariant of the rounds
   pub record AreRounds (u : Universe N S) (r : Rounds N S) : Type 0 where
     pub bounded : IsBounded r.encoding
     pub reading : IsReading u (chosen_of r) (notes_of r)
@@ -126,23 +126,23 @@ module _ {N S : Type 0} where
     pub variables : variable_count (trail_of r.search) ≤ length (notes_of r).origins
     pub mark : HasMark r
 
-  -- all clauses were loaded
+  -- all clauses are loaded
   pub record IsUpToDate (r : Rounds N S) : Type 0 where
     pub loaded : IsLoaded (notes_of r).table (notes_of r).requirements r.search
     pub variables : variable_count (trail_of r.search) ≡ length (notes_of r).origins
 
-  -- what was read for a problem still is
+  -- what was read for a problem stays read
   abbrev pub KeepsRead : Universe N S → Rounds N S → Rounds N S → Type 0
   KeepsRead u old new = (root : Demands) → IsReadSoFar u root (chosen_of old) (notes_of old) → IsReadSoFar u root (chosen_of new) (notes_of new)
 
-  -- These taken and refused ones alone are assumed. Then what was near the seeds stays so.
+  -- If only the taken and the refused solvables are assumed, what was near the seeds stays so.
   abbrev pub KeepsNear : Universe N S → Rounds N S → Rounds N S → Type 0
   KeepsNear u old new = (root : Demands) (seeds taken refused : List S) (packages : List N) → IsReadSoFar u root (chosen_of old) (notes_of old) →
       IsWithin taken seeds → AreAssumed (notes_of old).origins taken refused (trail_of old.search) →
       AreNear u root seeds packages (notes_of old) → AreNear u root seeds packages (notes_of new)
 
-  -- These taken and refused ones alone are assumed, and what was registered, read and asked for is near the seeds. Then the problem leads to
-  -- whatever there is, if it led to whatever there was.
+  -- If only the taken and the refused solvables are assumed, and everything registered, read and asked is near the seeds, then the problem leads to
+  -- all that there is now, if it led to all that there was.
   abbrev pub LeadsOn : Universe N S → Rounds N S → Rounds N S → Type 0
   LeadsOn u old new = (root : Demands) (seeds taken refused : List S) (packages : List N) → IsReadSoFar u root (chosen_of old) (notes_of old) →
       IsWithin taken seeds → AreAssumed (notes_of old).origins taken refused (trail_of old.search) →
@@ -165,7 +165,7 @@ module _ {N S : Type 0} where
     pub marked : kept_of r.search ≡ length_of (trail_of r.search)
     pub chosen : chosen_of r ≡ solvables_before (notes_of r).origins (trail_of r.search) (length_of (trail_of r.search))
 
-  -- In the turns so far solvables were taken and refused. What was registered, read and asked for is near the seeds, or one of the
+  -- The taken and the refused solvables are those of the turns so far. Everything registered, read and asked is near the seeds, or one of the
   -- packages.
   pub record IsStanding (u : Universe N S) (root : Demands) (taken refused seeds : List S) (packages : List N) (r : Rounds N S) : Type 0 where
     pub read : IsReadSoFar u root (chosen_of r) (notes_of r)
@@ -177,17 +177,17 @@ module _ {N S : Type 0} where
     pub exempt : IsWithin (notes_of r).exempt taken
     pub near : AreNear u root seeds packages (notes_of r)
 
-  -- The problem leads to whatever there is, if it led to whatever there was, and what was registered, read and asked for was near.
+  -- The problem leads to all that there is now, if it led to all that there was, and everything registered, read and asked was near.
   abbrev pub StaysLed : Universe N S → Rounds N S → Rounds N S → Type 0
   StaysLed u old new = (root : Demands) (seeds : List S) (packages : List N) → AreNear u root seeds packages (notes_of old) →
       AreLed u root seeds packages (notes_of old) → AreLed u root seeds packages (notes_of new)
 
-  -- the same, where the solvables had their turns and are among the seeds
+  -- the same, if the solvables had their turns and are among the seeds
   abbrev pub LeadsTurns : Universe N S → List S → Rounds N S → Rounds N S → Type 0
   LeadsTurns u solvables old new = (root : Demands) (taken refused seeds : List S) (packages : List N) → IsWithin solvables seeds →
       IsStanding u root taken refused seeds packages old → AreLed u root seeds packages (notes_of old) → AreLed u root seeds packages (notes_of new)
 
-  -- the same, where the package was asked and is one of those
+  -- the same, if the package was asked and is among the packages
   abbrev pub LeadsAsked : Universe N S → N → Rounds N S → Rounds N S → Type 0
   LeadsAsked u n old new = (root : Demands) (taken refused seeds : List S) (packages : List N) → Contains packages n →
       IsStanding u root taken refused seeds packages old → AreLed u root seeds packages (notes_of old) → AreLed u root seeds packages (notes_of new)
@@ -201,7 +201,7 @@ module _ {N S : Type 0} where
     pub standing : IsStanding u root taken_now refused_now seeds packages new
     pub asked : IsWithin (notes_of old).asked (notes_of new).asked
 
-  -- Candidates had their turns, and none of them was exempt. The last one is accepted, or each is refused.
+  -- Candidates had their turns, and none of them became exempt. The last one is accepted, or each is refused.
   pub record HaveTurned (u : Universe N S) (root : Demands) (taken seeds : List S) (packages : List N) (candidates : List S) (old new : Rounds N S)
       (is_chosen : Bool) : Type 0 where
     pub taken_now : List S
@@ -220,16 +220,16 @@ module _ {N S : Type 0} where
     pub run : SoftRun u root first done taken (chosen_of r) (notes_of r).exempt (notes_of r).asked
     pub standing : IsStanding u root taken refused (flat_map (options u) done) (flat_map (own_packages u) done) r
 
-  -- the problem, with what these soft requirements ask for, leads to whatever there is
+  -- the problem, with these soft requirements, leads to all that there is
   pub record IsLedBy (u : Universe N S) (root : Demands) (soft : List (SoftRequirement S)) (r : Rounds N S) : Type 0 where
     pub all : AreLed u root (flat_map (options u) soft) (flat_map (own_packages u) soft) (notes_of r)
 
-  -- the turn of one more began, and the problem leads to whatever there is, if it led to whatever there was
+  -- the turn of one more soft requirement has begun, and the problem leads to all that there is now, if it led to all that there was
   abbrev pub LeadsOver : Universe N S → SoftRequirement S → Rounds N S → Rounds N S → Type 0
   LeadsOver u requirement old new = (root : Demands) (done : List (SoftRequirement S)) → IsBetween u root done old → IsLedBy u root done old →
       IsLedBy u root (done ++ requirement ∷ []) new
 
-  -- The turn that began with this variable is undone, and then the variable is assumed to be false. So many are exempt as before it.
+  -- The turn that began with this variable is undone, and the variable is assumed to be false. As many solvables are exempt as before the turn.
   pub record IsRefusing (u : Universe N S) (variable count : ℕ) (old new : Rounds N S) : Type 0 where
     pub ended : IsTurnEnd u (notes_of old) (notes_of new)
     pub exempt : (notes_of new).exempt ≡ take count (notes_of old).exempt
@@ -245,7 +245,7 @@ module _ {N S : Type 0} where
     pub encoding : new.encoding ≡ old.encoding
     pub chosen : new.chosen ≡ old.chosen
 
-  -- the chosen ones are those that the trail of the search makes true, and the search's clauses are as before
+  -- the chosen solvables are those that the trail of the search makes true; the clauses of the search are the same
   pub record HasFollowed (old new : Rounds N S) : Type 0 where
     pub trail : trail_of new.search ≡ trail_of old.search
     pub clauses : clause_count_of new.search ≡ clause_count_of old.search
@@ -254,11 +254,11 @@ module _ {N S : Type 0} where
     pub marked : kept_of new.search ≡ length_of (trail_of new.search)
     pub chosen : chosen_of new ≡ solvables_before (notes_of old).origins (trail_of old.search) (length_of (trail_of old.search))
 
-  -- nothing was read
+  -- nothing is read
   abbrev pub KeepsEncoding : Rounds N S → Rounds N S → Type 0
   KeepsEncoding old new = new.encoding ≡ old.encoding
 
-  -- so it is, the trail is marked, and the first ones of the chosen were chosen before
+  -- the same, with the length of the trail noted; the first `from` of the chosen solvables were chosen before
   pub record IsFollowing (old new : Rounds N S) (from : ℕ) : Type 0 where
     pub encoding : new.encoding ≡ old.encoding
     pub consistent : IsConsistent new.search
@@ -267,12 +267,12 @@ module _ {N S : Type 0} where
     pub within : from ≤ length (chosen_of new)
     pub earlier : IsWithin (take from (chosen_of new)) (chosen_of old)
 
-  -- the clauses of the search are those that were read, and the learnt ones
+  -- the clauses of the search are those that were read and the learnt ones
   abbrev pub HasAllClauses : Rounds N S → Type 0
   HasAllClauses r = clause_count_of r.search ≡ length (notes_of r).kinds + learnt_count_of r.search
 
-  -- What is chosen is an answer in which the seeds need nobody, where they alone are assumed and the refused ones. It takes first
-  -- choices where nothing is assumed.
+  -- What is chosen is an answer for which the seeds need no requirer, if only they are assumed and the refused solvables. Without assumptions it
+  -- takes the first choices.
   pub record IsAnswering (u : Universe N S) (r : Rounds N S) : Type 0 where
     pub marked : kept_of r.search ≡ length_of (trail_of r.search)
     pub chosen : chosen_of r ≡ solvables_before (notes_of r).origins (trail_of r.search) (length_of (trail_of r.search))
@@ -284,35 +284,35 @@ module _ {N S : Type 0} where
     pub promise : (root : Demands) → IsReadSoFar u root (chosen_of r) (notes_of r) → AreAssumed (notes_of r).origins [] [] (trail_of r.search) →
         TakesFirstChoices u root (chosen_of r)
 
-  -- no values that make the clauses true are those of the trail at the levels up to the base
+  -- no values make the clauses true and are those of the trail at the levels up to the base
   pub record IsUnanswered (r : Rounds N S) : Type 0 where
     pub none : (values : ℕ → Bool) → Satisfies values (notes_of r).table →
         ((variable : ℕ) (slot : Slot) → slot_of (trail_of r.search) variable ≡ Some slot → slot.level ≤ base_of r.search → values variable ≡ slot.value) → ⊥
 
-  -- what is chosen is an answer; these clauses contradict each other; what is assumed cannot be kept
+  -- what is chosen is an answer, or there is an unsatisfiable core, or the assumption cannot be kept
   abbrev pub IsFound : Universe N S → Rounds N S → Found → Type 0
   IsFound u r Answer = IsAnswering u r
   IsFound u r (Contradiction core) = IsCore (notes_of r).table core.items
   IsFound u r Refused = IsRefused (notes_of r).table (trail_of r.search) (base_of r.search)
 
-  -- what all turns end with
+  -- the result of all turns
   abbrev pub IsDone : Universe N S → Demands → List (SoftRequirement S) → Rounds N S → Found → Type 0
   IsDone u root soft r Answer = IsBetween u root soft r
   IsDone u root soft r (Contradiction core) = IsReadSoFar u root (chosen_of r) (notes_of r) × IsCore (notes_of r).table core.items
   IsDone u root soft r Refused = ⊥
 
-  -- so they did, for some problem
+  -- the result of all turns, for some problem
   pub record IsSomeDone (u : Universe N S) (r : Rounds N S) (found : Found) : Type 0 where
     pub root : Demands
     pub soft : List (SoftRequirement S)
     pub done : IsDone u root soft r found
 
-  -- each round but the last one leaves fewer disjuncts put off, or has read more
+  -- each round except the last leaves fewer deferred disjuncts or has read more
   abbrev pub IsRound : Universe N S → Rounds N S → Rounds N S → Round → Type 0
   IsRound u old new (Last found) = IsFound u new found × HasAllClauses new
   IsRound u old new Fired = ((notes_of new).read ≡ (notes_of old).read) × (left_count (notes_of new) < left_count (notes_of old))
   IsRound u old new Read = (length (notes_of old).read < length (notes_of new).read) × (length (notes_of new).read ≤ (notes_of new).variable_limit)
 
-  -- a count stands at its limit
+  -- a count is at its limit
   abbrev pub IsStuck : Rounds N S → Type 0
   IsStuck r = IsFull (notes_of r) ⊎ ((r.clause_limit ≤ clause_count_of r.search) ⊎ (r.learnt_limit ≤ learnt_count_of r.search))

@@ -1,5 +1,5 @@
--- The clauses of a list of rules: values make them true just where a set obeys the rules. A variable stands for a proposition, and
--- an atom is a proposition or its negation.
+-- The clauses of a list of rules, which some values make true exactly if some set obeys the rules. A variable stands for a proposition, and an atom
+-- is a proposition or its negation.
 use Rattle.std.specs.Prelude.{◌≡◌, ℕ, zero, suc, ◌<◌, ◌≤◌, ◌^◌, ◌++◌, ◌∷◌, [], Bool, true, false, Some, List, length, map, slice_get, All, Vec, ⊤}
 use Rattle.std.specs.List.{AllZip, slice_index_or}
 use Rattle.std.specs.declared.alloc.Global.{Global}
@@ -21,34 +21,34 @@ use Rattle.resolvo.specs.declared.minimal.rule_clauses.RuleClause.{RuleClause}
 abbrev pub atom : {N S : Type 0} → Proposition N S → Bool → Atom N S
 atom p b = record { proposition = p; positive = b }
 
--- a clause that the rule at a place gives, in propositions
+-- a clause of the rule at a place, in propositions
 pub record Line (N S : Type 0) : Type 0 where
   pub rule : ℕ
   pub atoms : List (Atom N S)
   pub is_requirement : Bool
 
--- a clause whose candidates are to be tried, and one of which that is not so
+-- a clause whose candidates are to be tried, and one without
 abbrev pub requirement_line : {N S : Type 0} → ℕ → List (Atom N S) → Line N S
 requirement_line rule atoms = record { rule = rule; atoms = atoms; is_requirement = true }
 
 abbrev pub plain : {N S : Type 0} → ℕ → List (Atom N S) → Line N S
 plain rule atoms = record { rule = rule; atoms = atoms; is_requirement = false }
 
--- who is_requirement is not there; the root always is
+-- the requirer is not in the set; the root always is
 abbrev pub requirer_atoms : {N S : Type 0} → By S → List (Atom N S)
 requirer_atoms Root = []
 requirer_atoms (Solvable s) = atom (Member s) false ∷ []
 
--- of one of the first so many lists of the rule's condition no member is there
+-- one of the first lists of the rule's condition has no member in the set
 abbrev pub list_atoms : {N S : Type 0} → ℕ → ℕ → List (Atom N S)
 list_atoms rule zero = []
 list_atoms rule (suc n) = list_atoms rule n ++ atom (Listed rule n) false ∷ []
 
--- one of the candidates is there
+-- a candidate is in the set
 abbrev pub candidate_atoms : {N S : Type 0} → List S → List (Atom N S)
 candidate_atoms candidates = map (λ s. atom (Member s) true) candidates
 
--- for each member of a list: where it is there, a member of the list is
+-- for each member of a list: if it is in the set, the list has a member there
 abbrev pub member_lines : {N S : Type 0} → ℕ → ℕ → List S → List (Line N S)
 member_lines rule list members = map (λ s. plain rule (atom (Member s) false ∷ atom (Listed rule list) true ∷ [])) members
 
@@ -57,13 +57,13 @@ abbrev pub condition_lines : {N S : Type 0} → ℕ → ℕ → List (Vec S Glob
 condition_lines rule list [] = []
 condition_lines rule list (members ∷ rest) = member_lines rule list members.items ++ condition_lines rule (suc list) rest
 
--- for each of so many bits: where the instance is there, the name's bit is that of the instance's code
+-- for each of the first bits: if the instance is in the set, that bit of the name has the value that it has in the instance's code
 abbrev pub bit_lines : {N S : Type 0} → ℕ → N → S → ℕ → ℕ → List (Line N S)
 bit_lines rule name instance code zero = []
 bit_lines rule name instance code (suc n) = bit_lines rule name instance code n ++
     plain rule (atom (Member instance) false ∷ atom (Bit name n) (bit code n) ∷ []) ∷ []
 
--- the clauses of the rule at a place; of a mark, with the code of its instance in so many bits
+-- the clauses of the rule at a place; those of an instance use its code, with `width` bits
 abbrev pub lines_of : {N S : Type 0} → ℕ → ℕ → ℕ → Rule N S → List (Line N S)
 lines_of width place code (Requires by requirement candidates when) =
     requirement_line place (requirer_atoms by ++ (list_atoms place (length when.items) ++ candidate_atoms candidates.items)) ∷ condition_lines place 0 when.items
@@ -78,7 +78,7 @@ all_lines width place [] codes = []
 all_lines width place (rule ∷ rules) [] = []
 all_lines width place (rule ∷ rules) (code ∷ codes) = lines_of width place code rule ++ all_lines width (suc place) rules codes
 
--- the literal's variable stands for the atom's proposition, and both have one sign
+-- the literal's variable stands for the atom's proposition, and the signs agree
 pub record IsLiteralOf {N S : Type 0} (propositions : List (Proposition N S)) (literal : Literal) (it : Atom N S) : Type 0 where
   pub stands : slice_get propositions literal.variable ≡ Some it.proposition
   pub sign : literal.positive ≡ it.positive
@@ -89,12 +89,12 @@ pub record IsClauseOf {N S : Type 0} (propositions : List (Proposition N S)) (cl
   pub literals : AllZip (IsLiteralOf propositions) clause.literals.items line.atoms
   pub is_requirement : clause.is_requirement ≡ line.is_requirement
 
--- a mark has the place of its instance as its code
+-- the code of an instance is its place
 abbrev pub HasCode : {N S : Type 0} → List S → Rule N S → ℕ → Type 0
 HasCode instances (OnePerPackage name instance) code = slice_get instances code ≡ Some instance
 HasCode instances rule code = ⊤
 
--- the clauses are those of the rules, with codes that tell the marked instances apart
+-- the clauses are those of the rules, with codes that distinguish the listed instances
 pub record AreClausesOf {N S : Type 0} (rules : List (Rule N S)) (propositions : List (Proposition N S)) (clauses : List RuleClause) : Type 0 where
   pub width : ℕ
   pub instances : List S
@@ -110,22 +110,22 @@ abbrev pub MakesMarkedTrue : (ℕ → Bool) → List Bool → List RuleClause �
 MakesMarkedTrue values marks clauses =
     All (λ (clause : RuleClause). slice_index_or marks clause.rule false ≡ true → clause_true values clause.literals.items ≡ true) clauses
 
--- one literal or two, of which the first is a negation
+-- one or two literals, the first of them negative
 abbrev pub IsGuarded : List Literal → Type 0
 IsGuarded [] = ⊥
 IsGuarded (first ∷ []) = first.positive ≡ false
 IsGuarded (first ∷ second ∷ []) = first.positive ≡ false
 IsGuarded (first ∷ second ∷ third ∷ rest) = ⊥
 
--- what the clauses are there for, with any of the rules marked
+-- what the clauses achieve, whichever rules are marked
 pub record DecideRules {N S : Type 0} (rules : List (Rule N S)) (variables : ℕ) (clauses : List RuleClause) : Type 0 where
-  -- where a set obeys the marked rules, some values make their clauses true
+  -- if a set obeys the marked rules, some values make their clauses true
   pub sound : (marks : List Bool) (set : List S) → length marks ≡ length rules → Obeys set (marked marks rules) → (values : ℕ → Bool) ×
       MakesMarkedTrue values marks clauses
-  -- where some values make their clauses true, the marked rules are not refuted
+  -- if some values make their clauses true, the marked rules are not refuted
   pub complete : (marks : List Bool) (values : ℕ → Bool) → length marks ≡ length rules → MakesMarkedTrue values marks clauses → IsRefuted (marked marks rules) →
       ⊥
-  -- only a clause whose candidates are to be tried may have more than one literal that is no negation
+  -- only a clause whose candidates are to be tried may have more than one positive literal
   pub guarded : All (λ (clause : RuleClause). clause.is_requirement ≡ false → IsGuarded clause.literals.items) clauses
   pub places : All (λ (clause : RuleClause). clause.rule < length rules) clauses
   pub below : All (λ (clause : RuleClause). IsBelow variables clause.literals.items) clauses

@@ -1,4 +1,4 @@
--- What callers see of a solver.
+-- The view that callers have of a solver.
 use Rattle.std.specs.Prelude.{◌≡◌, ◌+◌, ◌≤◌, ◌^◌, ◌⊎◌, ℕ, List, length}
 use Rattle.resolver_clause_store.specs.Universe.{Universe, Demands}
 use Rattle.resolver_clause_store.specs.Caches.{IsTrueCache}
@@ -14,14 +14,14 @@ module _ {D C N S : Type 0} where
   abbrev pub provider_in : Solver D C N S → D
   provider_in s = s.provider
 
-  -- how many clauses and learnt clauses the present state has; learnt ones are clauses, too
+  -- how many clauses and learnt clauses there are; the clauses include the learnt ones
   abbrev pub clause_count_in : Solver D C N S → ℕ
   clause_count_in s = s.clause_count
 
   abbrev pub learnt_count_in : Solver D C N S → ℕ
   learnt_count_in s = s.learnt_count
 
-  -- how many disjuncts were put off
+  -- how many disjuncts are deferred
   abbrev pub deferred_count_in : Solver D C N S → ℕ
   deferred_count_in s = s.deferred_count
 
@@ -29,35 +29,35 @@ module _ {D C N S : Type 0} where
   abbrev pub exempt_in : Solver D C N S → List S
   exempt_in s = s.exempt.items
 
-  -- the numbers by which scores grow and fade
+  -- the parameters by which scores grow and decay
   pub record HasActivity (add decay : ℕ) (s : Solver D C N S) : Type 0 where
     pub add_is : s.activity.add ≡ add
     pub decay_is : s.activity.decay ≡ decay
 
-  -- there may be so many of each
+  -- the limit of each count
   pub record HasLimits (limit : ℕ) (s : Solver D C N S) : Type 0 where
     pub variables : s.variable_limit ≡ limit
     pub clauses : s.clause_limit ≡ limit
     pub learnt : s.learnt_limit ≡ limit
 
-  -- there may be as many of each as before
+  -- the limits are the same
   pub record KeepsLimits (old new : Solver D C N S) : Type 0 where
     pub variables : new.variable_limit ≡ old.variable_limit
     pub clauses : new.clause_limit ≡ old.clause_limit
     pub learnt : new.learnt_limit ≡ old.learnt_limit
 
-  -- scores grow and fade by the same numbers
+  -- the parameters of the scores are the same
   abbrev pub KeepsActivity : Solver D C N S → Solver D C N S → Type 0
   KeepsActivity old new = new.activity ≡ old.activity
 
-  -- the counts stay
+  -- the counts are the same
   pub record KeepsCounts (old new : Solver D C N S) : Type 0 where
     pub variables : new.variable_count ≡ old.variable_count
     pub clauses : new.clause_count ≡ old.clause_count
     pub learnt : new.learnt_count ≡ old.learnt_count
     pub deferred : new.deferred_count ≡ old.deferred_count
 
-  -- the counts alone change
+  -- only the counts change
   pub record KeepsAllButCounts (old new : Solver D C N S) : Type 0 where
     pub provider : new.provider ≡ old.provider
     pub cache : new.cache ≡ old.cache
@@ -74,14 +74,14 @@ module _ {D C N S : Type 0} where
     pub learnt : s.learnt_count ≡ learnt_count_of (search_of r)
     pub deferred : s.deferred_count ≡ left_count (notes_of r)
 
-  -- One of the counts stands at its limit. That of variables does so only where the problem leads to as many things as there may be variables,
-  -- with what those soft requirements ask for whose turns began.
+  -- One of the counts is at its limit. For the count of variables, the problem, with the soft requirements whose turns have begun, leads to as many
+  -- things as there may be variables.
   abbrev pub IsAtLimit : Universe N S → Demands → (List (SoftRequirement S) → Type 0) → Solver D C N S → Type 0
   IsAtLimit u root Begun s =
       ((s.variable_count ≡ s.variable_limit) × ((soft : List (SoftRequirement S)) × Begun soft × AreUsedUp u root soft s.variable_limit))
       ⊎ ((s.clause_limit ≤ s.clause_count) ⊎ (s.learnt_limit ≤ s.learnt_count))
 
-  -- what the solver keeps of its provider's answers is true, and a variable's number fits
+  -- the cached answers of the provider are true, and the number of each variable fits its type
   pub record IsSound (u : Universe N S) (s : Solver D C N S) : Type 0 where
     pub true_answers : IsTrueCache u s.cache
     pub fits : s.variable_limit ≤ 2 ^ 31

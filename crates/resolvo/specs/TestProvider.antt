@@ -1,6 +1,5 @@
--- What the provider of the tests says, and that it keeps the laws. Package n has the solvables 10 n + 1 and 10 n + 4,
--- and version set 10 n + k takes 10 n + k, and with k = 0 both. In an endless universe 10 n + 1 requires version set 10
--- (n + 1).
+-- The provider of the tests, and its laws. Package n has the solvables 10 n + 1 and 10 n + 4. Version set 10 n + k has 10 n + k, and with k = 0 both.
+-- In an endless universe 10 n + 1 requires version set 10 (n + 1).
 use Rattle.std.specs.Prelude.{◌≡◌, ◌≢◌, ℕ, ◌+◌, ◌*◌, ◌/◌, ◌%◌, Bool, true, false, cond, not, nat_eq, nat_lt, List, [], ◌∷◌, ◌++◌, Some, None, All, AllPairs}
 use Rattle.std.specs.Prelude.{IfSome, filter, map, reverse, refl, length, ◌<◌, ◌≤◌}
 use Rattle.std.proofs.Common.{arith}
@@ -21,32 +20,32 @@ use Rattle.resolver_clause_store.specs.declared.Condition.TheVariants.{Requireme
 use Rattle.resolver_clause_store.specs.declared.LogicalOperator.{LogicalOperator}
 use Rattle.resolver_clause_store.specs.declared.LogicalOperator.TheVariants.{And, Or}
 
--- whether a version set takes a solvable of its package
+-- whether a solvable of its package is in a version set
 abbrev pub takes : VersionSetId → ℕ → Bool
 takes v s = cond (nat_eq (v.0 % 10) 0) true (nat_eq (s % 10) (v.0 % 10))
 
--- what is stated of a solvable
+-- the statements about a solvable
 abbrev pub stated_by : {X : Type 0} → List (ℕ × X) → ℕ → List X
 stated_by statements s = map (λ e. e.1) (filter (λ e. nat_eq e.0 s) statements)
 
--- what an older solvable requires of the package after its own, as far as the ids go
+-- the requirement of an older solvable on the next package, as far as the ids go
 abbrev pub next_of : ℕ → List ConditionalRequirement
 next_of s = cond (nat_eq (s % 10) 1)
     (cond (nat_lt (s / 10) 429496728) (record { condition = None; requirement = Single (record { 0 = 10 * (s / 10 + 1) }) } ∷ []) []) []
 
--- what a solvable requires
+-- the requirements of a solvable
 abbrev pub required_by : Bool → List (ℕ × ConditionalRequirement) → ℕ → List ConditionalRequirement
 required_by endless requirements s = cond endless (stated_by requirements s ++ next_of s) (stated_by requirements s)
 
--- how many packages there are
+-- the number of packages
 abbrev pub package_count : Bool → ℕ
 package_count endless = cond endless 429496729 100
 
--- what a package hints about the dependencies of its solvables
+-- the hint of a package about the dependencies of its solvables
 abbrev pub hint_by : ℕ → Hint ℕ
 hint_by n = cond (nat_eq (n / 10) 1) hint_all hint_none
 
--- a package that the provider knows, and one that it does not
+-- a known package, and an unknown one
 abbrev pub known_package : ℕ → Package ℕ
 known_package n = record {
   listed = (10 * n + 1) ∷ (10 * n + 4) ∷ [];
@@ -59,7 +58,7 @@ known_package n = record {
 abbrev pub unknown_package : Package ℕ
 unknown_package = record { listed = []; favored = None; locked = None; excluded = []; hint = hint_none }
 
--- a condition from 1000 on joins two below it: by "and" if the first one ends in 4, and else by "or"
+-- a condition from 1000 on joins two lower ones: by "and" if the first ends in 4, otherwise by "or"
 abbrev pub joined_by : ℕ → LogicalOperator
 joined_by n = cond (nat_eq (n / 1000 % 10) 4) And Or
 

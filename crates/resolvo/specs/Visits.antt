@@ -19,7 +19,7 @@ use Rattle.resolvo.specs.declared.propagator.visiting.WatchOutcome.TheVariants.{
 use Rattle.resolver_clause_store.specs.declared.Watch.{Watch}
 use Rattle.resolver_clause_store.specs.declared.WatchedPair.{WatchedPair}
 
--- the literal became false at this place, at its level, which is the highest one where it is marked as such
+-- the literal became false at this place and level, and `is_top` is right about whether that is the highest level
 pub record FailsAt (trail : Trail) (place : ℕ) (it : FalseLiteral) : Type 0 where
   pub slot : Slot
   pub is : slot_of trail it.literal.variable ≡ Some slot
@@ -32,12 +32,12 @@ pub record FailsAt (trail : Trail) (place : ℕ) (it : FalseLiteral) : Type 0 wh
 abbrev pub watchers_of : Propagator → Literal → List Watch
 watchers_of propagator literal = list_at (lists_of propagator.watches) (list_number literal)
 
--- so many first clauses of the list are true by a literal of this level or a lower one, or noted
+-- the first `count` watchers in the list are clauses that are true by a literal of this level or a lower one, or noted
 pub record AreExcused (table : List (Vec Literal Global)) (trail : Trail) (watchers : List Watch) (late : List Late) (pending : List ℕ)
     (level count : ℕ) : Type 0 where
   pub each : (place : ℕ) (watch : Watch) → place < count → slice_get watchers place ≡ Some watch → IsExcused table trail late pending level watch.number
 
--- what is kept while the clauses that watch the literal are looked at, so many of which were
+-- the invariant while the watchers of the literal are visited, after the first `count` of them
 pub record IsVisiting (table : List (Vec Literal Global)) (trail : Trail) (it : Propagator) (falsified : FalseLiteral) (count : ℕ) : Type 0 where
   pub below : AreBelow (variable_count trail) table
   pub propagator : IsPropagator table trail it
@@ -45,7 +45,7 @@ pub record IsVisiting (table : List (Vec Literal Global)) (trail : Trail) (it : 
   pub fails : FailsAt trail (head_of it) falsified
   pub excused : AreExcused table trail (watchers_of it falsified.literal) (late_of it) (pending_of it) falsified.level count
 
--- the visit goes on at the next place, with fewer clauses left
+-- the visit goes on at the next place, with fewer watchers left
 pub record GoesOn (table : List (Vec Literal Global)) (trail : Trail) (old new : Propagator) (falsified : FalseLiteral) (place next : ℕ) : Type 0 where
   pub visiting : IsVisiting table trail new falsified next
   pub head : head_of new ≡ head_of old
@@ -58,12 +58,12 @@ pub record Fails (table : List (Vec Literal Global)) (trail : Trail) (new : Prop
   pub propagator : IsPropagator table trail new
   pub attached : IsAttached table new
 
--- what a look at the clause at a place did
+-- the result of the visit to the watcher at a place
 abbrev pub WatchOutcomeIs : List (Vec Literal Global) → Trail → Propagator → Propagator → FalseLiteral → ℕ → WatchOutcome → Type 0
 WatchOutcomeIs table trail old new falsified place (Next next) = GoesOn table trail old new falsified place next
 WatchOutcomeIs table trail old new falsified place (Conflict number) = Fails table trail new number
 
--- a literal of the clause that is not false and is not this one
+-- a literal of the clause that is not false and differs from `other`
 pub record Replaces (trail : Trail) (clause : List Literal) (other to : Literal) : Type 0 where
   pub inside : Contains clause to
   pub differ : other ≢ to
@@ -74,7 +74,7 @@ pub record IsPaired (pairs : List WatchedPair) (number : ℕ) (one other : Liter
   pub is : IsPair (pair_at pairs number) one other
   pub differ : one ≢ other
 
--- the clause with this number stands at the place
+-- the clause with this number is at this place
 pub record StandsAt (watchers : List Watch) (place number : ℕ) : Type 0 where
   pub watch : Watch
   pub is : slice_get watchers place ≡ Some watch

@@ -1,4 +1,4 @@
--- Each clause that a search stores stands in the lists of the two literals that it watches.
+-- Each stored clause is in the lists of the two literals that it watches.
 use Rattle.std.specs.Prelude.{◌≡◌, ℕ, ◌+◌, ◌<◌, List, length, Vec}
 use Rattle.std.specs.declared.alloc.Global.{Global}
 use Rattle.resolver_clause_store.specs.declared.Literal.{Literal}
@@ -16,20 +16,20 @@ pub record IsOwnPair (clause : List Literal) (pair : WatchedPair) : Type 0 where
   pub is : pair ≡ watched_pair first second
   pub apart : AreApart clause first second
 
--- where the clause has two different literals, the pair has two of them
+-- if the clause has two different literals, the pair is two of them
 abbrev pub OwnsPair : List Literal → WatchedPair → Type 0
 OwnsPair clause pair = (one other : Literal) → AreApart clause one other → IsOwnPair clause pair
 
--- so it is for each clause of the table
+-- the same for each clause of the table
 abbrev pub AreOwned : List (Vec Literal Global) → List WatchedPair → Type 0
 AreOwned table pairs = (number : ℕ) → number < length table → OwnsPair (clause_at table number) (pair_at pairs number)
 
--- The clause watches two different literals of its own. It stands in their lists, once in each, and in no other list.
+-- The clause watches two different literals of its own. It is in their lists, once in each, and in no other list.
 pub record StandsInTwo (clause : List Literal) (watches : Watches) (number : ℕ) : Type 0 where
   pub pair : IsOwnPair clause (pair_at (pairs_of watches) number)
   pub once : (list : ℕ) → entry_count (lists_of watches) list number ≡ same (list_number pair.first) list + same (list_number pair.second) list
 
--- each clause of the table that has two different literals does so
+-- the same for each clause of the table with two different literals
 abbrev pub AreInLists : List (Vec Literal Global) → Watches → Type 0
 AreInLists table watches = (number : ℕ) → number < length table → (one other : Literal) → AreApart (clause_at table number) one other →
     StandsInTwo (clause_at table number) watches number

@@ -1,4 +1,4 @@
-//! A clause that follows from a conflict.
+//! Conflict analysis: learns a clause from a conflict.
 
 ghost use Rattle.std.specs.Prelude.{◌≡◌, ◌≢◌, ◌⊎◌, ◌+◌, ◌<◌, ◌≤◌, length, All, Any, IfOk, IfSome, MatchBool, OnOk, Some, ℕ, false, not, slice_set, true};
 ghost use Rattle.resolver_clause_store.specs.Formula.{AreBelow, IsBelow, clause_at};
@@ -14,22 +14,23 @@ use resolver_clause_store::{Literal, Reason, Trail, Variable, clause};
 use std::alloc::{AllocError, Global};
 use std::mem::replace;
 
-/// Marked variables whose values on the trail contradict the causes.
+/// Marked variables whose values on the trail contradict the causes. Their negated values are the resolvent of the
+/// causes.
 #[derive(Drop)]
 pub struct Resolvent {
     pub marks: Vec<bool>,
-    /// The variables that were marked, also those whose mark was taken away.
+    /// The variables that were marked, including those whose mark was removed.
     pub marked: Vec<Variable>,
     pub causes: Vec<usize>,
-    /// The highest level of a marked variable.
+    /// The highest decision level of a marked variable.
     pub level: usize,
     /// The first place of a marked variable of that level.
     pub lowest: usize,
 }
 
-/// A mark for each variable, of which none is set.
+/// A mark for each variable, none of them set.
 ///
-/// An analysis takes the marks and puts them back, so that they are made once.
+/// An analysis takes the marks and returns them cleared, so that they are allocated once.
 #[derive(Drop)]
 pub struct BlankMarks {
     marks: Vec<bool>,
@@ -44,7 +45,7 @@ impl BlankMarks {
         }
     }
 
-    /// Takes the marks, for so many variables.
+    /// Takes the marks, with one for each of `variables` variables.
     pub fn take(&mut self, alloc: Global, variables: usize) -> Result<Vec<bool>, AllocError>
         ensures { IfOk result (λ marks. (length marks.items ≡ variables) × IsUnmarked marks.items) }
     {
@@ -53,7 +54,7 @@ impl BlankMarks {
         Ok(marks)
     }
 
-    /// Puts the marks back.
+    /// Returns the marks.
     pub fn put(&mut self, marks: Vec<bool>)
         requires { IsUnmarked marks.items }
     {
@@ -61,27 +62,27 @@ impl BlankMarks {
     }
 }
 
-/// A clause that follows from others.
+/// A learnt clause.
 #[derive(Drop)]
 pub struct Learnt {
     pub literals: Vec<Literal>,
     pub causes: Vec<usize>,
-    /// The one literal of the highest level, where the clause has literals.
+    /// The asserting literal: the only one of the highest level, if the clause has literals.
     pub literal: Literal,
-    /// The highest level of the other literals, and 0 where there are none.
+    /// The backtrack level: the highest level of the other literals, or 0 if there are none.
     pub backtrack_level: usize,
 }
 
-/// What a conflict teaches.
+/// The result of an analysis.
 #[derive(Drop)]
 pub enum Analysis {
-    /// The clauses with these numbers contradict each other.
+    /// The clauses with these numbers are an unsatisfiable core.
     Contradiction(Vec<usize>),
     /// A clause that follows from others.
     Clause(Learnt),
 }
 
-/// Marks a variable, and lists it where it was not marked.
+/// Marks a variable, and lists it if it was not marked before.
 pub fn mark(
     marks: &mut Vec<bool>,
     marked: &mut Vec<Variable>,
@@ -100,7 +101,7 @@ pub fn mark(
     Ok(())
 }
 
-/// Marks the variables of a clause, and lists those that were not marked.
+/// Marks the variables of a clause, and lists those that were not marked before.
 pub fn mark_all(
     marks: &mut Vec<bool>,
     marked: &mut Vec<Variable>,
@@ -116,7 +117,7 @@ pub fn mark_all(
     Ok(())
 }
 
-/// Takes the marks of the listed variables away.
+/// Clears the marks of the listed variables.
 pub fn unmark_all(marks: &mut Vec<bool>, marked: &[Variable])
     requires { ListsMarks marks.old.items marked.now }
     ensures size { length marks.new.items ≡ length marks.old.items }
@@ -127,7 +128,7 @@ pub fn unmark_all(marks: &mut Vec<bool>, marked: &[Variable])
     }
 }
 
-/// The level of a variable, and 0 where it has no value.
+/// The level of a variable, or 0 if it has no value.
 pub fn level_at(trail: &Trail, variable: Variable) -> usize
     requires { variable < variable_count trail.now }
     ensures { result ≡ level_in trail.now variable }
@@ -138,7 +139,7 @@ pub fn level_at(trail: &Trail, variable: Variable) -> usize
     }
 }
 
-/// The highest level of a literal of the clause.
+/// The highest level among the literals of the clause.
 pub fn highest_level(trail: &Trail, clause: &[Literal]) -> usize
     requires { IsBelow (variable_count trail.now) clause.now }
     ensures top { All (λ (literal : Literal). level_in trail.now literal.variable ≤ result) clause.now }
@@ -151,7 +152,7 @@ pub fn highest_level(trail: &Trail, clause: &[Literal]) -> usize
     level
 }
 
-/// The lower one of a place and the one of the variable, if the variable is of this level.
+/// The lower of `lowest` and the place of the variable, if the variable is of this level.
 pub fn lower_place(trail: &Trail, variable: Variable, level: usize, lowest: usize) -> usize
     requires { variable < variable_count trail.now }
     ensures low { result ≤ lowest }
@@ -169,7 +170,7 @@ pub fn lower_place(trail: &Trail, variable: Variable, level: usize, lowest: usiz
     }
 }
 
-/// The lowest one of a place and those of the clause's variables of this level.
+/// The lowest of `start` and the places of the clause's variables of this level.
 pub fn lowest_place(trail: &Trail, clause: &[Literal], level: usize, start: usize) -> usize
     requires { IsBelow (variable_count trail.now) clause.now }
     ensures low { result ≤ start }
@@ -184,7 +185,7 @@ pub fn lowest_place(trail: &Trail, clause: &[Literal], level: usize, start: usiz
     lowest
 }
 
-/// The variables of a clause that is false. At first no variable is marked.
+/// Starts an analysis: marks the variables of a false clause. At first no variable is marked.
 pub fn begin(
     alloc: Global,
     blank: Vec<bool>,
@@ -215,8 +216,8 @@ pub fn begin(
     })
 }
 
-/// Puts the other variables of a reason in the place of the variable that it forced, which is the last marked one and not
-/// the only one of its level.
+/// Resolves with a reason: marks its other variables in place of the one that it forced, which is the last marked one
+/// and not the only one of its level.
 pub fn resolve(
     table: &[Vec<Literal>],
     trail: &Trail,
@@ -242,7 +243,7 @@ pub fn resolve(
     Ok(())
 }
 
-/// Whether the variable at this place is the only marked one of the highest level, where it is the last marked one.
+/// Whether the last marked variable, at this place, is the only marked one of the highest level.
 pub fn is_single(resolvent: &Resolvent, place: usize) -> bool
     ensures { MatchBool result ((0 < resolvent.now.level) × (place ≡ resolvent.now.lowest)) (0 < resolvent.now.level → place ≢ resolvent.now.lowest) }
 {
@@ -252,8 +253,8 @@ pub fn is_single(resolvent: &Resolvent, place: usize) -> bool
     place == resolvent.lowest
 }
 
-/// Resolves the marked variables from the last one on, down to one variable of the highest level, or to none where that
-/// is level 0.
+/// Resolves the marked variables, last one first, down to the first unique implication point: a single variable of the
+/// highest level. At level 0 none is left.
 pub fn resolve_level(
     table: &[Vec<Literal>],
     trail: &Trail,
@@ -290,7 +291,7 @@ pub fn resolve_level(
     Ok(())
 }
 
-/// Whether each literal of a clause is of a marked variable.
+/// Whether all variables of a clause are marked.
 pub fn are_marked(marks: &[bool], clause: &[Literal]) -> bool
     requires { IsBelow (length marks.now) clause.now }
     ensures { MatchBool result (All (λ (literal : Literal). is_marked marks.now literal.variable ≡ true) clause.now)
@@ -304,7 +305,7 @@ pub fn are_marked(marks: &[bool], clause: &[Literal]) -> bool
     true
 }
 
-/// Takes the mark of a variable away whose reason has marked variables alone: their values imply its own.
+/// Unmarks a variable whose reason has marked variables only: their values imply its own.
 pub fn drop_implied(
     table: &[Vec<Literal>],
     trail: &Trail,
@@ -327,7 +328,7 @@ pub fn drop_implied(
     Ok(())
 }
 
-/// Takes the mark of a variable away if the others imply it, and it is not the one variable of the highest level.
+/// Unmarks a variable that the others imply, unless it is the only one of the highest level.
 pub fn minimize_at(
     table: &[Vec<Literal>],
     trail: &Trail,
@@ -363,7 +364,7 @@ pub fn minimize_at(
     }
 }
 
-/// The number of the clause that forced a variable, if one did.
+/// The number of the clause that forced a variable, or `None` if none did.
 pub fn forced_by(trail: &Trail, variable: Variable) -> Option<usize>
     requires { variable < variable_count trail.now }
     ensures { IfSome result (IsReason trail.now variable) }
@@ -378,7 +379,7 @@ pub fn forced_by(trail: &Trail, variable: Variable) -> Option<usize>
     }
 }
 
-/// Takes the marks away of variables that the other marked ones imply. The one variable of the highest level stays.
+/// Minimizes the clause: unmarks variables that the other marked ones imply. The only one of the highest level stays.
 pub fn minimize(
     table: &[Vec<Literal>],
     trail: &Trail,
@@ -407,7 +408,7 @@ pub fn minimize(
     Ok(())
 }
 
-/// Puts the literal of a variable that is false behind the others, where the variable is marked and has a value.
+/// Appends the literal of a variable that is false, if the variable is marked and has a value.
 pub fn add_negation(
     literals: &mut Vec<Literal>,
     trail: &Trail,
@@ -433,7 +434,7 @@ pub fn add_negation(
     }
 }
 
-/// The literals that are false by the trail's values of the marked variables, which are all listed.
+/// The literals of the listed variables that are marked, each false on the trail.
 pub fn literals_of(
     alloc: Global,
     trail: &Trail,
@@ -451,7 +452,7 @@ pub fn literals_of(
     Ok(literals)
 }
 
-/// The highest level of the clause's literals but those of one variable.
+/// The highest level of the clause's literals, except for the asserted variable.
 pub fn backtrack_level(trail: &Trail, literals: &[Literal], asserted: Variable) -> usize
     requires { IsBelow (variable_count trail.now) literals.now }
     ensures top { All (λ (literal : Literal). (literal.variable ≡ asserted) ⊎ (level_in trail.now literal.variable ≤ result)) literals.now }
@@ -466,7 +467,7 @@ pub fn backtrack_level(trail: &Trail, literals: &[Literal], asserted: Variable) 
     level
 }
 
-/// The literal of the variable that is false.
+/// The literal of the variable that is false on the trail.
 pub fn negation_of(trail: &Trail, variable: Variable) -> Literal
     requires { variable < variable_count trail.now }
     ensures { (slot : Slot) → slot_of trail.now variable ≡ Some slot → result ≡ record { variable = variable; positive = not slot.value } }
@@ -483,7 +484,7 @@ pub fn negation_of(trail: &Trail, variable: Variable) -> Literal
     }
 }
 
-/// The highest level of a learnt clause, which is the one of its one literal of that level.
+/// The highest level of a learnt clause: the level of its asserting literal.
 pub fn asserted_level(trail: &Trail, learnt: &Learnt) -> usize
     requires { learnt.now.literal.variable < variable_count trail.now }
     ensures { result ≡ level_in trail.now learnt.now.literal.variable }
@@ -491,8 +492,8 @@ pub fn asserted_level(trail: &Trail, learnt: &Learnt) -> usize
     level_at(trail, learnt.literal.variable)
 }
 
-/// Why a clause is false: a clause that follows from others, is false too, and has one literal alone of its highest level;
-/// or clauses that contradict each other, where the clause is false at level 0.
+/// Analyzes a false clause: learns a clause from it that follows from others, is false, and has only one literal of its
+/// highest level; or, if it is false at level 0, finds an unsatisfiable core.
 pub fn analyze(
     alloc: Global,
     marks: &mut BlankMarks,

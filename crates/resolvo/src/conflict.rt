@@ -1,4 +1,4 @@
-//! Why there is no answer.
+//! Conflicts: why a problem has no answer.
 
 ghost use Rattle.std.specs.Prelude.{◌≡◌, All, IfErr, IfOk};
 ghost use Rattle.resolver_clause_store.specs.Universe.{Demands, Universe};
@@ -29,7 +29,8 @@ const LEARNT_LIMIT: usize = 2000;
 
 /// Rules that no set of solvables obeys together.
 ///
-/// They name no solvable as requirer, forbidden or marked that their requirements do not reach from the root on.
+/// Each is about solvables that the root's requirements reach: its requirer, and the solvable that it forbids or lists
+/// as an instance.
 #[derive(Drop)]
 pub struct Conflict<N, S> {
     pub(crate) rules: Vec<Rule<N, S>>,
@@ -38,7 +39,7 @@ pub struct Conflict<N, S> {
 impl<N, S> Conflict<N, S> {
     ghost use Rattle.resolvo.specs.Conflicts.{rules_in};
 
-    /// The rules, each of which the provider and the problem state.
+    /// The rules. The provider or the problem states each of them.
     pub fn rules(&self) -> &[Rule<N, S>]
         ensures { result.now ≡ rules_in self.now }
     {
@@ -49,14 +50,14 @@ impl<N, S> Conflict<N, S> {
 impl<N: Copy + Eq + Ord + Hash + Drop, S: Copy + Eq + Ord + Hash + Drop> Conflict<N, S> {
     ghost use Rattle.resolvo.specs.Conflicts.{rules_in};
 
-    /// A conflict of which no rule can be left out: without any one of its rules, some set of solvables obeys the others.
+    /// A conflict from which no rule can be left out: without any one of them, some set of solvables obeys the others.
     ///
-    /// Each rule has its turn, first to last, and is left out exactly if no set obeys those that were kept before it and
-    /// those behind it. What is left stands in its order, and there may be a smaller conflict with other rules.
+    /// Each rule has its turn, first to last. It is left out exactly if no set obeys those kept so far together with
+    /// those that follow. The others keep their order. A smaller conflict of other rules may exist.
     ///
-    /// This is so where no set obeys the rules, as of each conflict that `solve` answers. The error is
-    /// [`Exhausted::Memory`] alone. A turn takes at most one search over the clauses of the rules; none is needed for a rule
-    /// without which the last search already failed.
+    /// All this holds if no set obeys the rules, as for every conflict that `solve` returns. The error is
+    /// [`Exhausted::Memory`] alone. A turn takes at most one search over the clauses of the rules, and none if the last
+    /// search failed without the rule.
     pub fn minimal(&self) -> Result<Conflict<N, S>, Exhausted>
         requires names { IsIdentity N.eq }
         requires solvables { IsIdentity S.eq }
@@ -74,9 +75,9 @@ impl<N: Copy + Eq + Ord + Hash + Drop, S: Copy + Eq + Ord + Hash + Drop> Conflic
         Ok(Conflict { rules })
     }
 
-    /// A conflict of the rules that a new search over these alone uses. It often has fewer rules, and never more, and what is left
-    /// stands in its order. Nothing is promised of how small it is: [`Conflict::minimal`] leaves no rule that can go, and takes far
-    /// longer. A search may learn 2,000 clauses here; [`Conflict::refined_within`] takes another number.
+    /// A conflict of the rules that a new search over them uses, in their order. It often has fewer rules, and never
+    /// more, but nothing is promised about its size: [`Conflict::minimal`] leaves out every rule that can go, and takes
+    /// far longer. A search may learn 2,000 clauses here; [`Conflict::refined_within`] takes another limit.
     ///
     /// The error is [`Exhausted::Memory`] alone.
     pub fn refined(&self) -> Result<Conflict<N, S>, Exhausted>
@@ -92,11 +93,11 @@ impl<N: Copy + Eq + Ord + Hash + Drop, S: Copy + Eq + Ord + Hash + Drop> Conflic
         Ok(refined)
     }
 
-    /// A conflict of the rules that a new search over these alone uses, if that learns no more clauses than the limit.
+    /// A conflict of the rules that a new search over them uses, if that search learns no more clauses than the limit.
     ///
-    /// There are three searches at most, each over the rules that the one before it used, and no further one where less than a
-    /// tenth of them went. One that would learn more clauses is given up, and what the searches before it used is answered: all
-    /// rules, if it was the first. The error is [`Exhausted::Memory`] alone.
+    /// Up to three searches run, each over the rules that the one before used, as long as each drops at least a tenth
+    /// of them. A search that would learn more clauses is given up, and the rules that the search before it used are
+    /// the result; if it is the first, all rules are. The error is [`Exhausted::Memory`] alone.
     pub fn refined_within(&self, learnt_limit: usize) -> Result<Conflict<N, S>, Exhausted>
         requires names { IsIdentity N.eq }
         requires solvables { IsIdentity S.eq }
@@ -113,10 +114,10 @@ impl<N: Copy + Eq + Ord + Hash + Drop, S: Copy + Eq + Ord + Hash + Drop> Conflic
         Ok(Conflict { rules })
     }
 
-    /// The graph of the rules. What the solver has done since does not matter, since nothing of it is read.
+    /// The graph of the rules. It depends on the rules alone, not on what the solver has done since.
     ///
-    /// `solve` answers rules that are true and about what they reach. Of such rules each edge is true, and each node is
-    /// reached from the root.
+    /// For a conflict that `solve` returns, each edge is true and each node is reached from the root, since its rules
+    /// are true and about what they reach.
     pub fn graph<D: DependencyProvider<NameId = N, SolvableId = S>>(
         &self,
         _solver: &Solver<D>,
@@ -133,8 +134,8 @@ impl<N: Copy + Eq + Ord + Hash + Drop, S: Copy + Eq + Ord + Hash + Drop> Conflic
         Ok(graph)
     }
 
-    /// The message of the rules: which packages are missing or do not go together, as a tree of lines. It is written by
-    /// its `Display`, with the texts of the solver's provider. What the solver has done since does not matter.
+    /// The message of the rules: a tree of lines that shows which packages are missing or incompatible. Its `Display`
+    /// writes it, in the texts of the solver's provider. It does not depend on what the solver has done since.
     ///
     /// The error is [`Exhausted::Memory`] alone.
     pub fn display_user_friendly<'a, D: DependencyProvider<NameId = N, SolvableId = S>>(

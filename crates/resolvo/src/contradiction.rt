@@ -1,4 +1,4 @@
-//! Given clauses that contradict each other.
+//! Unsatisfiable cores among given clauses.
 
 ghost use Rattle.std.specs.Prelude.{◌≡◌, ℕ, ◌<◌, length, IfOk, OnOk, All, Vec, List, false, []};
 ghost use Rattle.std.specs.declared.alloc.Global.{Global};
@@ -11,16 +11,16 @@ ghost use Rattle.resolvo.specs.Resolvents.{is_marked};
 use resolver_clause_store::Literal;
 use std::alloc::{AllocError, Global};
 
-/// Where a clause of the table comes from.
+/// The origin of a clause in the table.
 #[derive(Drop)]
 pub enum Source {
-    /// The number of the given clause.
+    /// It is the given clause with this number.
     Given(usize),
-    /// The places, in the table, of the clauses that it follows from.
+    /// It follows from the clauses at these places of the table.
     Learnt(Vec<usize>),
 }
 
-/// No number is marked.
+/// Makes `count` marks, none of them set.
 pub fn unmarked(alloc: Global, count: usize) -> Result<Vec<bool>, AllocError>
     ensures size { IfOk result (λ marks. length marks.items ≡ count) }
     ensures none { IfOk result (λ marks. (number : ℕ) → is_marked marks.items number ≡ false) }
@@ -28,7 +28,7 @@ pub fn unmarked(alloc: Global, count: usize) -> Result<Vec<bool>, AllocError>
     vec![in alloc; false; count]
 }
 
-/// Marks numbers.
+/// Marks these numbers.
 pub fn mark_numbers(marks: &mut Vec<bool>, numbers: &[usize])
     requires { All (λ number. number < length marks.old.items) numbers.now }
     ensures { MarksNumbers marks.old.items marks.new.items numbers.now }
@@ -38,7 +38,7 @@ pub fn mark_numbers(marks: &mut Vec<bool>, numbers: &[usize])
     }
 }
 
-/// Puts the causes of a learnt clause in its place.
+/// Replaces a learnt clause by its causes: unmarks it and marks them.
 pub fn replace(sources: &[Source], marks: &mut Vec<bool>, place: usize)
     requires inside { place < length sources.now }
     requires size { length marks.old.items ≡ length sources.now }
@@ -54,7 +54,7 @@ pub fn replace(sources: &[Source], marks: &mut Vec<bool>, place: usize)
     }
 }
 
-/// The number of the given clause at a place of the table, if one stands there.
+/// The number of the given clause at a place of the table, or `None` if the clause there is learnt.
 pub fn number_at(sources: &[Source], place: usize) -> Option<usize>
     requires { place < length sources.now }
     ensures { result ≡ given_at sources.now place }
@@ -65,7 +65,7 @@ pub fn number_at(sources: &[Source], place: usize) -> Option<usize>
     }
 }
 
-/// Puts the number of the given clause at a place behind the others, if the place is marked and one stands there.
+/// Appends the number of the given clause at a place, if the place is marked and has one.
 pub fn add_marked(
     numbers: &mut Vec<usize>,
     sources: &[Source],
@@ -88,7 +88,7 @@ pub fn add_marked(
     }
 }
 
-/// The numbers of the given clauses whose places are marked.
+/// The numbers of the given clauses at marked places.
 pub fn marked(alloc: Global, sources: &[Source], marks: &[bool]) -> Result<Vec<usize>, AllocError>
     requires { length marks.now ≡ length sources.now }
     ensures stand { IfOk result (λ numbers. All (Stands sources.now) numbers.items) }
@@ -101,7 +101,7 @@ pub fn marked(alloc: Global, sources: &[Source], marks: &[bool]) -> Result<Vec<u
     Ok(numbers)
 }
 
-/// The given clauses from which a contradiction of clauses follows.
+/// The given clauses from which the contradiction follows: an unsatisfiable core.
 pub fn core(
     alloc: Global,
     table: &[Vec<Literal>],

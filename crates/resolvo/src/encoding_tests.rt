@@ -1,4 +1,4 @@
-//! What the calls of the encoding come to. The encoding keeps no test itself, so that it is proved once.
+//! Tests of the encoding, which keeps none itself, so that it is proved once.
 
 mod chosen;
 mod clauses;

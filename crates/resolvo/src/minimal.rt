@@ -1,4 +1,4 @@
-//! Which rules of a list are left where each has its turn, and is left out where no set obeys the others.
+//! Minimal conflicts: each rule of a list has its turn, and is left out if no set obeys the others.
 
 mod decision;
 mod no_packages;
@@ -27,7 +27,7 @@ use std::alloc::{AllocError, Global};
 use std::hash::Hash;
 use std::mem::drop;
 
-/// Copies of the rules whose marks are true.
+/// Copies the marked rules.
 pub fn copies_of<N: Copy + Drop, S: Copy + Drop>(
     alloc: Global,
     rules: &[Rule<N, S>],
@@ -44,7 +44,7 @@ pub fn copies_of<N: Copy + Drop, S: Copy + Drop>(
     Ok(copies)
 }
 
-/// Puts a copy of a rule behind the others, if its mark is true.
+/// Appends a copy of a rule, if it is marked.
 fn add_copy<N: Copy + Drop, S: Copy + Drop>(
     copies: &mut Vec<Rule<N, S>>,
     rules: &[Rule<N, S>],
@@ -65,7 +65,7 @@ fn add_copy<N: Copy + Drop, S: Copy + Drop>(
     Ok(())
 }
 
-/// The clauses of the rules, or `None` where there are more propositions than ids.
+/// The clauses of the rules, or `None` if there are more propositions than ids.
 fn clauses_within<N: Copy + Eq + Hash + Drop, S: Copy + Eq + Hash + Drop>(
     alloc: Global,
     rules: &[Rule<N, S>],
@@ -82,8 +82,8 @@ fn clauses_within<N: Copy + Eq + Hash + Drop, S: Copy + Eq + Hash + Drop>(
     }
 }
 
-/// What the clauses of the rules, where there are any, decide of the marked ones, or `None` where the search would learn more
-/// clauses than the limit allows, or ids run out.
+/// Decides by the clauses of the rules whether a set obeys the marked ones. `None` if there are no clauses, if the
+/// search would learn more clauses than the limit allows, or if ids run out.
 fn verdict_of<N, S>(
     alloc: Global,
     rules: &[Rule<N, S>],
@@ -105,7 +105,7 @@ fn verdict_of<N, S>(
     }
 }
 
-/// What the plain search decides of the marked rules, which may take exponential time.
+/// Decides by the plain search whether a set obeys the marked rules. This may take exponential time.
 fn decide_plainly<N: Copy + Eq + Drop, S: Copy + Eq + Drop>(
     alloc: Global,
     rules: &[Rule<N, S>],
@@ -127,7 +127,8 @@ fn decide_plainly<N: Copy + Eq + Drop, S: Copy + Eq + Drop>(
     }
 }
 
-/// Whether some set obeys the marked rules: by their clauses, or by the plain search where there are none or ids run out.
+/// Decides whether a set obeys the marked rules: by their clauses, or by the plain search if there are none or ids run
+/// out.
 fn verdict_on<N: Copy + Eq + Drop, S: Copy + Eq + Drop>(
     alloc: Global,
     rules: &[Rule<N, S>],
@@ -150,8 +151,7 @@ fn verdict_on<N: Copy + Eq + Drop, S: Copy + Eq + Drop>(
     }
 }
 
-/// Marks of the rules that are there when the one behind the first ones has its turn: of those the kept ones, and all
-/// behind it.
+/// Marks the rules that remain when the one after `kept` has its turn: the kept ones and all those after it.
 fn others(alloc: Global, kept: &[bool], count: usize) -> Result<Vec<bool>, AllocError>
     requires { length kept.now < count }
     ensures { IfOk result (λ marks. marks.items ≡ others_of kept.now (count - (length kept.now + 1))) }
@@ -163,18 +163,18 @@ fn others(alloc: Global, kept: &[bool], count: usize) -> Result<Vec<bool>, Alloc
     Ok(marks)
 }
 
-/// How far the turns have come.
+/// The state between two turns.
 #[derive(Drop)]
 struct Turns {
-    /// Of the rules that had their turns, which were kept.
+    /// For each rule that had its turn, whether it was kept.
     kept: Vec<bool>,
-    /// What the last search has found of rules that no set obeys. All of them are still there.
+    /// The rules of the last core that was found. None of them has been left out.
     core: Vec<bool>,
-    /// Rules that are known to be needed.
+    /// The rules that are known to be needed.
     needed: Vec<bool>,
 }
 
-/// Before the first turn nothing was kept, and no rule is known to be needed.
+/// The state before the first turn, when no rule is kept or known to be needed.
 fn first_turns(alloc: Global, count: usize, core: Vec<bool>) -> Result<Turns, AllocError>
     ensures kept { IfOk result (λ turns. turns.kept.items ≡ []) }
     ensures core { IfOk result (λ turns. turns.core ≡ core) }
@@ -188,7 +188,7 @@ fn first_turns(alloc: Global, count: usize, core: Vec<bool>) -> Result<Turns, Al
     })
 }
 
-/// Marks further rules that are needed, beginning with values under which all rules that are still there but one are obeyed.
+/// Marks further rules that are needed, starting from values that obey all remaining rules except one.
 fn note_needed(
     alloc: Global,
     form: &Option<RuleClauses>,
@@ -219,10 +219,10 @@ fn is_needed(form: &Option<RuleClauses>, turns: &Turns) -> bool
     }
 }
 
-/// The turn of the rule behind the first ones: it is kept if some set obeys the others.
+/// The turn of the rule after `kept`: it is kept if some set obeys the others.
 ///
-/// A rule outside of the core is left out without a search, and one that is known to be needed is kept without one. The core
-/// is there as long as none of its rules is left out, which is_requirement for a search.
+/// A rule outside the core is left out without a search, and a rule that is known to be needed is kept without one. The
+/// core stays valid until one of its rules is left out, which takes a search.
 fn take_turn<N: Copy + Eq + Drop, S: Copy + Eq + Drop>(
     alloc: Global,
     rules: &[Rule<N, S>],
@@ -261,7 +261,7 @@ fn take_turn<N: Copy + Eq + Drop, S: Copy + Eq + Drop>(
     }
 }
 
-/// Marks of the rules that are left once each had its turn.
+/// Marks the rules that are left when each has had its turn.
 fn take_turns<N: Copy + Eq + Drop, S: Copy + Eq + Drop>(
     alloc: Global,
     rules: &[Rule<N, S>],
@@ -283,7 +283,7 @@ fn take_turns<N: Copy + Eq + Drop, S: Copy + Eq + Drop>(
     Ok(turns.kept)
 }
 
-/// Marks of the rules that are left where each has its turn, decided with the clauses of the rules.
+/// Marks the rules that are left when each has had its turn, decided by the clauses of the rules.
 fn left_by<N: Copy + Eq + Drop, S: Copy + Eq + Drop>(
     alloc: Global,
     rules: &[Rule<N, S>],
@@ -306,8 +306,8 @@ fn left_by<N: Copy + Eq + Drop, S: Copy + Eq + Drop>(
     }
 }
 
-/// Marks of the rules that are left where each has its turn, first to last, and is left out exactly if no set obeys those
-/// that were kept before it and those behind it.
+/// Marks the rules that are left when each has had its turn, first to last. A rule is left out exactly if no set obeys
+/// those kept before it together with those after it.
 pub fn left_in_turn<N: Copy + Eq + Hash + Drop, S: Copy + Eq + Hash + Drop>(
     alloc: Global,
     rules: &[Rule<N, S>],

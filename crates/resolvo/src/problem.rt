@@ -1,4 +1,4 @@
-//! What is to be solved.
+//! Problems, and how they are built.
 
 ghost use Rattle.std.specs.Prelude.{◌≡◌, None, Some, []};
 ghost use Rattle.std.specs.Iterator.{at_most};
@@ -6,7 +6,7 @@ ghost use Rattle.std.specs.Iterator.{at_most};
 use resolver_clause_store::{ConditionalRequirement, SoftRequirement, VersionSetId};
 use std::marker::PhantomData;
 
-/// No soft requirements.
+/// An iterator over no soft requirements.
 #[derive(Drop)]
 pub struct EmptySolvables<Id>(pub PhantomData<Id>);
 
@@ -28,10 +28,10 @@ impl<Id> Iterator for EmptySolvables<Id> {
     }
 }
 
-/// What is required of an answer. A part that was never set is absent, and asks for nothing.
+/// What an answer has to fulfil. A part that is not set requires nothing.
 ///
-/// `Id` names solvables. Soft requirements are taken in their order, each where it can be: first the solvables that `S`
-/// gives, and then the list, in which solvables and version sets may stand mixed.
+/// `Id` names solvables. Soft requirements have their turns in order and are taken if they fit: first the solvables of
+/// the iterator `S`, then the list, which may mix solvables and version sets.
 #[derive(Drop)]
 pub struct Problem<Id, S> {
     pub(crate) requirements: Option<Vec<ConditionalRequirement>>,
@@ -43,7 +43,7 @@ pub struct Problem<Id, S> {
 impl<Id> Problem<Id, EmptySolvables<Id>> {
     ghost use Rattle.resolvo.specs.Problems.{demands_in, list_in, soft_in};
 
-    /// A problem that every set answers which the provider allows.
+    /// A problem without requirements, constraints and soft requirements.
     pub fn new() -> Self
         ensures demands { demands_in result ≡ record { requirements = []; constraints = [] } }
         ensures soft { soft_in result ≡ None }
@@ -61,7 +61,7 @@ impl<Id> Problem<Id, EmptySolvables<Id>> {
 impl<Id> Default for Problem<Id, EmptySolvables<Id>> {
     ghost use Rattle.resolvo.specs.Problems.{demands_in, list_in, soft_in};
 
-    /// As `new`.
+    /// The same as `new`.
     fn default() -> Self
         ensures demands { demands_in result ≡ record { requirements = []; constraints = [] } }
         ensures soft { soft_in result ≡ None }
@@ -74,7 +74,7 @@ impl<Id> Default for Problem<Id, EmptySolvables<Id>> {
 impl<Id: Drop, S: Drop> Problem<Id, S> {
     ghost use Rattle.resolvo.specs.Problems.{demands_in, list_in, soft_in};
 
-    /// The same problem with these requirements in place of what was set before.
+    /// Sets the requirements, in place of earlier ones.
     pub fn requirements(self, requirements: Vec<ConditionalRequirement>) -> Self
         ensures demands { demands_in result ≡ record (demands_in self) { requirements = requirements.items } }
         ensures soft { soft_in result ≡ soft_in self }
@@ -86,7 +86,7 @@ impl<Id: Drop, S: Drop> Problem<Id, S> {
         }
     }
 
-    /// The same problem with these constraints in place of what was set before.
+    /// Sets the constraints, in place of earlier ones.
     pub fn constraints(self, constraints: Vec<VersionSetId>) -> Self
         ensures demands { demands_in result ≡ record (demands_in self) { constraints = constraints.items } }
         ensures soft { soft_in result ≡ soft_in self }
@@ -98,9 +98,9 @@ impl<Id: Drop, S: Drop> Problem<Id, S> {
         }
     }
 
-    /// The same problem with these soft requirements in place of those that were set so before. The list stays.
+    /// Sets the soft requirements that are solvables, in place of earlier ones. The list stays as it is.
     ///
-    /// They are taken in this order, each where it fits what was taken before it.
+    /// They have their turns in this order, and each is taken if it fits what was taken before it.
     pub fn soft_requirements<I: Iterator<Item = Id>>(self, soft_requirements: I) -> Problem<Id, I>
         ensures demands { demands_in result ≡ demands_in self }
         ensures soft { soft_in result ≡ Some soft_requirements }
@@ -114,11 +114,10 @@ impl<Id: Drop, S: Drop> Problem<Id, S> {
         }
     }
 
-    /// The same problem with this list in place of the one that was set before. Its turns come after those of
+    /// Sets the list of soft requirements, in place of an earlier one. Its turns come after those of
     /// `soft_requirements`.
     ///
-    /// A version set asks for any of its candidates, the first of which that fits is taken. If one is chosen already, it
-    /// asks for nothing.
+    /// Of a version set, the first candidate that fits is taken, unless a candidate is chosen already.
     pub fn soft_list(self, soft_list: Vec<SoftRequirement<Id>>) -> Self
         ensures demands { demands_in result ≡ demands_in self }
         ensures soft { soft_in result ≡ soft_in self }
@@ -130,7 +129,7 @@ impl<Id: Drop, S: Drop> Problem<Id, S> {
         }
     }
 
-    /// The requirements, or none where they were not set.
+    /// The requirements, none if they are not set.
     pub(crate) fn root_requirements(&self) -> &[ConditionalRequirement]
         ensures { result.now ≡ (demands_in self.now).requirements }
     {
@@ -140,7 +139,7 @@ impl<Id: Drop, S: Drop> Problem<Id, S> {
         }
     }
 
-    /// The constraints, or none where they were not set.
+    /// The constraints, none if they are not set.
     pub(crate) fn root_constraints(&self) -> &[VersionSetId]
         ensures { result.now ≡ (demands_in self.now).constraints }
     {
@@ -150,7 +149,7 @@ impl<Id: Drop, S: Drop> Problem<Id, S> {
         }
     }
 
-    /// The list of soft requirements, or none where it was not set.
+    /// The list of soft requirements, empty if it is not set.
     pub(crate) fn listed_soft_requirements(&self) -> &[SoftRequirement<Id>]
         ensures { result.now ≡ list_in self.now }
     {

@@ -1,4 +1,4 @@
-//! Literals that follow from the clauses and the trail, found by the literals that clauses watch.
+//! Unit propagation by watched literals.
 
 mod attaching;
 mod returning;
@@ -9,23 +9,24 @@ use resolver_clause_store::Watches;
 pub use returning::begins_level;
 pub use visiting::propagate;
 
-/// A clause that was true when it was looked at last, by a literal that may be undone before a watched literal which is false.
+/// A clause that was satisfied when it was visited last, by a literal that may be undone before one of its watched
+/// literals, which is false.
 #[derive(Clone, Copy, PartialEq, Eq)]
 pub struct Late {
     /// The clause's number.
     pub number: usize,
-    /// So many first places of the trail have a literal that makes it true.
+    /// A literal among the first `length` entries of the trail satisfies it.
     pub length: usize,
 }
 
-/// What propagation keeps from one call to the next.
+/// The state that propagation keeps between calls.
 #[derive(Drop)]
 pub struct Propagator {
     watches: Watches,
     late: Vec<Late>,
-    /// The numbers of clauses that have to be looked at again.
+    /// The numbers of the clauses that are pending: to be examined before anything is propagated.
     pending: Vec<usize>,
-    /// How many first places of the trail were propagated.
+    /// How many entries of the trail have been propagated.
     head: usize,
 }
 

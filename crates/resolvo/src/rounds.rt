@@ -1,4 +1,4 @@
-//! Rounds of searching and reading: what a search chooses is read, until what is chosen is an answer.
+//! Rounds of searching and reading: what a search chooses is read, until it is an answer.
 
 mod soft_turns;
 
@@ -31,29 +31,29 @@ use resolver_encoding::{Chosen, Encoding, Progress};
 use std::alloc::Global;
 use std::hash::Hash;
 
-/// What the rounds ended with.
+/// The result of the rounds.
 #[derive(Drop)]
 pub enum Found {
     /// What is chosen is an answer.
     Answer,
-    /// The numbers of clauses that no values make true.
+    /// The numbers of the clauses in an unsatisfiable core.
     Contradiction(Vec<usize>),
-    /// What is assumed last cannot be kept.
+    /// The last assumption cannot be kept.
     Refused,
 }
 
-/// What one round ended with.
+/// The result of one round.
 #[derive(Drop)]
 pub enum Round {
     /// There is nothing left to search or to read.
     Last(Found),
-    /// Clauses of requirements came that had been put off, and no solvable was read.
+    /// Deferred disjuncts fired: their requirements got clauses. No solvable was read.
     Fired,
     /// Solvables were read.
     Read,
 }
 
-/// Clauses of what was read so far, a search over them, and what it has chosen.
+/// The encoding of what was read so far, a search over its clauses, and what that has chosen.
 #[derive(Drop)]
 pub struct Rounds<N: Copy + Eq + Hash + Drop, S: Copy + Eq + Hash + Drop> {
     alloc: Global,
@@ -71,8 +71,8 @@ impl<N: Copy + Eq + Hash + Drop, S: Copy + Eq + Hash + Drop> Rounds<N, S> {
     ghost use Rattle.resolvo.specs.RoundStates.{IsLedBy, KeepsEncoding, KeepsRead, KeepsRoom, LeadsOn, LeadsTurns, StaysLed};
     ghost use Rattle.resolvo.specs.RoundStates.{chosen_of, clause_limit_of, learnt_limit_of, notes_of, search_of};
 
-    /// Nothing read yet. There may be as many variables, clauses and learnt clauses as the limits say, and scores grow and fade
-    /// as the activity says.
+    /// Rounds before anything is read. The limits bound the variables, clauses and learnt clauses; the activity says
+    /// how scores grow and decay.
     pub fn new(
         alloc: Global,
         variable_limit: usize,
@@ -98,14 +98,14 @@ impl<N: Copy + Eq + Hash + Drop, S: Copy + Eq + Hash + Drop> Rounds<N, S> {
         }
     }
 
-    /// How many clauses were learnt.
+    /// The number of learnt clauses.
     pub fn learnt_count(&self) -> usize
         ensures { result ≡ learnt_count_of (search_of self.now) }
     {
         self.search.learnt_count()
     }
 
-    /// How many clauses there are, those of what was read and the learnt ones.
+    /// The number of clauses, those of what was read together with the learnt ones.
     pub fn clause_count(&self) -> usize
         ensures read { length (notes_of self.now).kinds ≤ result }
         ensures searched { clause_count_of (search_of self.now) ≤ result }
@@ -144,7 +144,7 @@ impl<N: Copy + Eq + Hash + Drop, S: Copy + Eq + Hash + Drop> Rounds<N, S> {
         Ok(())
     }
 
-    /// Loads what was read since the last time.
+    /// Loads the clauses that are new since the last call.
     fn load<D: DependencyProvider<NameId = N, SolvableId = S>>(
         &mut self,
         provider: &D,
@@ -170,7 +170,7 @@ impl<N: Copy + Eq + Hash + Drop, S: Copy + Eq + Hash + Drop> Rounds<N, S> {
         Ok(())
     }
 
-    /// Searches the clauses of what was read.
+    /// Searches over the clauses of what was read.
     fn search<D: DependencyProvider<NameId = N, SolvableId = S>>(
         &mut self,
         provider: &D,
@@ -192,8 +192,8 @@ impl<N: Copy + Eq + Hash + Drop, S: Copy + Eq + Hash + Drop> Rounds<N, S> {
         Ok(outcome)
     }
 
-    /// Follows the trail from where it is another one than in the last round. Answers how many of the chosen solvables
-    /// were chosen then, too.
+    /// Follows the trail from the place where it differs from the last round. Returns how many of the chosen solvables
+    /// were chosen then as well.
     fn follow(&mut self) -> Result<usize, Exhausted>
         requires identity { IsIdentity S.eq }
         requires distinct { AreDistinct (notes_of self.old).origins }
@@ -240,7 +240,7 @@ impl<N: Copy + Eq + Hash + Drop, S: Copy + Eq + Hash + Drop> Rounds<N, S> {
         Ok(progress)
     }
 
-    /// Searches, and reads what is chosen then.
+    /// Searches, and reads what is chosen.
     fn round<D: DependencyProvider<NameId = N, SolvableId = S>>(
         &mut self,
         provider: &D,
@@ -267,7 +267,7 @@ impl<N: Copy + Eq + Hash + Drop, S: Copy + Eq + Hash + Drop> Rounds<N, S> {
         }
     }
 
-    /// Makes rounds up to the last one, or until solvables are read.
+    /// Runs rounds up to the last one, or until one reads solvables.
     fn rounds_until_read<D: DependencyProvider<NameId = N, SolvableId = S>>(
         &mut self,
         provider: &D,
@@ -295,7 +295,7 @@ impl<N: Copy + Eq + Hash + Drop, S: Copy + Eq + Hash + Drop> Rounds<N, S> {
         }
     }
 
-    /// Makes rounds up to the last one.
+    /// Runs rounds up to the last one.
     fn all_rounds<D: DependencyProvider<NameId = N, SolvableId = S>>(
         &mut self,
         provider: &D,
@@ -320,8 +320,8 @@ impl<N: Copy + Eq + Hash + Drop, S: Copy + Eq + Hash + Drop> Rounds<N, S> {
         }
     }
 
-    /// Ends a turn whose soft requirement is refused: what came since it began is undone, and its variable is false from now
-    /// on. So many solvables were exempt before.
+    /// Ends a turn whose soft requirement is refused: undoes everything since the turn began, and makes its variable
+    /// false for good. `exempt` is how many solvables were exempt before.
     fn refuse<D: DependencyProvider<NameId = N, SolvableId = S>>(
         &mut self,
         provider: &D,
@@ -353,7 +353,7 @@ impl<N: Copy + Eq + Hash + Drop, S: Copy + Eq + Hash + Drop> Rounds<N, S> {
         Ok(())
     }
 
-    /// Makes rounds up to the last one. Answers whether what is chosen then is an answer.
+    /// Runs rounds up to the last one. Returns whether what is chosen then is an answer.
     fn is_answered<D: DependencyProvider<NameId = N, SolvableId = S>>(
         &mut self,
         provider: &D,
@@ -378,7 +378,7 @@ impl<N: Copy + Eq + Hash + Drop, S: Copy + Eq + Hash + Drop> Rounds<N, S> {
         }
     }
 
-    /// Tries a solvable that is not decided: it is assumed, and kept where what is chosen then is an answer. Answers whether
+    /// Tries a solvable without a value: assumes it, and keeps it if what is chosen then is an answer. Returns whether
     /// it is kept.
     fn attempt<D: DependencyProvider<NameId = N, SolvableId = S>>(
         &mut self,
@@ -420,7 +420,7 @@ impl<N: Copy + Eq + Hash + Drop, S: Copy + Eq + Hash + Drop> Rounds<N, S> {
         Ok(false)
     }
 
-    /// The turn of one solvable. One that is decided already is skipped. Answers whether it is chosen now.
+    /// The turn of one solvable. If it has a value, it is skipped. Returns whether it is chosen now.
     fn turn<D: DependencyProvider<NameId = N, SolvableId = S>>(
         &mut self,
         provider: &D,
@@ -453,7 +453,8 @@ impl<N: Copy + Eq + Hash + Drop, S: Copy + Eq + Hash + Drop> Rounds<N, S> {
         }
     }
 
-    /// Reads and searches until what is chosen is an answer, or there is none. Then the soft requirements have their turns.
+    /// Reads and searches until what is chosen is an answer or there is none. After an answer, the soft requirements
+    /// have their turns.
     pub fn find<D: DependencyProvider<NameId = N, SolvableId = S>, I: Iterator<Item = S> + Drop>(
         &mut self,
         provider: &D,

@@ -36,7 +36,7 @@ use std::alloc::Global;
 /// Why there is no answer.
 #[derive(Drop)]
 pub enum UnsolvableOrCancelled<D: DependencyProvider> {
-    /// No set of solvables is an answer, and these rules say why.
+    /// There is no answer, because no set of solvables obeys these rules.
     Unsolvable(Conflict<D::NameId, D::SolvableId>),
     /// The provider stopped the search with this value.
     Cancelled(D::Cancel),
@@ -44,7 +44,7 @@ pub enum UnsolvableOrCancelled<D: DependencyProvider> {
     Exhausted(Exhausted),
 }
 
-/// The rules of a core that are about what they reach.
+/// The rules of an unsatisfiable core, kept to those about what they reach.
 fn explain<D: DependencyProvider>(
     alloc: Global,
     provider: &D,
@@ -67,8 +67,8 @@ fn explain<D: DependencyProvider>(
 
 /// Solves problems over one provider.
 ///
-/// Whatever a call of `solve` ends with, the next one starts afresh: it keeps the provider's answers alone, which are
-/// true, the limits, and the numbers for its scores.
+/// However a call of `solve` ends, the next one starts afresh. It keeps only the limits, the parameters of the scores,
+/// and the provider's answers, which are true.
 #[derive(Drop)]
 pub struct Solver<D: DependencyProvider> {
     alloc: Global,
@@ -86,8 +86,8 @@ pub struct Solver<D: DependencyProvider> {
 }
 
 impl<D: DependencyProvider> Solver<D> {
-    /// A solver that has asked its provider nothing yet, and has room for 2147483648 variables, as many clauses, and as many
-    /// learnt ones.
+    /// A solver that has not asked its provider anything, with room for 2,147,483,648 variables, as many clauses and as
+    /// many learnt clauses.
     pub fn new(alloc: Global, provider: D) -> Self
         ensures provider { provider_in result ≡ provider }
         ensures no_clauses { clause_count_in result ≡ 0 }
@@ -113,8 +113,9 @@ impl<D: DependencyProvider> Solver<D> {
         }
     }
 
-    /// The solver with other numbers for its scores: what each solvable in a learnt clause adds to the score of its package,
-    /// and how many millionths of each score are left after that clause. Without this call they are 1000000 and 950000.
+    /// Sets the parameters of the scores: `add` is added to a package's score for each of its solvables in a learnt
+    /// clause, and `decay` is how many millionths of each score are left after that clause. The defaults are 1,000,000
+    /// and 950,000.
     ///
     /// Requirements of packages with high scores are decided early. Scores start at 0 in each call of `solve`.
     pub fn with_activity_params(mut self, add: u64, decay: u64) -> Self
@@ -129,38 +130,38 @@ impl<D: DependencyProvider> Solver<D> {
         self
     }
 
-    /// The provider that was handed in.
+    /// The provider that the solver was made with.
     pub fn provider(&self) -> &D
         ensures { result.now ≡ provider_in self.now }
     {
         &self.provider
     }
 
-    /// The exempt soft requirements of the last answer, in the order in which they were accepted. There are none before the
-    /// first call of `solve`, and after one that was refused.
+    /// The exempt solvables of the last answer, in the order in which they were accepted. Before the first call of
+    /// `solve`, and after a call without an answer, there are none.
     pub fn exempt_solvables(&self) -> &[D::SolvableId]
         ensures { result.now ≡ exempt_in self.now }
     {
         &self.exempt
     }
 
-    /// How many clauses the last call of `solve` stopped with: the root's, those of what was read, and the learnt ones.
-    /// Before the first call there are none.
+    /// The number of clauses when the last call of `solve` ended: those of the root and of the solvables that were
+    /// read, and the learnt ones. It is 0 before the first call.
     pub fn clause_count(&self) -> usize
         ensures { result ≡ clause_count_in self.now }
     {
         self.clause_count
     }
 
-    /// How many disjuncts of conditions the last call of `solve` had put off when it ended: no clause speaks of what they
-    /// ask for. Before the first call there are none.
+    /// The number of disjuncts that were still deferred when the last call of `solve` ended: no clause was made for
+    /// what they require. It is 0 before the first call.
     pub fn deferred_requirements_count(&self) -> usize
         ensures { result ≡ deferred_count_in self.now }
     {
         self.deferred_count
     }
 
-    /// Counts what the rounds ended with.
+    /// Takes the counts over from the rounds.
     fn count(&mut self, rounds: &Rounds<D::NameId, D::SolvableId>)
         ensures counted { HasCounted rounds.now self.new }
         ensures rest { KeepsAllButCounts self.old self.new }
@@ -171,7 +172,7 @@ impl<D: DependencyProvider> Solver<D> {
         self.deferred_count = rounds.encoding.deferred_count();
     }
 
-    /// The conflict of clauses that no values make true.
+    /// Turns an unsatisfiable core into a conflict.
     fn refuse(
         &mut self,
         kinds: &[ClauseKind<D::NameId, D::SolvableId>],
@@ -196,7 +197,7 @@ impl<D: DependencyProvider> Solver<D> {
         }
     }
 
-    /// What is chosen, as the answer of `solve`. What is exempt is kept.
+    /// Returns what is chosen as the answer, and keeps what is exempt.
     fn accept(
         &mut self,
         rounds: &Rounds<D::NameId, D::SolvableId>,
@@ -225,7 +226,7 @@ impl<D: DependencyProvider> Solver<D> {
         }
     }
 
-    /// What the rounds found, as the answer of `solve`.
+    /// Turns the result of the rounds into the result of `solve`.
     fn outcome(
         &mut self,
         rounds: &Rounds<D::NameId, D::SolvableId>,
@@ -259,13 +260,14 @@ impl<D: DependencyProvider> Solver<D> {
         }
     }
 
-    /// An answer to the problem, or why there is none. The chosen solvables stand in the order in which they were
-    /// chosen.
+    /// Finds an answer to the problem, or says why there is none. The chosen solvables are in the order in which they
+    /// were chosen.
     ///
-    /// Solvables are read once a search has chosen them, and a requirement under a condition once the condition holds. Soft
-    /// requirements are taken in their order, those of the list last, each once what was chosen before stands. A solvable
-    /// whose package was not asked for then is exempt from that package's lock and exclusions; the candidates of a version
-    /// set never are. One is refused only where it fits into no answer that keeps what was chosen before.
+    /// A solvable is read once a search has chosen it, and a conditional requirement once its condition holds. The soft
+    /// requirements have their turns in order, those of the list last, and each builds on what was chosen before it. A
+    /// solvable whose package has not been asked by its turn is exempt from the lock and the exclusions of that
+    /// package; a candidate of a version set never is. A soft requirement is refused only if it fits into no answer
+    /// that keeps what was chosen before it.
     pub fn solve<S: Iterator<Item = D::SolvableId> + Drop>(
         &mut self,
         mut problem: Problem<D::SolvableId, S>,

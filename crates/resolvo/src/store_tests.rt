@@ -1,4 +1,4 @@
-//! What the calls of the store answer. The store keeps no test itself, so that it is proved once.
+//! Tests of the store, which keeps none itself, so that it is proved once.
 
 mod cache;
 mod conditions;

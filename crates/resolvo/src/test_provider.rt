@@ -1,10 +1,10 @@
 //! A small provider.
 //!
-//! Package n has the solvables 10 n + 1 and 10 n + 4, the later one preferred. Version set 10 n + k takes 10 n + k, and
-//! with k = 0 both. Package 7 is locked to 71, package 8 excludes 84, and nobody knows what 94 needs. Packages 10 to 19
-//! hint that the dependencies of all their solvables are cheap to ask for. A condition below 1000 is a version set, and
-//! 1000 n + k joins the conditions n and k: by "and" if n ends in 4, and else by "or". An endless provider has packages as
-//! far as the ids go, and there 10 n + 1 requires version set 10 (n + 1).
+//! Package n has the solvables 10 n + 1 and 10 n + 4, the later one preferred. Version set 10 n + k has 10 n + k, and
+//! with k = 0 both. Package 7 is locked to 71, package 8 excludes 84, and the dependencies of 94 are unknown. Packages
+//! 10 to 19 hint that the dependencies of all their solvables are cheap. A condition below 1000 is a version set, and
+//! 1000 n + k joins the conditions n and k: by "and" if n ends in 4, otherwise by "or". An endless provider has
+//! packages as far as the ids go, and there 10 n + 1 requires version set 10 (n + 1).
 
 ghost use Rattle.std.specs.Prelude.{◌≡◌, ◌++◌, ℕ, IfErr, IfOk, OnOk, refl};
 ghost use Rattle.resolver_clause_store.specs.Universe.{hint_of as hint_in};
@@ -32,13 +32,13 @@ use std::cell::Cell;
 #[derive(Drop)]
 pub struct TestProvider {
     pub alloc: Global,
-    /// What each solvable requires.
+    /// The requirements of each solvable.
     pub requirements: Vec<(u32, ConditionalRequirement)>,
-    /// What each solvable constrains.
+    /// The constraints of each solvable.
     pub constraints: Vec<(u32, VersionSetId)>,
     /// Which of the cancel checks to come stops the search: with 1 the next one, with 0 none.
     pub cancelling: Cell<u32>,
-    /// The digits name the packages whose candidates were asked for, in order.
+    /// The digits name the packages that were asked for their candidates, in order.
     pub log: Cell<u32>,
     /// Whether there are packages as far as the ids go, with each older solvable requiring the next one.
     pub endless: bool,
@@ -68,7 +68,7 @@ fn hint_of(name: u32) -> HintDependenciesAvailable<u32>
     HintDependenciesAvailable::None
 }
 
-/// What is stated of a solvable.
+/// The statements about a solvable.
 fn stated_by<T: Copy + Drop>(
     alloc: Global,
     statements: &[(u32, T)],
@@ -86,7 +86,7 @@ fn stated_by<T: Copy + Drop>(
     Ok(stated)
 }
 
-/// Adds what an older solvable requires of the package after its own.
+/// Appends the requirement of an older solvable on the next package.
 fn push_next(required: &mut Vec<ConditionalRequirement>, solvable: u32) -> Result<(), Exhausted>
     ensures value { OnOk result (required.new.items ≡ required.old.items ++ next_of solvable) }
     ensures memory { IfErr result (λ e. e ≡ Exhausted.Memory) }
@@ -104,7 +104,7 @@ fn push_next(required: &mut Vec<ConditionalRequirement>, solvable: u32) -> Resul
     Ok(())
 }
 
-/// What a solvable requires.
+/// The requirements of a solvable.
 fn required_by(
     alloc: Global,
     endless: bool,
@@ -122,7 +122,7 @@ fn required_by(
     Ok(required)
 }
 
-/// Whether a version set takes a solvable of its package.
+/// Whether a solvable of its package is in a version set.
 fn takes(version_set: VersionSetId, solvable: u32) -> bool
     ensures { result ≡ takes_in version_set solvable }
 {

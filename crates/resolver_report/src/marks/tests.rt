@@ -143,7 +143,7 @@ fn marks_runs(alloc: Global, third: &[u32], installable: &[bool], missing: &[boo
     marks(alloc, &rows, installable, missing)
 }
 
-/// One candidate of the third is met.
+/// One candidate of the third can be installed.
 #[test]
 fn one_of_each_run(rt: HostRuntime) {
     let installable = [true, false, true, false, true, false];

@@ -1,4 +1,4 @@
-//! What the search finds, in the order in which it chose.
+//! What the search finds, in the order of its choices.
 //!
 //! The tests own nothing: what they call makes the rules, searches, and says whether it found what is wanted.
 
@@ -38,10 +38,10 @@ fn chains_in_order_of_choice(rt: HostRuntime) {
 
 #[test]
 fn falls_back_to_a_later_candidate(rt: HostRuntime) {
-    // The first candidate needs what nobody has.
+    // The first candidate requires something without candidates.
     let dead_end = [required(By::Root, &[1, 2]), required(By::Solvable(1), &[])];
     assert!(rt; finds(rt.alloc(), &dead_end, &[2]));
-    // The first candidate is found wrong one choice later, and that choice is made again.
+    // The first candidate fails one choice later, and that choice is made again.
     let later = [
         required(By::Root, &[1, 2]),
         required(By::Root, &[3]),

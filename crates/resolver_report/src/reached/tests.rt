@@ -1,4 +1,4 @@
-//! Which rules are left.
+//! Which rules are kept.
 //!
 //! The tests own nothing: what they call makes the rules, and says whether the wanted ones are left.
 
@@ -10,7 +10,7 @@ fn kept_of(alloc: Global, rows: &[Row<'_>]) -> Result<Vec<Rule<u32, u32>>, Exhau
     keep_reached(alloc, rules)
 }
 
-/// Whether the root's requirement and the exclusion of 1 are left.
+/// Whether the root's requirement and the exclusion of 1 are kept.
 fn keeps_an_exclusion(alloc: Global, rows: &[Row<'_>]) -> Result<bool, Exhausted> {
     let kept = kept_of(alloc, rows)?;
     Ok(matches!(
@@ -36,7 +36,7 @@ fn what_is_not_reached_goes(rt: HostRuntime) {
     assert!(rt; matches!(keeps_an_exclusion(rt.alloc(), &rows), Ok(true)));
 }
 
-/// Whether three requirements and the exclusions of 3 and 1 are left.
+/// Whether three requirements and the exclusions of 3 and 1 are kept.
 fn keeps_a_chain(alloc: Global, rows: &[Row<'_>]) -> Result<bool, Exhausted> {
     let kept = kept_of(alloc, rows)?;
     Ok(matches!(
@@ -66,7 +66,7 @@ fn chains_are_reached_in_any_order(rt: HostRuntime) {
     assert!(rt; matches!(keeps_a_chain(rt.alloc(), &rows), Ok(true)));
 }
 
-/// Whether three rules are left, and the last two are a constraint on 1 and a mark of 1.
+/// Whether three rules are kept, and the last two are a constraint on 1 and the instance 1.
 fn keeps_both_sides(alloc: Global, rows: &[Row<'_>]) -> Result<bool, Exhausted> {
     let kept = kept_of(alloc, rows)?;
     Ok(matches!(

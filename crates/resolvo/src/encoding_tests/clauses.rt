@@ -104,12 +104,11 @@ fn spare<
     }
 }
 
-/// What there is after a round of reading: what it did, how many clauses and how many disjuncts that are put off there
-/// are, how many packages were asked, and those whose candidates were read.
+/// What there is after a round of reading: what it did, how many clauses and how many deferred disjuncts there are, how
+/// many packages were asked, and the provider's log of the packages whose candidates it gave.
 type Round = (Progress, usize, usize, usize, u32);
 
-/// Puts the solvable that a variable stands for behind the others, if it stands for one. Answers whether there is such a
-/// variable.
+/// Appends the solvable that a variable stands for, if it stands for one. Returns whether there is such a variable.
 fn push_registered<N: Copy + Eq + Hash + Drop, S: Copy + Eq + Hash + Drop>(
     variables: &Variables<N, S>,
     list: &mut Vec<S>,

@@ -75,7 +75,7 @@ fn is_constrained(
     }
 }
 
-/// Whether the rule marks this instance of package 2.
+/// Whether the rule lists this instance of package 2.
 fn is_marked(rule: Option<&Rule<u32, u32>>, marked: u32) -> bool {
     match rule {
         Some(Rule::OnePerPackage { name, instance }) => *name == 2 && *instance == marked,

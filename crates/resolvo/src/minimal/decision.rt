@@ -1,4 +1,4 @@
-//! Whether a set obeys the marked rules, decided by a search over their clauses.
+//! Decides by a search over clauses whether a set obeys the marked rules.
 
 ghost use Rattle.std.specs.Prelude.{[], ◌++◌, ◌<◌, ◌≤◌, ◌≡◌, ◌∷◌, ℕ, All, Bool, IfErr, IfOk, IfSome, List, OnOk, Vec, length};
 ghost use Rattle.std.specs.declared.alloc.Global.{Global};
@@ -19,26 +19,26 @@ use resolver_clause_store::{
 use std::alloc::{AllocError, Global};
 use std::mem::drop;
 
-/// What is known of the marked rules.
+/// The decision on the marked rules.
 #[derive(Drop)]
 pub enum Verdict {
-    /// Some set obeys them. The values were found by the search, and are empty where another one has decided.
+    /// Some set obeys them. The values are those that the clause search found, or empty if the plain search decided.
     Obeyed(Vec<bool>),
-    /// No set obeys those with these marks, and each of these is marked.
+    /// No set obeys the rules with these marks, all of which are among the marked rules.
     Refuted(Vec<bool>),
 }
 
-/// The clauses of the marked rules, as a search takes them.
+/// The clauses of the marked rules, in the form that a search takes.
 #[derive(Drop)]
 pub struct MarkedClauses {
     pub clauses: Vec<Vec<Literal>>,
-    /// The place of each clause's rule.
+    /// For each clause, the place of its rule.
     pub places: Vec<usize>,
     /// The clauses whose candidates are to be tried.
     pub requirements: Vec<RequirementClause>,
 }
 
-/// Adds the clause with this number to those whose candidates are to be tried.
+/// Appends a clause number to the clauses whose candidates are to be tried.
 fn add_requirement(
     alloc: Global,
     requirements: &mut Vec<RequirementClause>,
@@ -54,7 +54,7 @@ fn add_requirement(
     Ok(())
 }
 
-/// Adds a clause of a marked rule.
+/// Appends a clause of a marked rule.
 fn add_clause(marked: &mut MarkedClauses, clause: &RuleClause) -> Result<(), AllocError>
     ensures { OnOk result ((marks : List Bool) (from : List RuleClause) → IsMarked marks clause.now →
         AreMarkedClauses marks from marked.old.clauses.items marked.old.places.items (numbers_of marked.old.requirements.items) →
@@ -72,7 +72,7 @@ fn add_clause(marked: &mut MarkedClauses, clause: &RuleClause) -> Result<(), All
     Ok(())
 }
 
-/// Adds a clause, if its rule is marked.
+/// Appends a clause, if its rule is marked.
 fn add_marked(
     marked: &mut MarkedClauses,
     clause: &RuleClause,
@@ -90,7 +90,7 @@ fn add_marked(
     Ok(())
 }
 
-/// The clauses of the marked rules.
+/// Collects the clauses of the marked rules.
 pub fn marked_clauses(
     alloc: Global,
     clauses: &[RuleClause],
@@ -110,7 +110,7 @@ pub fn marked_clauses(
     Ok(marked)
 }
 
-/// Marks of the rules of the clauses with these numbers.
+/// Marks the rules of the clauses with these numbers.
 pub fn marks_of(
     alloc: Global,
     count: usize,
@@ -144,7 +144,7 @@ fn is_set(trail: &Trail, number: usize) -> bool
     }
 }
 
-/// The values of the first variables. One that has none is false.
+/// The values of the first variables. A variable without a value counts as false.
 fn values_of(alloc: Global, trail: &Trail, variables: usize) -> Result<Vec<bool>, AllocError>
     requires { variables ≤ variable_count trail.now }
 {
@@ -155,7 +155,7 @@ fn values_of(alloc: Global, trail: &Trail, variables: usize) -> Result<Vec<bool>
     Ok(values)
 }
 
-/// Searches to the end, or answers `Refused` where as many clauses are learnt as the limit allows, or ids run out.
+/// Searches to the end, or returns `Refused` if the limit of learnt clauses is reached or ids run out.
 fn search_on(
     alloc: Global,
     search: &mut ClauseSearch,
@@ -175,7 +175,7 @@ fn search_on(
     }
 }
 
-/// What a new search over the clauses of the marked rules decides.
+/// Decides by a new search over the clauses of the marked rules.
 fn decide_by<N, S>(
     alloc: Global,
     search: &mut ClauseSearch,
@@ -210,7 +210,8 @@ fn decide_by<N, S>(
     }
 }
 
-/// What a search decides of the marked rules, or `None` where it would learn more clauses than the limit allows, or ids run out.
+/// Decides by a search whether a set obeys the marked rules, or returns `None` if it would learn more clauses than the
+/// limit allows, or ids run out.
 pub fn decide<N, S>(
     alloc: Global,
     rules: &[Rule<N, S>],

@@ -1,4 +1,4 @@
-//! A provider of nothing, for a search over clauses that nobody stops.
+//! A provider without packages, for a clause search that is never stopped.
 
 ghost use Rattle.std.specs.Prelude.{refl};
 ghost use Rattle.resolvo.specs.NoPackages.{empty_ids_lawful, empty_packages_lawful, empty_universe, numbers_are_values};

@@ -1,4 +1,4 @@
-//! Which rules of a list are used by new searches over them alone.
+//! Refined conflicts: the rules of a list that new searches over them use.
 
 ghost use Rattle.std.specs.Prelude.{◌≡◌, IfErr, IfOk, IfSome, OnOk, length};
 ghost use Rattle.resolver_clause_store.specs.Laws.{IsIdentity};
@@ -14,22 +14,22 @@ use std::alloc::Global;
 use std::hash::Hash;
 use std::mem::drop;
 
-/// How many searches there are at most, each over the rules that the one before it used.
+/// How many searches run at most, each over the rules that the one before used.
 const SEARCHES: usize = 3;
 
-/// How many marks are true.
+/// How many rules are marked.
 fn marked_count(marks: &[bool]) -> usize {
     marks.iter().filter(|mark| **mark).count()
 }
 
-/// Whether at least a tenth of the marks that were true is not true any more.
+/// Whether at least a tenth of the marks is gone.
 fn are_far_fewer(before: &[bool], after: &[bool]) -> bool {
     let count = marked_count(before);
     count.saturating_sub(marked_count(after)).saturating_mul(10) >= count
 }
 
-/// Searches over the clauses of the marked rules, and leaves the marks of those that the search used. Where it finds a set or
-/// gives up, the marks stay. Whether a further search may be worth its time.
+/// Searches over the clauses of the marked rules, and keeps the marks of the rules that it used. If it finds a set or
+/// gives up, the marks stay. Returns whether a further search may be worth its time.
 fn search_again<N, S>(
     alloc: Global,
     rules: &[Rule<N, S>],
@@ -56,7 +56,7 @@ fn search_again<N, S>(
     }
 }
 
-/// Marks of the rules that are left by a few searches over their clauses, each over what the one before it used.
+/// Marks the rules that are left by a few searches, each over the rules that the one before used.
 fn refine<N, S>(
     alloc: Global,
     rules: &[Rule<N, S>],
@@ -77,8 +77,9 @@ fn refine<N, S>(
     Ok(marks)
 }
 
-/// Marks of the rules that new searches over these alone use: three at most, as long as a tenth of the rules goes. Where a search
-/// would learn more clauses than the limit allows, it is given up, and what the searches before it used is marked.
+/// Marks the rules that new searches over them use. Up to three searches run, as long as each drops at least a tenth of
+/// the rules. A search that would learn more clauses than the limit allows is given up, and the marks are those of the
+/// searches before it.
 pub fn marks_used_again<N: Copy + Eq + Hash + Drop, S: Copy + Eq + Hash + Drop>(
     alloc: Global,
     rules: &[Rule<N, S>],

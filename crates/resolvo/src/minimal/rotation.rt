@@ -1,4 +1,4 @@
-//! Model rotation: from values that make the clauses of all rules but one true to values that do so for another rule, without a
+//! Model rotation: turns values that obey all rules except one into values that obey all except another, without a
 //! search.
 
 ghost use Rattle.std.specs.Prelude.{◌≡◌, ◌≢◌, All, IfSome, OnOk, false, length, true};
@@ -11,7 +11,7 @@ use super::rule_clauses::RuleClause;
 use resolver_clause_store::Literal;
 use std::alloc::{AllocError, Global};
 
-/// Values that make the clauses of all rules that are still there true, but for one rule.
+/// Values that make the clauses of all remaining rules true, except those of one rule.
 #[derive(Drop)]
 struct NearModel {
     values: Vec<bool>,
@@ -29,7 +29,7 @@ fn is_true(values: &[bool], literal: Literal) -> bool
     }
 }
 
-/// Whether some literal of a clause is true.
+/// Whether a literal of the clause is true.
 fn is_satisfied(values: &[bool], literals: &[Literal]) -> bool
     ensures { result ≡ true → clause_true (value_at values.now) literals.now ≡ true }
 {
@@ -41,7 +41,7 @@ fn is_satisfied(values: &[bool], literals: &[Literal]) -> bool
     false
 }
 
-/// Whether a rule is still there: it was kept, or has its turn yet.
+/// Whether a rule remains: it was kept, or its turn is still to come.
 fn is_there(kept: &[bool], rule: usize) -> bool
     ensures { result ≡ slice_index_or kept.now rule true }
 {
@@ -51,7 +51,7 @@ fn is_there(kept: &[bool], rule: usize) -> bool
     }
 }
 
-/// Whether a clause is false, and its rule is still there.
+/// Whether a clause is false and its rule remains.
 fn is_broken(clause: &RuleClause, kept: &[bool], values: &[bool]) -> bool
     ensures { result ≡ false → IsStillThere kept.now clause.now.rule → clause_true (value_at values.now) clause.now.literals.items ≡ true }
 {
@@ -64,7 +64,7 @@ fn is_broken(clause: &RuleClause, kept: &[bool], values: &[bool]) -> bool
     true
 }
 
-/// The only rule that is still there and has a false clause, if there is just one.
+/// The only remaining rule with a false clause, or `None` if there is no such rule or more than one.
 fn only_broken(clauses: &[RuleClause], kept: &[bool], values: &[bool]) -> Option<usize>
     ensures { IfSome result (λ rule. MakesOthersTrue (value_at values.now) kept.now rule clauses.now) }
 {
@@ -85,7 +85,7 @@ fn only_broken(clauses: &[RuleClause], kept: &[bool], values: &[bool]) -> Option
     broken
 }
 
-/// How many literals the longest false clause of the rule has.
+/// The length of the rule's longest false clause.
 fn width_of(clauses: &[RuleClause], near: &NearModel) -> usize {
     let mut width = 0;
     for clause in clauses {
@@ -107,7 +107,7 @@ fn make_true(values: &mut Vec<bool>, literal: Literal) {
     }
 }
 
-/// The values once the literal at this position of each false clause of the rule is true.
+/// The values after the literal at this position of each false clause of the rule is made true.
 fn flipped(
     alloc: Global,
     clauses: &[RuleClause],
@@ -125,7 +125,7 @@ fn flipped(
     Ok(values)
 }
 
-/// Marks the only rule that these values break, and keeps the values if it was not marked before.
+/// Marks the only rule that these values break. If it was not marked before, keeps the values for further rotation.
 fn note(
     clauses: &[RuleClause],
     kept: &[bool],
@@ -149,7 +149,7 @@ fn note(
     Ok(())
 }
 
-/// Notes what comes of the values where one literal of each false clause is made true.
+/// Tries to make one literal of each false clause true, and notes which rule the new values break.
 fn note_flips(
     alloc: Global,
     clauses: &[RuleClause],
@@ -169,9 +169,9 @@ fn note_flips(
     Ok(())
 }
 
-/// Marks rules that are needed: without any one of them some values make the clauses of all others that are still there true.
+/// Marks needed rules: without any one of them, some values make the clauses of all other remaining rules true.
 ///
-/// It begins with values that a search has found. Each rule that it marks leads to others once.
+/// It starts from values that a search has found. From each rule that it marks, it rotates once.
 pub fn rotate(
     alloc: Global,
     clauses: &[RuleClause],

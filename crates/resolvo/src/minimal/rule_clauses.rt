@@ -1,4 +1,4 @@
-//! The clauses that a list of rules gives.
+//! The clauses of a list of rules.
 
 ghost use Rattle.std.specs.Prelude.{[], ◌∷◌, ◌++◌, ◌≡◌, ◌≤◌, IfOk, List, OnOk, Some, false, length, slice_get};
 ghost use Rattle.std.specs.List.{AllZip};
@@ -23,9 +23,9 @@ use std::hash::Hash;
 pub enum Proposition<N, S> {
     /// The solvable is in the set.
     Member(S),
-    /// A member of this list of the rule's condition is in the set.
+    /// The set has a member of this list of the rule's condition.
     Listed { rule: usize, list: usize },
-    /// A bit of the code of that instance of the name which is in the set.
+    /// A bit of the code of the instance of this name in the set.
     Bit { name: N, index: u32 },
 }
 
@@ -33,21 +33,21 @@ pub enum Proposition<N, S> {
 #[derive(Clone, Copy)]
 pub struct Atom<N, S> {
     pub proposition: Proposition<N, S>,
-    /// Whether it is the proposition itself.
+    /// Whether the atom is the proposition itself.
     pub positive: bool,
 }
 
-/// A clause that a rule gives.
+/// A clause of a rule.
 #[derive(Drop)]
 pub struct RuleClause {
     /// The place of the rule.
     pub rule: usize,
     pub literals: Vec<Literal>,
-    /// Whether its candidates are to be tried, in their order.
+    /// Whether its candidates are to be tried, in order.
     pub is_requirement: bool,
 }
 
-/// Clauses of rules decide whether a set obeys some of them.
+/// The clauses of rules decide whether a set obeys some of the rules.
 fn clauses_decide_rules<N: Eq, S: Eq>()
     requires names { IsIdentity N.eq }
     requires solvables { IsIdentity S.eq }
@@ -58,12 +58,12 @@ fn clauses_decide_rules<N: Eq, S: Eq>()
 /// The clauses of a list of rules.
 #[derive(Drop)]
 pub struct RuleClauses {
-    /// How many variables there are.
+    /// The number of variables.
     pub variables: usize,
     pub clauses: Vec<RuleClause>,
 }
 
-/// The variable that stands for a proposition: the one that does already, or a new one.
+/// The variable of a proposition, which is made if it does not exist yet.
 fn intern<N: Copy + Eq + Hash + Drop, S: Copy + Eq + Hash + Drop>(
     propositions: &mut IndexSet<Proposition<N, S>>,
     proposition: Proposition<N, S>,
@@ -80,7 +80,7 @@ fn intern<N: Copy + Eq + Hash + Drop, S: Copy + Eq + Hash + Drop>(
     Ok(Variable::new(place as u32))
 }
 
-/// How many variables there are.
+/// The number of variables.
 fn variable_count<N: Copy + Eq + Hash + Drop, S: Copy + Eq + Hash + Drop>(
     propositions: &IndexSet<Proposition<N, S>>,
 ) -> usize
@@ -127,7 +127,7 @@ fn literals_of<N: Copy + Eq + Hash + Drop, S: Copy + Eq + Hash + Drop>(
     Ok(literals)
 }
 
-/// Puts the clause of these atoms behind the others, whose candidates are to be tried.
+/// Appends the clause of these atoms, whose candidates are to be tried.
 fn add_requirement_clause<N: Copy + Eq + Hash + Drop, S: Copy + Eq + Hash + Drop>(
     propositions: &mut IndexSet<Proposition<N, S>>,
     clauses: &mut Vec<RuleClause>,
@@ -147,7 +147,7 @@ fn add_requirement_clause<N: Copy + Eq + Hash + Drop, S: Copy + Eq + Hash + Drop
     Ok(())
 }
 
-/// Puts the clause of one atom behind the others.
+/// Appends the clause of one atom.
 fn add_single<N: Copy + Eq + Hash + Drop, S: Copy + Eq + Hash + Drop>(
     propositions: &mut IndexSet<Proposition<N, S>>,
     clauses: &mut Vec<RuleClause>,
@@ -168,7 +168,7 @@ fn add_single<N: Copy + Eq + Hash + Drop, S: Copy + Eq + Hash + Drop>(
     Ok(())
 }
 
-/// Puts the clause of two atoms behind the others.
+/// Appends the clause of two atoms.
 fn add_pair<N: Copy + Eq + Hash + Drop, S: Copy + Eq + Hash + Drop>(
     propositions: &mut IndexSet<Proposition<N, S>>,
     clauses: &mut Vec<RuleClause>,
@@ -191,7 +191,7 @@ fn add_pair<N: Copy + Eq + Hash + Drop, S: Copy + Eq + Hash + Drop>(
     Ok(())
 }
 
-/// Puts the clauses of a list's members behind the others.
+/// Appends the clauses of a list's members.
 fn add_members<N: Copy + Eq + Hash + Drop, S: Copy + Eq + Hash + Drop>(
     propositions: &mut IndexSet<Proposition<N, S>>,
     clauses: &mut Vec<RuleClause>,
@@ -217,7 +217,7 @@ fn add_members<N: Copy + Eq + Hash + Drop, S: Copy + Eq + Hash + Drop>(
     Ok(())
 }
 
-/// Puts the clauses of the lists of a condition behind the others.
+/// Appends the clauses of the lists of a condition.
 fn add_condition<N: Copy + Eq + Hash + Drop, S: Copy + Eq + Hash + Drop>(
     propositions: &mut IndexSet<Proposition<N, S>>,
     clauses: &mut Vec<RuleClause>,
@@ -234,7 +234,7 @@ fn add_condition<N: Copy + Eq + Hash + Drop, S: Copy + Eq + Hash + Drop>(
     Ok(())
 }
 
-/// Puts the clauses of a mark behind the others, one for each bit of the code of its instance.
+/// Appends the clauses of an instance, one for each bit of its code.
 fn add_bits<N: Copy + Eq + Hash + Drop, S: Copy + Eq + Hash + Drop>(
     propositions: &mut IndexSet<Proposition<N, S>>,
     clauses: &mut Vec<RuleClause>,
@@ -263,7 +263,7 @@ fn add_bits<N: Copy + Eq + Hash + Drop, S: Copy + Eq + Hash + Drop>(
     Ok(())
 }
 
-/// Puts the atom behind the others which is true where who is_requirement is not there.
+/// Appends the atom that the requirer is not in the set. The root always is, and has no atom.
 fn push_requirer<N: Copy, S: Copy>(atoms: &mut Vec<Atom<N, S>>, by: By<S>) -> Result<(), AllocError>
     ensures { OnOk result (atoms.new.items ≡ atoms.old.items ++ requirer_atoms by) }
 {
@@ -279,7 +279,7 @@ fn push_requirer<N: Copy, S: Copy>(atoms: &mut Vec<Atom<N, S>>, by: By<S>) -> Re
     }
 }
 
-/// Puts the atoms behind the others of which one is true where a list of the rule's condition has no member.
+/// Appends, for each list of the rule's condition, the atom that the list has no member in the set.
 fn push_lists<N: Copy, S: Copy>(
     atoms: &mut Vec<Atom<N, S>>,
     rule: usize,
@@ -296,7 +296,7 @@ fn push_lists<N: Copy, S: Copy>(
     Ok(())
 }
 
-/// Puts the atoms of the candidates behind the others.
+/// Appends the atoms of the candidates.
 fn push_candidates<N: Copy, S: Copy>(
     atoms: &mut Vec<Atom<N, S>>,
     candidates: &[S],
@@ -312,8 +312,8 @@ fn push_candidates<N: Copy, S: Copy>(
     Ok(())
 }
 
-/// The atoms of a requirement's clause: who is_requirement is not there, a list of the condition has no member, or a candidate is
-/// there.
+/// The atoms of a requirement's clause: the requirer is not in the set, a list of the condition has no member there, or
+/// a candidate is there.
 fn requirement_atoms<N: Copy, S: Copy>(
     alloc: Global,
     rule: usize,
@@ -330,7 +330,7 @@ fn requirement_atoms<N: Copy, S: Copy>(
     Ok(atoms)
 }
 
-/// Puts the clauses of a requirement behind the others.
+/// Appends the clauses of a requirement.
 fn add_requirement<N: Copy + Eq + Hash + Drop, S: Copy + Eq + Hash + Drop>(
     propositions: &mut IndexSet<Proposition<N, S>>,
     clauses: &mut Vec<RuleClause>,
@@ -350,7 +350,7 @@ fn add_requirement<N: Copy + Eq + Hash + Drop, S: Copy + Eq + Hash + Drop>(
     Ok(())
 }
 
-/// Puts the clause behind the others that who is_requirement is not there, or the candidate is not.
+/// Appends the clause of a constraint: the requirer is not in the set, or the candidate is not.
 fn add_constraint<N: Copy + Eq + Hash + Drop, S: Copy + Eq + Hash + Drop>(
     propositions: &mut IndexSet<Proposition<N, S>>,
     clauses: &mut Vec<RuleClause>,
@@ -383,7 +383,7 @@ fn add_constraint<N: Copy + Eq + Hash + Drop, S: Copy + Eq + Hash + Drop>(
     }
 }
 
-/// Puts the clause behind the others that the solvable is not there.
+/// Appends the clause of an exclusion: the solvable is not in the set.
 fn add_exclusion<N: Copy + Eq + Hash + Drop, S: Copy + Eq + Hash + Drop>(
     propositions: &mut IndexSet<Proposition<N, S>>,
     clauses: &mut Vec<RuleClause>,
@@ -403,7 +403,7 @@ fn add_exclusion<N: Copy + Eq + Hash + Drop, S: Copy + Eq + Hash + Drop>(
     Ok(())
 }
 
-/// Puts the clauses of a rule behind the others.
+/// Appends the clauses of a rule.
 fn add_rule<N: Copy + Eq + Hash + Drop, S: Copy + Eq + Hash + Drop>(
     propositions: &mut IndexSet<Proposition<N, S>>,
     clauses: &mut Vec<RuleClause>,
@@ -445,7 +445,7 @@ fn add_rule<N: Copy + Eq + Hash + Drop, S: Copy + Eq + Hash + Drop>(
     }
 }
 
-/// Puts the clauses of the rules behind the others.
+/// Appends the clauses of the rules.
 fn add_rules<N: Copy + Eq + Hash + Drop, S: Copy + Eq + Hash + Drop>(
     propositions: &mut IndexSet<Proposition<N, S>>,
     clauses: &mut Vec<RuleClause>,
@@ -472,7 +472,7 @@ fn add_rules<N: Copy + Eq + Hash + Drop, S: Copy + Eq + Hash + Drop>(
     Ok(())
 }
 
-/// The clauses of the rules, over these propositions and further ones.
+/// The clauses of the rules, over these propositions and new ones.
 fn clauses_over<N: Copy + Eq + Hash + Drop, S: Copy + Eq + Hash + Drop>(
     alloc: Global,
     propositions: &mut IndexSet<Proposition<N, S>>,
@@ -490,9 +490,9 @@ fn clauses_over<N: Copy + Eq + Hash + Drop, S: Copy + Eq + Hash + Drop>(
     Ok(RuleClauses { variables, clauses })
 }
 
-/// The clauses of a list of rules, which decide whether a set obeys some of them.
+/// The clauses of a list of rules, which decide whether a set obeys some of the rules.
 ///
-/// `Ids` where there would be more variables than a `u32` can number.
+/// The error is `Ids` if there would be more variables than a `u32` can number.
 pub fn clauses_of<N: Copy + Eq + Hash + Drop, S: Copy + Eq + Hash + Drop>(
     alloc: Global,
     rules: &[Rule<N, S>],

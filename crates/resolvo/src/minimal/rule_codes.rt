@@ -1,4 +1,4 @@
-//! Numbers that tell the instances apart which a list of rules marks.
+//! Codes that distinguish the instances that rules list.
 
 ghost use Rattle.std.specs.Prelude.{◌≡◌, ◌≤◌, IfOk, OnOk, Some, length, slice_get};
 ghost use Rattle.std.specs.List.{AllZip};
@@ -16,13 +16,13 @@ use std::hash::Hash;
 /// The codes of a list of rules.
 #[derive(Drop)]
 pub(crate) struct Codes {
-    /// Of a mark, the code of its instance; of another rule, any number.
+    /// For an instance, its code; for any other rule, any number.
     pub(crate) codes: Vec<usize>,
-    /// How many bits tell the codes of two instances apart.
+    /// How many bits a code has.
     pub(crate) width: u32,
 }
 
-/// Where a member stands, which is put behind the others if it is not there yet.
+/// The place of a member, which is appended if it is not there yet.
 pub(crate) fn place_among<T: Copy + Eq + Hash + Drop>(
     set: &mut IndexSet<T>,
     member: T,
@@ -41,7 +41,7 @@ pub(crate) fn place_among<T: Copy + Eq + Hash + Drop>(
     }
 }
 
-/// How many members there are.
+/// The number of members.
 pub(crate) fn count_of<T: Copy + Eq + Hash + Drop>(set: &IndexSet<T>) -> usize
     requires { IsIdentity T.eq }
     ensures len { result ≡ length set.now.keys }
@@ -50,7 +50,7 @@ pub(crate) fn count_of<T: Copy + Eq + Hash + Drop>(set: &IndexSet<T>) -> usize
     set.len()
 }
 
-/// The code of a rule: of a mark, the place of its instance.
+/// The code of a rule: for an instance, its place.
 fn code_of<N, S: Copy + Eq + Hash + Drop>(
     instances: &mut IndexSet<S>,
     rule: &Rule<N, S>,
@@ -71,7 +71,7 @@ fn code_of<N, S: Copy + Eq + Hash + Drop>(
     }
 }
 
-/// The codes of the rules, with the instances that are marked.
+/// The codes of the rules. Collects the instances that they list.
 fn codes_among<N, S: Copy + Eq + Hash + Drop>(
     alloc: Global,
     instances: &mut IndexSet<S>,

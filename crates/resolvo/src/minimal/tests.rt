@@ -1,4 +1,4 @@
-//! Conflicts of which no rule can be left out: worked lists of rules, and random ones, tried by the plain search.
+//! Minimal conflicts of worked lists of rules, and of random lists, which the plain search checks.
 
 ghost use Rattle.std.specs.Prelude.{◌<◌, length};
 
@@ -10,10 +10,10 @@ use resolver_report::find;
 use std::alloc::{AllocError, Global};
 use std::test::Fail;
 
-/// What a rule states, but for the number of its place, which it was read from.
+/// What a rule states, except for the number of its place, which stands for its origin.
 #[derive(Clone, Copy)]
 enum Stated<'x> {
-    /// Who is_requirement, the candidates, and the lists of the condition.
+    /// The requirer, the candidates, and the lists of the condition.
     Requires(By<u32>, &'x [u32], &'x [&'x [u32]]),
     Constrains(By<u32>, u32),
     Lock(u32),
@@ -70,7 +70,7 @@ fn rules_of(alloc: Global, stated: &[Stated<'_>]) -> Result<Vec<Rule<u32, u32>>,
     Ok(rules)
 }
 
-/// Whether the rule is a copy of the one at this place.
+/// Whether the rule copies the one at this place.
 fn is_copy(rule: &Rule<u32, u32>, place: u32, stated: Stated<'_>) -> bool {
     match rule {
         Rule::Requires {
@@ -89,7 +89,7 @@ fn is_copy(rule: &Rule<u32, u32>, place: u32, stated: Stated<'_>) -> bool {
     }
 }
 
-/// Whether these are copies of the rules at the places, in their order.
+/// Whether the rules copy those at these places, in order.
 fn are_copies(rules: &[Rule<u32, u32>], stated: &[Stated<'_>], places: &[usize]) -> bool {
     if rules.len() != places.len() {
         return false;
@@ -103,7 +103,7 @@ fn are_copies(rules: &[Rule<u32, u32>], stated: &[Stated<'_>], places: &[usize])
     true
 }
 
-/// Whether the rules at these places are left of the conflict of all of them.
+/// Whether the minimal conflict of the rules has those at these places.
 fn leaves(alloc: Global, stated: &[Stated<'_>], places: &[usize]) -> Result<bool, Fail> {
     let conflict = Conflict {
         rules: rules_of(alloc, stated)?,
@@ -114,7 +114,7 @@ fn leaves(alloc: Global, stated: &[Stated<'_>], places: &[usize]) -> Result<bool
     }
 }
 
-/// The clash of two packages over a third, with an exclusion that one rule of it makes needless.
+/// Two packages that clash over a third, with an exclusion that one of the rules makes redundant.
 const CLASH: [Stated<'static>; 9] = [
     Stated::Requires(By::Root, &[12, 11], &[]),
     Stated::Requires(By::Root, &[22, 21], &[]),
@@ -150,7 +150,7 @@ fn rules_that_repeat_or_are_needless_are_left_out(rt: HostRuntime) -> Result<(),
     Ok(())
 }
 
-/// Rules of each kind but a mark, of which the last is needless.
+/// Rules of every kind except instances. The last one is redundant.
 const CONDITIONAL: [Stated<'static>; 6] = [
     Stated::Requires(By::Root, &[21, 22], &[]),
     Stated::Requires(By::Root, &[31], &[]),
@@ -160,7 +160,7 @@ const CONDITIONAL: [Stated<'static>; 6] = [
     Stated::Constrains(By::Root, 51),
 ];
 
-/// Marks of one package, of which two are needed.
+/// Instances of one package, two of which are needed.
 const MARKED: [Stated<'static>; 6] = [
     Stated::OnePerPackage(1, 11),
     Stated::OnePerPackage(2, 12),
@@ -254,7 +254,7 @@ fn draw_rules(alloc: Global, seed: u32) -> Result<Vec<Rule<u32, u32>>, AllocErro
     Ok(rules)
 }
 
-/// Whether the plain search finds a set that obeys the rules but this one.
+/// Whether the plain search finds a set that obeys all rules except this one.
 fn is_needed(alloc: Global, rules: &[Rule<u32, u32>], place: usize) -> Result<bool, Exhausted>
     requires { place < length rules.now }
 {
@@ -274,7 +274,7 @@ fn is_irreducible(alloc: Global, rules: &[Rule<u32, u32>]) -> Result<bool, Exhau
     Ok(find(alloc, rules)?.is_none())
 }
 
-/// Whether the search over the clauses of rules that a set obeys says so.
+/// Whether the clause search, over rules that some set obeys, finds that one does.
 fn is_seen_obeyed(alloc: Global, rules: &[Rule<u32, u32>]) -> Result<bool, Exhausted> {
     let form = clauses_within(alloc, rules)?;
     let all = vec![in alloc; true; rules.len()]?;
@@ -282,12 +282,12 @@ fn is_seen_obeyed(alloc: Global, rules: &[Rule<u32, u32>]) -> Result<bool, Exhau
     Ok(matches!(verdict, Some(Verdict::Obeyed(_))))
 }
 
-/// What came of random rules.
+/// The result for random rules.
 #[derive(Clone, Copy, PartialEq)]
 enum Tried {
     /// Some set obeys them, and the search over their clauses says so.
     Obeyed,
-    /// No set obeys them, what is left of them is irreducible, and it is what is left by the plain search.
+    /// No set obeys them, and what is left is irreducible and the same as by the plain search.
     Minimal,
     Wrong,
 }
@@ -308,7 +308,7 @@ fn try_rules(alloc: Global, rules: &[Rule<u32, u32>]) -> Result<Tried, Exhausted
     Ok(if right { Tried::Minimal } else { Tried::Wrong })
 }
 
-/// Of how many lists of random rules one rule after another can be left out, and of how many something is wrong.
+/// How many lists of random rules have an irreducible minimal conflict, and how many results are wrong.
 fn counts(alloc: Global) -> Result<(u32, u32), Exhausted> {
     let mut minimal: u32 = 0;
     let mut wrong: u32 = 0;
@@ -335,7 +335,7 @@ fn random_conflicts_become_irreducible(rt: HostRuntime) -> Result<(), Fail> {
     Ok(())
 }
 
-/// How many rules the refined conflict of these has, if the plain search finds no set that obeys those either.
+/// How many rules the refined conflict has, if the plain search confirms that no set obeys them.
 fn refined_count(alloc: Global, rules: Vec<Rule<u32, u32>>) -> Result<Option<usize>, Exhausted> {
     let conflict = Conflict { rules };
     let refined = conflict.refined()?;
@@ -365,14 +365,14 @@ fn what_a_new_search_does_not_use_is_left_out(rt: HostRuntime) -> Result<(), Fai
     Ok(())
 }
 
-/// What came of refining random rules.
+/// The result of refining random rules.
 #[derive(Clone, Copy, PartialEq)]
 enum Refined {
     /// Some set obeys the rules.
     Obeyed,
-    /// No set obeys what is left of them, which is fewer rules.
+    /// No set obeys the rules that are left, and there are fewer of them.
     Fewer,
-    /// No set obeys what is left of them, which is as many rules.
+    /// No set obeys the rules that are left, and there are as many of them.
     AsMany,
     Wrong,
 }
@@ -389,7 +389,7 @@ fn refine_rules(alloc: Global, rules: Vec<Rule<u32, u32>>) -> Result<Refined, Ex
     }
 }
 
-/// Of how many lists of random rules some are left out, and of how many something is wrong.
+/// How many lists of random rules lose rules, and how many results are wrong.
 fn refined_counts(alloc: Global) -> Result<(u32, u32), Exhausted> {
     let mut fewer: u32 = 0;
     let mut wrong: u32 = 0;

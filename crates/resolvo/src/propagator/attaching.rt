@@ -1,4 +1,4 @@
-//! Which clauses are watched, and which have to be looked at again.
+//! Attaching clauses to their watches, and clauses that become pending again.
 
 ghost use Rattle.std.specs.Prelude.{◌≡◌, ◌≢◌, ◌⊎◌, ℕ, ◌+◌, ◌*◌, ◌<◌, ◌≤◌, ◌++◌, ◌∷◌, [], All, Contains, IfNone, IfOk, IfSome, List, MatchBool, MatchOption};
 ghost use Rattle.std.specs.Prelude.{None, OnOk, Some, Vec, length, slice_index_or, true, get_or};
@@ -22,7 +22,7 @@ use resolver_clause_store::{Literal, Trail, WatchedPair, Watches, clause};
 use std::alloc::{AllocError, Global};
 
 impl Propagator {
-    /// Nothing is attached.
+    /// A propagator without clauses.
     pub fn empty(alloc: Global) -> Self
         ensures { (trail : Trail) → variable_count trail ≡ 0 → IsPropagator [] trail result }
     {
@@ -34,7 +34,7 @@ impl Propagator {
         }
     }
 
-    /// Makes room for the literals of new variables, up to this many variables.
+    /// Makes room for the literals of new variables, up to `variables` of them.
     pub fn grow(&mut self, variables: usize) -> Result<(), AllocError>
         requires { length (lists_of self.old.watches) ≤ 2 * variables }
         ensures propagator { OnOk result
@@ -46,7 +46,8 @@ impl Propagator {
         Ok(())
     }
 
-    /// Clauses that were noted with more first places of the trail than these have to be looked at again.
+    /// Makes pending each clause that was noted with more than `length` entries of the trail, since the literal that
+    /// satisfied it may be gone.
     fn recall(&mut self, length: usize) -> Result<(), AllocError>
         ensures recalled { OnOk result (Recalls (late_of self.old) (late_of self.new) (pending_of self.old) (pending_of self.new) length) }
         ensures watches { self.new.watches ≡ self.old.watches }
@@ -62,7 +63,7 @@ impl Propagator {
         Ok(())
     }
 
-    /// Follows a trail of which whole levels were taken away.
+    /// Follows a trail from which whole levels were removed.
     pub fn cut(&mut self, trail: &Trail) -> Result<(), AllocError>
         ensures propagator { OnOk result
             ((table : List (Vec Literal Global)) (before : Trail) → IsLower before trail.now → IsPropagator table before self.old →
@@ -74,7 +75,7 @@ impl Propagator {
         Ok(())
     }
 
-    /// Follows a trail of which the first places are left: all of it is to be propagated again.
+    /// Follows a trail that was cut to its first entries. All of these are to be propagated again.
     pub fn forget(&mut self, trail: &Trail) -> Result<(), AllocError>
         ensures propagator { OnOk result
             ((table : List (Vec Literal Global)) (before : Trail) (count : ℕ) → count ≤ length_of before → IsCut before trail.now count →
@@ -111,8 +112,8 @@ impl Propagator {
         Ok(())
     }
 
-    /// Takes the last one of the clauses that have to be looked at again away. Two of its literals have no value: where those
-    /// that it watches are false, they are propagated again.
+    /// Pops a pending clause that has two literals without a value. If a literal that it watches is false, that one is
+    /// propagated again.
     fn reopen(&mut self, trail: &Trail, number: usize)
         requires last { EndsWith (pending_of self.old) number }
         requires inside { number < attached_of self.old }
@@ -129,7 +130,7 @@ impl Propagator {
         self.head = self.head.min(first).min(second);
     }
 
-    /// Attaches a clause, which comes behind those of the table. It has to be looked at then.
+    /// Attaches the clause after those in the table. It becomes pending.
     pub fn attach(&mut self, trail: &Trail, literals: &[Literal]) -> Result<(), AllocError>
         requires below { IsBelow (variable_count trail.now) literals.now }
         requires lists { length (lists_of self.old.watches) ≡ 2 * variable_count trail.now }
@@ -146,7 +147,7 @@ impl Propagator {
     }
 }
 
-/// Whether a literal is not false, or is so at the highest level.
+/// Whether a literal is not false, or became false at the highest level.
 fn is_high(trail: &Trail, literal: Literal) -> bool
     requires { literal.variable < variable_count trail.now }
     ensures { result ≡ true → IsHigh trail.now literal }
@@ -157,7 +158,7 @@ fn is_high(trail: &Trail, literal: Literal) -> bool
     }
 }
 
-/// Whether two literals are watched, each of which is not false, or is so at the highest level.
+/// Whether the clause watches two literals, each not false or false only at the highest level.
 fn are_high(trail: &Trail, first: Option<Literal>, second: Option<Literal>) -> bool
     requires { (literal : Literal) → (first ≡ Some literal) ⊎ (second ≡ Some literal) → literal.variable < variable_count trail.now }
     ensures { result ≡ true → IsHighPair trail.now (record { first = first; second = second }) }
@@ -171,7 +172,7 @@ fn are_high(trail: &Trail, first: Option<Literal>, second: Option<Literal>) -> b
     is_high(trail, one) && is_high(trail, other)
 }
 
-/// The place at which a literal became false, and the trail's end where it is not false.
+/// The place at which a literal became false, or the end of the trail if it is not false.
 fn false_place(trail: &Trail, watched: Option<Literal>) -> usize
     requires { (literal : Literal) → watched ≡ Some literal → literal.variable < variable_count trail.now }
     ensures { (literal : Literal) → watched ≡ Some literal → IsNotBefore trail.now result literal }
@@ -188,7 +189,7 @@ fn false_place(trail: &Trail, watched: Option<Literal>) -> usize
     slot.place
 }
 
-/// Whether the literal at a place is another one than that at the other place, if there is one.
+/// Whether the literal at `place` differs from the one at `other`, if that is given.
 fn is_other(literals: &[Literal], other: Option<usize>, place: usize) -> bool
     requires inside { place < length literals.now }
     requires other { (given : ℕ) → other ≡ Some given → given < length literals.now }
@@ -200,8 +201,8 @@ fn is_other(literals: &[Literal], other: Option<usize>, place: usize) -> bool
     }
 }
 
-/// The better one of the place that was found so far and this one: a literal that is not false, or else the one that became
-/// false last.
+/// The better of the place found so far and this one to watch. A literal that is not false is best, then the one that
+/// became false last.
 fn better(
     trail: &Trail,
     literals: &[Literal],
@@ -231,7 +232,7 @@ fn better(
     }
 }
 
-/// The place of the best literal to watch, which is another one than that at the place that is given, if there is one.
+/// The place of the best literal to watch, which has to differ from the one at `other`, if that is given.
 fn best(trail: &Trail, literals: &[Literal], other: Option<usize>) -> Option<usize>
     requires below { IsBelow (variable_count trail.now) literals.now }
     requires other { (given : ℕ) → other ≡ Some given → given < length literals.now }
@@ -244,7 +245,8 @@ fn best(trail: &Trail, literals: &[Literal], other: Option<usize>) -> Option<usi
     found
 }
 
-/// Two different literals of a clause to watch, if it has two: such that are not false, or else became false last.
+/// Two different literals of a clause to watch, if it has two: preferably not false, otherwise those that became false
+/// last.
 fn pair_of(trail: &Trail, literals: &[Literal]) -> Option<(Literal, Literal)>
     requires { IsBelow (variable_count trail.now) literals.now }
     ensures { MatchOption result (IsConstant literals.now) (λ pair. AreApart literals.now pair.0 pair.1) }
@@ -258,7 +260,8 @@ fn pair_of(trail: &Trail, literals: &[Literal]) -> Option<(Literal, Literal)>
     Some((literals[first], literals[second]))
 }
 
-/// Applies the last pending clause: forces its last literal, or puts it by. Answers whether it is not false.
+/// Examines the last pending clause, and pops it unless it is false. A unit clause forces its literal. Returns whether
+/// it is not false.
 fn apply_pending(
     trail: &mut Trail,
     table: &[Vec<Literal>],
@@ -293,7 +296,7 @@ fn apply_pending(
     }
 }
 
-/// Applies pending clauses until none is left, or one is false, whose number is answered.
+/// Examines pending clauses until none is left or one is false, and returns the number of that one.
 pub fn apply_all_pending(
     trail: &mut Trail,
     table: &[Vec<Literal>],

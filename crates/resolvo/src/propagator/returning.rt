@@ -1,4 +1,4 @@
-//! A trail that ends before an assumption again.
+//! Cutting the trail back to before an assumption.
 
 ghost use Rattle.std.specs.Prelude.{◌≡◌, ◌<◌, ◌≤◌, ℕ, List, OnOk, Vec, true};
 ghost use Rattle.std.specs.declared.alloc.Global.{Global};
@@ -12,7 +12,7 @@ use super::Propagator;
 use resolver_clause_store::{Reason, Trail};
 use std::alloc::AllocError;
 
-/// Whether a decision or an assumption stands at a place, with which a level begins.
+/// Whether the entry at a place is a decision or an assumption, which begins a level.
 pub fn begins_level(trail: &Trail, place: usize) -> bool
     requires { place < length_of trail.now }
     ensures { result ≡ true → BeginsLevel trail.now place }
@@ -28,8 +28,8 @@ pub fn begins_level(trail: &Trail, place: usize) -> bool
 }
 
 impl Propagator {
-    /// Follows a trail of which the first places are left. Where a level began behind them, what was propagated of them
-    /// stays so.
+    /// Follows a trail that was cut to its first entries. If a level began right after them, what was propagated of
+    /// them stays propagated.
     pub fn return_to(&mut self, trail: &Trail, began: bool) -> Result<(), AllocError>
         ensures propagator { OnOk result
             ((table : List (Vec Literal Global)) (before : Trail) (count : ℕ) → count ≤ length_of before → (began ≡ true → BeginsLevel before count) →

@@ -1,4 +1,4 @@
-//! What follows by watches and by scanning.
+//! Propagation by watches, compared with scanning.
 
 ghost use Rattle.std.specs.Prelude.{◌≡◌, IfOk, IsTrue, List, OnOk, Vec};
 ghost use Rattle.std.specs.declared.alloc.Global.{Global};
@@ -15,7 +15,7 @@ use resolver_clause_store::{Literal, Trail, Variable, clause};
 use std::alloc::{AllocError, Global};
 use std::test::Fail;
 
-/// Whether each variable of the clause is below the number.
+/// Whether each variable of the clause is below `variables`.
 fn is_below(clause: &[Literal], variables: usize) -> bool
     ensures { IsTrue result → IsBelow variables clause.now }
 {
@@ -24,7 +24,7 @@ fn is_below(clause: &[Literal], variables: usize) -> bool
         .all(|literal| literal.variable.index() < variables)
 }
 
-/// Whether each variable of each clause is below the number.
+/// Whether each variable of each clause is below `variables`.
 fn are_below(table: &[Vec<Literal>], variables: usize) -> bool
     ensures { IsTrue result → AreBelow variables table.now }
 {
@@ -36,7 +36,7 @@ fn are_below(table: &[Vec<Literal>], variables: usize) -> bool
     true
 }
 
-/// The next number of a sequence that looks random.
+/// The next number of a pseudorandom sequence.
 fn next(seed: u64) -> u64 {
     seed.wrapping_mul(6364136223846793005)
         .wrapping_add(1442695040888963407)
@@ -97,7 +97,7 @@ fn begin(
     Ok(propagator)
 }
 
-/// Sets what follows. Tells whether no clause is false.
+/// Propagates. Returns whether no clause is false.
 fn follow(
     trail: &mut Trail,
     table: &[Vec<Literal>],
@@ -157,17 +157,17 @@ fn are_same(one: &Trail, other: &Trail) -> bool {
     true
 }
 
-/// What one literal after another does, by watches and by scanning.
+/// The result of setting one literal after another, by watches and by scanning.
 #[derive(Clone, Copy, Debug, PartialEq, Eq)]
 enum Outcome {
-    /// The same values each time, and no clause was false.
+    /// Both gave the same values each time, and no clause was false.
     SameValues,
-    /// The same values each time, and then both found a false clause.
+    /// Both gave the same values each time, and then both found a false clause.
     BothFalse,
     Differ,
 }
 
-/// Sets what follows by watches and by scanning. Tells what came of it, if that was the last step.
+/// Propagates by watches and by scanning. Returns the result, if this was the last step.
 fn follow_both(
     trail: &mut Trail,
     scanned: &mut Trail,
@@ -197,7 +197,7 @@ fn follow_both(
     Ok(None)
 }
 
-/// Sets one literal after another, each with what follows from it by watches and by scanning.
+/// Sets one literal after another, and each time propagates by watches and by scanning.
 fn compare(alloc: Global, table: &[Vec<Literal>], seed: u64) -> Result<Outcome, AllocError> {
     if !are_below(table, 10) {
         return Ok(Outcome::Differ);
@@ -217,7 +217,7 @@ fn compare(alloc: Global, table: &[Vec<Literal>], seed: u64) -> Result<Outcome, 
     Ok(Outcome::SameValues)
 }
 
-/// How many of 300 lists of clauses had the same values, and how many a false clause.
+/// How many of 300 lists of clauses ended with equal values, and how many with a false clause.
 fn compare_all(alloc: Global) -> Result<(u32, u32), AllocError> {
     let mut same = 0u32;
     let mut both_false = 0u32;

@@ -1,4 +1,4 @@
-//! The clauses that watch a literal which has become false.
+//! Visits to the clauses that watch a literal which has become false.
 
 ghost use Rattle.std.specs.Prelude.{◌≡◌, ◌≢◌, ◌+◌, ◌<◌, ◌≤◌, ◌++◌, ◌∷◌, [], true, IfNone, IfOk, IfSome, MatchOption, OnErr, OnOk, Some, if◌then◌else◌, length};
 ghost use Rattle.resolver_clause_store.specs.Formula.{AreBelow, IsBelow, clause_at};
@@ -22,30 +22,30 @@ use std::alloc::AllocError;
 pub struct FalseLiteral {
     literal: Literal,
     level: usize,
-    /// Whether no level of the trail is higher.
+    /// Whether the literal became false at the highest level.
     is_top: bool,
 }
 
-/// A clause that watches it.
+/// A clause that watches the literal.
 #[derive(Clone, Copy)]
 pub struct Watcher {
     number: usize,
-    /// Where it stands in the literal's list.
+    /// Its place in the literal's list.
     place: usize,
     /// The other literal that it watches.
     other: Literal,
 }
 
-/// What the visit of a watcher came to.
+/// The result of a visit to a watcher.
 #[derive(Clone, Copy)]
 pub enum WatchOutcome {
-    /// The place of the clause to look at next.
+    /// The place of the next watcher to visit.
     Next(usize),
     /// Each literal of the clause with this number is false.
     Conflict(usize),
 }
 
-/// The literal that is watched beside another one.
+/// The other literal that the clause watches.
 fn other_watched(pair: &WatchedPair, literal: &Literal) -> Literal
     ensures { (other : Literal) → literal.now ≢ other → IsPair pair.now literal.now other → result ≡ other }
 {
@@ -61,7 +61,7 @@ fn other_watched(pair: &WatchedPair, literal: &Literal) -> Literal
     }
 }
 
-/// A literal of a clause that is not false, besides another one.
+/// A literal of the clause that is not false, other than `other`.
 fn replacement(trail: &Trail, clause: &[Literal], other: &Literal) -> Option<Literal>
     requires { IsBelow (variable_count trail.now) clause.now }
     ensures { MatchOption result (IsUnit trail.now other.now clause.now) (Replaces trail.now clause.now other.now) }
@@ -78,7 +78,7 @@ impl Propagator {
     ghost use Rattle.resolvo.specs.Propagators.{attached_of, head_of, late_of};
     ghost use Rattle.resolvo.specs.Visits.{watchers_of};
 
-    /// The literal that is false at the head.
+    /// The literal that became false by the entry at the head.
     fn false_literal(&self, trail: &Trail) -> FalseLiteral
         requires { head_of self.now < length_of trail.now }
         ensures fails { FailsAt trail.now (head_of self.now) result }
@@ -105,7 +105,7 @@ impl Propagator {
         }
     }
 
-    /// Notes that a clause is true, where that may be undone before the false literal.
+    /// Notes a clause as satisfied, if that may be undone before the false literal is.
     fn note(
         &mut self,
         trail: &Trail,
@@ -126,7 +126,7 @@ impl Propagator {
         Ok(())
     }
 
-    /// Passes a clause by that is true.
+    /// Passes by a satisfied clause.
     fn pass_by(
         &mut self,
         trail: &Trail,
@@ -146,7 +146,7 @@ impl Propagator {
         Ok(WatchOutcome::Next(place + 1))
     }
 
-    /// Passes a clause by whose other watched literal is true, which becomes the blocker.
+    /// Passes by a clause whose other watched literal is true. That literal becomes the blocker.
     fn pass_by_other(
         &mut self,
         trail: &Trail,
@@ -168,7 +168,7 @@ impl Propagator {
         Ok(outcome)
     }
 
-    /// Sets the last literal of a clause whose others are false.
+    /// Forces the last literal of a clause whose others are false.
     fn force_other(
         &mut self,
         trail: &mut Trail,
@@ -201,7 +201,8 @@ impl Propagator {
         }
     }
 
-    /// Finds a replacement for a watched literal that is false, where the other one is not true; where there is none, the last literal is set.
+    /// Moves the watch of a false literal to another literal of the clause; the other watched one is not true. If there
+    /// is none, the clause is unit, and forces the other.
     fn find_replacement(
         &mut self,
         trail: &mut Trail,
@@ -274,7 +275,7 @@ impl Propagator {
         Ok(outcome)
     }
 
-    /// Visits each watcher of the literal that is false at the head, and advances the head by one place.
+    /// Visits each watcher of the literal that became false at the head, and moves the head on by one.
     fn visit(
         &mut self,
         trail: &mut Trail,
@@ -309,7 +310,7 @@ impl Propagator {
     }
 }
 
-/// Sets every literal that is forced, until none is left or a clause is false, whose number is answered.
+/// Forces literals until none is left or a clause is false, and returns the number of that clause.
 pub fn propagate(
     trail: &mut Trail,
     table: &[Vec<Literal>],

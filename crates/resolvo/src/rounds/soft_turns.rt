@@ -1,4 +1,4 @@
-//! The turns of soft requirements, once there is an answer without them.
+//! The turns of soft requirements, after there is an answer without them.
 
 ghost use Rattle.std.specs.Iterator.{Drains, IsFinite};
 ghost use Rattle.std.specs.Prelude.{◌≡◌, ◌++◌, ◌∷◌, [], All, Contains, IfErr, IfOk, IfSome, List, MatchBool, OnOk, length, map};
@@ -22,7 +22,7 @@ use resolver_clause_store::{
 };
 use std::hash::Hash;
 
-/// Whether the set has one of the list.
+/// Whether an element of the list is in the set.
 fn has_any<T: Eq + Hash>(set: &IndexSet<T>, list: &[T]) -> bool
     requires { IsIdentity T.eq }
     ensures { MatchBool result (Meets list.now set.now.keys) (Meets list.now set.now.keys → ⊥) }
@@ -39,7 +39,7 @@ impl<N: Copy + Eq + Hash + Drop, S: Copy + Eq + Hash + Drop> Rounds<N, S> {
     ghost use Rattle.resolvo.specs.RoundStates.{AreRounds, HasAllClauses, HaveTurned, IsBetween, IsLedBy, IsStanding, IsStill, IsStuck, IsUpToDate};
     ghost use Rattle.resolvo.specs.RoundStates.{KeepsRoom, LeadsAsked, LeadsOver, LeadsTurns, chosen_of, notes_of};
 
-    /// The turns of candidates, of packages that were asked, until one is accepted. Answers whether one is.
+    /// Gives candidates of asked packages their turns until one is accepted. Returns whether one is.
     fn take_first<D: DependencyProvider<NameId = N, SolvableId = S>>(
         &mut self,
         provider: &D,
@@ -72,7 +72,7 @@ impl<N: Copy + Eq + Hash + Drop, S: Copy + Eq + Hash + Drop> Rounds<N, S> {
         Ok(false)
     }
 
-    /// Asks the package of a version set, and loads what it locks and excludes.
+    /// Asks the package of a version set, and loads the clauses for what it locks out and excludes.
     fn ask<D: DependencyProvider<NameId = N, SolvableId = S>>(
         &mut self,
         provider: &D,
@@ -103,7 +103,7 @@ impl<N: Copy + Eq + Hash + Drop, S: Copy + Eq + Hash + Drop> Rounds<N, S> {
         Ok(())
     }
 
-    /// The turn of a version set: the first of its candidates that fits is taken. If one is chosen already, nothing happens.
+    /// The turn of a version set: takes the first of its candidates that fits. If one is chosen already, does nothing.
     fn version_set_turn<D: DependencyProvider<NameId = N, SolvableId = S>>(
         &mut self,
         provider: &D,
@@ -166,7 +166,7 @@ impl<N: Copy + Eq + Hash + Drop, S: Copy + Eq + Hash + Drop> Rounds<N, S> {
         }
     }
 
-    /// The turns of soft requirements that are solvables, in their order.
+    /// The turns of the soft requirements that are solvables, in order.
     fn solvable_turns<
         D: DependencyProvider<NameId = N, SolvableId = S>,
         I: Iterator<Item = S> + Drop,
@@ -203,7 +203,7 @@ impl<N: Copy + Eq + Hash + Drop, S: Copy + Eq + Hash + Drop> Rounds<N, S> {
         Ok(())
     }
 
-    /// The turns of the soft requirements of a list, in its order.
+    /// The turns of the soft requirements in a list, in order.
     fn list_turns<D: DependencyProvider<NameId = N, SolvableId = S>>(
         &mut self,
         provider: &D,
@@ -231,7 +231,7 @@ impl<N: Copy + Eq + Hash + Drop, S: Copy + Eq + Hash + Drop> Rounds<N, S> {
         Ok(())
     }
 
-    /// The turns of soft requirements that are solvables, if there are some.
+    /// The turns of the soft requirements that are solvables, if there are any.
     fn given_turns<D: DependencyProvider<NameId = N, SolvableId = S>, I: Iterator<Item = S> + Drop>(
         &mut self,
         provider: &D,
@@ -268,7 +268,7 @@ impl<N: Copy + Eq + Hash + Drop, S: Copy + Eq + Hash + Drop> Rounds<N, S> {
         }
     }
 
-    /// The turns of all soft requirements: of the given solvables, and then of the list.
+    /// The turns of all soft requirements: first the given solvables, then the list.
     pub(super) fn soft_turns<
         D: DependencyProvider<NameId = N, SolvableId = S>,
         I: Iterator<Item = S> + Drop,

@@ -33,18 +33,18 @@ fn when(condition: u32, version_set: u32) -> ConditionalRequirement {
     }
 }
 
-/// What a provider states.
+/// The statements of a provider.
 #[derive(Clone, Copy)]
 struct Stated<'x> {
-    /// What each solvable requires.
+    /// The requirements of each solvable.
     required: &'x [(u32, ConditionalRequirement)],
-    /// What each solvable constrains.
+    /// The constraints of each solvable.
     constrained: &'x [(u32, VersionSetId)],
     /// Whether there are packages as far as the ids go.
     endless: bool,
 }
 
-/// What a problem asks for.
+/// The parts of a problem.
 #[derive(Clone, Copy)]
 enum Asked<'x> {
     /// Nothing, as `new` makes it.
@@ -59,16 +59,16 @@ enum Asked<'x> {
     Replaced(&'x [ConditionalRequirement], &'x [VersionSetId]),
 }
 
-/// What a problem ends with.
+/// The wanted result of a problem.
 #[derive(Clone, Copy)]
 enum Wanted<'x> {
     /// This is chosen.
     Chosen(&'x [u32]),
-    /// The same, and so many disjuncts are put off.
+    /// The same, and so many disjuncts are deferred.
     Deferred(&'x [u32], usize),
-    /// The same, and there are so many clauses, and so many disjuncts are put off.
+    /// The same, and there are so many clauses, and so many disjuncts are deferred.
     Counted(&'x [u32], usize, usize),
-    /// The same, and the provider was asked for the candidates of just these packages: the digits name them in order.
+    /// The same, and just these packages were asked for their candidates: the digits name them in order.
     Asking(&'x [u32], usize, usize, u32),
     /// The provider stops the search.
     Stopped,
@@ -205,7 +205,7 @@ fn ends_with(solver: &mut Solver<TestProvider>, problem: TestProblem, wanted: &W
     is_wanted(solver, &outcome, wanted)
 }
 
-/// Whether the problem that asks for this ends with that.
+/// Whether the problem with these parts ends with that.
 fn solves(solver: &mut Solver<TestProvider>, asked: &Asked<'_>, wanted: &Wanted<'_>) -> bool
     requires { IsSound (test_universe (provider_in solver.old).endless (provider_in solver.old).requirements.items
         (provider_in solver.old).constraints.items) solver.old }
@@ -264,7 +264,7 @@ fn conflict_in(
     }
 }
 
-/// The conflict of the problem that asks for this, where it has one.
+/// The conflict of the problem with these parts, if it has one.
 fn conflict_of(solver: &mut Solver<TestProvider>, asked: &Asked<'_>) -> Option<Conflict<u32, u32>>
     requires { IsSound (test_universe (provider_in solver.old).endless (provider_in solver.old).requirements.items
         (provider_in solver.old).constraints.items) solver.old }
@@ -373,7 +373,7 @@ fn goes_over<'x>(
     holds(alloc, &stated, steps)
 }
 
-/// Whether this is chosen for a problem, with so many clauses and nothing put off.
+/// Whether this is chosen for a problem, with so many clauses and nothing deferred.
 fn chooses<'x>(
     alloc: Global,
     required: &'x [(u32, ConditionalRequirement)],
@@ -426,8 +426,8 @@ fn constraints_are_kept(rt: HostRuntime) -> Result<(), Fail> {
     Ok(())
 }
 
-/// Whether a version set, and 34 under a condition, have this answer, with so many clauses and disjuncts put off, and these
-/// packages are asked for their candidates.
+/// Whether a version set, and 34 under a condition, have this answer, with so many clauses and deferred disjuncts, and
+/// these packages are asked for their candidates.
 fn chooses_under_condition(
     alloc: Global,
     version_set: u32,
@@ -534,7 +534,7 @@ fn what_is_set_again_is_replaced(rt: HostRuntime) -> Result<(), Fail> {
     Ok(())
 }
 
-/// Whether two steps go well, and a problem that asks for nothing has an empty answer then.
+/// Whether two steps go well, and a problem without requirements then has an empty answer.
 fn goes_afresh<'x>(
     alloc: Global,
     required: &'x [(u32, ConditionalRequirement)],
@@ -555,7 +555,7 @@ fn each_problem_starts_afresh(rt: HostRuntime) -> Result<(), Fail> {
     Ok(())
 }
 
-/// Whether two equal problems have this answer, with nothing put off.
+/// Whether two equal problems have this answer, with nothing deferred.
 fn answers_twice<'x>(
     alloc: Global,
     required: &'x [(u32, ConditionalRequirement)],
@@ -590,7 +590,7 @@ fn hints_and_cached_answers_change_no_answer(rt: HostRuntime) -> Result<(), Fail
     Ok(())
 }
 
-/// Whether the first requirement alone leaves two disjuncts put off, and with what meets one of them a candidate comes.
+/// Whether the first requirement alone leaves two disjuncts deferred, and a candidate is chosen once one of them holds.
 fn answers_once_met<'x>(
     alloc: Global,
     required: &'x [(u32, ConditionalRequirement)],
@@ -653,7 +653,7 @@ fn obeys_alone(rule: &Rule<u32, u32>, set: &[u32]) -> bool {
     }
 }
 
-/// Whether two marked instances of this name are in the set.
+/// Whether two listed instances of this name are in the set.
 fn has_two(rules: &[Rule<u32, u32>], wanted: u32, set: &[u32]) -> bool {
     let mut first = None;
     for rule in rules {

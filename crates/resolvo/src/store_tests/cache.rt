@@ -1,4 +1,4 @@
-//! What a cache asks for, and what it answers.
+//! What a cache asks the provider, and what it returns.
 
 ghost use Rattle.resolver_clause_store.specs.Caches.{IsTrueCache};
 ghost use Rattle.resolvo.specs.NotingProvider.{test_universe};

@@ -1,6 +1,7 @@
-//! A small provider that writes down what it is asked.
+//! A small provider that logs the calls to it.
 //!
-//! Package n has the solvables 10 n + 1 to 10 n + 3, and favors the first. Version set 10 n + k takes those up to 10 n + k.
+//! Package n has the solvables 10 n + 1 to 10 n + 3, and favors the first. Version set 10 n + k has those up to 10 n +
+//! k.
 
 ghost use Rattle.std.specs.Prelude.{◌≡◌, refl};
 ghost use Rattle.resolvo.specs.NotingProvider.{
@@ -26,7 +27,8 @@ pub struct NotingProvider {
     pub members: Vec<VersionSetId>,
     /// Whether the next cancel check stops the search.
     pub cancels: Cell<bool>,
-    /// The digits name the questions in order: 1 a cancel check, 2 the candidates, 3 the dependencies, 4 a filter, 5 a sort.
+    /// The digits name the calls in order: 1 a cancel check, 2 the candidates, 3 the dependencies, 4 a filter, 5 a
+    /// sort.
     pub log: Cell<u64>,
 }
 

@@ -15,7 +15,8 @@ use resolver_clause_store::{
 use std::alloc::{AllocError, Global};
 use std::test::Fail;
 
-/// Package n, below 4294967295, has the one candidate n, which version set n takes. It is made when it is asked for.
+/// Package n, below 4294967295, has the one candidate n, the only member of version set n. It is made when the package
+/// is asked.
 #[derive(Drop)]
 struct Chain {
     alloc: Global,
@@ -23,10 +24,10 @@ struct Chain {
     reach: u32,
 }
 
-/// Bears the name of package 0, and is listed nowhere.
+/// Has the name of package 0, and is listed by no package.
 const STRANGER: u32 = 4_294_967_295;
 
-/// What a solvable requires.
+/// The requirements of a solvable.
 fn required_by(
     alloc: Global,
     reach: u32,
@@ -153,7 +154,7 @@ impl DependencyProvider for Chain {
     }
 }
 
-/// What a problem asks for.
+/// The parts of a problem.
 #[derive(Clone, Copy)]
 struct Asked<'x> {
     required: &'x [ConditionalRequirement],
@@ -161,7 +162,7 @@ struct Asked<'x> {
     soft: &'x [u32],
 }
 
-/// What a problem ends with.
+/// The wanted result of a problem.
 #[derive(Clone, Copy)]
 enum Wanted<'x> {
     /// These are chosen, and of them these are exempt.
@@ -215,7 +216,7 @@ fn ends_with(
     is_wanted(solver, &outcome, wanted)
 }
 
-/// Whether the problem that asks for this ends with that.
+/// Whether the problem with these parts ends with that.
 fn solves(
     solver: &mut Solver<Chain>,
     asked: &Asked<'_>,
