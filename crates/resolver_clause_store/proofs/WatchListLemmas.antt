@@ -163,7 +163,7 @@ watched-move lists mid new pairs from to place d watch pair watched differ insid
     now
 
 -- two literals with one list are one literal
-literal-same : (one other : Literal) → one.variable ≡ other.variable → one.positive ≡ other.positive → one ≡ other
+pub literal-same : (one other : Literal) → one.variable ≡ other.variable → one.positive ≡ other.positive → one ≡ other
 literal-same one other e f = λ i. record { variable = e i; positive = f i }
 
 sign_number : (a b : Bool) (n m : ℕ) → 2 * n + cond a 1 0 ≡ 2 * m + cond b 1 0 → (n ≡ m) × (a ≡ b)

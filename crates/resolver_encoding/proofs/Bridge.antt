@@ -53,15 +53,12 @@ use Rattle.resolver_encoding.proofs.Spared.{Spares-further}
 use Rattle.resolver_encoding.proofs.Extended.{values_by, values_by-origin, table_by_kinds}
 use Rattle.resolver_clause_store.proofs.BoolLemmas.{beq-false, beq-true}
 use Rattle.resolver_clause_store.proofs.KeptLemmas.{slot_placed}
-use Rattle.resolver_clause_store.proofs.ListLemmas.{Contains-cons_cases as cons_cases, Contains-here as here, Contains-map, Contains-map_back}
+use Rattle.resolver_clause_store.proofs.ListLemmas.{Contains-cons_cases as cons_cases, Contains-here as here, Contains-map, Contains-map_back, Contains-at}
 use Rattle.resolver_clause_store.proofs.ListLemmas.{Contains-none as none_in, Contains-there as there, list_any-contains, list_any-witness}
-use Rattle.resolver_encoding.proofs.Lists.{Contains-slice}
+use Rattle.resolver_clause_store.proofs.WatchListLemmas.{literal-same}
 
 pub below_or : (n k : ℕ) → k ≤ n → (k < n) ⊎ (k ≡ n)
 below_or n k h = ⊎_elim (λ (l : k < n). inl l) (λ (g : n ≤ k). inr (omega arith)) (cases_lt k n)
-
-literal_same : (l m : Literal) → l.variable ≡ m.variable → l.positive ≡ m.positive → l ≡ m
-literal_same l m e f = let Made : ℕ → Bool → Literal = λ x b. record { variable = x; positive = b } in ap (λ x. Made x l.positive) e ∙ ap (Made m.variable) f
 
 pub any-witness : {X : Type 0} (P : X → Type 0) (xs : List X) → Any P xs → (x : X) × Contains xs x × P x
 any-witness P xs w = (w.1, (w.0, w.2, w.3), w.4)
@@ -352,7 +349,7 @@ module _ {N S : Type 0} (u : Universe N S) (root : Demands) (notes : Notes N S) 
       let In_order : ClauseKind N S → Type 0 = λ k. AreInOrder u notes.origins (clause_at notes.table chosen.requirement.number) k in
       let Has : ClauseKind N S → Type 0 = λ k. Contains notes.kinds k in
       let in_order : In_order kind = (encoding.encoded.each chosen.requirement.number kind is).in_order in
-      let inside : Has kind = Contains-slice notes.kinds chosen.requirement.number kind is in
+      let inside : Has kind = Contains-at notes.kinds chosen.requirement.number kind is in
       ⊎_elim
       (λ (w : (by : By S) × (disjunct : Vec VersionSetId Global) × (r : Requirement) × (kind ≡ Requires by disjunct r)).
       let left = first_left x slot at chosen (origin_by w.0) w.1.items w.2 (subst In_order w.3 in_order) in
@@ -466,7 +463,7 @@ module _ {N S : Type 0} (u : Universe N S) (root : Demands) (notes : Notes N S) 
       (λ e.
       let Atom_of_m : Atom N S → Type 0 = λ q. IsAtom notes.origins m q in
       let as_a = subst Atom_of_m e b.2 in
-      inl (literal_same m l.0 (encoding.distinct.same m.variable l.0.variable a.origin as_a.origin l.2.origin) (as_a.positive ∙ sym l.2.positive)))
+      inl (literal-same m l.0 (encoding.distinct.same m.variable l.0.variable a.origin as_a.origin l.2.origin) (as_a.positive ∙ sym l.2.positive)))
       (λ off. inr (false_literal m b.0 b.2 off))
       (others b.0 b.1)))
 

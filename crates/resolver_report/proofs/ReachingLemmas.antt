@@ -25,11 +25,8 @@ use Rattle.resolver_report.specs.Reaching.{IsAbout, IsReachedSet}
 use Rattle.resolver_clause_store.specs.Statements.{IsPresent}
 use Rattle.resolver_report.proofs.CandidateListLemmas.{gathered, gathered_from, cases_lt_suc}
 use Rattle.resolver_report.specs.Searching.{all_candidates, candidates_in, count_outside}
-use Rattle.resolver_clause_store.proofs.ListLemmas.{Contains-here as head_in, Contains-none as none_in, slice_get-append_left}
+use Rattle.resolver_clause_store.proofs.ListLemmas.{Contains-here as head_in, Contains-none as none_in, slice_get-append_left, Contains-there}
 use Rattle.resolver_report.proofs.SearchLemmas.{Contains-all_candidates, count_outside-lt, list_any-outside}
-
-tail_in : {X : Type 0} (x : X) (xs : List X) (y : X) → Contains xs y → Contains (x ∷ xs) y
-tail_in x xs y h = Contains-append_right (x ∷ []) xs y h
 
 module _ {S : Type 0} (same : S → S → Bool) where
   -- solvables of one list were added at the end, each of which was not there
@@ -80,7 +77,7 @@ module _ {S : Type 0} (same : S → S → Bool) (identity : IsIdentity same) (la
   Growth-all all old [] within = Growth-none same all old
   Growth-all all old (c ∷ cs) within =
       Growth-trans same all old (insert_key same old c) (insert_all same (insert_key same old c) cs) (Growth-key all old c (within c (head_in c cs)))
-      (Growth-all all (insert_key same old c) cs (λ x h. within x (tail_in c cs x h)))
+      (Growth-all all (insert_key same old c) cs (λ x h. within x (Contains-there c cs x h)))
 
   Contains-insert_all : (old cs : List S) → IsWithin cs (insert_all same old cs)
   Contains-insert_all old [] x h = absurd (none_in x h)
@@ -101,7 +98,7 @@ module _ {S : Type 0} (same : S → S → Bool) (identity : IsIdentity same) (la
     all_sound : (old cs : List S) → ((s : S) → Contains old s → P s) → ((s : S) → Contains cs s → P s) → (s : S) → Contains (insert_all same old cs) s → P s
     all_sound old [] h here = h
     all_sound old (c ∷ cs) h here =
-        all_sound (insert_key same old c) cs (key_sound old c h (here c (head_in c cs))) (λ s inside. here s (tail_in c cs s inside))
+        all_sound (insert_key same old c) cs (key_sound old c h (here c (head_in c cs))) (λ s inside. here s (Contains-there c cs s inside))
 
   -- Of the candidates of requirements.
   module _ {N : Type 0} (rules : List (Rule N S)) where

@@ -11,9 +11,7 @@ use Rattle.resolver_clause_store.specs.Statements.{statement_of, ObeysAlone}
 use Rattle.resolver_clause_store.specs.Rules.{Obeys}
 use Rattle.resolver_clause_store.proofs.DemandLemmas.{active_by, constrains_by, not_unknown, requires_by}
 use Rattle.resolver_clause_store.specs.TrueRules.{IsTrueRule}
-
-none_in : {S : Type 0} (s : S) → Contains [] s → ⊥
-none_in s h = absurd (omega (arith, h.1))
+use Rattle.resolver_clause_store.proofs.ListLemmas.{Contains-none}
 
 obeys_alone : {N S : Type 0} (u : Universe N S) (root : Demands) (set : List S) → IsValid u root set [] → (rule : Rule N S) → IsTrueRule u root rule →
     ObeysAlone set (statement_of rule)
@@ -24,9 +22,9 @@ obeys_alone {N} {S} u root set ok (Requires by requirement candidates when) (r, 
 obeys_alone u root set ok (Constrains by v candidate) (stated, other) =
     λ here inside. ok.constrained v (constrains_by u root set by v here stated) candidate inside other
 obeys_alone u root set ok (Lock locked forbidden) (lock, listed, apart) =
-    λ inside. ok.not_locked_out forbidden inside (λ none. none_in forbidden none) (locked, lock, listed, apart)
+    λ inside. ok.not_locked_out forbidden inside (λ none. Contains-none forbidden none) (locked, lock, listed, apart)
 obeys_alone u root set ok (Excluded s reason) h = λ inside.
-    elim h [ inl listed ↦ ok.not_excluded s inside (none_in s) (reason, listed) | inr none ↦ not_unknown _ reason (ok.known_needs s inside) none ]
+    elim h [ inl listed ↦ ok.not_excluded s inside (Contains-none s) (reason, listed) | inr none ↦ not_unknown _ reason (ok.known_needs s inside) none ]
 obeys_alone u root set ok (OnePerPackage n s) h = tt
 
 pub Obeys-true_rules : {N S : Type 0} (u : Universe N S) (root : Demands) (rules : List (Rule N S)) (set : List S) → All (IsTrueRule u root) rules →

@@ -104,16 +104,13 @@ module _ (old new : List (Vec Literal Global)) (longer : length old ≤ length n
   }
 
 -- a trail that is cut
-cut-undone : (old new : Trail) (level : ℕ) → IsUndone old new level → IsLower old new
-cut-undone old new level undone = record {
+pub lower-undone : (old new : Trail) (level : ℕ) → IsUndone old new level → IsLower old new
+lower-undone old new level undone = record {
   size = undone.size;
   places = keeps_undone old new level undone;
   stays = λ v s at. (undone.stays v s at).0;
   whole = λ v w s t at other low. undone.kept w t other (omega (arith, low, (undone.stays v s at).1));
 }
-
-pub lower-undone : (old new : Trail) (level : ℕ) → IsUndone old new level → IsLower old new
-lower-undone old new level undone = cut-undone old new level undone
 
 -- the first places are left
 places-cut : (old new : Trail) (count : ℕ) → IsCut old new count → count ≤ length_of old → KeepsPlaces old new (length_of new)

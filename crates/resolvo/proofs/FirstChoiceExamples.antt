@@ -12,7 +12,7 @@ use Rattle.resolver_clause_store.specs.declared.ConditionalRequirement.{Conditio
 use Rattle.resolver_clause_store.specs.declared.Requirement.TheVariants.{Single, Union}
 use Rattle.resolver_clause_store.specs.declared.VersionSetId.{VersionSetId}
 use Rattle.resolver_clause_store.specs.declared.VersionSetUnionId.{VersionSetUnionId}
-use Rattle.resolver_clause_store.proofs.ListLemmas.{Contains-here as first_in}
+use Rattle.resolver_clause_store.proofs.ListLemmas.{Contains-here as first_in, Contains-none}
 use Rattle.resolver_clause_store.proofs.FirstChoiceLemmas.{IsFirst-least}
 
 abbrev wanted : VersionSetId
@@ -28,12 +28,9 @@ root = record { requirements = asked ∷ []; constraints = [] }
 only : {X : Type 0} (x y : X) → Contains (x ∷ []) y → y ≡ x
 only {X} x y h = All-contains (λ z. z ≡ x) (x ∷ []) y (All-cons (λ z. z ≡ x) x [] refl (All-nil (λ z. z ≡ x))) h
 
-none_of : {X : Type 0} (y : X) → Contains [] y → ⊥
-none_of {X} y h = All-contains (λ z. ⊥) [] y (All-nil (λ z. ⊥)) h
-
 -- what the chosen one requires_it for is nothing
 one_requires : (s : ℕ) (r : ConditionalRequirement) → s ≡ 11 → Contains (demands_of ((test_universe []).needs s)).requirements r → ⊥
-one_requires s r e h = let Asks : ℕ → Type 0 = λ t. Contains (demands_of ((test_universe []).needs t)).requirements r in none_of r (subst Asks e h)
+one_requires s r e h = let Asks : ℕ → Type 0 = λ t. Contains (demands_of ((test_universe []).needs t)).requirements r in Contains-none r (subst Asks e h)
 
 requires_is : (r : ConditionalRequirement) → Requires (test_universe []) root (Contains (11 ∷ [])) r → r ≡ asked
 requires_is r (inl h) = only asked r h
@@ -62,10 +59,10 @@ met r e =
     subst Met (sym e) (record { shared = 11; in_first = first_in 11 (12 ∷ []); in_second = first_in 11 [] })
 
 constrains_none : (v : VersionSetId) → Constrains (test_universe []) root (Contains (11 ∷ [])) v → ⊥
-constrains_none v (inl h) = none_of v h
+constrains_none v (inl h) = Contains-none v h
 constrains_none v (inr (s, inside, h)) =
     let Asks : ℕ → Type 0 = λ t. Contains (demands_of ((test_universe []).needs t)).constraints v in
-    none_of v (subst Asks (only 11 s inside) h)
+    Contains-none v (subst Asks (only 11 s inside) h)
 
 answers : IsValid (test_universe []) root (11 ∷ []) []
 answers = record {
@@ -81,7 +78,7 @@ answers = record {
     none_locked (t, locked, listed, apart) = absurd (none-some t locked)
 
     none_excluded : IsExcluded (test_universe []) 11 → ⊥
-    none_excluded (reason, h) = none_of (11, reason) h
+    none_excluded (reason, h) = Contains-none (11, reason) h
 
 no_unions : (r : ConditionalRequirement) (m : VersionSetUnionId) → r ≡ asked → r.requirement ≡ Union m → ⊥
 no_unions r m e union =

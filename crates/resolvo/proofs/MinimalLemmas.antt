@@ -18,7 +18,7 @@ use Rattle.resolver_report.proofs.ReachedRuleLemmas.{All-left}
 use Rattle.resolver_report.specs.ReachedRules.{IsKept, LeavesKept}
 use Rattle.resolvo.proofs.SameLemmas.{AllTrue-same, IsIrreducible-same, IsRefuted-same}
 use Rattle.resolvo.specs.Explanations.{Explains}
-use Rattle.resolver_clause_store.proofs.ListLemmas.{Contains-here as at_front, Contains-there as further}
+use Rattle.resolver_clause_store.proofs.ListLemmas.{Contains-here as at_front, Contains-there as further, Contains-cons_cases}
 use Rattle.resolvo.specs.Minimal.{LeavesInTurn, CopiesLeft, CopiesPart, marked, others_of, AreAmong, IsRefutedPart, IsUnderway}
 
 -- more rules, fewer sets
@@ -27,10 +27,6 @@ IsRefuted-within rules more within refuted = λ set obeys. refuted set (record {
   each = λ rule inside. obeys.each rule (within rule inside);
   one_each = λ n s t first second. obeys.one_each n s t (within _ first) (within _ second);
 })
-
-front_cases : {X : Type 0} (y : X) (ys : List X) (x : X) → Contains (y ∷ ys) x → (y ≡ x) ⊎ Contains ys x
-front_cases y ys x (zero, below, is) = inl is
-front_cases y ys x (suc k, below, is) = inr (k, omega (arith, below), is)
 
 -- both behind the same front
 within_behind : {X : Type 0} (front xs ys : List X) → IsWithin xs ys → IsWithin (front ++ xs) (front ++ ys)
@@ -127,7 +123,7 @@ cut_within cut_none x inside = inside
 cut_within (cut_left {x = y} {xs = xs} {ys = ys} rest) x inside = ⊎_elim
     (λ (same : y ≡ x). subst (Contains (y ∷ xs)) same (at_front y xs))
     (λ (there : Contains ys x). further y xs x (cut_within rest x there))
-    (front_cases y ys x inside)
+    (Contains-cons_cases y ys x inside)
 cut_within (cut_right {x = y} {xs = xs} rest) x inside = further y xs x (cut_within rest x inside)
 
 -- a part is the whole, or lacks one of its places
@@ -142,7 +138,7 @@ cut_or {X} (cut_left {x = y} {xs = xs} {ys = ys} rest) = ⊎_elim
       suc w.0,
       less,
       λ x inside. ⊎_elim (λ (same : y ≡ x). subst Has same (at_front y (remove xs w.0))) (λ (there : Contains ys x).
-          further y (remove xs w.0) x (w.2 x there)) (front_cases y ys x inside),
+          further y (remove xs w.0) x (w.2 x there)) (Contains-cons_cases y ys x inside),
     ))
     (cut_or rest)
 cut_or (cut_right {x = y} {xs = xs} rest) = let less : 0 < length (y ∷ xs) = omega arith in inr (zero, less, cut_within rest)
@@ -205,7 +201,7 @@ marked_among (false ∷ marks) [] (y ∷ xs) among x inside = marked_among marks
 marked_among (true ∷ marks) (true ∷ others) (y ∷ xs) among x inside = ⊎_elim
     (λ (same : y ≡ x). subst (Contains (y ∷ marked others xs)) same (at_front y (marked others xs)))
     (λ (there : Contains (marked marks xs) x). further y (marked others xs) x (marked_among marks others xs (λ k is. among (suc k) is) x there))
-    (front_cases y (marked marks xs) x inside)
+    (Contains-cons_cases y (marked marks xs) x inside)
 marked_among (true ∷ marks) (false ∷ others) (y ∷ xs) among x inside = absurd (false≢true (among 0 refl))
 marked_among (false ∷ marks) (true ∷ others) (y ∷ xs) among x inside =
     further y (marked others xs) x (marked_among marks others xs (λ k is. among (suc k) is) x inside)

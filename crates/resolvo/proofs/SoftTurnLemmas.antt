@@ -23,6 +23,7 @@ use Rattle.resolvo.specs.RoundStates.{notes_of, one_fits, was_chosen}
 use Rattle.resolvo.specs.declared.rounds.Rounds.{Rounds}
 use Rattle.resolver_clause_store.proofs.ListLemmas.{Contains-cons_cases as cons_cases, Contains-here as here, Contains-none as none_in, Contains-there as there}
 use Rattle.resolvo.proofs.SoftLemmas.{asked_for}
+use Rattle.resolver_encoding.proofs.LedLemmas.{one_within}
 
 -- a list gathered from parts has what one more part brings
 gathered : {X A : Type 0} (f : X → List A) (xs : List X) (x : X) → flat_map f (xs ++ x ∷ []) ≡ flat_map f xs ++ (f x ++ [])
@@ -44,11 +45,6 @@ met_one {X} x xs m =
     let Has : X → Type 0 = λ y. Contains xs y in
     ⊎_elim (λ (is : x ≡ m.shared). subst Has (sym is) m.in_second) (λ (none : Contains [] m.shared). absurd (none_in m.shared none))
     (cons_cases x [] m.shared m.in_first)
-
-pub only_one : {X : Type 0} (x : X) (xs : List X) → Contains xs x → IsWithin (x ∷ []) xs
-only_one {X} x xs has y h =
-    let Has : X → Type 0 = λ z. Contains xs z in
-    ⊎_elim (λ (is : x ≡ y). subst Has is has) (λ (none : Contains [] y). absurd (none_in y none)) (cons_cases x [] y h)
 
 -- what a filter takes
 taken_by : {X : Type 0} (p : X → Bool) (xs : List X) (x : X) → Contains xs x → p x ≡ true → Contains (filter p xs) x
@@ -146,9 +142,9 @@ module _ {N S : Type 0} (u : Universe N S) where
         SoftRun u root first (done ++ Matching v ∷ []) taken_now chosen_now exempt asked_now
     run_tried first done taken chosen exempt asked v candidates _ _ _ asked_now run never match all
         (one_fits {s = s} listed keeps inside valid reached) own grows asks =
-        accepted (Matching v) run never refl keeps (match s listed) inside valid reached (only_one (u.version_set_name v) asked_now own) grows asks
+        accepted (Matching v) run never refl keeps (match s listed) inside valid reached (one_within (u.version_set_name v) asked_now own) grows asks
     run_tried first done taken chosen exempt asked v candidates _ _ _ asked_now run never match all (none_fits fits) own grows asks =
-        refused (Matching v) run never refl (λ s h. fits s (all s h)) (only_one (u.version_set_name v) asked_now own) grows asks
+        refused (Matching v) run never refl (λ s h. fits s (all s h)) (one_within (u.version_set_name v) asked_now own) grows asks
 
     pub between_tried : (done : List (SoftRequirement S)) (v : VersionSetId) (candidates : List S) (old mid new : Rounds N S) (is_chosen : Bool)
         (b : IsBetween u root done old) → (Meets (matching u v) (chosen_of old) → ⊥) → IsWithin candidates (matching u v) → IsWithin (matching u v) candidates →

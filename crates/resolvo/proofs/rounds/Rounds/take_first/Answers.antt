@@ -5,8 +5,9 @@ use Rattle.resolver_clause_store.proofs.SetLemmas.{Contains-item}
 use Rattle.resolvo.specs.RoundStates.{HasTurned, HaveTurned, notes_of}
 use Rattle.resolvo.proofs.RoundLemmas.{room_same, room_trans}
 use Rattle.resolvo.proofs.SoftLemmas.{pushed_cases}
-use Rattle.resolvo.proofs.SoftTurnLemmas.{none_tried, only_one, tried_last, tried_more}
+use Rattle.resolvo.proofs.SoftTurnLemmas.{none_tried, tried_last, tried_more}
 use Rattle.resolvo.proofs.rounds.Rounds.take_first.Goals as goal
+use Rattle.resolver_encoding.proofs.LedLemmas.{one_within}
 
 pub loop-candidate-init : goal.loop-candidate-init
 loop-candidate-init g c = record {
@@ -62,7 +63,7 @@ loop-candidate-preserved g c =
       led = λ root taken refused seeds packages within b led.
           let h = before.turned root taken refused seeds packages within b in
           let listed = Contains-item all i s (omega arith) c.candidate-item.is in
-          c.turn.ensures.led root h.taken_now h.refused_now seeds packages (only_one s seeds (within s listed)) h.standing
+          c.turn.ensures.led root h.taken_now h.refused_now seeds packages (one_within s seeds (within s listed)) h.standing
           (before.led root taken refused seeds packages within b led);
     }
 
@@ -79,7 +80,7 @@ returns-in_err-turn-clause-led g c = λ root taken refused seeds packages within
     let before = c.loop-candidate.invariant in
     let h = before.turned root taken refused seeds packages within b in
     let listed = Contains-item c.args.candidates.now c.loop-candidate.candidate-index s (omega arith) c.candidate-item.is in
-    c.turn.ensures.led root h.taken_now h.refused_now seeds packages (only_one s seeds (within s listed)) h.standing
+    c.turn.ensures.led root h.taken_now h.refused_now seeds packages (one_within s seeds (within s listed)) h.standing
     (before.led root taken refused seeds packages within b led)
 
 pub returns-then-branch-clause-led : goal.returns-then-branch-clause-led
@@ -88,7 +89,7 @@ returns-then-branch-clause-led g c = λ root taken refused seeds packages within
     let before = c.loop-candidate.invariant in
     let h = before.turned root taken refused seeds packages within b in
     let listed = Contains-item c.args.candidates.now c.loop-candidate.candidate-index s (omega arith) c.candidate-item.is in
-    c.turn.ensures.led root h.taken_now h.refused_now seeds packages (only_one s seeds (within s listed)) h.standing
+    c.turn.ensures.led root h.taken_now h.refused_now seeds packages (one_within s seeds (within s listed)) h.standing
     (before.led root taken refused seeds packages within b led)
 
 pub returns-clause-led : goal.returns-clause-led
