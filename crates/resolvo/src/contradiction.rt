@@ -17,7 +17,7 @@ pub enum Source {
     /// The number of the given clause.
     Given(usize),
     /// The places, in the table, of the clauses that it follows from.
-    Learnt(Vec<usize>),
+    Learnt(Box<Vec<usize>>),
 }
 
 /// No number is marked.

@@ -13,9 +13,9 @@ pub use visiting::propagate;
 #[derive(Clone, Copy, PartialEq, Eq)]
 pub struct Late {
     /// The clause's number.
-    pub number: usize,
+    pub number: u32,
     /// So many first places of the trail have a literal that makes it true.
-    pub length: usize,
+    pub length: u32,
 }
 
 /// What propagation keeps from one call to the next.
@@ -24,7 +24,7 @@ pub struct Propagator {
     watches: Watches,
     late: Vec<Late>,
     /// The numbers of clauses that have to be looked at again.
-    pending: Vec<usize>,
+    pending: Vec<u32>,
     /// How many first places of the trail were propagated.
     head: usize,
 }
