@@ -13,7 +13,7 @@ use Rattle.std.proofs.lemmas.List.{get_or_default}
 use Rattle.std.proofs.lemmas.List.Elements.{Contains-append_cases, Contains-append_left, Contains-append_right, Contains-push, Contains-push_cases}
 use Rattle.std.proofs.lemmas.List.Sorted.{Contains-permutation, IsPermutation-swap_remove}
 use Rattle.resolver_clause_store.specs.declared.literals.Literal.{Literal}
-use Rattle.resolver_clause_store.specs.declared.clauses.RequirementClause.{RequirementClause}
+use Rattle.resolver_clause_store.specs.declared.clauses.StoredRequirement.{StoredRequirement}
 use Rattle.resolver_clause_store.specs.declared.trail.Slot.{Slot}
 use Rattle.resolver_clause_store.specs.declared.trail.Trail.{Trail}
 use Rattle.resolver_clause_store.specs.Formula.{clause_at}
@@ -83,7 +83,7 @@ held-cut active waiting met followed old new kept left clause index less reached
     held
 
 -- where the first places of the trail stay
-pub queued-cut : (old new : DecideQueue) (before after : Trail) (table : List (Vec Literal Global)) (requirements : List RequirementClause) →
+pub queued-cut : (old new : DecideQueue) (before after : Trail) (table : List (Vec Literal Global)) (requirements : List StoredRequirement) →
     new.active.items ≡ old.active.items → new.waiting ≡ old.waiting → new.met ≡ old.met → new.followed.items ≡ old.followed.items → new.kept ≤ old.kept →
     KeepsPlaces before after new.kept → IsQueued old before table requirements → IsQueued new after table requirements
 queued-cut old new before after table requirements active waiting met followed less keeps it = record {
@@ -99,12 +99,12 @@ queued-cut old new before after table requirements active waiting met followed l
 }
 
 -- the same, for a queue that does not change
-pub queued-kept : (it : DecideQueue) (before after : Trail) (table : List (Vec Literal Global)) (requirements : List RequirementClause) →
+pub queued-kept : (it : DecideQueue) (before after : Trail) (table : List (Vec Literal Global)) (requirements : List StoredRequirement) →
     KeepsPlaces before after it.kept → IsQueued it before table requirements → IsQueued it after table requirements
 queued-kept it before after table requirements keeps queued = queued-cut it it before after table requirements refl refl refl refl (omega arith) keeps queued
 
 -- where other parts of a queue change
-pub queued-same : (old new : DecideQueue) (trail : Trail) (table : List (Vec Literal Global)) (requirements : List RequirementClause) →
+pub queued-same : (old new : DecideQueue) (trail : Trail) (table : List (Vec Literal Global)) (requirements : List StoredRequirement) →
     new.active.items ≡ old.active.items → new.waiting ≡ old.waiting → new.met ≡ old.met → new.followed.items ≡ old.followed.items → new.kept ≡ old.kept →
     IsQueued old trail table requirements → IsQueued new trail table requirements
 queued-same old new trail table requirements active waiting met followed kept it = record {
@@ -117,8 +117,8 @@ queued-same old new trail table requirements active waiting met followed kept it
 }
 
 -- where clauses stay what they were
-pub queued-grown : (it : DecideQueue) (trail : Trail) (table more : List (Vec Literal Global)) (requirements : List RequirementClause) →
-    All (λ (r : RequirementClause). r.number < length table) requirements →
+pub queued-grown : (it : DecideQueue) (trail : Trail) (table more : List (Vec Literal Global)) (requirements : List StoredRequirement) →
+    All (λ (r : StoredRequirement). r.number < length table) requirements →
     ((number : ℕ) → number < length table → clause_at more number ≡ clause_at table number) → IsQueued it trail table requirements →
     IsQueued it trail more requirements
 queued-grown it trail table more requirements inside same queued = record {
@@ -135,8 +135,8 @@ held-more active more waiting met followed kept trail clause index held =
     ⊎_elim (λ (here : Contains active index). inl (Contains-append_left active more index here)) (λ rest. inr rest) held
 
 -- a requirement behind the others
-pub queued-add : (old new : DecideQueue) (trail : Trail) (table : List (Vec Literal Global)) (requirements : List RequirementClause)
-    (requirement : RequirementClause) (last : ℕ) → last ≡ length requirements → new.active.items ≡ old.active.items ++ last ∷ [] → new.waiting ≡ old.waiting →
+pub queued-add : (old new : DecideQueue) (trail : Trail) (table : List (Vec Literal Global)) (requirements : List StoredRequirement)
+    (requirement : StoredRequirement) (last : ℕ) → last ≡ length requirements → new.active.items ≡ old.active.items ++ last ∷ [] → new.waiting ≡ old.waiting →
     new.met ≡ old.met → new.followed.items ≡ old.followed.items → new.kept ≡ old.kept → IsQueued old trail table requirements →
     IsQueued new trail table (requirements ++ requirement ∷ [])
 queued-add old new trail table requirements requirement last end active waiting met followed kept it = record {
@@ -147,7 +147,7 @@ queued-add old new trail table requirements requirement last end active waiting 
   };
   each = λ index d below. rw (active, waiting, met, followed, kept) (⊎_elim
       (λ (early : index < length requirements).
-      let Held : RequirementClause → Type 0 =
+      let Held : StoredRequirement → Type 0 =
       λ r. IsHeld (old.active.items ++ last ∷ []) old.waiting old.met old.followed.items old.kept trail (clause_at table r.number) index in
       subst Held (sym (get_or-append requirements (requirement ∷ []) d index early))
       (held-more old.active.items (last ∷ []) old.waiting old.met old.followed.items old.kept trail _ index (it.each index d early)))
@@ -159,7 +159,7 @@ queued-add old new trail table requirements requirement last end active waiting 
 }
 
 -- the last place that was followed is taken back
-pub queued-forget : (old new : DecideQueue) (trail : Trail) (table : List (Vec Literal Global)) (requirements : List RequirementClause) (variable : ℕ) →
+pub queued-forget : (old new : DecideQueue) (trail : Trail) (table : List (Vec Literal Global)) (requirements : List StoredRequirement) (variable : ℕ) →
     old.kept < length old.followed.items → old.followed.items ≡ new.followed.items ++ variable ∷ [] → new.active.items ≡ old.active.items ++
     list_of old.met variable → ((v : ℕ) → v ≢ variable → list_of new.met v ≡ list_of old.met v) → new.waiting ≡ old.waiting → new.kept ≡ old.kept →
     IsQueued old trail table requirements → IsQueued new trail table requirements
@@ -205,7 +205,7 @@ queued-forget old new trail table requirements variable more followed active oth
     }
 
 -- the next place is followed
-pub queued-follow : (old new : DecideQueue) (trail : Trail) (table : List (Vec Literal Global)) (requirements : List RequirementClause) (variable : ℕ) →
+pub queued-follow : (old new : DecideQueue) (trail : Trail) (table : List (Vec Literal Global)) (requirements : List StoredRequirement) (variable : ℕ) →
     length old.followed.items ≡ old.kept → old.kept < length_of trail → variable ≡ variable_at trail old.kept → new.followed.items ≡ old.followed.items ++
     variable ∷ [] → new.kept ≡ old.kept + 1 → new.met ≡ old.met →
     ((index : ℕ) → Contains old.active.items index → Contains new.active.items index) →
@@ -284,12 +284,12 @@ left-or xs place x inside is y there = ⊎_elim
     (Contains-permutation xs (x ∷ swap_remove xs place x) y (IsPermutation-swap_remove xs place x inside is) there))
 
 -- one requirement has another place in the queue
-pub queued-settled : (old new : DecideQueue) (trail : Trail) (table : List (Vec Literal Global)) (requirements : List RequirementClause) (settled : ℕ) →
+pub queued-settled : (old new : DecideQueue) (trail : Trail) (table : List (Vec Literal Global)) (requirements : List StoredRequirement) (settled : ℕ) →
     new.followed.items ≡ old.followed.items → new.kept ≡ old.kept →
     ((index : ℕ) → Contains old.active.items index → (settled ≡ index) ⊎ Contains new.active.items index) →
     ((v index : ℕ) → Contains (list_of old.waiting v) index → Contains (list_of new.waiting v) index) →
     ((v index : ℕ) → Contains (list_of old.met v) index → Contains (list_of new.met v) index) →
-    ((d : RequirementClause) → settled < length requirements →
+    ((d : StoredRequirement) → settled < length requirements →
     IsHeld new.active.items new.waiting new.met new.followed.items new.kept trail (clause_at table (get_or requirements settled d).number) settled) →
     IsQueued old trail table requirements → IsQueued new trail table requirements
 queued-settled old new trail table requirements settled followed kept active waiting met here it = record {
@@ -367,11 +367,11 @@ met-here met trail followed kept clause index variable same all exact parked has
     }
 
 -- the clause of the requirement that was read, whatever the default
-clause-read : (table : List (Vec Literal Global)) (requirements : List RequirementClause) (index : ℕ) (d r : RequirementClause) (literals : List Literal) →
+clause-read : (table : List (Vec Literal Global)) (requirements : List StoredRequirement) (index : ℕ) (d r : StoredRequirement) (literals : List Literal) →
     index < length requirements → r ≡ get_or requirements index r → literals ≡ clause_at table r.number →
     literals ≡ clause_at table (get_or requirements index d).number
 clause-read table requirements index d r literals inside is at = at ∙
-    ap (λ (q : RequirementClause). clause_at table q.number) (is ∙ get_or_default requirements index r d inside)
+    ap (λ (q : StoredRequirement). clause_at table q.number) (is ∙ get_or_default requirements index r d inside)
 
 -- what stays where the one that was read is taken away
 pub left-read : (xs new : List ℕ) (place x taken : ℕ) → place < length xs → x ≡ get_or xs place x → taken ≡ get_or xs place taken →
@@ -383,10 +383,10 @@ left-read xs new place x taken inside read is same y there = ⊎_elim
 
 -- a requirement that was put aside
 pub held-waiting : (active : List ℕ) (old waiting met : Lists) (followed : List ℕ) (kept : ℕ) (trail : Trail) (table : List (Vec Literal Global))
-    (requirements : List RequirementClause) (r : RequirementClause) (literals : List Literal) (index variable : ℕ) →
+    (requirements : List StoredRequirement) (r : StoredRequirement) (literals : List Literal) (index variable : ℕ) →
     list_of waiting variable ≡ list_of old variable ++ index ∷ [] → r ≡ get_or requirements index r → literals ≡ clause_at table r.number →
     Contains literals (record { variable = variable; positive = false }) ×
-    (literal_value trail (record { variable = variable; positive = false }) ≢ Some false) → (d : RequirementClause) → index < length requirements →
+    (literal_value trail (record { variable = variable; positive = false }) ≢ Some false) → (d : StoredRequirement) → index < length requirements →
     IsHeld active waiting met followed kept trail (clause_at table (get_or requirements index d).number) index
 held-waiting active old waiting met followed kept trail table requirements r literals index variable here is at standing d inside =
     let Asks : List Literal → Type 0 = λ clause. Contains clause (record { variable = variable; positive = false }) in
@@ -398,11 +398,11 @@ held-waiting active old waiting met followed kept trail table requirements r lit
     }))
 
 pub held-by_candidate : (active : List ℕ) (waiting old met : Lists) (followed : List ℕ) (kept : ℕ) (trail : Trail) (table : List (Vec Literal Global))
-    (requirements : List RequirementClause) (r : RequirementClause) (literals : List Literal) (index variable : ℕ) →
+    (requirements : List StoredRequirement) (r : StoredRequirement) (literals : List Literal) (index variable : ℕ) →
     ((place : ℕ) → place < kept → slice_index followed place ≡ variable_at trail place) → kept ≡ length_of trail → length followed ≡ kept →
     list_of met variable ≡ list_of old variable ++ index ∷ [] → r ≡ get_or requirements index r → literals ≡ clause_at table r.number →
     Contains literals (record { variable = variable; positive = true }) × (literal_value trail (record { variable = variable; positive = true }) ≡ Some true) →
-    (d : RequirementClause) → index < length requirements →
+    (d : StoredRequirement) → index < length requirements →
     IsHeld active waiting met followed kept trail (clause_at table (get_or requirements index d).number) index
 held-by_candidate active waiting old met followed kept trail table requirements r literals index variable same all exact here is at standing d inside =
     let Has : List Literal → Type 0 = λ clause. Contains clause (record { variable = variable; positive = true }) in
@@ -443,9 +443,9 @@ held-met active waiting met followed kept trail clause index none all exact held
     held
 
 -- where none is left to look at, each has a candidate or depends on what is not true
-pub all-met : (queue : DecideQueue) (trail : Trail) (table : List (Vec Literal Global)) (requirements : List RequirementClause) →
+pub all-met : (queue : DecideQueue) (trail : Trail) (table : List (Vec Literal Global)) (requirements : List StoredRequirement) →
     length queue.active.items ≡ 0 → IsFollowed queue trail → IsQueued queue trail table requirements →
-    All (λ (r : RequirementClause). IsMet trail (clause_at table r.number)) requirements
+    All (λ (r : StoredRequirement). IsMet trail (clause_at table r.number)) requirements
 all-met queue trail table requirements none followed it = λ index d below.
     held-met queue.active.items queue.waiting queue.met queue.followed.items queue.kept trail _ index none followed.all followed.none_else
     (it.each index d below)
@@ -465,14 +465,14 @@ places-fewer old new count fewer keeps less = record {
 }
 
 -- a trail that only gains
-pub queued-longer : (it : DecideQueue) (old new : Trail) (table : List (Vec Literal Global)) (requirements : List RequirementClause) →
+pub queued-longer : (it : DecideQueue) (old new : Trail) (table : List (Vec Literal Global)) (requirements : List StoredRequirement) →
     KeepsPlaces old new (length_of old) → IsQueued it old table requirements → IsQueued it new table requirements
 queued-longer it old new table requirements keeps queued =
     queued-kept it old new table requirements (places-fewer old new (length_of old) it.kept keeps queued.following.reached) queued
 
 -- a trail of which the first places are left, where that was noted
-pub queued-left : (it cut : DecideQueue) (old new : Trail) (table : List (Vec Literal Global)) (requirements : List RequirementClause) (count left : ℕ) →
-    ((before after : Trail) (clauses : List (Vec Literal Global)) (wanted : List RequirementClause) → KeepsPlaces before after (min it.kept count) →
+pub queued-left : (it cut : DecideQueue) (old new : Trail) (table : List (Vec Literal Global)) (requirements : List StoredRequirement) (count left : ℕ) →
+    ((before after : Trail) (clauses : List (Vec Literal Global)) (wanted : List StoredRequirement) → KeepsPlaces before after (min it.kept count) →
     IsQueued it before clauses wanted → IsQueued cut after clauses wanted) →
     KeepsPlaces old new left → count ≡ left → IsQueued it old table requirements → IsQueued cut new table requirements
 queued-left it cut old new table requirements count left noted keeps same queued =

@@ -2,7 +2,7 @@
 use Rattle.std.specs.Prelude.{◌≡◌, ◌≢◌, ℕ, ◌<◌, ◌⊎◌, true, false, Option, Some, None, List, length, Vec, Contains, slice_index_or}
 use Rattle.std.specs.declared.alloc.Global.{Global}
 use Rattle.resolver_clause_store.specs.declared.literals.Literal.{Literal}
-use Rattle.resolver_clause_store.specs.declared.clauses.RequirementClause.{RequirementClause}
+use Rattle.resolver_clause_store.specs.declared.clauses.StoredRequirement.{StoredRequirement}
 use Rattle.resolver_clause_store.specs.declared.trail.Trail.{Trail}
 use Rattle.resolver_clause_store.specs.Formula.{clause_at}
 use Rattle.resolver_clause_store.specs.TrailView.{literal_value}
@@ -28,13 +28,13 @@ pub record HasPassed (trail : Trail) (clause : List Literal) (count : ℕ) (firs
       ((k : ℕ) (d : Literal) → k < place → literal_value trail (slice_index_or clause k d) ≡ Some false)
 
 -- the choice is for this requirement, and takes the first literal of its clause that is not false
-pub record IsChoiceOf (trail : Trail) (table : List (Vec Literal Global)) (requirement : RequirementClause) (choice : Choice) : Type 0 where
+pub record IsChoiceOf (trail : Trail) (table : List (Vec Literal Global)) (requirement : StoredRequirement) (choice : Choice) : Type 0 where
   pub number_is : requirement.number ≡ choice.number
   pub first : IsFirst trail (clause_at table choice.number) choice.place
 
 -- the choice is for one of the requirements
-pub record IsChoice (trail : Trail) (table : List (Vec Literal Global)) (requirements : List RequirementClause) (choice : Choice) : Type 0 where
-  pub requirement : RequirementClause
+pub record IsChoice (trail : Trail) (table : List (Vec Literal Global)) (requirements : List StoredRequirement) (choice : Choice) : Type 0 where
+  pub requirement : StoredRequirement
   pub listed : Contains requirements requirement
   pub chosen : IsChoiceOf trail table requirement choice
 

@@ -23,6 +23,7 @@ pub mod Watches
 pub mod WatchesView
 pub mod Decisions
 pub mod Queues
+pub mod Owners
 pub mod Scores
 pub mod Statements
 pub mod Rules

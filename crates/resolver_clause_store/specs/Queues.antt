@@ -3,7 +3,7 @@ use Rattle.std.specs.Prelude.{◌≡◌, ℕ, ◌<◌, ◌≤◌, ◌⊎◌, tru
 use Rattle.std.specs.Option.{option_map_or}
 use Rattle.std.specs.declared.alloc.Global.{Global}
 use Rattle.resolver_clause_store.specs.declared.literals.Literal.{Literal}
-use Rattle.resolver_clause_store.specs.declared.clauses.RequirementClause.{RequirementClause}
+use Rattle.resolver_clause_store.specs.declared.clauses.StoredRequirement.{StoredRequirement}
 use Rattle.resolver_clause_store.specs.declared.trail.Slot.{Slot}
 use Rattle.resolver_clause_store.specs.declared.trail.Trail.{Trail}
 use Rattle.resolver_clause_store.specs.Formula.{clause_at}
@@ -48,15 +48,15 @@ pub record IsFollowing (queue : DecideQueue) (trail : Trail) : Type 0 where
   pub same : (place : ℕ) → place < queue.kept → slice_index queue.followed.items place ≡ variable_at trail place
 
 -- the queue follows the trail, and each requirement has its place in it
-pub record IsQueued (queue : DecideQueue) (trail : Trail) (table : List (Vec Literal Global)) (requirements : List RequirementClause) : Type 0 where
+pub record IsQueued (queue : DecideQueue) (trail : Trail) (table : List (Vec Literal Global)) (requirements : List StoredRequirement) : Type 0 where
   pub following : IsFollowing queue trail
-  pub each : (index : ℕ) (d : RequirementClause) → index < length requirements →
+  pub each : (index : ℕ) (d : StoredRequirement) → index < length requirements →
       IsHeld queue.active.items queue.waiting queue.met queue.followed.items queue.kept trail
       (clause_at table (slice_index_or requirements index d).number) index
 
 -- whatever the trail and the requirements, the queue still follows the one and has places for the others
 abbrev pub StaysQueued : DecideQueue → DecideQueue → Type 0
-StaysQueued old new = (trail : Trail) (table : List (Vec Literal Global)) (requirements : List RequirementClause) → IsQueued old trail table requirements →
+StaysQueued old new = (trail : Trail) (table : List (Vec Literal Global)) (requirements : List StoredRequirement) → IsQueued old trail table requirements →
     IsQueued new trail table requirements
 
 -- the whole trail was followed

@@ -17,6 +17,15 @@ pub struct RequirementClause {
     pub ends: Vec<usize>,
 }
 
+/// The clause of a requirement, as a search keeps it.
+#[derive(Clone, Copy)]
+pub struct StoredRequirement {
+    /// The clause's place in the search's table.
+    pub number: u32,
+    /// Whether the requirement is one of the root.
+    pub of_root: bool,
+}
+
 /// The literals of the clause with this number.
 pub fn clause(table: &[Vec<Literal>], number: usize) -> &[Literal]
     requires { number < length table.now }

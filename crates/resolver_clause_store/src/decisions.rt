@@ -4,7 +4,7 @@ ghost use Rattle.std.specs.Prelude.{◌≡◌};
 ghost use Rattle.resolver_clause_store.specs.Formula.{IsBelow};
 ghost use Rattle.resolver_clause_store.specs.TrailView.{variable_count};
 
-use crate::clauses::RequirementClause;
+use crate::clauses::StoredRequirement;
 use crate::literals::Literal;
 use crate::trail::Trail;
 
@@ -22,8 +22,8 @@ pub struct Choice {
 }
 
 /// The place behind the candidates of the version set whose candidate stands at this place, or the clause's end.
-fn end_of(requirement: &RequirementClause, place: usize, length: usize) -> usize {
-    'ends: for end in &requirement.ends {
+fn end_of(ends: &[usize], place: usize, length: usize) -> usize {
+    'ends: for end in ends {
         if place < *end {
             return *end;
         }
@@ -44,20 +44,22 @@ fn open_between(trail: &Trail, clause: &[Literal], from: usize, to: usize) -> us
     count
 }
 
-/// The choice of the candidate at a place of a requirement's clause.
+/// The choice of the candidate at a place of a requirement's clause, in which the candidates of each version set of a union end
+/// at these places.
 pub fn choice_at(
     trail: &Trail,
     clause: &[Literal],
-    requirement: &RequirementClause,
+    requirement: StoredRequirement,
+    ends: &[usize],
     place: usize,
 ) -> Choice
     requires { IsBelow (variable_count trail.now) clause.now }
-    ensures number { result.number ≡ requirement.now.number }
+    ensures number { result.number ≡ requirement.number }
     ensures place { result.place ≡ place }
 {
-    let end = end_of(requirement, place, clause.len());
+    let end = end_of(ends, place, clause.len());
     Choice {
-        number: requirement.number,
+        number: requirement.number as usize,
         place,
         of_root: requirement.of_root,
         count: open_between(trail, clause, place, end),

@@ -13,6 +13,8 @@ mod kinds;
 mod laws;
 mod lists;
 mod literals;
+mod numbers;
+mod owner;
 mod provider;
 mod questions;
 mod queue;
@@ -27,7 +29,7 @@ mod variables;
 mod watches;
 
 pub use cache::Cache;
-pub use clauses::{RequirementClause, clause};
+pub use clauses::{RequirementClause, StoredRequirement, clause};
 pub use conditions::{a_condition_holds_where_a_disjunct_does, convert_conditions_to_dnf};
 pub use data::{
     By, Candidates, Condition, ConditionalRequirement, Dependencies, Exhausted,
@@ -43,6 +45,8 @@ pub use laws::{
     the_need_closure_is_least_closed,
 };
 pub use literals::{Literal, Variable};
+pub use numbers::narrow;
+pub use owner::Owner;
 pub use provider::{DependencyProvider, Interner};
 pub use questions::check_cancel;
 pub use queue::DecideQueue;

@@ -7,7 +7,7 @@ use std::alloc::{AllocError, Global};
 /// A list for each number, of which all but some are empty.
 #[derive(Drop)]
 pub struct Lists {
-    lists: Vec<Vec<usize>>,
+    lists: Vec<Vec<u32>>,
 }
 
 impl Lists {
@@ -35,7 +35,7 @@ impl Lists {
     }
 
     /// The list with a number.
-    pub fn at(&self, number: usize) -> &[usize]
+    pub fn at(&self, number: usize) -> &[u32]
         ensures { result.now ≡ list_of self.now number }
     {
         match self.lists.get(number) {
@@ -45,7 +45,7 @@ impl Lists {
     }
 
     /// Puts an item behind the others of a list.
-    pub fn add(&mut self, number: usize, item: usize) -> Result<(), AllocError>
+    pub fn add(&mut self, number: usize, item: u32) -> Result<(), AllocError>
         ensures here { OnOk result (list_of self.new number ≡ list_of self.old number ++ item ∷ []) }
         ensures others { OnOk result ((other : ℕ) → other ≢ number → list_of self.new other ≡ list_of self.old other) }
     {
@@ -55,7 +55,7 @@ impl Lists {
     }
 
     /// Moves the items of a list behind those of another one.
-    pub fn take(&mut self, number: usize, items: &mut Vec<usize>) -> Result<(), AllocError>
+    pub fn take(&mut self, number: usize, items: &mut Vec<u32>) -> Result<(), AllocError>
         ensures items { OnOk result (items.new.items ≡ items.old.items ++ list_of self.old number) }
         ensures here { OnOk result (list_of self.new number ≡ []) }
         ensures others { (other : ℕ) → other ≢ number → list_of self.new other ≡ list_of self.old other }

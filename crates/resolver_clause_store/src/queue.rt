@@ -7,16 +7,18 @@ ghost use Rattle.resolver_clause_store.specs.Formula.{AreBelow, clause_at};
 ghost use Rattle.resolver_clause_store.specs.Outcomes.{IsMet};
 ghost use Rattle.resolver_clause_store.specs.TrailView.{KeepsPlaces, length_of, slot_of, variable_count};
 ghost use Rattle.resolver_clause_store.specs.declared.literals.Literal.{Literal};
-ghost use Rattle.resolver_clause_store.specs.declared.clauses.RequirementClause.{RequirementClause};
+ghost use Rattle.resolver_clause_store.specs.declared.clauses.StoredRequirement.{StoredRequirement};
 ghost use Rattle.resolver_clause_store.specs.declared.trail.Slot.{Slot};
 ghost use Rattle.resolver_clause_store.specs.declared.trail.Trail.{Trail};
 ghost use Rattle.resolver_clause_store.specs.Decisions.{IsChoice};
 ghost use Rattle.resolver_clause_store.specs.Settled.{AllSettled};
 
-use crate::clauses::{RequirementClause, clause};
+use crate::clauses::{StoredRequirement, clause};
 use crate::decisions::{Choice, choice_at};
 use crate::lists::Lists;
 use crate::literals::{Literal, Variable};
+use crate::numbers::narrow;
+use crate::owner::Owner;
 use crate::ranks::Ranks;
 use crate::scores::Activity;
 use crate::standing::{Standing, standing_of};
@@ -42,7 +44,7 @@ fn is_true(trail: &Trail, variable: Variable) -> bool
 #[derive(Drop)]
 pub struct DecideQueue {
     /// The requirements that are not put aside.
-    active: Vec<usize>,
+    active: Vec<u32>,
     /// Those put aside for a variable that is not true.
     waiting: Lists,
     /// Those put aside for a candidate that is true.
@@ -72,20 +74,26 @@ impl DecideQueue {
         }
     }
 
-    /// Puts the requirement of a clause behind the others.
-    pub fn add(&mut self, index: usize, literals: &[Literal]) -> Result<(), AllocError>
-        ensures { OnOk result ((trail : Trail) (table : List (Vec Literal Global)) (requirements : List RequirementClause) (requirement : RequirementClause) →
+    /// Puts the requirement of a clause behind the others. The candidates of each version set of a union end at these places of it.
+    pub fn add(
+        &mut self,
+        index: usize,
+        literals: &[Literal],
+        ends: &[usize],
+    ) -> Result<(), AllocError>
+        ensures { OnOk result ((trail : Trail) (table : List (Vec Literal Global)) (requirements : List StoredRequirement) (requirement : StoredRequirement) →
             index ≡ length requirements → IsQueued self.old trail table requirements → IsQueued self.new trail table (requirements ++ requirement ∷ [])) }
     {
         let from = self.active.len();
-        self.active.push(index)?;
-        self.ranks.add(literals)?;
+        let number = narrow(index)?;
+        self.active.push(number)?;
+        self.ranks.add(literals, ends)?;
         self.ranks.enter(self.active.as_slice(), from)?;
         Ok(())
     }
 
     /// Takes in the numbers of the packages of the variables behind those that are known.
-    pub fn learn_owners(&mut self, owners: &[Option<usize>]) -> Result<(), AllocError>
+    pub fn learn_owners(&mut self, owners: &[Owner]) -> Result<(), AllocError>
         ensures { OnOk result (StaysQueued self.old self.new) }
     {
         self.ranks.learn_owners(owners)?;
@@ -102,7 +110,7 @@ impl DecideQueue {
 
     /// Notes that no more than the first places of the trail stayed.
     pub fn cut(&mut self, count: usize)
-        ensures { (old new : Trail) (table : List (Vec Literal Global)) (requirements : List RequirementClause) →
+        ensures { (old new : Trail) (table : List (Vec Literal Global)) (requirements : List StoredRequirement) →
             KeepsPlaces old new (min self.old.kept count) → IsQueued self.old old table requirements → IsQueued self.new new table requirements }
     {
         self.kept = self.kept.min(count);
@@ -142,7 +150,7 @@ impl DecideQueue {
     fn follow_place(&mut self, trail: &Trail) -> Result<(), AllocError>
         requires all { length self.old.followed.items ≡ self.old.kept }
         requires inside { self.old.kept < length_of trail.now }
-        ensures queued { OnOk result ((table : List (Vec Literal Global)) (requirements : List RequirementClause) →
+        ensures queued { OnOk result ((table : List (Vec Literal Global)) (requirements : List StoredRequirement) →
             IsQueued self.old trail.now table requirements → IsQueued self.new trail.now table requirements) }
         ensures kept { OnOk result (self.new.kept ≡ self.old.kept + 1) }
         ensures all { OnOk result (length self.new.followed.items ≡ self.new.kept) }
@@ -161,7 +169,7 @@ impl DecideQueue {
     /// Follows the whole trail.
     fn follow(&mut self, trail: &Trail) -> Result<(), AllocError>
         requires { IsFollowing self.old trail.now }
-        ensures queued { OnOk result ((table : List (Vec Literal Global)) (requirements : List RequirementClause) →
+        ensures queued { OnOk result ((table : List (Vec Literal Global)) (requirements : List StoredRequirement) →
             IsQueued self.old trail.now table requirements → IsQueued self.new trail.now table requirements) }
         ensures followed { OnOk result (IsFollowed self.new trail.now) }
     {
@@ -180,12 +188,12 @@ impl DecideQueue {
         &mut self,
         trail: &Trail,
         table: &[Vec<Literal>],
-        requirements: &[RequirementClause],
+        requirements: &[StoredRequirement],
         place: usize,
     ) -> Result<Option<Choice>, AllocError>
         requires below { AreBelow (variable_count trail.now) table.now }
         requires settled { AllSettled trail.now table.now }
-        requires inside { All (λ (requirement : RequirementClause). requirement.number < length table.now) requirements.now }
+        requires inside { All (λ (requirement : StoredRequirement). requirement.number < length table.now) requirements.now }
         requires queued { IsQueued self.old trail.now table.now requirements.now }
         requires followed { IsFollowed self.old trail.now }
         requires listed { place < length self.old.active.items }
@@ -194,28 +202,32 @@ impl DecideQueue {
         ensures fewer { IfOk result (λ answer. IfNone answer (length self.new.active.items < length self.old.active.items)) }
         ensures some { IfOk result (λ answer. IfSome answer (IsChoice trail.now table.now requirements.now)) }
     {
-        let index = self.active[place];
+        let number = self.active[place];
+        let index = number as usize;
         if index >= requirements.len() {
             self.active.swap_remove(place);
             self.ranks.leave(self.active.as_slice(), place);
             return Ok(None);
         }
         let requirement = &requirements[index];
-        let literals = clause(table, requirement.number);
+        let literals = clause(table, requirement.number as usize);
         match standing_of(trail, literals) {
             Standing::Waiting(variable) => {
-                self.waiting.add(variable.index(), index)?;
+                self.waiting.add(variable.index(), number)?;
                 self.active.swap_remove(place);
                 self.ranks.leave(self.active.as_slice(), place);
                 Ok(None)
             }
             Standing::Met(variable) => {
-                self.met.add(variable.index(), index)?;
+                self.met.add(variable.index(), number)?;
                 self.active.swap_remove(place);
                 self.ranks.leave(self.active.as_slice(), place);
                 Ok(None)
             }
-            Standing::Open(first) => Ok(Some(choice_at(trail, literals, requirement, first))),
+            Standing::Open(first) => {
+                let ends = self.ranks.ends_of(number);
+                Ok(Some(choice_at(trail, literals, *requirement, ends, first)))
+            }
         }
     }
 
@@ -225,14 +237,14 @@ impl DecideQueue {
         &mut self,
         trail: &Trail,
         table: &[Vec<Literal>],
-        requirements: &[RequirementClause],
+        requirements: &[StoredRequirement],
     ) -> Result<Option<Choice>, AllocError>
         requires below { AreBelow (variable_count trail.now) table.now }
         requires settled { AllSettled trail.now table.now }
-        requires inside { All (λ (requirement : RequirementClause). requirement.number < length table.now) requirements.now }
+        requires inside { All (λ (requirement : StoredRequirement). requirement.number < length table.now) requirements.now }
         requires queued { IsQueued self.old trail.now table.now requirements.now }
         ensures none { IfOk result (λ answer.
-            IfNone answer (All (λ (requirement : RequirementClause). IsMet trail.now (clause_at table.now requirement.number)) requirements.now)) }
+            IfNone answer (All (λ (requirement : StoredRequirement). IsMet trail.now (clause_at table.now requirement.number)) requirements.now)) }
         ensures some { IfOk result (λ answer. IfSome answer (IsChoice trail.now table.now requirements.now)) }
         ensures queued { OnOk result (IsQueued self.new trail.now table.now requirements.now) }
     {

@@ -3,29 +3,31 @@
 ghost use Rattle.std.specs.Prelude.{◌<◌, ◌≡◌, ◌+◌, All, IfNone, IfOk, IfSome, length};
 ghost use Rattle.resolver_clause_store.specs.Formula.{AreBelow};
 ghost use Rattle.resolver_clause_store.specs.TrailView.{variable_count};
-ghost use Rattle.resolver_clause_store.specs.declared.clauses.RequirementClause.{RequirementClause};
+ghost use Rattle.resolver_clause_store.specs.declared.clauses.StoredRequirement.{StoredRequirement};
 ghost use Rattle.resolver_clause_store.specs.Settled.{AllSettled};
 
-use crate::clauses::{RequirementClause, clause};
+use crate::clauses::{StoredRequirement, clause};
 use crate::decisions::choice_at;
 use crate::lists::Lists;
 use crate::literals::{Literal, Variable};
+use crate::numbers::narrow;
+use crate::owner::Owner;
 use crate::scores::{Activity, Scores};
 use crate::standing::{Standing, standing_of};
 use crate::trail::Trail;
 use std::alloc::{AllocError, Global};
 use std::cmp::Reverse;
-use std::collections::BinaryHeap;
+use std::collections::{BinaryHeap, HashMap};
 
 /// What requirements are compared by, where their packages have the same score: those of the root come first, then those with
 /// fewer candidates in the version set that is tried, and then those that came first.
 #[derive(Clone, Copy, PartialEq, Eq, PartialOrd, Ord)]
 pub struct Rank {
     is_later: bool,
-    count: usize,
-    requirement: usize,
-    /// The number of the package of that version set, where it is known.
-    owner: Option<usize>,
+    count: u32,
+    requirement: u32,
+    /// The package of that version set, where it is known.
+    owner: Owner,
     /// How often the requirement had been ranked.
     edition: u64,
 }
@@ -67,9 +69,11 @@ fn first_of(one: Option<Scored>, other: Option<Scored>) -> Option<Scored> {
 /// What is known of a requirement: where it stands among the active ones, if it does, and its latest rank.
 #[derive(Clone, Copy)]
 pub struct Entry {
-    place: usize,
     edition: u64,
+    place: u32,
     is_changed: bool,
+    /// Whether it is a union.
+    is_union: bool,
 }
 
 /// The ranks of active requirements.
@@ -79,18 +83,20 @@ pub struct Entry {
 /// it before it is decided.
 #[derive(Drop)]
 pub struct Ranks {
-    /// The number of the package of each variable, where it stands for a solvable.
-    owners: Vec<Option<usize>>,
+    /// The package of each variable.
+    owners: Vec<Owner>,
     scores: Scores,
     learnt: u64,
     entries: Vec<Entry>,
+    /// For each requirement that is a union, the places in its clause behind the candidates of each version set.
+    ends: HashMap<u32, Vec<usize>>,
     /// The requirements that have a candidate of a package, by its number.
     asking: Lists,
     /// The packages whose requirements are to be ranked anew.
     touched: Vec<usize>,
     is_touched: Vec<bool>,
     /// The requirements that are to be ranked anew.
-    changed: Vec<usize>,
+    changed: Vec<u32>,
     /// Ranks whose packages have a score, in no order.
     scored: Vec<Rank>,
     /// Ranks whose packages have none.
@@ -105,6 +111,7 @@ impl Ranks {
             scores: Scores::new(alloc, activity),
             learnt: 0,
             entries: Vec::new(alloc),
+            ends: HashMap::new(alloc),
             asking: Lists::new(alloc),
             touched: Vec::new(alloc),
             is_touched: Vec::new(alloc),
@@ -115,43 +122,74 @@ impl Ranks {
     }
 
     /// Takes in the packages of the variables behind those that are known.
-    pub fn learn_owners(&mut self, owners: &[Option<usize>]) -> Result<(), AllocError> {
+    pub fn learn_owners(&mut self, owners: &[Owner]) -> Result<(), AllocError> {
         'variables: for variable in self.owners.len()..owners.len() {
             self.owners.push(owners[variable])?;
         }
         Ok(())
     }
 
-    /// The number of the package of a variable, where it is known.
-    fn owner_of(&self, variable: Variable) -> Option<usize> {
+    /// The package of a variable, where it is known.
+    fn owner_of(&self, variable: Variable) -> Owner {
         match self.owners.get(variable.index()) {
             Some(owner) => *owner,
-            None => None,
+            None => Owner::none(),
         }
     }
 
-    /// Adds the requirement of a clause behind the others.
-    pub fn add(&mut self, literals: &[Literal]) -> Result<(), AllocError> {
-        let requirement = self.entries.len();
+    /// Adds the requirement of a clause behind the others. The candidates of each version set of a union end at these places of it.
+    pub fn add(&mut self, literals: &[Literal], ends: &[usize]) -> Result<(), AllocError> {
+        let requirement = narrow(self.entries.len())?;
         self.entries.push(Entry {
-            place: 0,
             edition: 0,
+            place: 0,
             is_changed: false,
+            is_union: !ends.is_empty(),
         })?;
-        let mut last = None;
+        self.note_ends(requirement, ends)?;
+        let mut last = Owner::none();
         'literals: for literal in literals {
             last = self.add_candidate(requirement, *literal, last)?;
         }
         Ok(())
     }
 
+    /// Notes where the candidates of each version set of a requirement end, if it is a union.
+    fn note_ends(&mut self, requirement: u32, ends: &[usize]) -> Result<(), AllocError> {
+        if ends.is_empty() {
+            return Ok(());
+        }
+        let copy = ends.to_vec(*self.entries.allocator())?;
+        self.ends.insert(requirement, copy)?;
+        Ok(())
+    }
+
+    /// For each version set of a requirement that is a union, the place in its clause behind the candidates.
+    pub fn ends_of(&self, requirement: u32) -> &[usize] {
+        if !self.is_union(requirement) {
+            return &[];
+        }
+        match self.ends.get(&requirement) {
+            Some(ends) => ends.as_slice(),
+            None => &[],
+        }
+    }
+
+    /// Whether a requirement is a union.
+    fn is_union(&self, requirement: u32) -> bool {
+        match self.entries.get(requirement as usize) {
+            Some(entry) => entry.is_union,
+            None => false,
+        }
+    }
+
     /// Notes the package of a literal of a requirement's clause, unless it is that of the candidate before.
     fn add_candidate(
         &mut self,
-        requirement: usize,
+        requirement: u32,
         literal: Literal,
-        last: Option<usize>,
-    ) -> Result<Option<usize>, AllocError> {
+        last: Owner,
+    ) -> Result<Owner, AllocError> {
         if !literal.positive {
             return Ok(last);
         }
@@ -159,7 +197,7 @@ impl Ranks {
         if owner == last {
             return Ok(last);
         }
-        match owner {
+        match owner.number() {
             Some(number) => {
                 self.asking.add(number, requirement)?;
                 Ok(owner)
@@ -183,7 +221,7 @@ impl Ranks {
 
     /// Notes that a variable got or lost its value.
     pub fn touch(&mut self, variable: Variable) -> Result<(), AllocError> {
-        match self.owner_of(variable) {
+        match self.owner_of(variable).number() {
             Some(number) => {
                 self.touch_package(number)?;
                 Ok(())
@@ -194,7 +232,7 @@ impl Ranks {
 
     /// Adds to the score of the package of a variable.
     fn score_up(&mut self, variable: Variable) -> Result<(), AllocError> {
-        match self.owner_of(variable) {
+        match self.owner_of(variable).number() {
             Some(number) => {
                 self.scores.add(number, self.learnt)?;
                 self.touch_package(number)?;
@@ -214,48 +252,54 @@ impl Ranks {
     }
 
     /// Puts a requirement among those that are to be ranked anew.
-    fn change(&mut self, requirement: usize) -> Result<(), AllocError> {
-        if requirement >= self.entries.len() || self.entries[requirement].is_changed {
+    fn change(&mut self, requirement: u32) -> Result<(), AllocError> {
+        let index = requirement as usize;
+        if index >= self.entries.len() || self.entries[index].is_changed {
             return Ok(());
         }
         self.changed.push(requirement)?;
-        self.entries[requirement].is_changed = true;
+        self.entries[index].is_changed = true;
         Ok(())
     }
 
     /// Notes where a requirement stands that became active.
-    fn enter_at(&mut self, requirement: usize, place: usize) -> Result<(), AllocError> {
-        if requirement < self.entries.len() {
-            self.entries[requirement].place = place;
+    fn enter_at(&mut self, requirement: u32, place: usize) -> Result<(), AllocError> {
+        let place = narrow(place)?;
+        let index = requirement as usize;
+        if index < self.entries.len() {
+            self.entries[index].place = place;
         }
         self.change(requirement)?;
         Ok(())
     }
 
-    /// Notes where the active requirements from a place on stand.
-    pub fn enter(&mut self, active: &[usize], from: usize) -> Result<(), AllocError> {
+    /// Notes where the active requirements from a place on stand. Each of these places fits in four bytes.
+    pub fn enter(&mut self, active: &[u32], from: usize) -> Result<(), AllocError> {
         'places: for place in from..active.len() {
             self.enter_at(active[place], place)?;
         }
         Ok(())
     }
 
-    /// Notes that another active requirement, if one, stands now at a place.
-    pub fn leave(&mut self, active: &[usize], place: usize) {
-        if place >= active.len() || active[place] >= self.entries.len() {
+    /// Notes that another active requirement, if one, stands now at a place. It stood at a later one.
+    pub fn leave(&mut self, active: &[u32], place: usize) {
+        if place >= active.len() || active[place] as usize >= self.entries.len() {
             return;
         }
-        self.entries[active[place]].place = place;
+        if let Ok(narrow) = u32::try_from(place) {
+            self.entries[active[place] as usize].place = narrow;
+        }
     }
 
     /// The place of a requirement, if it is active.
-    fn place_of(&self, active: &[usize], requirement: usize) -> Option<usize>
+    fn place_of(&self, active: &[u32], requirement: u32) -> Option<usize>
         ensures { IfSome result (λ place. place < length active.now) }
     {
-        match self.entries.get(requirement) {
+        match self.entries.get(requirement as usize) {
             Some(entry) => {
-                if entry.place < active.len() && active[entry.place] == requirement {
-                    return Some(entry.place);
+                let place = entry.place as usize;
+                if place < active.len() && active[place] == requirement {
+                    return Some(place);
                 }
                 None
             }
@@ -264,7 +308,7 @@ impl Ranks {
     }
 
     /// Puts the active ones of the requirements that ask for a package among those that are to be ranked anew.
-    fn spread_package(&mut self, active: &[usize], number: usize) -> Result<(), AllocError> {
+    fn spread_package(&mut self, active: &[u32], number: usize) -> Result<(), AllocError> {
         if number < self.is_touched.len() {
             self.is_touched[number] = false;
         }
@@ -275,12 +319,7 @@ impl Ranks {
     }
 
     /// Puts one of the requirements that ask for a package among those that are to be ranked anew, if it is active.
-    fn spread_at(
-        &mut self,
-        active: &[usize],
-        number: usize,
-        index: usize,
-    ) -> Result<(), AllocError> {
+    fn spread_at(&mut self, active: &[u32], number: usize, index: usize) -> Result<(), AllocError> {
         match self.asking.at(number).get(index) {
             Some(requirement) => {
                 let requirement = *requirement;
@@ -294,7 +333,7 @@ impl Ranks {
     }
 
     /// Puts the requirements that ask for touched packages among those that are to be ranked anew.
-    fn spread(&mut self, active: &[usize]) -> Result<(), AllocError> {
+    fn spread(&mut self, active: &[u32]) -> Result<(), AllocError> {
         'packages: for _ in 0..self.touched.len() {
             match self.touched.pop() {
                 Some(number) => self.spread_package(active, number)?,
@@ -305,7 +344,7 @@ impl Ranks {
     }
 
     /// Forgets the old ranks, if there are far more of them than active requirements.
-    fn tidy(&mut self, active: &[usize]) -> Result<(), AllocError> {
+    fn tidy(&mut self, active: &[u32]) -> Result<(), AllocError> {
         if self.unscored.len() / 2 <= active.len().saturating_add(32) {
             return Ok(());
         }
@@ -333,7 +372,7 @@ impl Ranks {
         ensures changed { self.new.changed.items ≡ self.old.changed.items }
         ensures scored { self.new.scored.items ≡ self.old.scored.items }
     {
-        match rank.owner {
+        match rank.owner.number() {
             Some(number) => self.scores.read(number, self.learnt),
             None => 0,
         }
@@ -342,35 +381,38 @@ impl Ranks {
     /// Ranks a requirement anew. If it is active and there is nothing to decide for it, its place is answered.
     fn rank(
         &mut self,
-        active: &[usize],
+        active: &[u32],
         trail: &Trail,
         table: &[Vec<Literal>],
-        requirements: &[RequirementClause],
-        index: usize,
+        requirements: &[StoredRequirement],
+        requirement: u32,
     ) -> Result<Option<usize>, AllocError>
         requires below { AreBelow (variable_count trail.now) table.now }
         requires settled { AllSettled trail.now table.now }
-        requires inside { All (λ (requirement : RequirementClause). requirement.number < length table.now) requirements.now }
+        requires inside { All (λ (requirement : StoredRequirement). requirement.number < length table.now) requirements.now }
         ensures place { IfOk result (λ answer. IfSome answer (λ place. place < length active.now)) }
         ensures changed { self.new.changed.items ≡ self.old.changed.items }
     {
+        let index = requirement as usize;
         if index >= self.entries.len() || index >= requirements.len() {
             return Ok(None);
         }
         self.entries[index].is_changed = false;
-        match self.place_of(active, index) {
+        match self.place_of(active, requirement) {
             None => Ok(None),
             Some(place) => {
-                let literals = clause(table, requirements[index].number);
+                let literals = clause(table, requirements[index].number as usize);
                 match standing_of(trail, literals) {
                     Standing::Open(first) => {
                         let edition = self.entries[index].edition.wrapping_add(1);
                         self.entries[index].edition = edition;
-                        let choice = choice_at(trail, literals, &requirements[index], first);
+                        let ends = self.ends_of(requirement);
+                        let choice = choice_at(trail, literals, requirements[index], ends, first);
+                        let count = narrow(choice.count)?;
                         self.put(Rank {
                             is_later: !choice.of_root,
-                            count: choice.count,
-                            requirement: index,
+                            count,
+                            requirement,
                             owner: self.owner_of(literals[first].variable),
                             edition,
                         })?;
@@ -384,18 +426,18 @@ impl Ranks {
     }
 
     /// Whether a rank is the latest one of an active requirement.
-    fn is_current(&self, active: &[usize], rank: &Rank) -> bool {
+    fn is_current(&self, active: &[u32], rank: &Rank) -> bool {
         if self.place_of(active, rank.requirement).is_none() {
             return false;
         }
-        match self.entries.get(rank.requirement) {
+        match self.entries.get(rank.requirement as usize) {
             Some(entry) => entry.edition == rank.edition,
             None => false,
         }
     }
 
     /// The rank at a place of those whose packages had a score. If it is old, or its package has none any more, it is taken away.
-    fn scored_at(&mut self, active: &[usize], index: usize) -> Result<Option<Scored>, AllocError>
+    fn scored_at(&mut self, active: &[u32], index: usize) -> Result<Option<Scored>, AllocError>
         requires { index < length self.old.scored.items }
         ensures some { IfOk result (λ answer. IfSome answer (λ scored. length self.new.scored.items ≡ length self.old.scored.items)) }
         ensures none { IfOk result (λ answer. IfNone answer (length self.new.scored.items < length self.old.scored.items)) }
@@ -414,7 +456,7 @@ impl Ranks {
     }
 
     /// The first of the ranks whose packages have a score.
-    fn first_scored(&mut self, active: &[usize]) -> Result<Option<Scored>, AllocError> {
+    fn first_scored(&mut self, active: &[u32]) -> Result<Option<Scored>, AllocError> {
         let mut first = None;
         let mut index = 0;
         'ranks: while index < self.scored.len() {
@@ -428,7 +470,7 @@ impl Ranks {
     }
 
     /// The first of the ranks whose packages have no score. Old ones before it are taken away.
-    fn first_unscored(&mut self, active: &[usize]) -> Option<Scored> {
+    fn first_unscored(&mut self, active: &[u32]) -> Option<Scored> {
         'ranks: for _ in 0..self.unscored.len() {
             match self.unscored.peek() {
                 Some(Reverse(rank)) => {
@@ -445,7 +487,7 @@ impl Ranks {
     }
 
     /// The place of the requirement whose rank comes first.
-    fn first_place(&mut self, active: &[usize]) -> Result<Option<usize>, AllocError>
+    fn first_place(&mut self, active: &[u32]) -> Result<Option<usize>, AllocError>
         ensures { IfOk result (λ answer. IfSome answer (λ place. place < length active.now)) }
     {
         let scored = self.first_scored(active)?;
@@ -459,21 +501,21 @@ impl Ranks {
     /// The place of an active requirement to look at: one for which there is nothing to decide, or else the one that is decided first.
     pub fn best(
         &mut self,
-        active: &[usize],
+        active: &[u32],
         trail: &Trail,
         table: &[Vec<Literal>],
-        requirements: &[RequirementClause],
+        requirements: &[StoredRequirement],
     ) -> Result<usize, AllocError>
         requires below { AreBelow (variable_count trail.now) table.now }
         requires settled { AllSettled trail.now table.now }
-        requires inside { All (λ (requirement : RequirementClause). requirement.number < length table.now) requirements.now }
+        requires inside { All (λ (requirement : StoredRequirement). requirement.number < length table.now) requirements.now }
         requires some { 0 < length active.now }
         ensures { IfOk result (λ place. place < length active.now) }
     {
         self.tidy(active)?;
         self.spread(active)?;
-        'changed: while let Some(index) = self.changed.pop() {
-            match self.rank(active, trail, table, requirements, index)? {
+        'changed: while let Some(requirement) = self.changed.pop() {
+            match self.rank(active, trail, table, requirements, requirement)? {
                 Some(place) => return Ok(place),
                 None => (),
             }

@@ -4,15 +4,16 @@ ghost use Rattle.std.specs.Prelude.{◌<◌, ◌≡◌, ◌≤◌, ℕ, IfOk, Ma
 ghost use Rattle.resolver_clause_store.specs.Slots.{AreCounted, AreRising, AreValues, IsListed, IsPlaced};
 
 use crate::literals::{Literal, Variable};
+use crate::numbers::narrow;
 use std::alloc::{AllocError, Global};
 
 /// Why a variable has its value.
 #[derive(Clone, Copy, PartialEq, Eq)]
 pub enum Reason {
     /// It was decided for the requirement clause with this number.
-    Decided(usize),
+    Decided(u32),
     /// The clause with this number forced it: the other literals were false before.
-    Forced(usize),
+    Forced(u32),
     /// It was assumed: a soft requirement that is tried or was accepted, or one that was refused.
     Assumed,
 }
@@ -21,8 +22,8 @@ pub enum Reason {
 #[derive(Clone, Copy, PartialEq, Eq)]
 pub struct Slot {
     pub value: bool,
-    pub level: usize,
-    pub place: usize,
+    pub level: u32,
+    pub place: u32,
     pub reason: Reason,
 }
 
@@ -134,7 +135,7 @@ impl Trail {
         }
         let variable = self.variable_at(self.order.len() - 1);
         match self.slot(variable) {
-            Some(slot) => slot.level,
+            Some(slot) => slot.level as usize,
             None => 0,
         }
     }
@@ -154,7 +155,8 @@ impl Trail {
         ensures ok { OnOk result (Gains self.old self.new literal level reason) }
         ensures err { OnErr result (IsSame self.old self.new) }
     {
-        let place = self.order.len();
+        let place = narrow(self.order.len())?;
+        let level = narrow(level)?;
         self.order.push(literal.variable)?;
         self.slots[literal.variable.index()] = Some(Slot {
             value: literal.positive,
@@ -174,7 +176,7 @@ impl Trail {
         ensures err { OnErr result (IsSame self.old self.new) }
     {
         let level = self.level() + 1;
-        self.assign(literal, level, Reason::Decided(number))?;
+        self.assign(literal, level, Reason::Decided(narrow(number)?))?;
         Ok(())
     }
 
@@ -186,7 +188,7 @@ impl Trail {
         ensures err { OnErr result (IsSame self.old self.new) }
     {
         let level = self.level();
-        self.assign(literal, level, Reason::Forced(number))?;
+        self.assign(literal, level, Reason::Forced(narrow(number)?))?;
         Ok(())
     }
 

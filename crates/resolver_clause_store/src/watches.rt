@@ -7,13 +7,14 @@ ghost use Rattle.resolver_clause_store.specs.declared.literals.Literal.{Literal}
 ghost use Rattle.resolver_clause_store.specs.Watches.{IsWatched, PutsList, is_watched, list_at, list_number, number_at, replaced};
 
 use crate::literals::Literal;
+use crate::numbers::narrow;
 use std::alloc::{AllocError, Global};
 
 /// A clause in a literal's list.
 #[derive(Clone, Copy, PartialEq, Eq)]
 pub struct Watch {
     /// The clause's number.
-    pub number: usize,
+    pub number: u32,
     /// A literal of the clause: where it is true, the clause need not be looked at.
     pub blocker: Literal,
 }
@@ -187,7 +188,7 @@ impl Watches {
     /// Lets a clause watch one literal more, so that its pair is this one.
     fn attach(
         &mut self,
-        number: usize,
+        number: u32,
         pair: WatchedPair,
         literal: Literal,
         blocker: Literal,
@@ -202,7 +203,7 @@ impl Watches {
     {
         let watch = Watch { number, blocker };
         push_at(&mut self.lists, list_number(literal), watch)?;
-        self.pairs[number] = pair;
+        self.pairs[number as usize] = pair;
         Ok(())
     }
 
@@ -217,7 +218,7 @@ impl Watches {
             ((table : List (Vec Literal Global)) → Contains (clause_at table (length (pairs_of self.old))) first →
             Contains (clause_at table (length (pairs_of self.old))) second → HasBlockers table (lists_of self.old) → HasBlockers table (lists_of self.new)) }
     {
-        let number = self.pairs.len();
+        let number = narrow(self.pairs.len())?;
         self.add_none()?;
         let one = WatchedPair {
             first: Some(copied(&first)),
@@ -310,7 +311,8 @@ impl Watches {
         let watch = Watch { number, blocker };
         push_at(&mut self.lists, list_number(copied(&to)), watch)?;
         take_at(&mut self.lists, list_number(copied(&from)), place);
-        self.pairs[number] = replaced(self.pairs[number], from, to);
+        let index = number as usize;
+        self.pairs[index] = replaced(self.pairs[index], from, to);
         Ok(())
     }
 }

@@ -10,12 +10,12 @@ use Rattle.std.proofs.lemmas.Bool.{cases_eq, cases_lt}
 use Rattle.std.proofs.lemmas.List.{drop_more, get_or-take, length-take-le, take-append-drop}
 use Rattle.std.proofs.lemmas.List.Elements.{All-contains}
 use Rattle.resolver_clause_store.specs.declared.Literal.{Literal}
-use Rattle.resolver_clause_store.specs.declared.RequirementClause.{RequirementClause}
+use Rattle.resolver_clause_store.specs.declared.StoredRequirement.{StoredRequirement}
 use Rattle.resolver_clause_store.specs.declared.Slot.{Slot}
 use Rattle.resolver_clause_store.specs.declared.Reason.TheVariants.{Decided}
 use Rattle.resolver_clause_store.specs.declared.Trail.{Trail}
 use Rattle.resolver_clause_store.specs.Formula.{AreBelow, FollowsFrom, IsBelow, MakesTrue, Satisfies, clause_at, clause_true}
-use Rattle.resolver_clause_store.specs.Outcomes.{IsChosen, IsFalseBefore, IsFalsified, IsForcing, IsImplied}
+use Rattle.resolver_clause_store.specs.Outcomes.{IsFalseBefore, IsFalsified, IsForcing, IsImplied}
 use Rattle.resolver_clause_store.specs.TrailView.{Gains, IsUndone, length_of, slot_of, variable_count}
 use Rattle.resolver_clause_store.proofs.FormulaLemmas.{clause_at-get_or, clause_at-last, clause_at-past, clause_at-push}
 use Rattle.resolver_clause_store.proofs.SlotLemmas.{none-from, slot-within}
@@ -25,7 +25,7 @@ use Rattle.resolvo.specs.ClauseSearches.{Grows}
 use Rattle.resolver_clause_store.specs.Decisions.{IsChoice}
 use Rattle.resolvo.specs.declared.contradiction.Source.{Source}
 use Rattle.resolvo.specs.Derivations.{AreGiven, IsDerived, causes_at, causes_of, given_at, number_of}
-use Rattle.resolvo.specs.Propagation.{AreChosen, IsJustified, IsUnit}
+use Rattle.resolvo.specs.Propagation.{AreChosen, IsDecidedFor, IsJustified, IsUnit}
 use Rattle.resolvo.specs.Resolvents.{IsAsserting, IsDrawn, IsFalseAt, level_in}
 use Rattle.resolvo.proofs.JustifiedLemmas.{chosen-kept}
 use Rattle.resolvo.proofs.LevelLemmas.{level-in}
@@ -159,10 +159,10 @@ implied given table sources place derived are within =
     λ values holds. derived-below given table sources values derived are holds (suc place) place (omega arith) within
 
 -- a choice is a reason for what it decides
-chosen-made : (table : List (Vec Literal Global)) (requirements : List RequirementClause) (old new : Trail) (literal : Literal) (choice : Choice) (level : ℕ) →
+chosen-made : (table : List (Vec Literal Global)) (requirements : List StoredRequirement) (old new : Trail) (literal : Literal) (choice : Choice) (level : ℕ) →
     Gains old new literal level (Decided choice.number) → slot_of old literal.variable ≡ None →
     literal ≡ get_or (clause_at table choice.number) choice.place literal → IsChoice old table requirements choice → (variable : ℕ) (slot : Slot) →
-    variable ≡ literal.variable → slot.value ≡ literal.positive → slot.place ≡ length_of old → IsChosen table requirements new variable slot
+    variable ≡ literal.variable → slot.value ≡ literal.positive → slot.place ≡ length_of old → IsDecidedFor table requirements new variable slot
 chosen-made table requirements old new literal choice level gains free is chosen variable slot name value place =
     let f = chosen.chosen.first in
     let clause = clause_at table choice.number in
@@ -186,7 +186,7 @@ chosen-made table requirements old new literal choice level gains free is chosen
           (subst (λ (p : ℕ). IsFalseBefore new p (get_or clause k d)) (sym place) (false_before-kept old new _ _ keeps was));
     }
 
-pub chosen-decides : (table : List (Vec Literal Global)) (requirements : List RequirementClause) (old new : Trail) (literal : Literal) (choice : Choice)
+pub chosen-decides : (table : List (Vec Literal Global)) (requirements : List StoredRequirement) (old new : Trail) (literal : Literal) (choice : Choice)
     (level : ℕ) → Gains old new literal level (Decided choice.number) → slot_of old literal.variable ≡ None →
     literal ≡ get_or (clause_at table choice.number) choice.place literal → IsChoice old table requirements choice → AreChosen table requirements old →
     AreChosen table requirements new
@@ -214,7 +214,7 @@ justified-undone table old new level justified undone = record {
   contains = λ v s n at reason. justified.contains v s n (undone.stays v s at).0 reason;
 }
 
-pub chosen-undone : (table : List (Vec Literal Global)) (requirements : List RequirementClause) (old new : Trail) (level : ℕ) →
+pub chosen-undone : (table : List (Vec Literal Global)) (requirements : List StoredRequirement) (old new : Trail) (level : ℕ) →
     AreChosen table requirements old → IsUndone old new level → AreChosen table requirements new
 chosen-undone table requirements old new level chosen undone = record {
   each = λ v s n at decided.
@@ -225,13 +225,13 @@ chosen-undone table requirements old new level chosen undone = record {
       search;
 }
 
-pub chosen-grows : (old new : List (Vec Literal Global)) (requirements : List RequirementClause) (trail : Trail) → Grows old new →
-    All (λ (requirement : RequirementClause). requirement.number < length old) requirements → AreChosen old requirements trail →
+pub chosen-grows : (old new : List (Vec Literal Global)) (requirements : List StoredRequirement) (trail : Trail) → Grows old new →
+    All (λ (requirement : StoredRequirement). requirement.number < length old) requirements → AreChosen old requirements trail →
     AreChosen new requirements trail
 chosen-grows old new requirements trail grows inside chosen = record {
   each = λ v s n at decided.
       let c = chosen.each v s n at decided in
-      let clause = grows.same _ (All-contains (λ (requirement : RequirementClause). requirement.number < length old) requirements c.requirement inside c.listed)
+      let clause = grows.same _ (All-contains (λ (requirement : StoredRequirement). requirement.number < length old) requirements c.requirement inside c.listed)
       ∙ c.clause in
       search;
 }

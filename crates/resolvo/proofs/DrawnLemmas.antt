@@ -9,7 +9,7 @@ use Rattle.std.proofs.lemmas.List.Elements.{All-cons, All-contains, All-nil, Con
 use Rattle.std.proofs.lemmas.Option.{same_Some}
 use Rattle.resolver_clause_store.specs.declared.Literal.{Literal}
 use Rattle.resolver_clause_store.specs.declared.Reason.TheVariants.{Assumed, Decided, Forced}
-use Rattle.resolver_clause_store.specs.declared.RequirementClause.{RequirementClause}
+use Rattle.resolver_clause_store.specs.declared.StoredRequirement.{StoredRequirement}
 use Rattle.resolver_clause_store.specs.declared.Slot.{Slot}
 use Rattle.resolver_clause_store.specs.declared.Trail.{Trail}
 use Rattle.resolver_clause_store.specs.Formula.{clause_at}
@@ -141,7 +141,7 @@ values_drawn it given numbers holds loaded variable slot at other =
     ⊎_elim
     (λ (w : (n : ℕ) × (slot.reason ≡ Decided n)).
     let c = holds.chosen.each variable slot w.0 at w.1 in
-    let within = All-contains (λ (r : RequirementClause). r.number < length table) it.requirements.items c.requirement holds.inside c.listed in
+    let within = All-contains (λ (r : StoredRequirement). r.number < length table) it.requirements.items c.requirement holds.inside c.listed in
     let chosen : Literal = record { variable = variable; positive = true } in
     let there : Contains (c.before ++ chosen ∷ c.after) chosen = Contains-append_right c.before (chosen ∷ c.after) chosen (Contains-here chosen c.after) in
     let same : chosen ≡ literal = ap (λ (b : Bool). record { variable = variable; positive = b }) (sym c.value) in

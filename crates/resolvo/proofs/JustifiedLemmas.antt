@@ -5,7 +5,7 @@ use Rattle.std.specs.List.{Contains}
 use Rattle.std.specs.declared.alloc.Global.{Global}
 use Rattle.std.proofs.lemmas.Bool.{both_ways}
 use Rattle.resolver_clause_store.specs.declared.Literal.{Literal}
-use Rattle.resolver_clause_store.specs.declared.RequirementClause.{RequirementClause}
+use Rattle.resolver_clause_store.specs.declared.StoredRequirement.{StoredRequirement}
 use Rattle.resolver_clause_store.specs.declared.Slot.{Slot}
 use Rattle.resolver_clause_store.specs.declared.Reason.{Reason}
 use Rattle.resolver_clause_store.specs.declared.Reason.TheVariants.{Assumed, Decided, Forced}
@@ -13,9 +13,9 @@ use Rattle.resolver_clause_store.specs.declared.Trail.{Trail}
 use Rattle.resolver_clause_store.specs.Formula.{clause_at}
 use Rattle.resolver_clause_store.specs.Slots.{is_decided}
 use Rattle.resolver_clause_store.specs.TrailView.{slot_of, length_of, Gains, IsSame}
-use Rattle.resolver_clause_store.specs.Outcomes.{IsForcing, IsChosen}
+use Rattle.resolver_clause_store.specs.Outcomes.{IsForcing}
 use Rattle.resolver_clause_store.proofs.TrailLemmas.{Keeps, keeps-gains, false_before-kept, forcing-kept, false-before, gains-cases}
-use Rattle.resolvo.specs.Propagation.{IsUnit, IsJustified, AreChosen, Extends}
+use Rattle.resolvo.specs.Propagation.{IsUnit, IsJustified, AreChosen, Extends, IsDecidedFor}
 
 pub forcing-unit : (old new : Trail) (literal : Literal) (clause : List Literal) → Keeps old new → IsUnit old literal clause →
     IsForcing new (length_of old) literal clause
@@ -121,13 +121,13 @@ extends-trans old mid new first second = record {
 }
 
 -- what is decided stays so where a trail is extended
-pub chosen-kept : (table : List (Vec Literal Global)) (requirements : List RequirementClause) (old new : Trail) (variable : ℕ) (slot : Slot) → Keeps old new →
-    IsChosen table requirements old variable slot → IsChosen table requirements new variable slot
+pub chosen-kept : (table : List (Vec Literal Global)) (requirements : List StoredRequirement) (old new : Trail) (variable : ℕ) (slot : Slot) → Keeps old new →
+    IsDecidedFor table requirements old variable slot → IsDecidedFor table requirements new variable slot
 chosen-kept table requirements old new variable slot keeps c =
     let false_before = λ (k : ℕ) (d : Literal) (below : k < length c.before). false_before-kept old new _ _ keeps (c.false_before k d below) in
     search c
 
-pub chosen-extends : (table : List (Vec Literal Global)) (requirements : List RequirementClause) (old new : Trail) → AreChosen table requirements old →
+pub chosen-extends : (table : List (Vec Literal Global)) (requirements : List StoredRequirement) (old new : Trail) → AreChosen table requirements old →
     Extends old new → AreChosen table requirements new
 chosen-extends table requirements old new chosen extends = record {
   each = λ v s n at decided. ⊎_elim

@@ -1,5 +1,5 @@
 -- Given clauses that are loaded, and what a finished search says of them.
-use Rattle.std.proofs.Common.{◌≡◌, ℕ, ◌+◌, ◌<◌, ◌≤◌, List, [], ◌∷◌, ◌++◌, length, get_or, take, min, Some, None, arith, inl, inr, refl, sym, ap, ◌∙◌, subst}
+use Rattle.std.proofs.Common.{◌≡◌, ℕ, ◌+◌, ◌<◌, ◌≤◌, List, [], ◌∷◌, ◌++◌, length, get_or, take, min, Some, None, false, arith, inl, inr, refl, sym, ap, ◌∙◌, subst}
 use Rattle.std.proofs.Common.{⊎_elim, length-append}
 use Rattle.std.specs.Prelude.{Vec, map}
 use Rattle.std.specs.List.{All}
@@ -11,6 +11,7 @@ use Rattle.std.proofs.lemmas.List.Elements.{All-head, All-nil, All-push, All-tai
 use Rattle.std.proofs.lemmas.Option.{none-some, same_Some}
 use Rattle.resolver_clause_store.specs.declared.Literal.{Literal}
 use Rattle.resolver_clause_store.specs.declared.RequirementClause.{RequirementClause}
+use Rattle.resolver_clause_store.specs.declared.StoredRequirement.{StoredRequirement}
 use Rattle.resolver_clause_store.specs.declared.Reason.TheVariants.{Assumed, Decided, Forced}
 use Rattle.resolver_clause_store.specs.declared.Slot.{Slot}
 use Rattle.resolver_clause_store.specs.declared.Trail.{Trail}
@@ -23,11 +24,11 @@ use Rattle.resolver_clause_store.proofs.TrailLemmas.{Keeps, forcing-kept}
 use Rattle.resolvo.specs.declared.contradiction.Source.{Source}
 use Rattle.resolvo.specs.declared.contradiction.Source.TheVariants.{Given}
 use Rattle.resolvo.specs.declared.clause_search.ClauseSearch.{ClauseSearch}
-use Rattle.resolvo.specs.ClauseSearches.{AreLoaded, IsConsistent, IsLoaded, IsSameProblem, IsSameSearch, KeepsFirst, numbers_of, place_of}
+use Rattle.resolvo.specs.ClauseSearches.{AreLoaded, IsConsistent, IsLoaded, IsSameProblem, IsSameSearch, KeepsFirst, numbers_of, place_of, stored_places}
 use Rattle.resolvo.specs.Derivations.{IsDerived, given_at, number_of}
 use Rattle.resolvo.specs.Propagators.{IsPropagator}
 use Rattle.resolvo.specs.declared.propagator.Propagator.{Propagator}
-use Rattle.resolvo.specs.Propagation.{AreChosen, AssumesNone, Extends, IsJustified}
+use Rattle.resolvo.specs.Propagation.{AreChosen, AssumesNone, Extends, IsDecidedFor, IsJustified}
 use Rattle.resolvo.specs.WatchedClauses.{AreInLists}
 use Rattle.resolver_clause_store.specs.Settled.{AllSettled}
 use Rattle.resolvo.proofs.ClauseSearchLemmas.{below-push, chosen-grows, chosen-undone, derived-push, grows-push, implied, justified-grows, justified-undone}
@@ -130,25 +131,26 @@ places-push places numbers place bound size inside =
     map-agree _ _ numbers (λ k d below. get_or-append places (place ∷ []) 0 _ (omega (arith, inside k d below)))
 
 -- one more requirement
-pub requirements-push : (requirements : List RequirementClause) (places numbers : List ℕ) (requirement : RequirementClause) (number : ℕ) →
-    numbers_of requirements ≡ map (place_of places) numbers → requirement.number ≡ place_of places number →
-    numbers_of (requirements ++ requirement ∷ []) ≡ map (place_of places) (numbers ++ number ∷ [])
-requirements-push requirements places numbers requirement number same here = map_push (λ (r : RequirementClause). r.number) requirements requirement ∙
+pub requirements-push : (requirements : List StoredRequirement) (places numbers : List ℕ) (requirement : StoredRequirement) (number : ℕ) →
+    stored_places requirements ≡ map (place_of places) numbers → requirement.number ≡ place_of places number →
+    stored_places (requirements ++ requirement ∷ []) ≡ map (place_of places) (numbers ++ number ∷ [])
+requirements-push requirements places numbers requirement number same here = map_push (λ (r : StoredRequirement). r.number) requirements requirement ∙
     (λ i. same i ++ here i ∷ []) ∙ sym (map_push (place_of places) numbers number)
 
 -- requirements of the search and the given ones stand side by side
-same-length : (requirements wanted : List RequirementClause) (places : List ℕ) → numbers_of requirements ≡ map (place_of places) (numbers_of wanted) →
-    length requirements ≡ length wanted
-same-length requirements wanted places same = sym (length-map requirements (λ (r : RequirementClause). r.number)) ∙ ap length same ∙
+same-length : (requirements : List StoredRequirement) (wanted : List RequirementClause) (places : List ℕ) →
+    stored_places requirements ≡ map (place_of places) (numbers_of wanted) → length requirements ≡ length wanted
+same-length requirements wanted places same = sym (length-map requirements (λ (r : StoredRequirement). r.number)) ∙ ap length same ∙
     length-map (numbers_of wanted) (place_of places) ∙ length-map wanted (λ (r : RequirementClause). r.number)
 
-same-number : (requirements wanted : List RequirementClause) (places : List ℕ) → numbers_of requirements ≡ map (place_of places) (numbers_of wanted) →
-    (k : ℕ) (d e : RequirementClause) → k < length wanted → (get_or requirements k d).number ≡ place_of places (get_or wanted k e).number
+same-number : (requirements : List StoredRequirement) (wanted : List RequirementClause) (places : List ℕ) →
+    stored_places requirements ≡ map (place_of places) (numbers_of wanted) → (k : ℕ) (d : StoredRequirement) (e : RequirementClause) → k < length wanted →
+    (get_or requirements k d).number ≡ place_of places (get_or wanted k e).number
 same-number requirements wanted places same k d e below =
     let number = λ (r : RequirementClause). r.number in
     let size = same-length requirements wanted places same in
     let inside : k < length (numbers_of wanted) = omega (arith, below, length-map wanted number) in
-    sym (get_or-map number requirements k d 0 (omega (arith, below, size))) ∙ ap (λ ns. get_or ns k 0) same ∙
+    sym (get_or-map (λ (r : StoredRequirement). r.number) requirements k d 0 (omega (arith, below, size))) ∙ ap (λ ns. get_or ns k 0) same ∙
     get_or-map (place_of places) (numbers_of wanted) k 0 0 inside ∙ ap (λ n. place_of places n) (get_or-map number wanted k e 0 below)
 
 -- a clause of a requirement at its place
@@ -156,23 +158,30 @@ given-clause : (given table : List (Vec Literal Global)) (sources : List Source)
     number < length given → clause_at table (place_of places number) ≡ clause_at given number
 given-clause given table sources places number loaded inside = loaded.are.same _ number (loaded.placed number inside)
 
-chosen-wanted : (given table : List (Vec Literal Global)) (sources : List Source) (places : List ℕ) (requirements wanted : List RequirementClause)
-    (trail : Trail) (variable : ℕ) (slot : Slot) → AreLoaded given table sources places → numbers_of requirements ≡ map (place_of places) (numbers_of wanted) →
-    All (λ (r : RequirementClause). r.number < length given) wanted → IsChosen table requirements trail variable slot →
-    IsChosen given wanted trail variable slot
+-- some element of a list that is not empty
+some-of : (wanted : List RequirementClause) (k : ℕ) → k < length wanted → RequirementClause
+some-of [] k below = absurd (omega (arith, below))
+some-of (r ∷ rest) k below = r
+
+chosen-wanted : (given table : List (Vec Literal Global)) (sources : List Source) (places : List ℕ) (requirements : List StoredRequirement)
+    (wanted : List RequirementClause) (trail : Trail) (variable : ℕ) (slot : Slot) → AreLoaded given table sources places →
+    stored_places requirements ≡ map (place_of places) (numbers_of wanted) → All (λ (r : RequirementClause). r.number < length given) wanted →
+    IsDecidedFor table requirements trail variable slot → IsChosen given wanted trail variable slot
 chosen-wanted given table sources places requirements wanted trail variable slot loaded same inside c =
     let k = c.listed.0 in
     let below : k < length wanted = omega (arith, c.listed.1, same-length requirements wanted places same) in
-    let number : place_of places (get_or wanted k c.requirement).number ≡ c.requirement.number =
-    sym (same-number requirements wanted places same k c.requirement c.requirement below) ∙ ap (λ (r : RequirementClause). r.number) c.listed.2 in
-    let clause = sym (given-clause given table sources places _ loaded (inside k c.requirement below)) ∙ ap (λ n. clause_at table n) number ∙ c.clause in
-    search (Contains-get_or wanted k c.requirement below)
+    let some = some-of wanted k below in
+    let number : place_of places (get_or wanted k some).number ≡ c.requirement.number =
+    sym (same-number requirements wanted places same k c.requirement some below) ∙ ap (λ (r : StoredRequirement). r.number) c.listed.2 in
+    let clause = sym (given-clause given table sources places _ loaded (inside k some below)) ∙ ap (λ n. clause_at table n) number ∙ c.clause in
+    search (Contains-get_or wanted k some below)
 
 -- what was found for the places holds for the given clauses
-pub finished : (given table : List (Vec Literal Global)) (sources : List Source) (places : List ℕ) (requirements wanted : List RequirementClause)
-    (trail : Trail) → IsDerived table sources → IsJustified table trail → AreChosen table requirements trail → AreLoaded given table sources places →
-    numbers_of requirements ≡ map (place_of places) (numbers_of wanted) → All (λ (r : RequirementClause). r.number < length given) wanted →
-    AllSettled trail table → All (λ (r : RequirementClause). IsMet trail (clause_at table r.number)) requirements → IsFinished given wanted trail
+pub finished : (given table : List (Vec Literal Global)) (sources : List Source) (places : List ℕ) (requirements : List StoredRequirement)
+    (wanted : List RequirementClause) (trail : Trail) → IsDerived table sources → IsJustified table trail → AreChosen table requirements trail →
+    AreLoaded given table sources places → stored_places requirements ≡ map (place_of places) (numbers_of wanted) →
+    All (λ (r : RequirementClause). r.number < length given) wanted → AllSettled trail table →
+    All (λ (r : StoredRequirement). IsMet trail (clause_at table r.number)) requirements → IsFinished given wanted trail
 finished given table sources places requirements wanted trail derived justified chosen loaded same inside settled met = record {
   reasons = λ v s at. ⊎_elim
       (λ (w : (n : ℕ) × (s.reason ≡ Decided n)). inl
@@ -192,16 +201,18 @@ finished given table sources places requirements wanted trail derived justified 
       (propagated trail _ (settled (place_of places n) (omega (arith, there, derived.count))));
   met = λ k d below.
       let size = same-length requirements wanted places same in
-      let at = same-number requirements wanted places same k d d below in
-      let here = met k d (omega (arith, below, size)) in
+      let none : StoredRequirement = record { number = 0; of_root = false } in
+      let at = same-number requirements wanted places same k none d below in
+      let here = met k none (omega (arith, below, size)) in
       subst (λ c. IsMet trail c) (ap (λ n. clause_at table n) at ∙ given-clause given table sources places _ loaded (inside k d below)) here;
 }
 
 -- the same where the numbers are known
-pub finished_for : (given table : List (Vec Literal Global)) (sources : List Source) (places : List ℕ) (requirements wanted : List RequirementClause)
-    (numbers : List ℕ) (trail : Trail) → numbers_of wanted ≡ numbers → IsDerived table sources → IsJustified table trail → AreChosen table requirements trail →
-    AreLoaded given table sources places → numbers_of requirements ≡ map (place_of places) numbers → All (λ n. n < length given) numbers →
-    AllSettled trail table → All (λ (r : RequirementClause). IsMet trail (clause_at table r.number)) requirements → IsFinished given wanted trail
+pub finished_for : (given table : List (Vec Literal Global)) (sources : List Source) (places : List ℕ) (requirements : List StoredRequirement)
+    (wanted : List RequirementClause) (numbers : List ℕ) (trail : Trail) → numbers_of wanted ≡ numbers → IsDerived table sources → IsJustified table trail →
+    AreChosen table requirements trail → AreLoaded given table sources places → stored_places requirements ≡ map (place_of places) numbers →
+    All (λ n. n < length given) numbers → AllSettled trail table → All (λ (r : StoredRequirement). IsMet trail (clause_at table r.number)) requirements →
+    IsFinished given wanted trail
 finished_for given table sources places requirements wanted numbers trail are derived justified chosen loaded same inside settled met =
     let each : All (λ (r : RequirementClause). r.number < length given) wanted = λ k d below.
     let r : RequirementClause = get_or wanted k d in
@@ -227,7 +238,7 @@ pub extends-grown : (old new : Trail) (variables : ℕ) → IsGrown old new vari
 extends-grown old new variables grown = record { kept = λ v s at. grown.slots v ∙ at; only = λ v s at. inl (sym (grown.slots v) ∙ at) }
 
 -- a requirement behind the others
-pub chosen-listed : (table : List (Vec Literal Global)) (requirements : List RequirementClause) (requirement : RequirementClause) (trail : Trail) →
+pub chosen-listed : (table : List (Vec Literal Global)) (requirements : List StoredRequirement) (requirement : StoredRequirement) (trail : Trail) →
     AreChosen table requirements trail → AreChosen table (requirements ++ requirement ∷ []) trail
 chosen-listed table requirements requirement trail chosen = record {
   each = λ v s n at decided.
@@ -295,7 +306,7 @@ loaded-clause old new given numbers copy clause number place it first end same t
 pub read-place : (places : List ℕ) (number place : ℕ) → number < length places → place ≡ get_or places number place → place ≡ place_of places number
 read-place places number place inside read = get_or_read places number place inside read 0
 
-pub loaded-requirement : (old new : ClauseSearch) (given : List (Vec Literal Global)) (numbers : List ℕ) (requirement : RequirementClause) (number : ℕ) →
+pub loaded-requirement : (old new : ClauseSearch) (given : List (Vec Literal Global)) (numbers : List ℕ) (requirement : StoredRequirement) (number : ℕ) →
     number < length old.places.items → requirement.number ≡ place_of old.places.items number → new.table.items ≡ old.table.items →
     new.sources.items ≡ old.sources.items → new.places.items ≡ old.places.items → new.requirements.items ≡ old.requirements.items ++ requirement ∷ [] →
     IsLoaded given numbers old → IsLoaded given (numbers ++ number ∷ []) new
@@ -306,16 +317,16 @@ loaded-requirement old new given numbers requirement number inside here table so
 }
 
 -- a search in which a requirement stands behind the others
-pub consistent-requirement : (old : ClauseSearch) (wanted : Vec RequirementClause Global) (queue : DecideQueue)
-    (in_lists : ∥ AreInLists old.table.items old.propagator.watches ∥₁) (requirement : RequirementClause) → IsConsistent old →
+pub consistent-requirement : (old : ClauseSearch) (wanted : Vec StoredRequirement Global) (queue : DecideQueue)
+    (in_lists : ∥ AreInLists old.table.items old.propagator.watches ∥₁) (requirement : StoredRequirement) → IsConsistent old →
     requirement.number < length old.table.items → wanted.items ≡ old.requirements.items ++ requirement ∷ [] →
     IsQueued queue old.trail old.table.items (old.requirements.items ++ requirement ∷ []) →
     IsConsistent (record old { requirements = wanted; queue = queue; in_lists = in_lists })
 consistent-requirement old wanted queue in_lists requirement it inside is queued =
     let chosen : AreChosen old.table.items wanted.items old.trail =
     rw is (chosen-listed old.table.items old.requirements.items requirement old.trail it.chosen) in
-    let below : All (λ (r : RequirementClause). r.number < length old.table.items) wanted.items =
-    rw is (All-push (λ (r : RequirementClause). r.number < length old.table.items) old.requirements.items requirement it.inside inside) in
+    let below : All (λ (r : StoredRequirement). r.number < length old.table.items) wanted.items =
+    rw is (All-push (λ (r : StoredRequirement). r.number < length old.table.items) old.requirements.items requirement it.inside inside) in
     let noted : IsQueued queue old.trail old.table.items wanted.items = rw is queued in
     assumption
 
@@ -383,7 +394,7 @@ pub requirements-begin : (it : ClauseSearch) (given : List (Vec Literal Global))
     count ≡ length it.requirements.items → IsLoaded given numbers it → wanted ≡ numbers ++ more → IsLoaded given (take count wanted) it
 requirements-begin it given wanted numbers more count end loaded is =
     let Loaded : List ℕ → Type 0 = λ ns. IsLoaded given ns it in
-    let size : length it.requirements.items ≡ length numbers = sym (length-map it.requirements.items (λ (r : RequirementClause). r.number)) ∙
+    let size : length it.requirements.items ≡ length numbers = sym (length-map it.requirements.items (λ (r : StoredRequirement). r.number)) ∙
     ap length loaded.requirements ∙ length-map numbers (place_of it.places.items) in
     subst Loaded (sym (ap (take count) is ∙ take_at numbers more count (sym size ∙ sym end))) loaded
 

@@ -14,7 +14,7 @@ use Rattle.resolver_clause_store.specs.Universe.{Universe, Demands}
 use Rattle.resolver_clause_store.specs.declared.Literal.{Literal}
 use Rattle.resolver_clause_store.specs.declared.Origin.TheVariants.{Root, Solvable}
 use Rattle.resolver_clause_store.specs.declared.Reason.TheVariants.{Assumed, Decided, Forced}
-use Rattle.resolver_clause_store.specs.declared.RequirementClause.{RequirementClause}
+use Rattle.resolver_clause_store.specs.declared.StoredRequirement.{StoredRequirement}
 use Rattle.resolver_clause_store.specs.declared.Slot.{Slot}
 use Rattle.resolver_clause_store.proofs.FormulaLemmas.{clause_at-append}
 use Rattle.resolver_clause_store.proofs.SlotLemmas.{slot-within}
@@ -104,7 +104,7 @@ module _ {N S : Type 0} (u : Universe N S) (root : Demands) (notes : Notes N S) 
       let literal : Literal = record { variable = variable; positive = true } in
       let Among : List ℕ → Type 0 = λ list. Contains list c.requirement.number in
       let w = Contains-map_back (place_of it.places.items) has.numbers c.requirement.number
-      (subst Among has.loaded.requirements (Contains-map (λ (r : RequirementClause). r.number) it.requirements.items c.requirement c.listed)) in
+      (subst Among has.loaded.requirements (Contains-map (λ (r : StoredRequirement). r.number) it.requirements.items c.requirement c.listed)) in
       let is : clause_at notes.table w.0 ≡ c.before ++ literal ∷ c.after = sym (given_at_place w.0 w.1) ∙ ap (λ n. clause_at it.table.items n) w.2 ∙ c.clause in
       let Stands : List Literal → Type 0 = λ clause. Contains clause literal in
       let Asks : List ℕ → Type 0 = λ list. Contains list w.0 in

@@ -6,7 +6,7 @@ use Rattle.std.specs.declared.alloc.Global.{Global}
 use Rattle.std.proofs.lemmas.Bool.{both_ways}
 use Rattle.std.proofs.lemmas.Option.{same_Some}
 use Rattle.resolver_clause_store.specs.declared.Literal.{Literal}
-use Rattle.resolver_clause_store.specs.declared.RequirementClause.{RequirementClause}
+use Rattle.resolver_clause_store.specs.declared.StoredRequirement.{StoredRequirement}
 use Rattle.resolver_clause_store.specs.declared.Reason.{Reason}
 use Rattle.resolver_clause_store.specs.declared.Reason.TheVariants.{Assumed, Decided, Forced}
 use Rattle.resolver_clause_store.specs.declared.Slot.{Slot}
@@ -150,7 +150,7 @@ pub level-gained : (old new : Trail) (literal : Literal) (level : ℕ) (reason :
 level-gained old new literal level reason gains = level-last new literal.variable _ gains.here (omega (arith, gains.count))
 
 -- an assumption is no decision for a requirement
-chosen-assumes : (table : List (Vec Literal Global)) (requirements : List RequirementClause) (old new : Trail) (literal : Literal) (level : ℕ) →
+chosen-assumes : (table : List (Vec Literal Global)) (requirements : List StoredRequirement) (old new : Trail) (literal : Literal) (level : ℕ) →
     AreChosen table requirements old → Gains old new literal level Assumed → slot_of old literal.variable ≡ None → AreChosen table requirements new
 chosen-assumes table requirements old new literal level chosen gains free = record {
   each = λ v s n at decided. ⊎_elim
@@ -201,7 +201,7 @@ justified-cut table old new count justified cut = record {
   contains = λ v s n at reason. justified.contains v s n (cut.stays v s at) reason;
 }
 
-chosen-cut : (table : List (Vec Literal Global)) (requirements : List RequirementClause) (old new : Trail) (count : ℕ) → AreChosen table requirements old →
+chosen-cut : (table : List (Vec Literal Global)) (requirements : List StoredRequirement) (old new : Trail) (count : ℕ) → AreChosen table requirements old →
     IsCut old new count → AreChosen table requirements new
 chosen-cut table requirements old new count chosen cut = record {
   each = λ v s n at decided.
@@ -213,7 +213,7 @@ chosen-cut table requirements old new count chosen cut = record {
 pub consistent-cut : (it : ClauseSearch) (trail : Trail) (propagator : Propagator) (queue : DecideQueue) (count kept base : ℕ)
     (in_lists : ∥ AreInLists it.table.items propagator.watches ∥₁) → IsConsistent it → IsCut it.trail trail count → count + 1 ≡ it.held →
     kept ≡ min it.kept count → IsTop trail base → base ≤ length_of trail → IsPropagator it.table.items trail propagator →
-    ((before after : Trail) (clauses : List (Vec Literal Global)) (wanted : List RequirementClause) → KeepsPlaces before after (min it.queue.kept count) →
+    ((before after : Trail) (clauses : List (Vec Literal Global)) (wanted : List StoredRequirement) → KeepsPlaces before after (min it.queue.kept count) →
     IsQueued it.queue before clauses wanted → IsQueued queue after clauses wanted) →
     IsConsistent (record it { trail = trail; propagator = propagator; queue = queue; kept = kept; base = base; held = count; in_lists = in_lists })
 consistent-cut it trail propagator queue count kept base in_lists holds cut last is top bound propagates noted =

@@ -3,6 +3,7 @@ use Rattle.std.specs.Prelude.{◌≡◌, ℕ, ◌+◌, ◌<◌, ◌≤◌, Some,
 use Rattle.std.specs.declared.alloc.Global.{Global}
 use Rattle.resolver_clause_store.specs.declared.Literal.{Literal}
 use Rattle.resolver_clause_store.specs.declared.RequirementClause.{RequirementClause}
+use Rattle.resolver_clause_store.specs.declared.StoredRequirement.{StoredRequirement}
 use Rattle.resolver_clause_store.specs.declared.Reason.TheVariants.{Assumed, Forced}
 use Rattle.resolver_clause_store.specs.declared.Slot.{Slot}
 use Rattle.resolver_clause_store.specs.declared.Trail.{Trail}
@@ -47,6 +48,10 @@ held_of it = it.held
 abbrev pub numbers_of : List RequirementClause → List ℕ
 numbers_of requirements = map (λ (requirement : RequirementClause). requirement.number) requirements
 
+-- the places of the clauses that ask for candidates
+abbrev pub stored_places : List StoredRequirement → List ℕ
+stored_places requirements = map (λ (requirement : StoredRequirement). requirement.number) requirements
+
 -- the place in the table of the given clause with this number
 abbrev pub place_of : List ℕ → ℕ → ℕ
 place_of places number = slice_index places number
@@ -61,7 +66,7 @@ pub record AreLoaded (given table : List (Vec Literal Global)) (sources : List S
 -- their places.
 pub record IsLoaded (given : List (Vec Literal Global)) (numbers : List ℕ) (it : ClauseSearch) : Type 0 where
   pub clauses : AreLoaded given it.table.items it.sources.items it.places.items
-  pub requirements : numbers_of it.requirements.items ≡ map (place_of it.places.items) numbers
+  pub requirements : stored_places it.requirements.items ≡ map (place_of it.places.items) numbers
   pub inside : All (λ number. number < length given) numbers
 
 -- The first places of the trail are held: their levels are not above the base, so they stay where the levels above it are
@@ -78,7 +83,7 @@ pub record IsConsistent (it : ClauseSearch) : Type 0 where
   pub derived : IsDerived it.table.items it.sources.items
   pub justified : IsJustified it.table.items it.trail
   pub chosen : AreChosen it.table.items it.requirements.items it.trail
-  pub inside : All (λ (requirement : RequirementClause). requirement.number < length it.table.items) it.requirements.items
+  pub inside : All (λ (requirement : StoredRequirement). requirement.number < length it.table.items) it.requirements.items
   pub places : All (λ place. place < length it.table.items) it.places.items
   pub count : it.learnt + length it.places.items ≡ length it.table.items
   pub kept : it.kept ≤ length_of it.trail

@@ -16,7 +16,7 @@ number_of (Learnt causes) = None
 -- the causes of a learnt clause
 abbrev pub causes_of : Source → List ℕ
 causes_of (Given number) = []
-causes_of (Learnt causes) = causes.items
+causes_of (Learnt causes) = causes.value.items
 
 -- the number of the given clause at this place of the table, or `None` if the clause there is learnt
 abbrev pub given_at : List Source → ℕ → Option ℕ

@@ -1,15 +1,15 @@
 -- Clauses under a trail, and the effect of propagation on it.
-use Rattle.std.specs.Prelude.{◌≡◌, ℕ, ◌<◌, ◌⊎◌, false, Option, Some, None, List, length, Vec, All, Contains, slice_index_or}
+use Rattle.std.specs.Prelude.{◌≡◌, ℕ, ◌<◌, ◌⊎◌, ◌++◌, ◌∷◌, true, false, Option, Some, None, List, length, Vec, All, Contains, slice_index_or}
 use Rattle.std.specs.declared.alloc.Global.{Global}
 use Rattle.resolver_clause_store.specs.declared.Literal.{Literal}
-use Rattle.resolver_clause_store.specs.declared.RequirementClause.{RequirementClause}
+use Rattle.resolver_clause_store.specs.declared.StoredRequirement.{StoredRequirement}
 use Rattle.resolver_clause_store.specs.declared.Slot.{Slot}
 use Rattle.resolver_clause_store.specs.declared.Reason.TheVariants.{Assumed, Decided, Forced}
 use Rattle.resolver_clause_store.specs.declared.Trail.{Trail}
 use Rattle.resolver_clause_store.specs.Formula.{clause_at}
 use Rattle.resolver_clause_store.specs.Slots.{is_decided}
 use Rattle.resolver_clause_store.specs.TrailView.{slot_of, literal_value}
-use Rattle.resolver_clause_store.specs.Outcomes.{IsFalsified, IsSatisfied, IsForcing, IsChosen}
+use Rattle.resolver_clause_store.specs.Outcomes.{IsFalseBefore, IsFalsified, IsSatisfied, IsForcing}
 use Rattle.resolver_clause_store.specs.Settled.{IsOpen}
 use Rattle.resolvo.specs.declared.clause_state.State.{State}
 use Rattle.resolvo.specs.declared.clause_state.State.TheVariants.{Satisfied, Falsified, Unit, Open}
@@ -42,10 +42,20 @@ pub record IsJustified (table : List (Vec Literal Global)) (trail : Trail) : Typ
   pub contains : (variable : ℕ) (slot : Slot) (number : ℕ) → slot_of trail variable ≡ Some slot → slot.reason ≡ Forced number →
       Contains (clause_at table number) (record { variable = variable; positive = slot.value })
 
--- if a variable was decided, it was decided for a requirement
-pub record AreChosen (table : List (Vec Literal Global)) (requirements : List RequirementClause) (trail : Trail) : Type 0 where
+-- the variable is true, and stands in the clause of a stored requirement behind literals that were all false before
+pub record IsDecidedFor (table : List (Vec Literal Global)) (requirements : List StoredRequirement) (trail : Trail) (variable : ℕ) (slot : Slot) : Type 0 where
+  pub requirement : StoredRequirement
+  pub listed : Contains requirements requirement
+  pub value : slot.value ≡ true
+  pub before : List Literal
+  pub after : List Literal
+  pub clause : clause_at table requirement.number ≡ before ++ record { variable = variable; positive = true } ∷ after
+  pub false_before : All (IsFalseBefore trail slot.place) before
+
+-- each variable that was decided was decided for a requirement
+pub record AreChosen (table : List (Vec Literal Global)) (requirements : List StoredRequirement) (trail : Trail) : Type 0 where
   pub each : (variable : ℕ) (slot : Slot) (number : ℕ) → slot_of trail variable ≡ Some slot → slot.reason ≡ Decided number →
-      IsChosen table requirements trail variable slot
+      IsDecidedFor table requirements trail variable slot
 
 -- all values stay, and no new variable is decided or assumed
 pub record Extends (old new : Trail) : Type 0 where

@@ -134,7 +134,7 @@ pub fn level_at(trail: &Trail, variable: Variable) -> usize
     ensures { result ≡ level_in trail.now variable }
 {
     match trail.slot(variable) {
-        Some(slot) => slot.level,
+        Some(slot) => slot.level as usize,
         None => 0,
     }
 }
@@ -161,8 +161,9 @@ pub fn lower_place(trail: &Trail, variable: Variable, level: usize, lowest: usiz
 {
     match trail.slot(variable) {
         Some(slot) => {
-            if slot.level == level && slot.place < lowest {
-                return slot.place;
+            let place = slot.place as usize;
+            if slot.level as usize == level && place < lowest {
+                return place;
             }
             lowest
         }
@@ -280,7 +281,9 @@ pub fn resolve_level(
             }
             match trail.slot(variable) {
                 Some(slot) => match slot.reason {
-                    Reason::Forced(number) => resolve(table, trail, resolvent, variable, number)?,
+                    Reason::Forced(number) => {
+                        resolve(table, trail, resolvent, variable, number as usize)?
+                    }
                     Reason::Decided(_) => return Ok(()),
                     Reason::Assumed => return Ok(()),
                 },

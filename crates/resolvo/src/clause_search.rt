@@ -12,6 +12,7 @@ ghost use Rattle.resolver_clause_store.specs.declared.Exhausted.TheVariants.{Ids
 ghost use Rattle.resolver_clause_store.specs.declared.Literal.{Literal};
 ghost use Rattle.resolver_clause_store.specs.declared.Reason.TheVariants.{Assumed};
 ghost use Rattle.resolver_clause_store.specs.declared.RequirementClause.{RequirementClause};
+ghost use Rattle.resolver_clause_store.specs.declared.StoredRequirement.{StoredRequirement};
 ghost use Rattle.resolver_encoding.specs.Refusals.{IsStop};
 ghost use Rattle.resolver_clause_store.specs.Decisions.{IsChoice, IsFirst};
 ghost use Rattle.resolvo.specs.Propagation.{AreChosen, AssumesNone, IsConflict, IsJustified};
@@ -28,8 +29,8 @@ use crate::clause_state::{State, examine};
 use crate::contradiction::{Source, core};
 use crate::propagator::{Propagator, apply_all_pending, begins_level, propagate};
 use resolver_clause_store::{
-    Activity, Choice, DecideQueue, DependencyProvider, Exhausted, Interrupted, Literal,
-    RequirementClause, Trail, check_cancel, clause,
+    Activity, Choice, DecideQueue, DependencyProvider, Exhausted, Interrupted, Literal, Owner,
+    RequirementClause, StoredRequirement, Trail, check_cancel, clause, narrow,
 };
 use std::alloc::{AllocError, Global};
 
@@ -56,9 +57,9 @@ pub struct ClauseSearch {
     propagator: Propagator,
     table: Vec<Vec<Literal>>,
     sources: Vec<Source>,
-    requirements: Vec<RequirementClause>,
+    requirements: Vec<StoredRequirement>,
     /// The place of each given clause, by its number.
-    places: Vec<usize>,
+    places: Vec<u32>,
     learnt: usize,
     /// How many first places of the trail are as they were when it was last marked.
     kept: usize,
@@ -80,7 +81,7 @@ pub fn take(trail: &mut Trail, table: &[Vec<Literal>], choice: Choice) -> Result
     requires first { IsFirst trail.old (clause_at table.now choice.number) choice.place }
     requires justified { IsJustified table.now trail.old }
     ensures justified { OnOk result (IsJustified table.now trail.new) }
-    ensures chosen { OnOk result ((requirements : List RequirementClause) → IsChoice trail.old table.now requirements choice →
+    ensures chosen { OnOk result ((requirements : List StoredRequirement) → IsChoice trail.old table.now requirements choice →
         AreChosen table.now requirements trail.old → AreChosen table.now requirements trail.new) }
     ensures size { OnOk result (variable_count trail.new ≡ variable_count trail.old) }
     ensures fewer { OnOk result (open_count trail.new < open_count trail.old) }
@@ -101,19 +102,19 @@ pub fn descend<D: DependencyProvider>(
     trail: &mut Trail,
     queue: &mut DecideQueue,
     table: &[Vec<Literal>],
-    requirements: &[RequirementClause],
+    requirements: &[StoredRequirement],
     propagator: &mut Propagator,
 ) -> Result<Option<usize>, Interrupted<D::Cancel>>
     requires below { AreBelow (variable_count trail.old) table.now }
     requires propagator { IsPropagator table.now trail.old propagator.old }
-    requires inside { All (λ (requirement : RequirementClause). requirement.number < length table.now) requirements.now }
+    requires inside { All (λ (requirement : StoredRequirement). requirement.number < length table.now) requirements.now }
     requires justified { IsJustified table.now trail.old }
     requires chosen { AreChosen table.now requirements.now trail.old }
     requires queued { IsQueued queue.old trail.old table.now requirements.now }
     ensures conflict { IfOk result (λ answer. IfSome answer (IsConflict trail.new table.now)) }
     ensures settled { IfOk result (λ answer. IfNone answer (AllSettled trail.new table.now)) }
     ensures met { IfOk result (λ answer.
-        IfNone answer (All (λ (requirement : RequirementClause). IsMet trail.new (clause_at table.now requirement.number)) requirements.now)) }
+        IfNone answer (All (λ (requirement : StoredRequirement). IsMet trail.new (clause_at table.now requirement.number)) requirements.now)) }
     ensures propagator { OnOk result (IsPropagator table.now trail.new propagator.new) }
     ensures refused { OnErr result (AreOwned table.now (pairs_of propagator.new.watches)) }
     ensures justified { OnOk result (IsJustified table.now trail.new) }
@@ -304,7 +305,7 @@ impl ClauseSearch {
         ensures undone { OnOk result (IsFalsified (trail_of self.old) literals.now → IsUndone (trail_of self.old) (trail_of self.new) (base_of self.old)) }
     {
         let number = self.places.len();
-        let place = self.table.len();
+        let place = narrow(self.table.len())?;
         let level = level_for(&self.trail, literals, self.base);
         let copy = literals.to_vec(*self.table.allocator())?;
         self.propagator.attach(&self.trail, literals)?;
@@ -346,14 +347,15 @@ impl ClauseSearch {
         ensures places { OnOk result (self.new.places.items ≡ self.old.places.items) }
         ensures count { OnOk result (length self.new.requirements.items ≡ length self.old.requirements.items + 1) }
     {
-        let ends = requirement.ends.clone()?;
         let place = self.places[requirement.number];
-        self.queue
-            .add(self.requirements.len(), clause(&self.table, place))?;
-        self.requirements.push(RequirementClause {
+        self.queue.add(
+            self.requirements.len(),
+            clause(&self.table, place as usize),
+            &requirement.ends,
+        )?;
+        self.requirements.push(StoredRequirement {
             number: place,
             of_root: requirement.of_root,
-            ends,
         })?;
         Ok(())
     }
@@ -382,7 +384,7 @@ impl ClauseSearch {
         variables: usize,
         clauses: &[Vec<Literal>],
         requirements: &[RequirementClause],
-        owners: &[Option<usize>],
+        owners: &[Owner],
     ) -> Result<(), Exhausted>
         requires consistent { IsConsistent self.old }
         requires below { AreBelow variables clauses.now }
@@ -428,10 +430,12 @@ impl ClauseSearch {
             backtrack_level,
         } = learnt;
         let number = self.table.len();
+        let alloc = *self.table.allocator();
         self.queue.learn(&literals)?;
         self.propagator.attach(&self.trail, &literals)?;
         self.table.push(literals)?;
-        self.sources.push(Source::Learnt(causes))?;
+        let source = Source::Learnt(Box::new(alloc, causes)?);
+        self.sources.push(source)?;
         self.learnt += 1;
         let back = backtrack_level.max(self.base);
         self.trail.undo_until(back);

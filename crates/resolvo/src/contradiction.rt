@@ -17,7 +17,7 @@ pub enum Source {
     /// It is the given clause with this number.
     Given(usize),
     /// It follows from the clauses at these places of the table.
-    Learnt(Vec<usize>),
+    Learnt(Box<Vec<usize>>),
 }
 
 /// Makes `count` marks, none of them set.

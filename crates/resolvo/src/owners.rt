@@ -4,7 +4,9 @@ ghost use Rattle.std.specs.Prelude.{IfErr, ◌≡◌};
 ghost use Rattle.resolver_clause_store.specs.declared.Exhausted.TheVariants.{Memory};
 
 use indexmap::IndexSet;
-use resolver_clause_store::{DependencyProvider, Exhausted, Interner, Origin, Variable, Variables};
+use resolver_clause_store::{
+    DependencyProvider, Exhausted, Interner, Origin, Owner, Variable, Variables,
+};
 use std::alloc::Global;
 use std::hash::Hash;
 
@@ -12,7 +14,7 @@ use std::hash::Hash;
 #[derive(Drop)]
 pub struct Owners<N: Copy + Eq + Hash + Drop> {
     names: IndexSet<N>,
-    owners: Vec<Option<usize>>,
+    owners: Vec<Owner>,
 }
 
 impl<N: Copy + Eq + Hash + Drop> Owners<N> {
@@ -25,7 +27,7 @@ impl<N: Copy + Eq + Hash + Drop> Owners<N> {
     }
 
     /// The owner of each variable.
-    pub fn as_slice(&self) -> &[Option<usize>] {
+    pub fn as_slice(&self) -> &[Owner] {
         self.owners.as_slice()
     }
 
@@ -46,13 +48,14 @@ impl<N: Copy + Eq + Hash + Drop> Owners<N> {
         &mut self,
         provider: &D,
         origin: Option<Origin<N, S>>,
-    ) -> Result<Option<usize>, Exhausted>
+    ) -> Result<Owner, Exhausted>
         ensures memory { IfErr result (λ e. e ≡ Memory) }
     {
         match origin {
             Some(Origin::Solvable(solvable)) => {
                 let number = self.number_of(provider.solvable_name(solvable))?;
-                Ok(Some(number))
+                let owner = Owner::package(number)?;
+                Ok(owner)
             }
             Some(
                 Origin::Root
@@ -60,8 +63,8 @@ impl<N: Copy + Eq + Hash + Drop> Owners<N> {
                 | Origin::Gate(_)
                 | Origin::ConstraintHelper(_)
                 | Origin::ConditionHelper(_),
-            ) => Ok(None),
-            None => Ok(None),
+            ) => Ok(Owner::none()),
+            None => Ok(Owner::none()),
         }
     }
 

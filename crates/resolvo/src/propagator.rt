@@ -14,9 +14,9 @@ pub use visiting::propagate;
 #[derive(Clone, Copy, PartialEq, Eq)]
 pub struct Late {
     /// The clause's number.
-    pub number: usize,
+    pub number: u32,
     /// A literal among the first `length` entries of the trail satisfies it.
-    pub length: usize,
+    pub length: u32,
 }
 
 /// The state that propagation keeps between calls.
@@ -25,7 +25,7 @@ pub struct Propagator {
     watches: Watches,
     late: Vec<Late>,
     /// The numbers of the clauses that are pending: to be examined before anything is propagated.
-    pending: Vec<usize>,
+    pending: Vec<u32>,
     /// How many entries of the trail have been propagated.
     head: usize,
 }

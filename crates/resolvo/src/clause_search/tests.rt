@@ -143,7 +143,7 @@ fn load_given(
     clauses: &[Vec<Literal>],
     requirements: &[RequirementClause],
     variables: usize,
-    owners: &[Option<usize>],
+    owners: &[Owner],
 ) -> bool
     requires { IsConsistent search.old }
     ensures { IsTrue result → IsConsistent search.new }
@@ -379,6 +379,7 @@ fn first_on(trail: &Trail, table: &[Vec<Literal>]) -> Decision {
         let variable = trail.variable_at(place);
         if let Some(slot) = trail.slot(variable) {
             if let Reason::Decided(number) = slot.reason {
+                let number = number as usize;
                 return place_in(table, number, variable).map(|found| (number, found));
             }
         }
@@ -724,7 +725,7 @@ fn each_propagation_may_be_cancelled(rt: HostRuntime) -> Result<(), Fail> {
     Ok(())
 }
 
-fn assumed(value: bool, level: usize, place: usize) -> Option<Slot> {
+fn assumed(value: bool, level: u32, place: u32) -> Option<Slot> {
     Some(Slot {
         value,
         level,
@@ -733,7 +734,7 @@ fn assumed(value: bool, level: usize, place: usize) -> Option<Slot> {
     })
 }
 
-fn forced(value: bool, level: usize, place: usize, number: usize) -> Option<Slot> {
+fn forced(value: bool, level: u32, place: u32, number: u32) -> Option<Slot> {
     Some(Slot {
         value,
         level,

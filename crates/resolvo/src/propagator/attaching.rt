@@ -18,7 +18,7 @@ ghost use Rattle.resolver_clause_store.specs.WatchesView.{lists_of, pairs_of};
 
 use super::{Late, Propagator};
 use crate::clause_state::{State, examine};
-use resolver_clause_store::{Literal, Trail, WatchedPair, Watches, clause};
+use resolver_clause_store::{Literal, Trail, WatchedPair, Watches, clause, narrow};
 use std::alloc::{AllocError, Global};
 
 impl Propagator {
@@ -54,7 +54,7 @@ impl Propagator {
         ensures head { OnOk result (self.new.head ≡ self.old.head) }
     {
         'late: while let Some(late) = self.late.last() {
-            if late.length <= length {
+            if late.length as usize <= length {
                 return Ok(());
             }
             self.pending.push(late.number)?;
@@ -105,10 +105,9 @@ impl Propagator {
         if are_high(trail, pair.first, pair.second) {
             return Ok(());
         }
-        self.late.push(Late {
-            number,
-            length: trail.len(),
-        })?;
+        let number = narrow(number)?;
+        let length = narrow(trail.len())?;
+        self.late.push(Late { number, length })?;
         Ok(())
     }
 
@@ -140,7 +139,7 @@ impl Propagator {
         ensures kept { (number : ℕ) → number < attached_of self.old → pair_at (pairs_of self.new.watches) number ≡ pair_at (pairs_of self.old.watches) number }
         ensures own { OnOk result (OwnsPair literals.now (pair_at (pairs_of self.new.watches) (attached_of self.old))) }
     {
-        let number = self.watches.len();
+        let number = narrow(self.watches.len())?;
         self.watches.add(pair_of(trail, literals))?;
         self.pending.push(number)?;
         Ok(())
@@ -153,7 +152,7 @@ fn is_high(trail: &Trail, literal: Literal) -> bool
     ensures { result ≡ true → IsHigh trail.now literal }
 {
     match trail.slot(literal.variable) {
-        Some(slot) => slot.value == literal.positive || slot.level >= trail.level(),
+        Some(slot) => slot.value == literal.positive || slot.level as usize >= trail.level(),
         None => true,
     }
 }
@@ -186,7 +185,7 @@ fn false_place(trail: &Trail, watched: Option<Literal>) -> usize
     if slot.value == literal.positive {
         return trail.len();
     }
-    slot.place
+    slot.place as usize
 }
 
 /// Whether the literal at `place` differs from the one at `other`, if that is given.
@@ -312,7 +311,7 @@ pub fn apply_all_pending(
     ensures step { OnOk result (Forces table.now trail.old trail.new) }
 {
     'pending: while let Some(number) = propagator.pending.last() {
-        let number = *number;
+        let number = *number as usize;
         if !apply_pending(trail, table, propagator, number)? {
             return Ok(Some(number));
         }

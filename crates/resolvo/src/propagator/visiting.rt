@@ -14,7 +14,7 @@ ghost use Rattle.resolver_clause_store.specs.Watches.{IsPair};
 ghost use Rattle.resolver_clause_store.specs.WatchesView.{pairs_of};
 
 use super::{Late, Propagator};
-use resolver_clause_store::{Literal, Trail, WatchedPair, clause};
+use resolver_clause_store::{Literal, Trail, WatchedPair, clause, narrow};
 use std::alloc::AllocError;
 
 /// A literal that has become false.
@@ -91,8 +91,8 @@ impl Propagator {
                     variable,
                     positive: !slot.value,
                 },
-                level: slot.level,
-                is_top: trail.level() <= slot.level,
+                level: slot.level as usize,
+                is_top: trail.level() <= slot.level as usize,
             },
             None => FalseLiteral {
                 literal: Literal {
@@ -121,7 +121,8 @@ impl Propagator {
         if falsified.is_top {
             return Ok(());
         }
-        let length = trail.len();
+        let number = narrow(number)?;
+        let length = narrow(trail.len())?;
         self.late.push(Late { number, length })?;
         Ok(())
     }
@@ -257,13 +258,14 @@ impl Propagator {
         ensures total { open_count trail.new + length_of trail.new ≡ open_count trail.old + length_of trail.old }
     {
         let watch = self.watches.watch_at(falsified.literal, place);
+        let number = watch.number as usize;
         if trail.value(watch.blocker) == Some(true) {
-            let outcome = self.pass_by(trail, table, falsified, place, watch.number)?;
+            let outcome = self.pass_by(trail, table, falsified, place, number)?;
             return Ok(outcome);
         }
-        let pair = self.watches.pair(watch.number);
+        let pair = self.watches.pair(number);
         let watcher = Watcher {
-            number: watch.number,
+            number,
             place,
             other: other_watched(&pair, &falsified.literal),
         };

@@ -5,7 +5,7 @@ ghost use Rattle.resolvo.specs.ClauseSearches.{IsConsistent};
 use super::{finishes, load_given, provider_of_nothing, requirement_of, slot_of};
 use crate::clause_search::ClauseSearch;
 use crate::test_provider::TestProvider;
-use resolver_clause_store::{Activity, Literal, RequirementClause, Scores, Variable};
+use resolver_clause_store::{Activity, Literal, Owner, RequirementClause, Scores, Variable};
 use std::alloc::{AllocError, Global};
 use std::test::Fail;
 
@@ -39,7 +39,7 @@ struct Given {
     alloc: Global,
     table: Vec<Vec<Literal>>,
     requirements: Vec<RequirementClause>,
-    owners: Vec<Option<usize>>,
+    owners: Vec<Owner>,
     /// The number of the next variable.
     next: u32,
 }
@@ -55,8 +55,8 @@ impl Given {
         }
     }
 
-    /// The number of a new variable, which stands for a solvable of this package, if one.
-    fn add_variable(&mut self, owner: Option<usize>) -> Result<u32, AllocError> {
+    /// The number of a new variable with this owner.
+    fn add_variable(&mut self, owner: Owner) -> Result<u32, AllocError> {
         let number = self.next;
         self.owners.push(owner)?;
         self.next = number.wrapping_add(1);
@@ -83,7 +83,7 @@ impl Given {
     fn require(&mut self, requirer: u32, package: usize, count: usize) -> Result<(), AllocError> {
         let mut clause = vec![in self.alloc; is_false(requirer)]?;
         for _ in 0..count {
-            clause.push(is_true(self.add_variable(Some(package))?))?;
+            clause.push(is_true(self.add_variable(Owner::package(package)?)?))?;
         }
         self.add_requirement(clause, false)?;
         Ok(())
@@ -91,8 +91,8 @@ impl Given {
 
     /// Adds a requirement of the root, of which a candidate of a package is tried first. Answers that candidate.
     fn require_one(&mut self, package: usize) -> Result<u32, AllocError> {
-        let tried = self.add_variable(Some(package))?;
-        let left = self.add_variable(None)?;
+        let tried = self.add_variable(Owner::package(package)?)?;
+        let left = self.add_variable(Owner::none())?;
         let mut clause = vec![in self.alloc; is_true(tried)]?;
         clause.push(is_true(left))?;
         self.add_requirement(clause, true)?;
@@ -106,7 +106,7 @@ impl Given {
         for package in packages {
             tried.push(is_false(self.require_one(*package)?))?;
         }
-        let both = self.add_variable(None)?;
+        let both = self.add_variable(Owner::none())?;
         self.add_clause(&tried, is_true(both))?;
         self.add_clause(&tried, is_false(both))?;
         Ok(())
@@ -139,7 +139,7 @@ fn is_false(number: u32) -> Literal {
 /// candidates of the two packages are the literals 2 and 5.
 fn given_for(alloc: Global, learnt: &[Learnt<'_>]) -> Result<Given, AllocError> {
     let mut given = Given::new(alloc);
-    let requirer = given.add_variable(None)?;
+    let requirer = given.add_variable(Owner::none())?;
     given.add_clause(&[], is_true(requirer))?;
     given.require(requirer, WIDE, 3)?;
     given.require(requirer, NARROW, 2)?;
@@ -158,18 +158,20 @@ fn learnt_in(search: &ClauseSearch, count: usize) -> &[Vec<Literal>] {
 }
 
 /// How many literals of a clause are of solvables of the first package.
-fn count_in(clause: &[Literal], owners: &[Option<usize>]) -> usize {
+fn count_in(clause: &[Literal], owners: &[Owner]) -> usize {
     let mut count = 0usize;
     for literal in clause {
-        if owners.get(literal.variable.index()) == Some(&Some(WIDE)) {
-            count = count.saturating_add(1);
+        if let Some(owner) = owners.get(literal.variable.index()) {
+            if owner.number() == Some(WIDE) {
+                count = count.saturating_add(1);
+            }
         }
     }
     count
 }
 
 /// How many clauses have just one solvable of the first package.
-fn clauses_with_one(clauses: &[Vec<Literal>], owners: &[Option<usize>]) -> usize {
+fn clauses_with_one(clauses: &[Vec<Literal>], owners: &[Owner]) -> usize {
     let mut count = 0usize;
     for clause in clauses {
         if count_in(clause, owners) == 1 {
@@ -184,7 +186,7 @@ fn score_by(
     alloc: Global,
     activity: Activity,
     clauses: &[Vec<Literal>],
-    owners: &[Option<usize>],
+    owners: &[Owner],
 ) -> Result<u64, AllocError> {
     let mut scores = Scores::new(alloc, activity);
     let mut learnt = 0u64;

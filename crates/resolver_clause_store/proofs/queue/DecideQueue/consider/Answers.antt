@@ -1,45 +1,62 @@
-use Rattle.std.proofs.Common.{arith, refl, sym, ap, ◌∙◌}
+use Rattle.std.proofs.Common.{arith, false, refl, sym, ap, get_or, length, ◌∙◌, ◌≡◌, ◌<◌}
+use Rattle.std.proofs.lemmas.List.{get_or_default}
+use Rattle.resolver_clause_store.specs.declared.clauses.StoredRequirement.{StoredRequirement}
 use Rattle.resolver_clause_store.specs.Formula.{clause_at}
 use Rattle.resolver_clause_store.proofs.QueueLemmas.{held-by_candidate, held-waiting, left-read, parked-more, queued-settled}
 use Rattle.resolver_clause_store.proofs.queue.DecideQueue.consider.Goals as goal
 
 pub returns-in_ok-add-in-Waiting-clause-queued : goal.returns-in_ok-add-in-Waiting-clause-queued
 returns-in_ok-add-in-Waiting-clause-queued c =
+    let none : StoredRequirement = record { number = 0; of_root = false } in
+    let inside : c.index-number.result.now < length c.args.requirements.now = omega (arith, c.if-index-requirements.false) in
+    let requirement : StoredRequirement = get_or c.args.requirements.now c.index-number.result.now none in
+    let is : requirement ≡ get_or c.args.requirements.now c.index-number.result.now requirement =
+    get_or_default c.args.requirements.now c.index-number.result.now none requirement inside in
     let it = c.args.self.now in
-    let index = c.index-index.result.now in
+    let index = c.index-number.result.now in
     let left = c.swap_remove-in-Waiting in
     let here = rw c.index.ensures at c.in_ok-add-in-Waiting.ensures.here in
     let others = rw c.index.ensures at c.in_ok-add-in-Waiting.ensures.others in
     queued-settled it _ c.args.trail.now c.args.table.now c.args.requirements.now index refl refl
-    (left-read it.active.items _ c.args.place index left.result c.requires.listed c.index-index.ensures left.ensures.value left.ensures.items)
+    (left-read it.active.items _ c.args.place index left.result c.requires.listed c.index-number.ensures left.ensures.value left.ensures.items)
     (parked-more it.waiting c.add.new.self c.in-Waiting.variable index here others)
     (λ v i there. there)
     (held-waiting _ it.waiting c.add.new.self it.met it.followed.items it.kept c.args.trail.now c.args.table.now c.args.requirements.now
-    c.index-requirements-index.result c.clause-literals.result.now index c.in-Waiting.variable here c.index-requirements-index.is c.clause-literals.ensures
+    requirement c.clause-literals.result.now index c.in-Waiting.variable here is c.clause-literals.ensures
     c.in-Waiting.ensures)
     c.requires.queued
 
 pub returns-in_ok-add-in-Met-clause-queued : goal.returns-in_ok-add-in-Met-clause-queued
 returns-in_ok-add-in-Met-clause-queued c =
+    let none : StoredRequirement = record { number = 0; of_root = false } in
+    let inside : c.index-number.result.now < length c.args.requirements.now = omega (arith, c.if-index-requirements.false) in
+    let requirement : StoredRequirement = get_or c.args.requirements.now c.index-number.result.now none in
+    let is : requirement ≡ get_or c.args.requirements.now c.index-number.result.now requirement =
+    get_or_default c.args.requirements.now c.index-number.result.now none requirement inside in
     let it = c.args.self.now in
-    let index = c.index-index.result.now in
+    let index = c.index-number.result.now in
     let left = c.swap_remove-in-Met in
     let here = rw c.index-in-Met.ensures at c.in_ok-add-in-Met.ensures.here in
     let others = rw c.index-in-Met.ensures at c.in_ok-add-in-Met.ensures.others in
     queued-settled it _ c.args.trail.now c.args.table.now c.args.requirements.now index refl refl
-    (left-read it.active.items _ c.args.place index left.result c.requires.listed c.index-index.ensures left.ensures.value left.ensures.items)
+    (left-read it.active.items _ c.args.place index left.result c.requires.listed c.index-number.ensures left.ensures.value left.ensures.items)
     (λ v i there. there)
     (parked-more it.met c.add-in-Met.new.self c.in-Met.variable index here others)
     (held-by_candidate _ it.waiting it.met c.add-in-Met.new.self it.followed.items it.kept c.args.trail.now c.args.table.now c.args.requirements.now
-    c.index-requirements-index.result c.clause-literals.result.now index c.in-Met.variable c.requires.queued.following.same c.requires.followed.all
-    c.requires.followed.none_else here c.index-requirements-index.is c.clause-literals.ensures c.in-Met.ensures)
+    requirement c.clause-literals.result.now index c.in-Met.variable c.requires.queued.following.same c.requires.followed.all
+    c.requires.followed.none_else here is c.clause-literals.ensures c.in-Met.ensures)
     c.requires.queued
 
 pub returns-in-Open-clause-some : goal.returns-in-Open-clause-some
 returns-in-Open-clause-some c =
+    let none : StoredRequirement = record { number = 0; of_root = false } in
+    let inside : c.index-number.result.now < length c.args.requirements.now = omega (arith, c.if-index-requirements.false) in
+    let requirement : StoredRequirement = get_or c.args.requirements.now c.index-number.result.now none in
+    let is : requirement ≡ get_or c.args.requirements.now c.index-number.result.now requirement =
+    get_or_default c.args.requirements.now c.index-number.result.now none requirement inside in
     let literals = c.clause-literals.ensures ∙ ap (λ n. clause_at c.args.table.now n) (sym c.choice_at.ensures.number) in
     record {
-      requirement = c.index-requirements-index.result;
-      listed = (c.index-index.result.now, omega (arith, c.if-index-requirements.false), sym c.index-requirements-index.is);
+      requirement = requirement;
+      listed = (c.index-number.result.now, inside, sym is);
       chosen = record { number_is = sym c.choice_at.ensures.number; first = rw (sym literals, c.choice_at.ensures.place) c.in-Open.ensures };
     }

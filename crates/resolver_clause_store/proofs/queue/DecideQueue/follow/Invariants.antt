@@ -2,14 +2,14 @@ use Rattle.std.proofs.Common.{◌≡◌, ◌≤◌, ◌-◌, List, length}
 use Rattle.std.specs.Prelude.{Vec}
 use Rattle.std.specs.declared.alloc.Global.{Global}
 use Rattle.resolver_clause_store.specs.declared.literals.Literal.{Literal}
-use Rattle.resolver_clause_store.specs.declared.clauses.RequirementClause.{RequirementClause}
+use Rattle.resolver_clause_store.specs.declared.clauses.StoredRequirement.{StoredRequirement}
 use Rattle.resolver_clause_store.specs.TrailView.{length_of}
 use Rattle.resolver_clause_store.specs.Queues.{IsQueued}
 use Rattle.resolver_clause_store.proofs.queue.DecideQueue.follow.Given as goal
 
 abbrev pub invariant-places : goal.invariant-places
 invariant-places l = record {
-  queued : (table : List (Vec Literal Global)) (requirements : List RequirementClause) → IsQueued l.initial.self l.trail table requirements →
+  queued : (table : List (Vec Literal Global)) (requirements : List StoredRequirement) → IsQueued l.initial.self l.trail table requirements →
       IsQueued l.self l.trail table requirements;
   all : length l.self.followed.items ≡ l.self.kept;
   inside : l.self.kept ≤ length_of l.trail;

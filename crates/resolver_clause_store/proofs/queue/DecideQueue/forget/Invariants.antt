@@ -2,14 +2,14 @@ use Rattle.std.proofs.Common.{◌≡◌, ◌≤◌, List, length}
 use Rattle.std.specs.Prelude.{Vec}
 use Rattle.std.specs.declared.alloc.Global.{Global}
 use Rattle.resolver_clause_store.specs.declared.literals.Literal.{Literal}
-use Rattle.resolver_clause_store.specs.declared.clauses.RequirementClause.{RequirementClause}
+use Rattle.resolver_clause_store.specs.declared.clauses.StoredRequirement.{StoredRequirement}
 use Rattle.resolver_clause_store.specs.declared.trail.Trail.{Trail}
 use Rattle.resolver_clause_store.specs.Queues.{IsQueued}
 use Rattle.resolver_clause_store.proofs.queue.DecideQueue.forget.Given as goal
 
 abbrev pub invariant-places : goal.invariant-places
 invariant-places l = record {
-  queued : (trail : Trail) (table : List (Vec Literal Global)) (requirements : List RequirementClause) → IsQueued l.initial.self trail table requirements →
+  queued : (trail : Trail) (table : List (Vec Literal Global)) (requirements : List StoredRequirement) → IsQueued l.initial.self trail table requirements →
       IsQueued l.self trail table requirements;
   kept : l.self.kept ≡ l.initial.self.kept;
   some : l.self.kept ≤ length l.self.followed.items;

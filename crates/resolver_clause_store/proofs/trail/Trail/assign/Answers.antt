@@ -1,4 +1,4 @@
-use Rattle.std.proofs.Common.{rules}
+use Rattle.std.proofs.Common.{arith, rules}
 use Rattle.resolver_clause_store.proofs.SlotLemmas.{placed-push, listed-push, rising-push, counted-push}
 use Rattle.resolver_clause_store.proofs.trail.Trail.assign.Goals as goal
 
@@ -21,9 +21,10 @@ invariant_of-self-2-clause-listed c =
 
 pub invariant_of-self-2-clause-rising : goal.invariant_of-self-2-clause-rising
 invariant_of-self-2-clause-rising c =
-    rw c.index.ensures (rising-push _ _ _ _ c.args.self.now.rising c.args.self.now.listed c.requires.inside (search rules) c.requires.top (λ d.
-    (c.requires.begins d).0))
+    rw c.index.ensures (rising-push _ _ _ _ c.args.self.now.rising c.args.self.now.listed c.requires.inside (search rules) (λ v s at.
+    omega (arith, c.requires.top v s at, c.in_ok-level.ensures)) (λ d v s at. omega (arith, (c.requires.begins d).0 v s at, c.in_ok-level.ensures)))
 
 pub invariant_of-self-2-clause-counted : goal.invariant_of-self-2-clause-counted
 invariant_of-self-2-clause-counted c =
-    rw c.index.ensures (counted-push _ _ _ _ c.args.self.now.counted c.requires.inside (search rules) c.requires.bound (λ d. (c.requires.begins d).1))
+    rw c.index.ensures (counted-push _ c.args.self.now.order.items _ _ c.args.self.now.counted c.requires.inside (search rules) (omega (arith, c.requires.bound, c.in_ok-level.ensures)) (λ d.
+    omega (arith, (c.requires.begins d).1, c.in_ok-level.ensures)))

@@ -9,24 +9,24 @@ use Rattle.resolver_clause_store.proofs.watches.Watches.add_two.Goals as goal
 
 pub attach-requires-clause-gains : goal.attach-requires-clause-gains
 attach-requires-clause-gains c =
-    let last : c.len-number.result ≡ length (pairs_of c.args.self.now) = search rules in
+    let last : c.in_ok-number.number ≡ length (pairs_of c.args.self.now) = search rules in
     gains-first _ _ _ _ _ _ c.in_ok-add_none.ensures.pairs last c.copied.ensures c.copied-2.ensures
 
 pub attach-requires-2-clause-gains : goal.attach-requires-2-clause-gains
 attach-requires-2-clause-gains c =
-    let last : c.len-number.result ≡ length (pairs_of c.args.self.now) = search rules in
+    let last : c.in_ok-number.number ≡ length (pairs_of c.args.self.now) = search rules in
     gains-second _ _ _ _ _ _ _ _ (added-inside _ _ _ _ c.in_ok-add_none.ensures.pairs last) c.in_ok-attach.ensures.pairs c.copied.ensures c.copied-4.ensures
     c.copied-5.ensures
 
 pub returns-clause-pairs : goal.returns-clause-pairs
 returns-clause-pairs c =
-    let last : c.len-number.result ≡ length (pairs_of c.args.self.now) = search rules in
+    let last : c.in_ok-number.number ≡ length (pairs_of c.args.self.now) = search rules in
     pairs-two _ _ _ _ _ _ _ _ last c.in_ok-add_none.ensures.pairs c.in_ok-attach.ensures.pairs c.in_ok-attach-2.ensures.pairs (λ i.
     watched_pair (c.copied-4.ensures i) (c.copied-5.ensures i))
 
 pub returns-clause-blockers : goal.returns-clause-blockers
 returns-clause-blockers c = λ table has-first has-second has.
-    let last : c.len-number.result ≡ length (pairs_of c.args.self.now) = search rules in
+    let last : c.in_ok-number.number ≡ length (pairs_of c.args.self.now) = search rules in
     let start : HasBlockers table c.add_none.new.self.lists.items =
     subst (λ (ls : List (Vec Watch Global)). HasBlockers table ls) (sym c.add_none.ensures.lists) has in
     blockers-push table _ _ _ _ c.in_ok-attach-2.ensures.lists (contains-same table _ _ _ _ last refl has-first)
@@ -40,10 +40,10 @@ returns-in_err-attach-clause-kept c = kept-push _ _ _ (c.in_err-attach.ensures.k
 
 pub returns-in_err-attach-2-clause-kept : goal.returns-in_err-attach-2-clause-kept
 returns-in_err-attach-2-clause-kept c =
-    let last : c.len-number.result ≡ length (pairs_of c.args.self.now) = search rules in
+    let last : c.in_ok-number.number ≡ length (pairs_of c.args.self.now) = search rules in
     kept-set _ _ _ _ _ last (c.in_err-attach-2.ensures.kept ∙ c.in_ok-attach.ensures.pairs) c.add_none.ensures.kept
 
 pub returns-clause-kept : goal.returns-clause-kept
 returns-clause-kept c =
-    let last : c.len-number.result ≡ length (pairs_of c.args.self.now) = search rules in
+    let last : c.in_ok-number.number ≡ length (pairs_of c.args.self.now) = search rules in
     kept-set _ _ _ _ _ last c.in_ok-attach-2.ensures.pairs (kept-set _ _ _ _ _ last c.in_ok-attach.ensures.pairs c.add_none.ensures.kept)

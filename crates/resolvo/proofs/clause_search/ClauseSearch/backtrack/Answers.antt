@@ -34,13 +34,14 @@ returns-clause-consistent c =
     let learnt_queue = c.in_ok-learn.ensures c.args.self.now.trail table c.args.self.now.requirements.items it.queued in
     let left = queued-left c.learn.new.self c.cut-2.new.self c.args.self.now.trail middle table c.args.self.now.requirements.items c.len-left.result
     (length_of middle) c.cut-2.ensures (keeps_undone c.args.self.now.trail middle c.max-back.result c.undo_until.ensures) c.len-left.ensures learnt_queue in
+    let boxed = c.in_ok-new.ensures.ok in
     let long : length longer ≡ length table + 1 = length-append table (c.args.learnt.literals ∷ []) in
     let justified = justified-grows table longer c.undo_until.new.self grows (justified-undone _ _ _ _ it.justified c.undo_until.ensures) in
     let chosen = chosen-grows table longer _ c.undo_until.new.self grows it.inside (chosen-undone _ _ _ _ _ it.chosen c.undo_until.ensures) in
     record {
       below = rw (items, size) (below-push _ table _ it.below (false-below c.args.self.now.trail _ learnt.falsified));
       derived = rw (items, c.in_ok-push-2.ensures.items)
-          (derived-push table _ _ (Learnt c.args.learnt.causes) it.derived learnt.within (λ none. learnt.follows) (λ none. learnt.drawn));
+          (derived-push table _ _ _ it.derived (rw boxed learnt.within) (λ none. rw boxed learnt.follows) (λ none. rw boxed learnt.drawn));
       justified = rw items (justified-gains longer _ _ _ _ _ justified c.in_ok-force.ensures.ok free (rw here (simp length-append (omega arith)))
           (rw last learnt.asserting.contains) (rw last unit));
       chosen = rw items (chosen-extends longer _ _ _ chosen (extends-gains _ _ _ _ _ c.in_ok-force.ensures.ok free));
@@ -70,8 +71,7 @@ returns-clause-same c =
     record {
       loaded = λ given numbers loaded. record {
         clauses = rw (c.in_ok-push.ensures.items, c.in_ok-push-2.ensures.items)
-            (loaded-learnt given old.table.items old.sources.items old.places.items c.args.learnt.literals
-            (Learnt c.args.learnt.causes) it.derived.count refl loaded.clauses);
+            (loaded-learnt given old.table.items old.sources.items old.places.items c.args.learnt.literals _ it.derived.count refl loaded.clauses);
         requirements = loaded.requirements;
         inside = loaded.inside;
       };
@@ -120,6 +120,14 @@ invariant_of-self-in-Break-branch-4 c =
 
 pub invariant_of-self-in-Break-branch-5 : goal.invariant_of-self-in-Break-branch-5
 invariant_of-self-in-Break-branch-5 c =
+    let same : c.args.learnt.literals.items ≡ c.deref-2.result.now = search rules in
+    record {
+      in_lists = in_lists-equal _ _ _ _ c.in_ok-push.ensures.items refl
+          (in_lists-added _ c.args.learnt.literals _ _ _ _ same c.requires.consistent.propagator c.attach.ensures.kept c.in_ok-attach.ensures.own);
+    }
+
+pub invariant_of-self-in-Break-branch-6 : goal.invariant_of-self-in-Break-branch-6
+invariant_of-self-in-Break-branch-6 c =
     let same : c.args.learnt.literals.items ≡ c.deref-2.result.now = search rules in
     record {
       in_lists = in_lists-equal _ _ _ _ c.in_ok-push.ensures.items c.cut.ensures.watches

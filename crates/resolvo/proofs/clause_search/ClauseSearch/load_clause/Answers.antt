@@ -12,7 +12,7 @@ use Rattle.resolvo.proofs.clause_search.ClauseSearch.load_clause.Goals as goal
 
 pub returns-clause-consistent : goal.returns-clause-consistent
 returns-clause-consistent c =
-    let end : c.len-place.result ≡ length c.args.self.now.table.items = search rules in
+    let end : c.in_ok-place.place ≡ length c.args.self.now.table.items = search rules in
     let copied : c.in_ok-copy.copy.items ≡ c.args.literals.now = search rules in
     let table = c.args.self.now.table.items in
     let longer = c.in_ok-attach.ensures.propagator table c.in_ok-copy.copy copied c.requires.consistent.propagator in
@@ -30,7 +30,7 @@ returns-clause-consistent c =
 pub returns-clause-loaded : goal.returns-clause-loaded
 returns-clause-loaded c = λ given numbers copy same loaded.
     let first : c.len-number.result ≡ length c.args.self.now.places.items = search rules in
-    let end : c.len-place.result ≡ length c.args.self.now.table.items = search rules in
+    let end : c.in_ok-place.place ≡ length c.args.self.now.table.items = search rules in
     let copied : c.in_ok-copy.copy.items ≡ c.args.literals.now = search rules in
     loaded-clause c.args.self.now _ given numbers copy c.in_ok-copy.copy _ _ c.requires.consistent first end
     (copied ∙ sym same) c.in_ok-push.ensures.items c.in_ok-push-2.ensures.items c.in_ok-push-3.ensures.items refl loaded
@@ -50,20 +50,12 @@ attach-requires-clause-below c = c.requires.below
 pub attach-requires-clause-lists : goal.attach-requires-clause-lists
 attach-requires-clause-lists c = c.requires.consistent.propagator.lists
 
-pub invariant_of-self-in-Break-branch-2 : goal.invariant_of-self-in-Break-branch-2
-invariant_of-self-in-Break-branch-2 c = record { in_lists = in_lists-kept _ _ _ _ c.requires.consistent.propagator c.attach.ensures.kept }
-
 pub invariant_of-self-in-Break-branch-3 : goal.invariant_of-self-in-Break-branch-3
-invariant_of-self-in-Break-branch-3 c =
-    record { in_lists = in_lists-equal _ _ _ _ c.in_err-push.ensures.items refl (in_lists-kept _ _ _ _ c.requires.consistent.propagator c.attach.ensures.kept) }
+invariant_of-self-in-Break-branch-3 c = record { in_lists = in_lists-kept _ _ _ _ c.requires.consistent.propagator c.attach.ensures.kept }
 
 pub invariant_of-self-in-Break-branch-4 : goal.invariant_of-self-in-Break-branch-4
 invariant_of-self-in-Break-branch-4 c =
-    let copied : c.in_ok-copy.copy.items ≡ c.args.literals.now = search rules in
-    record {
-      in_lists = in_lists-equal _ _ _ _ c.in_ok-push.ensures.items refl
-          (in_lists-added _ c.in_ok-copy.copy _ _ _ _ copied c.requires.consistent.propagator c.attach.ensures.kept c.in_ok-attach.ensures.own);
-    }
+    record { in_lists = in_lists-equal _ _ _ _ c.in_err-push.ensures.items refl (in_lists-kept _ _ _ _ c.requires.consistent.propagator c.attach.ensures.kept) }
 
 pub invariant_of-self-in-Break-branch-5 : goal.invariant_of-self-in-Break-branch-5
 invariant_of-self-in-Break-branch-5 c =
@@ -75,6 +67,14 @@ invariant_of-self-in-Break-branch-5 c =
 
 pub invariant_of-self-in-Break-branch-6 : goal.invariant_of-self-in-Break-branch-6
 invariant_of-self-in-Break-branch-6 c =
+    let copied : c.in_ok-copy.copy.items ≡ c.args.literals.now = search rules in
+    record {
+      in_lists = in_lists-equal _ _ _ _ c.in_ok-push.ensures.items refl
+          (in_lists-added _ c.in_ok-copy.copy _ _ _ _ copied c.requires.consistent.propagator c.attach.ensures.kept c.in_ok-attach.ensures.own);
+    }
+
+pub invariant_of-self-in-Break-branch-7 : goal.invariant_of-self-in-Break-branch-7
+invariant_of-self-in-Break-branch-7 c =
     let copied : c.in_ok-copy.copy.items ≡ c.args.literals.now = search rules in
     record {
       in_lists = in_lists-equal _ _ _ _ c.in_ok-push.ensures.items c.cut.ensures.watches

@@ -12,7 +12,7 @@ returns-clause-propagator c = λ table clause is it.
     let Chosen : List Literal → Type 0 = λ ls. MatchOption c.pair_of.result (IsConstant ls) (λ pair. AreApart ls pair.0 pair.1) in
     let chosen : Chosen clause.items = subst Chosen (sym is) c.pair_of.ensures in
     attached-added table clause c.args.trail.now c.args.self.now _ _ c.pair_of.result c.in_ok-add.ensures.pairs c.in_ok-add.ensures.size
-    (c.in_ok-add.ensures.blockers _) (rw c.len-number.ensures at c.in_ok-push.ensures.items) chosen it
+    (c.in_ok-add.ensures.blockers _) (rw (c.in_ok-number.ensures, c.len.ensures) at c.in_ok-push.ensures.items) chosen it
 
 pub returns-clause-own : goal.returns-clause-own
 returns-clause-own c = owns-push c.args.literals.now _ _ c.pair_of.result c.in_ok-add.ensures.pairs c.pair_of.ensures
