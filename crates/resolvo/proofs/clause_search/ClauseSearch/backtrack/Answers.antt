@@ -5,7 +5,6 @@ use Rattle.resolver_clause_store.proofs.FormulaLemmas.{clause_at-last}
 use Rattle.resolver_clause_store.proofs.KeptLemmas.{keeps_all, keeps_undone}
 use Rattle.resolver_clause_store.proofs.QueueLemmas.{queued-grown, queued-left, queued-longer}
 use Rattle.resolver_clause_store.proofs.TrailLemmas.{keeps-gains}
-use Rattle.resolvo.specs.declared.contradiction.Source.TheVariants.{Learnt}
 use Rattle.resolvo.proofs.AttachingLemmas.{lower-undone}
 use Rattle.resolvo.proofs.PropagatorLemmas.{propagator-gains}
 use Rattle.resolvo.proofs.JustifiedLemmas.{justified-gains, extends-gains, chosen-extends}
