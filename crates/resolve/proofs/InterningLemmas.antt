@@ -1,5 +1,5 @@
 -- What `insert_full` leaves of a set in insertion order, seen through a view of its elements.
-use Rattle.std.proofs.Common.{◌≡◌, ℕ, zero, suc, ◌+◌, ◌<◌, ◌≤◌, length, ◌⊎◌, inl, inr, ⊎_elim, Bool, true, false, cond, List, [], ◌∷◌, ◌++◌, refl, arith, sym}
+use Rattle.std.proofs.Common.{◌≡◌, ℕ, zero, suc, ◌<◌, ◌≤◌, length, ◌⊎◌, inl, inr, ⊎_elim, Bool, true, false, cond, List, [], ◌∷◌, ◌++◌, refl, arith, sym}
 use Rattle.std.proofs.Common.{◌∙◌, subst, ap, Some, None}
 use Rattle.std.specs.Prelude.{Contains, Option, IfNone, IfSome, slice_get, map, get_or, nat_lt}
 use Rattle.std.specs.Bool.{Decides}

@@ -1,10 +1,15 @@
 -- Cutting the first line off.
-use Rattle.std.proofs.Common.{◌≡◌, ℕ, ◌+◌, ◌<◌, ◌≤◌, ◌==◌, cond, Bool, true, false, not, List, [], ◌∷◌, length, take, drop, Some, None, refl, ap, ◌∙◌, arith}
+use Rattle.std.proofs.Common.{◌≡◌, ℕ, ◌+◌, ◌<◌, ◌≤◌, ◌==◌, cond, Bool, true, false, not, List}
+use Rattle.std.proofs.Common.{[], ◌∷◌, length, take, drop, Option, Some, None, refl, sym, ap, ◌∙◌, arith}
+use Rattle.std.specs.Prelude.{nat_lt}
 use Rattle.std.specs.List.{position, position_or_len, slice_split, onto_first}
 use Rattle.std.specs.Str.Lines.{lines, lines_of_parts, strip_carriage_return}
 use Rattle.std.proofs.lemmas.List.Splits.{slice_split_first, length-slice_split}
 use Rattle.std.proofs.lemmas.Grind.{common_steps}
 use Rattle.std.proofs.lemmas.Bool.Decides.{nat_tests}
+use Rattle.std.proofs.lemmas.Bool.{false_from_ne_true}
+use Rattle.std.proofs.lemmas.List.Sums.{position_or_len_is}
+use Rattle.memchr.specs.Find.{IsFirstByte, is_byte}
 
 abbrev feeds : ℕ → Bool
 feeds b = b == 10
@@ -41,5 +46,23 @@ lines-cut bs end e =
     let p = place bs end e in
     let split : slice_split feeds bs ≡ take end bs ∷ slice_split feeds (drop (end + 1) bs) = rw p.1 at (slice_split_first feeds bs 0 p.0) in
     ap lines_of_parts split ∙ lines_of_more (take end bs) (slice_split feeds (drop (end + 1) bs)) (omega (arith, length-slice_split feeds (drop (end + 1) bs)))
+
+none_at : (n count : ℕ) → count ≤ n → cond (nat_lt n count) (Some n) None ≡ None
+none_at n count h = grind (arith, nat_tests)
+
+some_at : (n count : ℕ) → n < count → cond (nat_lt n count) (Some n) None ≡ Some n
+some_at n count h = grind (arith, nat_tests)
+
+-- what a search for a line feed finds
+pub found : (bs : List ℕ) (r : Option ℕ) → IsFirstByte (is_byte 10) bs r → r ≡ position feeds bs
+found bs None h =
+    let all : position_or_len feeds bs ≡ length bs = position_or_len_is feeds bs (length bs) 0 (omega arith)
+    (λ k below. false_from_ne_true _ (h k (omega arith) below)) (λ below. absurd (omega arith)) in
+    sym (none_at (position_or_len feeds bs) (length bs) (omega arith))
+found bs (Some end) h =
+    let first : position_or_len feeds bs ≡ end = position_or_len_is feeds bs end 0 (omega (arith, h.0.high))
+    (λ k below. false_from_ne_true _ (h.0.before k (omega arith) below)) (λ below. h.1) in
+    let within : end < length bs = h.0.high in
+    ap Some (sym first) ∙ sym (some_at (position_or_len feeds bs) (length bs) (omega arith))
 
 pub ruleset cuts = (lines-last, lines-cut)

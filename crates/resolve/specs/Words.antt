@@ -1,7 +1,8 @@
 -- The texts that a statement is made of.
-use Rattle.std.specs.Prelude.{◌≡◌, ◌≢◌, ℕ, ◌+◌, ◌<◌, ◌≤◌, ◌==◌, ◌||◌, ◌⊎◌, Bool, List, ◌∷◌, ◌++◌, length, slice_index, All, IsTrue, codes}
+use Rattle.std.specs.Prelude.{◌≡◌, ◌≢◌, ℕ, ◌+◌, ◌<◌, ◌≤◌, ◌==◌, ◌||◌, ◌⊎◌, Bool, false, List, [], ◌∷◌, ◌++◌, length, slice_index, All, IsTrue, ⊤, codes}
 use Rattle.std.specs.Fmt.{decimal}
 use Rattle.std.specs.Char.{is_ascii_alphanumeric}
+use Rattle.std.specs.Str.Parse.{IsNumeral, digits_value}
 use Rattle.resolve.specs.declared.words.Spec.{Spec}
 use Rattle.resolve.specs.declared.ids.Range.{Range}
 use Rattle.resolve.specs.declared.ids.Range.TheVariants.{All as EachVersion, Within}
@@ -18,6 +19,19 @@ pub record IsName (text : List ℕ) : Type 0 where
   pub not_if : text ≢ codes "if"
   pub not_and : text ≢ codes "and"
   pub not_or : text ≢ codes "or"
+
+-- the bytes do not go on with one of a name
+abbrev pub EndsName : List ℕ → Type 0
+EndsName [] = ⊤
+EndsName (b ∷ more) = is_name_byte b ≡ false
+
+-- the word begins with the name, and what follows does not go on with it
+abbrev pub BeginsWithName : List ℕ → List ℕ → List ℕ → Type 0
+BeginsWithName word name rest = IsName name × (word ≡ name ++ rest) × EndsName rest
+
+-- the text is one digit or more, with leading zeros or without, and their number is at most so much
+abbrev pub IsNumeralUpTo : ℕ → List ℕ → Type 0
+IsNumeralUpTo most text = IsNumeral 10 text × (digits_value 10 text ≤ most)
 
 -- the text begins with '+', or with a '0' that more follows
 abbrev pub HasOddFront : List ℕ → Type 0
@@ -40,6 +54,10 @@ StatesRange text low high = (text ≡ decimal low ++ 46 ∷ 46 ∷ decimal high)
 abbrev pub StatesVersions : List ℕ → Range → Type 0
 StatesVersions text EachVersion = ⊥
 StatesVersions text (Within low high) = StatesOneVersion text low high ⊎ StatesRange text low high
+
+-- the text that follows the name in a spec of these versions
+abbrev pub StatesRangeBehind : List ℕ → Range → Type 0
+StatesRangeBehind rest versions = ((versions ≡ EachVersion) × (rest ≡ [])) ⊎ ((text : List ℕ) × (rest ≡ 64 ∷ text) × StatesVersions text versions)
 
 -- both bounds are versions, or the first number that is none
 abbrev pub IsBounded : Range → Type 0

@@ -4,6 +4,8 @@ ghost use Rattle.std.specs.Prelude.{◌≡◌, ◌+◌, ◌<◌, ◌==◌, ◌^�
 ghost use Rattle.std.specs.List.{position};
 ghost use Rattle.std.specs.Str.Lines.{lines, strip_carriage_return};
 
+use memchr::memchr;
+
 /// A line of an input, without its end.
 #[derive(Clone, Copy, PartialEq, Eq)]
 pub struct Line<'a> {
@@ -73,7 +75,7 @@ fn cut_first_line(bytes: &[u8]) -> (&[u8], &[u8])
 fn position_of_line_feed(bytes: &[u8]) -> Option<usize>
     ensures { result ≡ position (λ byte. byte == 10) bytes.now }
 {
-    bytes.iter().position(|byte| *byte == b'\n')
+    memchr(b'\n', bytes)
 }
 
 fn without_carriage_return(line: &[u8]) -> &[u8]

@@ -13,6 +13,7 @@ use crate::ids::SolvableId;
 use crate::lines::Lines;
 use crate::statement::{LineError, Statement, parse_line};
 use crate::words::{SolvableText, Spec};
+use known::KnownWords;
 use resolver_clause_store::{
     ConditionId, ConditionalRequirement, Exhausted, LogicalOperator, Requirement, SoftRequirement,
     VersionSetId,
@@ -48,10 +49,29 @@ pub fn read_request(alloc: Global, input: &[u8]) -> Result<Request, InputError>
     ensures packages { IfOk result (λ request. HasLawfulPackages (catalog_universe request.catalog)) }
 {
     let mut request = Request::new(alloc);
-    for line in Lines::new(input) {
-        request.read_line(line.number, line.bytes)?;
+    let mut known = KnownWords::new(alloc);
+    let read = read_lines(&mut request, &mut known, input);
+    drop(known);
+    match read {
+        Ok(()) => Ok(request),
+        Err(e) => {
+            drop(request);
+            Err(e)
+        }
     }
-    Ok(request)
+}
+
+fn read_lines<'a>(
+    request: &mut Request,
+    known: &mut KnownWords<'a>,
+    input: &'a [u8],
+) -> Result<(), InputError> {
+    for line in Lines::new(input) {
+        if !request.read_short_line(known, line.bytes)? {
+            request.read_line(line.number, line.bytes)?;
+        }
+    }
+    Ok(())
 }
 
 impl From<Exhausted> for InputError {
@@ -311,5 +331,6 @@ impl Request {
     }
 }
 
+mod known;
 #[cfg(test)]
 mod tests;

@@ -17,8 +17,8 @@ use itertools::Itertools;
 use resolver_clause_store::Exhausted;
 use resolvo::{Conflict, Problem, Solver, UnsolvableOrCancelled};
 use std::alloc::{AllocError, AllocFailed, Global};
-use std::io;
 use std::io::{Read, Write};
+use std::{io, mem};
 
 /// How many clauses a search may learn that looks for a conflict with a shorter message.
 const LEARNT_LIMIT: usize = 100;
@@ -222,7 +222,7 @@ fn read_all<R: Read + Drop>(alloc: Global, input: R) -> Result<Request, Fault> {
     Ok(request?)
 }
 
-/// What a request comes to.
+/// What a request comes to. What the solver holds then is not given back, since the program ends.
 fn solve_request(alloc: Global, request: Request) -> Result<Outcome, Fault>
     ensures { IfOk result (IsOutcomeOf request) }
 {
@@ -234,7 +234,7 @@ fn solve_request(alloc: Global, request: Request) -> Result<Outcome, Fault>
     let answered = solver.solve(problem);
     let outcome = outcome_of(alloc, &solver, &answered);
     drop(answered);
-    drop(solver);
+    mem::forget(solver);
     outcome
 }
 

@@ -1,9 +1,12 @@
 //! Words of a line: names, numbers, solvables and specs.
 
-ghost use Rattle.std.specs.Prelude.{◌≡◌, ◌≢◌, ◌<◌, ◌≤◌, ◌↔◌, ℕ, List, ◌∷◌, ◌++◌, length, IsTrue, MatchBool, MatchOption};
+ghost use Rattle.std.specs.Prelude.{◌≡◌, ◌≢◌, ◌<◌, ◌≤◌, ◌↔◌, ◌==◌, ℕ, List, ◌∷◌, ◌++◌, length, All, IsTrue, MatchBool, MatchOption};
 ghost use Rattle.std.specs.Fmt.{decimal};
 ghost use Rattle.std.specs.Iterator.{at_most};
-ghost use Rattle.resolve.specs.Words.{is_name_byte, HasOddFront, HasPlainFront, IsName, Lacks, StatesSolvable, StatesSpec, StatesVersions};
+ghost use Rattle.std.specs.List.{position, prefix_len};
+ghost use Rattle.std.specs.Str.Parse.{digits_value};
+ghost use Rattle.resolve.specs.Words.{is_name_byte, BeginsWithName, HasOddFront, HasPlainFront, IsName, IsNumeralUpTo, Lacks};
+ghost use Rattle.resolve.specs.Words.{StatesRangeBehind, StatesSolvable, StatesSpec, StatesVersions};
 ghost use Rattle.resolve.specs.declared.ids.Range.{Range};
 
 use crate::ids::Range;
@@ -59,86 +62,153 @@ impl<'a> Iterator for Words<'a> {
 }
 
 /// Whether a text begins as no plain number does: with a plus, or with a zero that more follows.
-fn has_odd_front(text: &str) -> bool
+fn has_odd_front(text: &[u8]) -> bool
     ensures { MatchBool result (HasOddFront text.now) (HasPlainFront text.now) }
 {
-    text.starts_with('+') || text.starts_with('0') && text.len() != 1
+    !text.is_empty() && (text[0] == b'+' || text[0] == b'0' && text.len() != 1)
 }
 
 /// The number that a text writes in decimal digits, with no leading zeros, unless it is greater than `most`.
 #[tactic(auto, using(crate::proofs::NumberLemmas::numbers))]
-fn parse_number(text: &str, most: u64) -> Option<u64>
+fn parse_number(text: &[u8], most: u64) -> Option<u64>
+    requires { most ≤ VERSION_LIMIT }
     ensures { MatchOption result ((n : ℕ) → n ≤ most → text.now ≢ decimal n) (λ n. (text.now ≡ decimal n) × (n ≤ most)) }
 {
     if has_odd_front(text) {
         return None;
     }
-    let Ok(number) = text.parse::<u64>() else {
+    let Some(number) = parse_digits(text, most) else {
         return None;
     };
-    if number > most {
+    Some(number)
+}
+
+/// The number that a text writes in decimal digits, unless it is greater than `most`.
+fn parse_digits(text: &[u8], most: u64) -> Option<u64>
+    requires { most ≤ VERSION_LIMIT }
+    ensures { MatchOption result (IsNumeralUpTo most text.now → ⊥) (λ n. IsNumeralUpTo most text.now × (n ≡ digits_value 10 text.now)) }
+{
+    if text.is_empty() {
         return None;
+    }
+    let mut number: u64 = 0;
+    for digit in text {
+        if !digit.is_ascii_digit() {
+            return None;
+        }
+        number = 10 * number + u64::from(*digit - b'0');
+        if number > most {
+            return None;
+        }
     }
     Some(number)
 }
 
-fn parse_version(text: &str) -> Option<u32>
+fn parse_version(text: &[u8]) -> Option<u32>
     ensures { MatchOption result ((n : ℕ) → n < VERSION_LIMIT → text.now ≢ decimal n) (λ n. text.now ≡ decimal n) }
 {
     let version = parse_number(text, VERSION_LIMIT - 1)?;
     Some(version as u32)
 }
 
-/// Whether a text is a package's name.
+/// Whether a text of such bytes as names have is a package's name.
 fn is_name(text: &str) -> bool
+    requires { All (λ b. IsTrue (is_name_byte b)) text.now }
     ensures { IsTrue result ↔ IsName text.now }
 {
-    !text.is_empty()
-        && text != "if"
-        && text != "and"
-        && text != "or"
-        && text.bytes().all(is_name_byte)
+    text.len() > 3 || !text.is_empty() && text != "if" && text != "and" && text != "or"
 }
+
+/// Each byte that names may have stands at its own place, and a comma at every other place.
+static NAME_BYTES: [u8; 256] = *b"\
+    ,,,,,,,,,,,,,,,,,,,,,,,,,,,,,,,,\
+    ,,,,,,,,,,,,,-.,0123456789,,,,,,\
+    ,ABCDEFGHIJKLMNOPQRSTUVWXYZ,,,,_\
+    ,abcdefghijklmnopqrstuvwxyz,,,,,\
+    ,,,,,,,,,,,,,,,,,,,,,,,,,,,,,,,,\
+    ,,,,,,,,,,,,,,,,,,,,,,,,,,,,,,,,\
+    ,,,,,,,,,,,,,,,,,,,,,,,,,,,,,,,,\
+    ,,,,,,,,,,,,,,,,,,,,,,,,,,,,,,,,";
 
 fn is_name_byte(byte: u8) -> bool
     ensures { result ≡ is_name_byte byte }
 {
-    byte.is_ascii_alphanumeric() || byte == b'-' || byte == b'_' || byte == b'.'
+    NAME_BYTES[byte as usize] != b','
 }
 
-/// What stands before and behind the first `..` of a text.
-fn around_dots(text: &str) -> Option<(&str, &str)>
-    ensures { MatchOption result ((front back : List ℕ) → text.now ≢ front ++ 46 ∷ 46 ∷ back) (λ parts. text.now ≡ parts.0.now ++ 46 ∷ 46 ∷ parts.1.now) }
+/// How many bytes at the front of a text are such as names have.
+fn name_length(text: &[u8]) -> usize
+    ensures { result ≡ prefix_len is_name_byte text.now }
 {
-    text.split_once("..")
+    let mut length = 0;
+    while length < text.len() && is_name_byte(text[length]) {
+        length += 1;
+    }
+    length
 }
 
-/// What stands before and behind the first such character of a text.
-fn around(text: &str, sign: char) -> Option<(&str, &str)>
-    requires { sign < 128 }
+/// The name that a word begins with, up to the first byte that no name has, and what follows it.
+fn split_name(word: &str) -> Option<(&str, &[u8])>
+    ensures { MatchOption result ((name rest : List ℕ) → BeginsWithName word.now name rest → ⊥) (λ parts.
+        BeginsWithName word.now parts.0.now parts.1.now) }
+{
+    let (name, rest) = word.split_at(name_length(word.as_bytes()));
+    if !is_name(name) {
+        return None;
+    }
+    Some((name, rest.as_bytes()))
+}
+
+/// What stands before and behind the first such byte of a text.
+fn around(text: &[u8], sign: u8) -> Option<(&[u8], &[u8])>
     ensures { MatchOption result (Lacks sign text.now) (λ parts. (text.now ≡ parts.0.now ++ sign ∷ parts.1.now) × Lacks sign parts.0.now) }
 {
-    text.split_once(sign)
+    let Some(place) = position_of(text, sign) else {
+        return None;
+    };
+    Some((&text[..place], &text[place + 1..]))
+}
+
+fn position_of(text: &[u8], sign: u8) -> Option<usize>
+    ensures { result ≡ position (λ byte. byte == sign) text.now }
+{
+    text.iter().position(|byte| *byte == sign)
+}
+
+/// What follows such a byte at the front of a text.
+fn behind(text: &[u8], sign: u8) -> Option<&[u8]>
+    ensures { MatchOption result ((rest : List ℕ) → text.now ≢ sign ∷ rest) (λ rest. text.now ≡ sign ∷ rest.now) }
+{
+    let Some((first, rest)) = text.split_first() else {
+        return None;
+    };
+    if *first != sign {
+        return None;
+    }
+    Some(rest)
 }
 
 /// Reads `VERSION`, or `LOW..HIGH`.
-fn parse_versions(text: &str) -> Option<Range>
+fn parse_versions(text: &[u8]) -> Option<Range>
     ensures { MatchOption result ((versions : Range) → StatesVersions text.now versions → ⊥) (StatesVersions text.now) }
 {
-    let Some((low, high)) = around_dots(text) else {
+    let Some((front, rest)) = around(text, b'.') else {
         return parse_one_version(text);
     };
-    let Some(low) = parse_number(low, VERSION_LIMIT) else {
+    let Some(back) = behind(rest, b'.') else {
         return None;
     };
-    let Some(high) = parse_number(high, VERSION_LIMIT) else {
+    let Some(low) = parse_number(front, VERSION_LIMIT) else {
+        return None;
+    };
+    let Some(high) = parse_number(back, VERSION_LIMIT) else {
         return None;
     };
     Some(Range::Within { low, high })
 }
 
 /// Reads `VERSION`.
-fn parse_one_version(text: &str) -> Option<Range>
+fn parse_one_version(text: &[u8]) -> Option<Range>
     requires { (front back : List ℕ) → text.now ≢ front ++ 46 ∷ 46 ∷ back }
     ensures { MatchOption result ((versions : Range) → StatesVersions text.now versions → ⊥) (StatesVersions text.now) }
 {
@@ -150,18 +220,31 @@ fn parse_one_version(text: &str) -> Option<Range>
     Some(Range::Within { low, high })
 }
 
+/// Reads what follows the name in a spec: nothing, or `@` and versions.
+fn parse_range(text: &[u8]) -> Option<Range>
+    ensures { MatchOption result ((versions : Range) → StatesRangeBehind text.now versions → ⊥) (StatesRangeBehind text.now) }
+{
+    if text.is_empty() {
+        return Some(Range::All);
+    }
+    let Some(versions) = behind(text, b'@') else {
+        return None;
+    };
+    parse_versions(versions)
+}
+
 /// Reads `NAME=VERSION`.
 pub fn parse_solvable(word: &str) -> Option<SolvableText<'_>>
     ensures { MatchOption result ((name : List ℕ) (version : ℕ) → StatesSolvable word.now name version → ⊥) (λ solvable.
         StatesSolvable word.now solvable.name.now solvable.version) }
 {
-    let Some((name, version)) = around(word, '=') else {
+    let Some((name, rest)) = split_name(word) else {
         return None;
     };
-    if !is_name(name) {
+    let Some(number) = behind(rest, b'=') else {
         return None;
-    }
-    let Some(version) = parse_version(version) else {
+    };
+    let Some(version) = parse_version(number) else {
         return None;
     };
     Some(SolvableText { name, version })
@@ -172,27 +255,11 @@ pub fn parse_spec(word: &str) -> Option<Spec<'_>>
     ensures { MatchOption result ((name : List ℕ) (versions : Range) → StatesSpec word.now name versions → ⊥) (λ spec.
         StatesSpec word.now spec.name.now spec.versions) }
 {
-    let Some((name, versions)) = around(word, '@') else {
-        return parse_bare_spec(word);
-    };
-    if !is_name(name) {
-        return None;
-    }
-    let Some(versions) = parse_versions(versions) else {
+    let Some((name, rest)) = split_name(word) else {
         return None;
     };
-    Some(Spec { name, versions })
-}
-
-/// Reads `NAME`.
-fn parse_bare_spec(name: &str) -> Option<Spec<'_>>
-    requires { Lacks 64 name.now }
-    ensures { MatchOption result ((bare : List ℕ) (versions : Range) → StatesSpec name.now bare versions → ⊥) (λ spec.
-        StatesSpec name.now spec.name.now spec.versions) }
-{
-    if !is_name(name) {
+    let Some(versions) = parse_range(rest) else {
         return None;
-    }
-    let versions = Range::All;
+    };
     Some(Spec { name, versions })
 }

@@ -3,6 +3,7 @@
 mod decisions;
 mod examples;
 mod failing;
+mod known_words;
 mod without_scores;
 
 use super::{fault_text, run};

@@ -1,22 +1,29 @@
-use Rattle.std.proofs.Common.{◌≡◌, ◌∷◌, ◌++◌, inl, inr, rules}
-use Rattle.resolve.specs.Words.{IsName, Lacks}
-use Rattle.resolve.proofs.WordLemmas.{solvable_refused, unsigned_refused}
+use Rattle.std.proofs.Common.{◌≡◌, ◌∷◌, ◌∙◌, ap, arith, rules}
+use Rattle.std.specs.Fmt.{decimal}
+use Rattle.resolve.specs.Words.{BeginsWithName}
+use Rattle.resolve.proofs.WordLemmas.{solvable_refused, solvable_stated, unnamed_solvable}
 use Rattle.resolve.proofs.words.parse_solvable.Goals as goal
 
 pub returns-in_default : goal.returns-in_default
-returns-in_default c =
-    let lacks : Lacks 61 c.args.word.now = search rules in
-    unsigned_refused c.args.word.now lacks
+returns-in_default c = unnamed_solvable c.args.word.now c.in_default.ensures
 
-pub returns-then-not-is_name : goal.returns-then-not-is_name
-returns-then-not-is_name c =
-    let cut : c.args.word.now ≡ c.in-Some.name.now ++ 61 ∷ c.in-Some.version.now = search rules in
-    let lacks : Lacks 61 c.in-Some.name.now = search rules in
-    solvable_refused c.args.word.now c.in-Some.name.now c.in-Some.version.now cut lacks
-    (inl (λ (n : IsName c.in-Some.name.now). let yes = c.is_name.ensures.1 n in cc))
+pub returns-in_default-behind : goal.returns-in_default-behind
+returns-in_default-behind c =
+    let begins : BeginsWithName c.args.word.now c.in-Some.name.now c.in-Some.rest.now = search rules in
+    solvable_refused c.args.word.now c.in-Some.name.now c.in-Some.rest.now begins
+    (λ version small same. c.in_default-behind.ensures (decimal version) same)
 
 pub returns-in_default-parse_version : goal.returns-in_default-parse_version
 returns-in_default-parse_version c =
-    let cut : c.args.word.now ≡ c.in-Some.name.now ++ 61 ∷ c.in-Some.version.now = search rules in
-    let lacks : Lacks 61 c.in-Some.name.now = search rules in
-    solvable_refused c.args.word.now c.in-Some.name.now c.in-Some.version.now cut lacks (inr (search rules))
+    let begins : BeginsWithName c.args.word.now c.in-Some.name.now c.in-Some.rest.now = search rules in
+    let behind : c.in-Some.rest.now ≡ 61 ∷ c.in-Some-behind.number.now = search rules in
+    solvable_refused c.args.word.now c.in-Some.name.now c.in-Some.rest.now begins
+    (λ version small same.
+    let is : c.in-Some-behind.number.now ≡ decimal version = cc in c.in_default-parse_version.ensures version small is)
+
+pub returns : goal.returns
+returns c =
+    let begins : BeginsWithName c.args.word.now c.in-Some.name.now c.in-Some.rest.now = search rules in
+    let behind : c.in-Some.rest.now ≡ 61 ∷ decimal c.in-Some-parse_version.version =
+    c.in-Some-behind.ensures ∙ ap (λ t. 61 ∷ t) c.in-Some-parse_version.ensures in
+    solvable_stated c.args.word.now c.in-Some.name.now c.in-Some.rest.now begins c.in-Some-parse_version.version behind (omega arith)

@@ -1,20 +1,17 @@
-use Rattle.std.proofs.Common.{◌≡◌, ◌∷◌, ◌++◌, inl, inr, rules}
-use Rattle.resolve.specs.Words.{IsName, Lacks}
-use Rattle.resolve.proofs.WordLemmas.{spec_refused}
+use Rattle.std.proofs.Common.{rules}
+use Rattle.resolve.specs.Words.{BeginsWithName}
+use Rattle.resolve.proofs.WordLemmas.{spec_refused, spec_stated, unnamed_spec}
 use Rattle.resolve.proofs.words.parse_spec.Goals as goal
 
 pub returns-in_default : goal.returns-in_default
-returns-in_default c = c.parse_bare_spec.ensures
+returns-in_default c = unnamed_spec c.args.word.now c.in_default.ensures
 
-pub returns-then-not-is_name : goal.returns-then-not-is_name
-returns-then-not-is_name c =
-    let cut : c.args.word.now ≡ c.in-Some.name.now ++ 64 ∷ c.in-Some.versions.now = search rules in
-    let lacks : Lacks 64 c.in-Some.name.now = search rules in
-    spec_refused c.args.word.now c.in-Some.name.now c.in-Some.versions.now cut lacks
-    (inl (λ (n : IsName c.in-Some.name.now). let yes = c.is_name.ensures.1 n in cc))
+pub returns-in_default-parse_range : goal.returns-in_default-parse_range
+returns-in_default-parse_range c =
+    let begins : BeginsWithName c.args.word.now c.in-Some.name.now c.in-Some.rest.now = search rules in
+    spec_refused c.args.word.now c.in-Some.name.now c.in-Some.rest.now begins c.in_default-parse_range.ensures
 
-pub returns-in_default-parse_versions : goal.returns-in_default-parse_versions
-returns-in_default-parse_versions c =
-    let cut : c.args.word.now ≡ c.in-Some.name.now ++ 64 ∷ c.in-Some.versions.now = search rules in
-    let lacks : Lacks 64 c.in-Some.name.now = search rules in
-    spec_refused c.args.word.now c.in-Some.name.now c.in-Some.versions.now cut lacks (inr (search rules))
+pub returns : goal.returns
+returns c =
+    let begins : BeginsWithName c.args.word.now c.in-Some.name.now c.in-Some.rest.now = search rules in
+    spec_stated c.args.word.now c.in-Some.name.now c.in-Some.rest.now begins c.in-Some-parse_range.versions c.in-Some-parse_range.ensures
