@@ -34,9 +34,9 @@ joined_push : (xs : List ConditionStep) (n m : ℕ) (step : ConditionStep) → (
     n ≡ m + 2 → depth_of (xs ++ step ∷ []) ≡ Some (m + 1)
 joined_push xs n m step joins e two = depth_push xs n step e ∙ (joins n ∙ joined_two n m two)
 
--- an `and` that waits is written out: so many other operators wait, inside and outside
-pub and_written : (xs : List ConditionStep) (inside outside : ℕ) (waits wants : Bool) → waits ≡ true → wants ≡ false
-    → depth_of xs ≡ Some ((inside + cond waits 1 0) + outside + cond wants 0 1)
+-- a pending `and` is written out, with so many other pending operators, inside and outside
+pub and_written : (xs : List ConditionStep) (inside outside : ℕ) (is_pending wants : Bool) → is_pending ≡ true → wants ≡ false
+    → depth_of xs ≡ Some ((inside + cond is_pending 1 0) + outside + cond wants 0 1)
     → depth_of (xs ++ And ∷ []) ≡ Some ((inside + 0) + outside + cond wants 0 1)
 and_written xs inside outside true false a w e = joined_push xs ((inside + 1) + outside + 1) (inside + outside) And (λ n. refl) e (omega arith) ∙
     ap Some (omega arith)
@@ -44,8 +44,8 @@ and_written xs inside outside true true a w e = cc
 and_written xs inside outside false wants a w e = cc
 
 -- the same of an `or`
-pub or_written : (xs : List ConditionStep) (inside outside : ℕ) (waits wants : Bool) → waits ≡ true → wants ≡ false
-    → depth_of xs ≡ Some ((cond waits 1 0 + inside) + outside + cond wants 0 1)
+pub or_written : (xs : List ConditionStep) (inside outside : ℕ) (is_pending wants : Bool) → is_pending ≡ true → wants ≡ false
+    → depth_of xs ≡ Some ((cond is_pending 1 0 + inside) + outside + cond wants 0 1)
     → depth_of (xs ++ Or ∷ []) ≡ Some ((0 + inside) + outside + cond wants 0 1)
 or_written xs inside outside true false a w e = joined_push xs ((1 + inside) + outside + 1) (inside + outside) Or (λ n. refl) e (omega arith) ∙
     ap Some (omega arith)

@@ -30,7 +30,7 @@ pub record IsMessageFrom (it : Catalog) (given : List (Rule NameId SolvableId)) 
   pub explain : (u : Universe NameId SolvableId) (root : Demands) → Explains u root given → Explains u root rules
   pub is : text ≡ conflict_message it rules
 
--- what a request asks for
+-- the demands of a request
 abbrev pub demands_of : Request → Demands
 demands_of request = record { requirements = request.requirements.items; constraints = request.constraints.items }
 

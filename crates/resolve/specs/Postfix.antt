@@ -4,7 +4,7 @@ use Rattle.resolve.specs.declared.condition.ConditionStep.{ConditionStep}
 use Rattle.resolve.specs.declared.condition.ConditionStep.TheVariants.{Version, And, Or}
 use Rattle.resolve.specs.Words.{IsBounded}
 use Rattle.resolve.specs.declared.words.Spec.{Spec}
-use Rattle.resolve.specs.declared.condition.Waiting.{Waiting}
+use Rattle.resolve.specs.declared.condition.PendingOperators.{PendingOperators}
 
 -- how many parts are put aside once an operator joined two of so many, if there are two
 abbrev pub joined : ℕ → Option ℕ
@@ -30,9 +30,9 @@ depth_of steps = depth_after (Some 0) steps
 abbrev pub IsPostfix : List ConditionStep → Type 0
 IsPostfix steps = depth_of steps ≡ Some 1
 
--- how many operators wait for their right part
-abbrev pub waiting_count : Waiting → ℕ
-waiting_count waiting = cond waiting.or 1 0 + cond waiting.and 1 0
+-- how many operators are pending
+abbrev pub pending_count : PendingOperators → ℕ
+pending_count pending = cond pending.or 1 0 + cond pending.and 1 0
 
 -- the bounds of a step's spec are such as a statement may have
 abbrev pub IsStep : ConditionStep → Type 0

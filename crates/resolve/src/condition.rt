@@ -2,7 +2,7 @@
 
 ghost use Rattle.std.specs.Prelude.{◌≡◌, ◌+◌, true, false, cond, Some, All, IfOk, IfErr, OnOk};
 ghost use Rattle.std.specs.List.{sum_by};
-ghost use Rattle.resolve.specs.Postfix.{IsPostfix, IsStep, depth_of, waiting_count};
+ghost use Rattle.resolve.specs.Postfix.{IsPostfix, IsStep, depth_of, pending_count};
 ghost use Rattle.resolve.specs.Statements.{IsRefusal};
 
 use crate::statement::LineError;
@@ -18,18 +18,18 @@ pub enum ConditionStep<'a> {
     Or,
 }
 
-/// The operators of one pair of parentheses, or of the whole condition, that wait for their right part.
+/// The pending operators of one pair of parentheses, or of the whole condition: those whose right part is not complete.
 ///
-/// An operator is written out before one that binds no tighter waits, so at most one of each kind does, the `and` to
+/// An operator is written out before one that binds no tighter becomes pending, so at most one of each kind is, the `and` to
 /// the right of the `or`.
 #[derive(Clone, Copy)]
-struct Waiting {
+struct PendingOperators {
     or: bool,
     and: bool,
 }
 
-impl Waiting {
-    const NONE: Waiting = Waiting {
+impl PendingOperators {
+    const NONE: PendingOperators = PendingOperators {
         or: false,
         and: false,
     };
@@ -39,12 +39,12 @@ impl Waiting {
 #[derive(Drop)]
 struct Reading<'a> {
     steps: Vec<ConditionStep<'a>>,
-    waiting: Waiting,
-    /// What waits outside each open parenthesis, the innermost last.
-    outside: Vec<Waiting>,
+    pending: PendingOperators,
+    /// The pending operators outside each open parenthesis, the innermost last.
+    outside: Vec<PendingOperators>,
     /// Whether a spec or an opening parenthesis comes next.
     wants_part: bool,
-    ghost balanced: { depth_of steps.items ≡ Some (waiting_count waiting + sum_by waiting_count outside.items + cond wants_part 0 1) },
+    ghost balanced: { depth_of steps.items ≡ Some (pending_count pending + sum_by pending_count outside.items + cond wants_part 0 1) },
     ghost sound: { All IsStep steps.items },
 }
 
@@ -52,38 +52,38 @@ impl<'a> Reading<'a> {
     fn new(alloc: Global) -> Reading<'a> {
         Reading {
             steps: Vec::new(alloc),
-            waiting: Waiting::NONE,
+            pending: PendingOperators::NONE,
             outside: Vec::new(alloc),
             wants_part: true,
         }
     }
 
-    /// Writes out an `and` that waits.
+    /// Writes out a pending `and`.
     fn join_and(&mut self) -> Result<(), AllocError>
         requires { self.old.wants_part ≡ false }
         ensures part { OnOk result (self.new.wants_part ≡ false) }
-        ensures or { OnOk result (self.new.waiting.or ≡ self.old.waiting.or) }
-        ensures and { OnOk result (self.new.waiting.and ≡ false) }
+        ensures or { OnOk result (self.new.pending.or ≡ self.old.pending.or) }
+        ensures and { OnOk result (self.new.pending.and ≡ false) }
         ensures outside { OnOk result (self.new.outside.items ≡ self.old.outside.items) }
     {
-        if self.waiting.and {
+        if self.pending.and {
             self.steps.push(ConditionStep::And)?;
-            self.waiting.and = false;
+            self.pending.and = false;
         }
         Ok(())
     }
 
-    /// Writes out all that waits inside the innermost parentheses.
+    /// Writes out the pending operators inside the innermost parentheses.
     fn join_all(&mut self) -> Result<(), AllocError>
         requires { self.old.wants_part ≡ false }
         ensures part { OnOk result (self.new.wants_part ≡ false) }
-        ensures waiting { OnOk result (waiting_count self.new.waiting ≡ 0) }
+        ensures pending { OnOk result (pending_count self.new.pending ≡ 0) }
         ensures outside { OnOk result (self.new.outside.items ≡ self.old.outside.items) }
     {
         self.join_and()?;
-        if self.waiting.or {
+        if self.pending.or {
             self.steps.push(ConditionStep::Or)?;
-            self.waiting.or = false;
+            self.pending.or = false;
         }
         Ok(())
     }
@@ -95,8 +95,8 @@ impl<'a> Reading<'a> {
     {
         match word {
             "(" => {
-                self.outside.push(self.waiting)?;
-                self.waiting = Waiting::NONE;
+                self.outside.push(self.pending)?;
+                self.pending = PendingOperators::NONE;
             }
             _ => {
                 let spec = parse_spec(word).ok_or(LineError::Bad)?;
@@ -115,17 +115,17 @@ impl<'a> Reading<'a> {
         match word {
             "and" => {
                 self.join_and()?;
-                self.waiting.and = true;
+                self.pending.and = true;
                 self.wants_part = true;
             }
             "or" => {
                 self.join_all()?;
-                self.waiting.or = true;
+                self.pending.or = true;
                 self.wants_part = true;
             }
             ")" => {
                 self.join_all()?;
-                self.waiting = self.outside.pop().ok_or(LineError::Bad)?;
+                self.pending = self.outside.pop().ok_or(LineError::Bad)?;
             }
             _ => return Err(LineError::Bad),
         }

@@ -1,4 +1,4 @@
-//! What the statements of an input declare and ask for.
+//! Requests: the declarations of an input, and its problem.
 
 ghost use Rattle.std.specs.Prelude.{◌≡◌, [], ◌∷◌, ◌++◌, IfNone, IfOk, IfSome, MatchBool};
 ghost use Rattle.resolver_clause_store.specs.Laws.{HasLawfulIds, HasLawfulPackages};
@@ -108,7 +108,7 @@ impl Request {
         }
     }
 
-    /// Takes in a statement. False if it is a bad one, and then nothing is declared or asked for by it.
+    /// Takes in a statement. Returns false if it is a bad one, which declares and requires nothing.
     fn add(&mut self, statement: Statement<'_>) -> Result<bool, Exhausted> {
         match statement {
             Statement::Package(solvable) => self.declare(solvable),
@@ -233,7 +233,7 @@ impl Request {
         Ok(true)
     }
 
-    /// Asks for the solvable where it can be taken, if it was declared. Answers whether it was.
+    /// Adds a soft requirement of a solvable, if it was declared. Returns whether it was.
     fn add_soft_requirement(&mut self, solvable: SolvableText<'_>) -> Result<bool, Exhausted>
         ensures only { self.new ≡ record self.old { soft_requirements = self.new.soft_requirements } }
         ensures added { IfOk result (λ declared.
@@ -250,7 +250,7 @@ impl Request {
         Ok(true)
     }
 
-    /// Asks for one of the versions where one can be taken. A package without candidates is no bad statement.
+    /// Adds a soft requirement of a version set. A package without candidates is no bad statement.
     fn add_soft_version_set(&mut self, spec: Spec<'_>) -> Result<bool, Exhausted> {
         let version_set = self.version_set(spec)?;
         self.soft_requirements

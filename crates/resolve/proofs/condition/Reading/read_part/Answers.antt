@@ -1,6 +1,6 @@
 use Rattle.std.proofs.Common.{◌+◌, ap, ◌∙◌, sym, subst, All, rules}
 use Rattle.std.specs.List.{sum_by}
-use Rattle.resolve.specs.Postfix.{IsStep, depth_of, waiting_count}
+use Rattle.resolve.specs.Postfix.{IsStep, depth_of, pending_count}
 use Rattle.resolve.proofs.ConditionLemmas.{version_written, steps_version}
 use Rattle.resolve.specs.Words.{IsBounded}
 use Rattle.resolve.proofs.WordLemmas.{stated_bounded}
@@ -13,7 +13,7 @@ invariant_of-self-in_default c =
     record {
       balanced = ap depth_of c.in_ok-push-in_default.ensures.items ∙
           version_written before.steps.items c.in_ok-spec-in_default.spec
-          (waiting_count before.waiting + sum_by waiting_count before.outside.items) before.wants_part c.requires before.balanced;
+          (pending_count before.pending + sum_by pending_count before.outside.items) before.wants_part c.requires before.balanced;
       sound = subst (All IsStep) (sym c.in_ok-push-in_default.ensures.items)
           (steps_version before.steps.items c.in_ok-spec-in_default.spec before.sound bounded);
     }
