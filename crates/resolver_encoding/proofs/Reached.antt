@@ -53,7 +53,7 @@ module _ {N S : Type 0} (u : Universe N S) (root : Demands) (lawful : HasLawfulS
       IsActive u (Contains chosen) r → Contains (requirement_candidates u r.requirement) s → Next u root lawful chosen seeds part s
   next_by ByRoot r s part h listed active candidate = inr (inl (record { r = r; listed = listed; active = active; candidate = candidate }))
   next_by (BySolvable t) r s part h listed active candidate =
-      inr (inr (record { by = t; among = h; asks = record { r = r; listed = listed; active = active; candidate = candidate } }))
+      inr (inr (record { by = t; among = h; lists_it = record { r = r; listed = listed; active = active; candidate = candidate } }))
 
   -- what a gate needs that follows from one of the part
   gate_closed : (cl : Closure u root lawful chosen seeds) (t : S) (r : Requirement) (s : S) → Contains cl.part t → follows u codes (Gate r) t ≡ true →

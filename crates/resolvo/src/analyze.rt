@@ -374,7 +374,7 @@ pub fn forced_by(trail: &Trail, variable: Variable) -> Option<usize>
 {
     match trail.slot(variable) {
         Some(slot) => match slot.reason {
-            Reason::Forced(number) => Some(number),
+            Reason::Forced(number) => Some(number as usize),
             Reason::Decided(_) => None,
             Reason::Assumed => None,
         },
