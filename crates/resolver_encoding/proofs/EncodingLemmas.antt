@@ -24,7 +24,7 @@ use Rattle.resolver_clause_store.proofs.PlaceLemmas.{Keeps-same, Keeps-trans, pl
 use Rattle.resolver_encoding.specs.Atoms.{Atom, atoms_of}
 use Rattle.resolver_encoding.specs.Called.{Call, to_ask, to_see}
 use Rattle.resolver_encoding.specs.Encodings.{AddsClause, AddsRequirement, AsksForCandidates, Coding, Doing, Extends, Grows, HasProperHelper, IsAskStep}
-use Rattle.resolver_encoding.specs.Encodings.{IsEncodingOf, IsEncodingWhile, IsFollowed, IsLeft, IsReadStep, IsStep, IsStepWhile, KeepsLimits, Notes, idle}
+use Rattle.resolver_encoding.specs.Encodings.{IsEncodingOf, IsEncodingWhile, IsFollowed, IsLeft, IsReadStep, IsStep, IsStepWhile, Notes, idle}
 use Rattle.resolver_encoding.specs.Codes.{bit}
 use Rattle.resolver_encoding.specs.Groups.{IsAt}
 use Rattle.resolver_encoding.specs.Read.{IsForbidden, forbidden_direct, forbidden_helped}
@@ -60,12 +60,6 @@ pub Extends-within : {X : Type 0} (xs ys : List X) → Extends xs ys → IsWithi
 Extends-within {X} xs ys more x h =
     let Has : List X → Type 0 = λ list. Contains list x in
     subst Has (sym more.is) (Contains-append_left xs more.more x h)
-
-pub KeepsLimits-same : {N S : Type 0} (notes : Notes N S) → KeepsLimits notes notes
-KeepsLimits-same notes = record { variables = refl; clauses = refl }
-
-pub KeepsLimits-trans : {N S : Type 0} (one two three : Notes N S) → KeepsLimits one two → KeepsLimits two three → KeepsLimits one three
-KeepsLimits-trans one two three first second = record { variables = second.variables ∙ first.variables; clauses = second.clauses ∙ first.clauses }
 
 -- a clause's literals stay those of its kind when variables are added
 AreInOrder-keeps : {N S : Type 0} (u : Universe N S) (old new : List (Origin N S)) (ls : List Literal) (kind : ClauseKind N S) → Keeps old new →

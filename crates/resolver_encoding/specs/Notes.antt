@@ -1,5 +1,5 @@
 -- What an encoding has noted.
-use Rattle.std.specs.Prelude.{map}
+use Rattle.std.specs.Prelude.{◌≡◌, map}
 use Rattle.std.specs.Option.{option_map}
 use Rattle.resolver_clause_store.specs.Variables.{IsBounded as AreBounded, limit_in, origins_in}
 use Rattle.resolver_clause_store.specs.declared.RequirementClause.{RequirementClause}
@@ -34,3 +34,9 @@ notes_in e = record {
 -- there are no more variables than there may be
 abbrev pub IsBounded : {N S : Type 0} → Encoding N S → Type 0
 IsBounded e = AreBounded e.variables
+
+-- there still are not, and as many variables and as many clauses may be there as before
+pub record KeepsRoom {N S : Type 0} (old new : Encoding N S) : Type 0 where
+  pub bounded : IsBounded new
+  pub variables : (notes_in new).variable_limit ≡ (notes_in old).variable_limit
+  pub clauses : (notes_in new).clause_limit ≡ (notes_in old).clause_limit

@@ -4,7 +4,7 @@ ghost use Rattle.std.specs.Prelude.{◌≡◌, ◌≤◌, ◌^◌, ◌⊎◌, []
 ghost use Rattle.resolver_clause_store.specs.Laws.{IsIdentity};
 ghost use Rattle.resolver_clause_store.specs.Variables.{origins_in};
 ghost use Rattle.resolver_encoding.specs.Atoms.{atom};
-ghost use Rattle.resolver_encoding.specs.Encodings.{AddsClause, IsFull, IsUnread, KeepsLimits};
+ghost use Rattle.resolver_encoding.specs.Encodings.{AddsClause, IsFull, IsUnread};
 ghost use Rattle.resolver_encoding.specs.Led.{AddsOnly};
 ghost use Rattle.resolver_encoding.specs.Refusals.{IsShortage};
 
@@ -51,7 +51,7 @@ pub struct Encoding<N: Copy + Eq + Hash + Drop, S: Copy + Eq + Hash + Drop> {
 }
 
 impl<N: Copy + Eq + Hash + Drop, S: Copy + Eq + Hash + Drop> Encoding<N, S> {
-    ghost use Rattle.resolver_encoding.specs.Notes.{IsBounded, notes_in};
+    ghost use Rattle.resolver_encoding.specs.Notes.{IsBounded, KeepsRoom, notes_in};
 
     /// Nothing read yet. There may be as many variables and as many clauses as the limits say.
     pub fn new(alloc: Global, variable_limit: usize, clause_limit: usize) -> Self
@@ -89,13 +89,12 @@ impl<N: Copy + Eq + Hash + Drop, S: Copy + Eq + Hash + Drop> Encoding<N, S> {
         literals: Vec<Literal>,
     ) -> Result<(), Exhausted>
         requires bounded { IsBounded self.old }
-        ensures bounded { IsBounded self.new }
+        ensures room { KeepsRoom self.old self.new }
         ensures added { OnOk result (notes_in self.new ≡ record (notes_in self.old) {
           table = (notes_in self.old).table ++ literals ∷ [];
           kinds = (notes_in self.old).kinds ++ kind ∷ [];
         }) }
         ensures unchanged { OnErr result (notes_in self.new ≡ notes_in self.old) }
-        ensures limits { KeepsLimits (notes_in self.old) (notes_in self.new) }
         ensures origins { (notes_in self.new).origins ≡ (notes_in self.old).origins }
         ensures deferred { (notes_in self.new).deferred ≡ (notes_in self.old).deferred }
         ensures refusal { IfErr result (IsShortage (IsFull (notes_in self.new))) }
@@ -123,9 +122,8 @@ impl<N: Copy + Eq + Hash + Drop, S: Copy + Eq + Hash + Drop> Encoding<N, S> {
         requires names { IsIdentity N.eq }
         requires solvables { IsIdentity S.eq }
         requires bounded { IsBounded self.old }
-        ensures bounded { IsBounded self.new }
+        ensures room { KeepsRoom self.old self.new }
         ensures added { OnOk result (AddsClause (notes_in self.old) (notes_in self.new) kind (atom origin positive ∷ [])) }
-        ensures limits { KeepsLimits (notes_in self.old) (notes_in self.new) }
         ensures adds { AddsOnly (λ o. o ≡ origin) (notes_in self.old) (notes_in self.new) }
         ensures refusal { IfErr result (IsShortage (IsFull (notes_in self.new))) }
     {
@@ -145,9 +143,8 @@ impl<N: Copy + Eq + Hash + Drop, S: Copy + Eq + Hash + Drop> Encoding<N, S> {
         requires names { IsIdentity N.eq }
         requires solvables { IsIdentity S.eq }
         requires bounded { IsBounded self.old }
-        ensures bounded { IsBounded self.new }
+        ensures room { KeepsRoom self.old self.new }
         ensures added { OnOk result (AddsClause (notes_in self.old) (notes_in self.new) kind (atom first.0 first.1 ∷ atom second.0 second.1 ∷ [])) }
-        ensures limits { KeepsLimits (notes_in self.old) (notes_in self.new) }
         ensures adds { AddsOnly (λ o. (o ≡ first.0) ⊎ (o ≡ second.0)) (notes_in self.old) (notes_in self.new) }
         ensures refusal { IfErr result (IsShortage (IsFull (notes_in self.new))) }
     {

@@ -9,17 +9,17 @@ use Rattle.resolver_clause_store.specs.declared.Origin.TheVariants.{ConditionHel
 use Rattle.resolver_encoding.specs.Encodings.{idle}
 use Rattle.resolver_encoding.specs.Notes.{notes_in}
 use Rattle.resolver_clause_store.proofs.SetLemmas.{All-done, Contains-item}
-use Rattle.resolver_encoding.proofs.EncodingLemmas.{IsStep-same, IsStep-trans, KeepsLimits-same, KeepsLimits-trans, clause_listed}
+use Rattle.resolver_encoding.proofs.EncodingLemmas.{IsStep-same, IsStep-trans, clause_listed}
 use Rattle.resolver_encoding.proofs.NoteLemmas.{All-grown, IsStep-plain}
 use Rattle.resolver_clause_store.proofs.ListLemmas.{list_any-contains}
 use Rattle.resolver_encoding.proofs.LedLemmas.{AddsOnly-equal, AddsOnly-trans, AddsOnly-weaker, helper_pair}
+use Rattle.resolver_encoding.proofs.RoomLemmas.{KeepsRoom-same, KeepsRoom-trans}
 use Rattle.resolver_encoding.proofs.encoding.Encoding.imply_each.Goals as goal
 
 pub loop-candidate-init : goal.loop-candidate-init
 loop-candidate-init g c = record {
   adds = AddsOnly-equal _ _ _ refl refl;
-  bounded = c.requires.bounded;
-  limits = KeepsLimits-same _;
+  room = KeepsRoom-same _ c.requires.bounded;
   step = IsStep-same (g.D.Interner.universe c.args.provider.now) idle (λ root. ⊤) (notes_in c.args.self.now);
   follow = All-nil (λ s. Contains (notes_in c.args.self.now).kinds (AnyOf (ConditionHelper c.args.version_set) s));
   helped = refl;
@@ -45,8 +45,7 @@ loop-candidate-preserved g c =
           (AddsOnly-weaker _ _ (helper_pair (g.D.Interner.universe c.args.provider.now) c.args.version_set c.candidate-item.result
           (rw c.requires.candidates at (Contains-item c.args.candidates.now c.loop-candidate.candidate-index c.candidate-item.result
           (omega arith) c.candidate-item.is))) _ _ c.add_pair.ensures.adds);
-      bounded = c.add_pair.ensures.bounded;
-      limits = KeepsLimits-trans _ _ _ before.limits c.add_pair.ensures.limits;
+      room = KeepsRoom-trans _ _ _ before.room c.add_pair.ensures.room;
       step = IsStep-trans u idle (λ root. ⊤) _ _ _ before.step step;
       follow = All-grown (λ t. Contains (notes_in c.loop-candidate.self).kinds (AnyOf (ConditionHelper v) t)) (λ t.
           Contains (notes_in c.add_pair.new.self).kinds (AnyOf (ConditionHelper v) t)) c.args.candidates.now c.loop-candidate.candidate-index s (λ y h.

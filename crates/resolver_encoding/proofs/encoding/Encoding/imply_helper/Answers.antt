@@ -6,16 +6,16 @@ use Rattle.resolver_clause_store.specs.declared.ClauseKind.TheVariants.{Constrai
 use Rattle.resolver_encoding.specs.Encodings.{idle}
 use Rattle.resolver_encoding.specs.Notes.{notes_in}
 use Rattle.resolver_clause_store.proofs.SetLemmas.{All-done, Contains-item}
-use Rattle.resolver_encoding.proofs.EncodingLemmas.{IsStep-same, IsStep-trans, KeepsLimits-same, KeepsLimits-trans, clause_listed}
+use Rattle.resolver_encoding.proofs.EncodingLemmas.{IsStep-same, IsStep-trans, clause_listed}
 use Rattle.resolver_encoding.proofs.NoteLemmas.{All-grown, IsStep-plain}
 use Rattle.resolver_encoding.proofs.LedLemmas.{AddsOnly-equal, AddsOnly-trans, AddsOnly-weaker, excluded_own}
+use Rattle.resolver_encoding.proofs.RoomLemmas.{KeepsRoom-same, KeepsRoom-trans}
 use Rattle.resolver_encoding.proofs.encoding.Encoding.imply_helper.Goals as goal
 
 pub loop-candidate-init : goal.loop-candidate-init
 loop-candidate-init g c = record {
   adds = AddsOnly-equal _ _ _ refl refl;
-  bounded = c.requires.bounded;
-  limits = KeepsLimits-same _;
+  room = KeepsRoom-same _ c.requires.bounded;
   step = IsStep-same (g.D.Interner.universe c.args.provider.now) idle (λ root. ⊤) (notes_in c.args.self.now);
   excluded = All-nil (λ s. Contains (notes_in c.args.self.now).kinds (ConstrainsExcluded s c.args.version_set));
   constrained = refl;
@@ -38,8 +38,7 @@ loop-candidate-preserved g c =
           (AddsOnly-weaker _ _ (excluded_own (g.D.Interner.universe c.args.provider.now) c.args.version_set c.candidate-item.result
           (rw c.requires.forbidden at (Contains-item c.args.forbidden.now c.loop-candidate.candidate-index c.candidate-item.result
           (omega arith) c.candidate-item.is))) _ _ c.add_pair.ensures.adds);
-      bounded = c.add_pair.ensures.bounded;
-      limits = KeepsLimits-trans _ _ _ before.limits c.add_pair.ensures.limits;
+      room = KeepsRoom-trans _ _ _ before.room c.add_pair.ensures.room;
       step = IsStep-trans u idle (λ root. ⊤) _ _ _ before.step step;
       excluded = All-grown (λ t. Contains (notes_in c.loop-candidate.self).kinds (ConstrainsExcluded t v)) (λ t.
           Contains (notes_in c.add_pair.new.self).kinds (ConstrainsExcluded t v)) c.args.forbidden.now c.loop-candidate.candidate-index s (λ y h.

@@ -7,18 +7,18 @@ use Rattle.resolver_encoding.specs.Encodings.{coding_for}
 use Rattle.resolver_encoding.specs.Groups.{AreGroups, IsAt}
 use Rattle.resolver_encoding.specs.declared.groups.Groups.{Groups}
 use Rattle.resolver_encoding.specs.Notes.{notes_in}
-use Rattle.resolver_encoding.proofs.EncodingLemmas.{IsStep-same, IsStep-trans, KeepsLimits-same, KeepsLimits-trans, clause_listed}
+use Rattle.resolver_encoding.proofs.EncodingLemmas.{IsStep-same, IsStep-trans, clause_listed}
 use Rattle.resolver_encoding.proofs.NoteLemmas.{All-grown}
 use Rattle.resolver_encoding.proofs.SeeLemmas.{IsStep-begun, place_of_item}
 use Rattle.resolver_encoding.proofs.GroupLemmas.{named_of_number}
 use Rattle.resolver_encoding.proofs.LedLemmas.{AddsOnly-equal, AddsOnly-trans, AddsOnly-weaker, begun_coded}
+use Rattle.resolver_encoding.proofs.RoomLemmas.{KeepsRoom-same, KeepsRoom-trans}
 use Rattle.resolver_encoding.proofs.encoding.Encoding.open_digit.Goals as goal
 
 pub loop-other-init : goal.loop-other-init
 loop-other-init g c = record {
   adds = AddsOnly-equal _ _ _ refl refl;
-  bounded = c.requires.bounded;
-  limits = KeepsLimits-same _;
+  room = KeepsRoom-same _ c.requires.bounded;
   step = IsStep-same (g.D.Interner.universe c.args.provider.now) (coding_for c.args.name c.args.number c.args.solvable) (λ root. ⊤) (notes_in c.args.self.now);
   begun = All-nil (λ t. Contains (notes_in c.args.self.now).kinds (HasBit c.args.name t c.args.index false));
   groups = refl;
@@ -50,8 +50,7 @@ loop-other-preserved g c =
           (AddsOnly-weaker _ _ (begun_coded _ c.args.name c.args.number c.args.solvable c.other-item.result c.args.index c.requires.number
           (named_of_number _ _ _ _ (c.requires.earlier c.loop-other.other-index c.other-item.result
           (place_of_item c.args.earlier.now c.loop-other.other-index c.other-item.result (omega arith) c.other-item.is)))) _ _ c.add_pair.ensures.adds);
-      bounded = c.add_pair.ensures.bounded;
-      limits = KeepsLimits-trans _ _ _ before.limits c.add_pair.ensures.limits;
+      room = KeepsRoom-trans _ _ _ before.room c.add_pair.ensures.room;
       step = IsStep-trans u (coding_for n k s) (λ root. ⊤) _ _ _ before.step step;
       begun = All-grown (λ x. Contains old.kinds (HasBit n x i false)) (λ x. Contains new.kinds (HasBit n x i false)) c.args.earlier.now j t (λ y h.
           step.kinds _ h) (omega arith) c.other-item.is before.begun (clause_listed u old new _ _ adds);
