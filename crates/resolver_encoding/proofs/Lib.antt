@@ -32,4 +32,5 @@ pub mod TurnLemmas
 pub mod EncodedLemmas
 pub mod LeftOutLemmas
 pub mod LedLemmas
+pub mod TableLemmas
 pub mod LedReading

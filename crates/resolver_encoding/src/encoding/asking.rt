@@ -12,8 +12,8 @@ ghost use Rattle.resolver_encoding.specs.Turns.{AddsPlainly, AsksOnly};
 
 use super::Encoding;
 use resolver_clause_store::{
-    Cache, ClauseKind, DependencyProvider, Exhausted, Interner, Interrupted, Origin, Requirement,
-    StringId, VersionSetId, append, is_among,
+    Cache, ClauseKind, DependencyProvider, Exhausted, Interner, Interrupted, Requirement, StringId,
+    VersionSetId, append, is_among,
 };
 use std::hash::Hash;
 
@@ -48,12 +48,10 @@ impl<N: Copy + Eq + Hash + Drop, S: Copy + Eq + Hash + Drop> Encoding<N, S> {
         if is_among(&self.exempt, &candidate) {
             return Ok(());
         }
-        let kind = ClauseKind::Lock {
+        self.add(ClauseKind::Lock {
             locked,
             forbidden: candidate,
-        };
-        let second = (Origin::Solvable(candidate), false);
-        self.add_pair(kind, (Origin::Root, false), second)?;
+        })?;
         Ok(())
     }
 
@@ -109,8 +107,7 @@ impl<N: Copy + Eq + Hash + Drop, S: Copy + Eq + Hash + Drop> Encoding<N, S> {
         if is_among(&self.exempt, &solvable) {
             return Ok(());
         }
-        let kind = ClauseKind::Excluded { solvable, reason };
-        self.add_unit(kind, Origin::Solvable(solvable), false)?;
+        self.add(ClauseKind::Excluded { solvable, reason })?;
         Ok(())
     }
 

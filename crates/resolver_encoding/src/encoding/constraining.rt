@@ -13,10 +13,9 @@ ghost use Rattle.resolver_encoding.specs.Led.{AddsOnly, Brings, IsOfConstraint, 
 ghost use Rattle.resolver_encoding.specs.Refusals.{IsShortage, IsStop};
 
 use super::Encoding;
-use crate::literals::{is_by, origin_of};
 use resolver_clause_store::{
-    By, Cache, ClauseKind, DependencyProvider, Exhausted, Interner, Interrupted, Origin,
-    VersionSetId, append, is_among,
+    By, Cache, ClauseKind, DependencyProvider, Exhausted, Interner, Interrupted, VersionSetId,
+    append, is_among,
 };
 use std::hash::Hash;
 
@@ -72,17 +71,11 @@ impl<N: Copy + Eq + Hash + Drop, S: Copy + Eq + Hash + Drop> Encoding<N, S> {
         ensures adds { AddsOnly (IsOwn (D.universe provider.now) by (with_constraints (version_set ∷ []))) (notes_in self.old) (notes_in self.new) }
         ensures refusal { IfErr result (IsShortage (IsFull (notes_in self.new))) }
     {
-        let kind = ClauseKind::Constrains {
+        self.add(ClauseKind::Constrains {
             parent: by,
             version_set,
             candidate,
-        };
-        let second = Origin::Solvable(candidate);
-        if is_by(by, candidate) {
-            self.add_unit(kind, second, false)?;
-            return Ok(());
-        }
-        self.add_pair(kind, (origin_of(by), false), (second, false))?;
+        })?;
         Ok(())
     }
 
@@ -126,13 +119,10 @@ impl<N: Copy + Eq + Hash + Drop, S: Copy + Eq + Hash + Drop> Encoding<N, S> {
         ensures refusal { IfErr result (IsShortage (IsFull (notes_in self.new))) }
     {
         for candidate in forbidden {
-            let kind = ClauseKind::ConstrainsExcluded {
+            self.add(ClauseKind::ConstrainsExcluded {
                 candidate: *candidate,
                 version_set,
-            };
-            let first = (Origin::Solvable(*candidate), false);
-            let helper = Origin::ConstraintHelper(version_set);
-            self.add_pair(kind, first, (helper, true))?;
+            })?;
         }
         Ok(())
     }
@@ -175,13 +165,10 @@ impl<N: Copy + Eq + Hash + Drop, S: Copy + Eq + Hash + Drop> Encoding<N, S> {
         ensures adds { AddsOnly (IsOwn (D.universe provider.now) by (with_constraints (version_set ∷ []))) (notes_in self.old) (notes_in self.new) }
         ensures refusal { IfErr result (IsShortage (IsFull (notes_in self.new))) }
     {
-        let kind = ClauseKind::ConstrainsParent {
+        self.add(ClauseKind::ConstrainsParent {
             parent: by,
             version_set,
-        };
-        let helper = Origin::ConstraintHelper(version_set);
-        let parent: Origin<N, S> = origin_of(by);
-        self.add_pair(kind, (parent, false), (helper, false))?;
+        })?;
         Ok(())
     }
 

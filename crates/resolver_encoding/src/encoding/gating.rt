@@ -3,17 +3,15 @@
 ghost use Rattle.std.specs.Prelude.{◌≡◌, ◌⊎◌, ◌<◌, ◌^◌, All, Contains, IfErr, None, OnOk, ⊤};
 ghost use Rattle.resolver_clause_store.specs.Candidates.{requirement_candidates as candidates_of, version_sets};
 ghost use Rattle.resolver_clause_store.specs.declared.By.TheVariants.{Solvable as BySolvable};
-ghost use Rattle.resolver_clause_store.specs.declared.ClauseKind.TheVariants.{AnyOf as AnyOfKind, GateRequires as GateKind};
+ghost use Rattle.resolver_clause_store.specs.declared.ClauseKind.TheVariants.{AnyOf as AnyOfKind};
 ghost use Rattle.resolver_clause_store.specs.declared.Origin.TheVariants.{Gate as GateOrigin};
-ghost use Rattle.resolver_encoding.specs.Atoms.{atoms_of};
-ghost use Rattle.resolver_encoding.specs.Encodings.{AddsRequirement, AsksFor, IsFull, IsStep};
+ghost use Rattle.resolver_encoding.specs.Encodings.{AsksFor, IsFull, IsStep};
 ghost use Rattle.resolver_clause_store.specs.declared.Origin.TheVariants.{Solvable as SolvableOrigin};
 ghost use Rattle.resolver_encoding.specs.Led.{AddsOnly, IsCandidate};
 ghost use Rattle.resolver_encoding.specs.Refusals.{IsShortage};
 
 use super::Encoding;
-use crate::choices::{Choices, places_behind};
-use crate::literals::{push_candidates, push_literal};
+use crate::choices::Choices;
 use resolver_clause_store::{
     ClauseKind, DependencyProvider, Exhausted, Origin, Requirement, append, is_among,
 };
@@ -21,33 +19,6 @@ use std::hash::Hash;
 
 impl<N: Copy + Eq + Hash + Drop, S: Copy + Eq + Hash + Drop> Encoding<N, S> {
     ghost use Rattle.resolver_encoding.specs.Notes.{IsBounded, KeepsRoom, notes_in};
-
-    /// Adds the clause of the gate of a requirement.
-    fn add_gate<D: DependencyProvider<NameId = N, SolvableId = S>>(
-        &mut self,
-        provider: &D,
-        requirement: Requirement,
-        choices: &Choices<S>,
-    ) -> Result<(), Exhausted>
-        requires bounded { IsBounded self.old }
-        requires candidates { choices.now.candidates.items ≡ candidates_of (D.universe provider.now) requirement }
-        requires small { All (λ n. n < 2 ^ 63) choices.now.counts.items }
-        ensures room { KeepsRoom self.old self.new }
-        ensures added { OnOk result (AddsRequirement (notes_in self.old) (notes_in self.new) (GateKind requirement)
-            (atoms_of (D.universe provider.now) (GateKind requirement))) }
-        ensures adds { AddsOnly (λ o. (o ≡ GateOrigin requirement) ⊎ IsCandidate (D.universe provider.now) requirement o) (notes_in self.old)
-            (notes_in self.new) }
-        ensures refusal { IfErr result (IsShortage (IsFull (notes_in self.new))) }
-    {
-        let mut literals = Vec::new(self.alloc);
-        let gate = Origin::Gate(requirement);
-        push_literal(&mut self.variables, &mut literals, gate, false)?;
-        let ends = places_behind(self.alloc, literals.len(), &choices.counts)?;
-        push_candidates(&mut self.variables, &mut literals, &choices.candidates)?;
-        let kind = ClauseKind::GateRequires { requirement };
-        self.add_asking(kind, literals, false, ends)?;
-        Ok(())
-    }
 
     /// Makes the gate of a requirement, if it has none yet.
     pub(super) fn make_gate<D: DependencyProvider<NameId = N, SolvableId = S>>(
@@ -72,7 +43,7 @@ impl<N: Copy + Eq + Hash + Drop, S: Copy + Eq + Hash + Drop> Encoding<N, S> {
         if is_among(&self.gates, &requirement) {
             return Ok(());
         }
-        self.add_gate(provider, requirement, choices)?;
+        self.add_with(ClauseKind::GateRequires { requirement }, choices)?;
         append(&mut self.gates, requirement)?;
         Ok(())
     }
@@ -93,13 +64,10 @@ impl<N: Copy + Eq + Hash + Drop, S: Copy + Eq + Hash + Drop> Encoding<N, S> {
         ensures adds { AddsOnly (λ o. (o ≡ GateOrigin requirement) ⊎ (o ≡ SolvableOrigin requirer)) (notes_in self.old) (notes_in self.new) }
         ensures refusal { IfErr result (IsShortage (IsFull (notes_in self.new))) }
     {
-        let helper = Origin::Gate(requirement);
-        let kind = ClauseKind::AnyOf {
-            helper,
+        self.add(ClauseKind::AnyOf {
+            helper: Origin::Gate(requirement),
             candidate: requirer,
-        };
-        let second = (Origin::Solvable(requirer), false);
-        self.add_pair(kind, (helper, true), second)?;
+        })?;
         Ok(())
     }
 }

@@ -37,13 +37,10 @@ impl<N: Copy + Eq + Hash + Drop, S: Copy + Eq + Hash + Drop> Encoding<N, S> {
         ensures refusal { IfErr result (IsShortage (IsFull (notes_in self.new))) }
     {
         for candidate in candidates {
-            let helper = Origin::ConditionHelper(version_set);
-            let kind = ClauseKind::AnyOf {
-                helper,
+            self.add(ClauseKind::AnyOf {
+                helper: Origin::ConditionHelper(version_set),
                 candidate: *candidate,
-            };
-            let second = (Origin::Solvable(*candidate), false);
-            self.add_pair(kind, (helper, true), second)?;
+            })?;
         }
         Ok(())
     }

@@ -43,14 +43,14 @@ impl<N: Copy + Eq + Hash + Drop, S: Copy + Eq + Hash + Drop> Encoding<N, S> {
         if !literal.positive {
             return None;
         }
-        as_solvable(self.variables.origin(literal.variable))
+        as_solvable(self.table.variables.origin(literal.variable))
     }
 
     /// The literals of a clause, and none where there is no such clause.
     fn clause(&self, number: usize) -> &[Literal]
         ensures { result.now ≡ clause_at (notes_in self.now).table number }
     {
-        match self.literals.get(number) {
+        match self.table.literals().get(number) {
             Some(literals) => literals.as_slice(),
             None => &[],
         }
@@ -60,7 +60,7 @@ impl<N: Copy + Eq + Hash + Drop, S: Copy + Eq + Hash + Drop> Encoding<N, S> {
     fn asking_literals(&self, place: usize) -> &[Literal]
         ensures { result.now ≡ literals_at (notes_in self.now) place }
     {
-        match self.requirements.get(place) {
+        match self.table.requirements().get(place) {
             Some(asking) => self.clause(asking.number),
             None => &[],
         }
@@ -82,7 +82,7 @@ impl<N: Copy + Eq + Hash + Drop, S: Copy + Eq + Hash + Drop> Encoding<N, S> {
     pub(super) fn asking_count(&self) -> usize
         ensures { result ≡ length (notes_in self.now).requirements }
     {
-        self.requirements.len()
+        self.table.requirements().len()
     }
 
     /// Reads a registered candidate if its dependencies are at hand, unless it was read before.

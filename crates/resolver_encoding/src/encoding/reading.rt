@@ -26,7 +26,7 @@ use crate::progress::Progress;
 use indexmap::IndexSet;
 use resolver_clause_store::{
     By, Cache, ClauseKind, ConditionalRequirement, Dependencies, DependencyProvider, Exhausted,
-    Interner, Interrupted, Literal, Origin, StringId, VersionSetId, append, is_among,
+    Interner, Interrupted, StringId, VersionSetId, append, is_among,
 };
 use std::hash::Hash;
 
@@ -61,8 +61,7 @@ impl<N: Copy + Eq + Hash + Drop, S: Copy + Eq + Hash + Drop> Encoding<N, S> {
         ensures adds { AddsOnly (λ o. o ≡ SolvableOrigin solvable) (notes_in self.old) (notes_in self.new) }
         ensures refusal { IfErr result (IsShortage (IsFull (notes_in self.new))) }
     {
-        let kind = ClauseKind::Excluded { solvable, reason };
-        self.add_unit(kind, Origin::Solvable(solvable), false)?;
+        self.add(ClauseKind::Excluded { solvable, reason })?;
         Ok(())
     }
 
@@ -331,13 +330,7 @@ impl<N: Copy + Eq + Hash + Drop, S: Copy + Eq + Hash + Drop> Encoding<N, S> {
         ensures adds { AddsOnly (λ o. o ≡ RootOrigin) (notes_in self.old) (notes_in self.new) }
         ensures refusal { IfErr result (IsShortage (IsFull (notes_in self.new))) }
     {
-        let variable = self.variables.intern(Origin::Root)?;
-        let mut literals = Vec::new(self.alloc);
-        literals.push(Literal {
-            variable,
-            positive: true,
-        })?;
-        self.add_clause(ClauseKind::InstallRoot, literals)?;
+        self.add(ClauseKind::InstallRoot)?;
         Ok(())
     }
 

@@ -6,9 +6,8 @@ ghost use Rattle.resolver_clause_store.specs.Candidates.{requirement_candidates 
 ghost use Rattle.resolver_clause_store.specs.Variables.{AreDistinct};
 ghost use Rattle.resolver_clause_store.specs.declared.By.TheVariants.{Solvable as BySolvable};
 ghost use Rattle.resolver_clause_store.specs.declared.ClauseKind.TheVariants.{Requires as RequiresKind};
-ghost use Rattle.resolver_encoding.specs.Atoms.{atoms_of};
 ghost use Rattle.resolver_encoding.specs.Called.{IsCalledBy, IsWantedBy};
-ghost use Rattle.resolver_encoding.specs.Encodings.{AddsRequirement, AreDisjuncts, AsksFor, IsAskStep, IsDisjunctOf, IsDisjunctRead, IsEncoding, IsEncodingOf};
+ghost use Rattle.resolver_encoding.specs.Encodings.{AreDisjuncts, AsksFor, IsAskStep, IsDisjunctOf, IsDisjunctRead, IsEncoding, IsEncodingOf};
 ghost use Rattle.resolver_encoding.specs.Encodings.{IsFull, IsLeft, IsReadStep, IsStep, IsTrueUnder, IsUnmet};
 ghost use Rattle.resolver_clause_store.specs.Universe.{Demands};
 ghost use Rattle.resolver_encoding.specs.Led.{AddsOnly, Brings, IsCandidate, IsHelped, IsOwn, NoneOwn, with_requirements};
@@ -16,13 +15,12 @@ ghost use Rattle.resolver_encoding.specs.ReadState.{HasClause, IsReadRequirement
 ghost use Rattle.resolver_encoding.specs.Refusals.{IsShortage, IsStop};
 
 use super::Encoding;
-use crate::choices::{Choices, choices_of, places_behind};
+use crate::choices::{Choices, choices_of};
 use crate::disjuncts::{disjuncts_of, is_met, without_repeats};
-use crate::literals::{origin_of, push_candidates, push_helpers, push_literal};
 use indexmap::IndexSet;
 use resolver_clause_store::{
     By, Cache, ClauseKind, ConditionId, ConditionalRequirement, DependencyProvider, Exhausted,
-    Interner, Interrupted, Literal, Requirement, RequirementClause, VersionSetId, is_among,
+    Interner, Interrupted, Requirement, VersionSetId, is_among,
 };
 use std::hash::Hash;
 
@@ -44,69 +42,6 @@ fn plain_requirer<S: Copy>(by: By<S>, condition: Option<ConditionId>) -> Option<
 
 impl<N: Copy + Eq + Hash + Drop, S: Copy + Eq + Hash + Drop> Encoding<N, S> {
     ghost use Rattle.resolver_encoding.specs.Notes.{IsBounded, KeepsRoom, notes_in};
-
-    /// Adds a clause that asks for candidates.
-    pub(super) fn add_asking(
-        &mut self,
-        kind: ClauseKind<N, S>,
-        literals: Vec<Literal>,
-        of_root: bool,
-        ends: Vec<usize>,
-    ) -> Result<(), Exhausted>
-        requires bounded { IsBounded self.old }
-        ensures room { KeepsRoom self.old self.new }
-        ensures added { OnOk result (notes_in self.new ≡ record (notes_in self.old) {
-          table = (notes_in self.old).table ++ literals ∷ [];
-          kinds = (notes_in self.old).kinds ++ kind ∷ [];
-          requirements = (notes_in self.old).requirements ++ length (notes_in self.old).kinds ∷ [];
-        }) }
-        ensures origins { (notes_in self.new).origins ≡ (notes_in self.old).origins }
-        ensures still { (notes_in self.new).deferred ≡ (notes_in self.old).deferred }
-        ensures refusal { IfErr result (IsShortage (IsFull (notes_in self.new))) }
-    {
-        let number = self.kinds.len();
-        self.add_clause(kind, literals)?;
-        self.requirements.push(RequirementClause {
-            number,
-            of_root,
-            ends,
-        })?;
-        Ok(())
-    }
-
-    /// Adds the clause of a requirement and a disjunct of its condition.
-    fn add_requirement<D: DependencyProvider<NameId = N, SolvableId = S>>(
-        &mut self,
-        provider: &D,
-        by: By<S>,
-        disjunct: Vec<VersionSetId>,
-        requirement: Requirement,
-        choices: &Choices<S>,
-    ) -> Result<(), Exhausted>
-        requires bounded { IsBounded self.old }
-        requires candidates { choices.now.candidates.items ≡ candidates_of (D.universe provider.now) requirement }
-        requires small { All (λ n. n < 2 ^ 63) choices.now.counts.items }
-        ensures room { KeepsRoom self.old self.new }
-        ensures added { OnOk result (AddsRequirement (notes_in self.old) (notes_in self.new) (RequiresKind by disjunct requirement)
-            (atoms_of (D.universe provider.now) (RequiresKind by disjunct requirement))) }
-        ensures adds { AddsOnly (λ o. IsHelped (D.universe provider.now) by disjunct.items o ⊎ IsCandidate (D.universe provider.now) requirement o)
-            (notes_in self.old) (notes_in self.new) }
-        ensures refusal { IfErr result (IsShortage (IsFull (notes_in self.new))) }
-    {
-        let mut literals = Vec::new(self.alloc);
-        push_literal(&mut self.variables, &mut literals, origin_of(by), false)?;
-        push_helpers(&mut self.variables, &mut literals, &disjunct)?;
-        let ends = places_behind(self.alloc, literals.len(), &choices.counts)?;
-        push_candidates(&mut self.variables, &mut literals, &choices.candidates)?;
-        let of_root = matches!(by, By::Root);
-        let kind = ClauseKind::Requires {
-            parent: by,
-            disjunct,
-            requirement,
-        };
-        self.add_asking(kind, literals, of_root, ends)?;
-        Ok(())
-    }
 
     /// Encodes a requirement under a disjunct of its condition, with the candidates at hand.
     fn encode_choices<D: DependencyProvider<NameId = N, SolvableId = S>>(
@@ -136,7 +71,12 @@ impl<N: Copy + Eq + Hash + Drop, S: Copy + Eq + Hash + Drop> Encoding<N, S> {
         ensures refusal { IfErr result (IsStop (D.may_cancel provider.now) (IsFull (notes_in self.new))) }
     {
         self.help_each(provider, cache, &disjunct)?;
-        self.add_requirement(provider, by, disjunct, requirement, choices)?;
+        let kind = ClauseKind::Requires {
+            parent: by,
+            disjunct,
+            requirement,
+        };
+        self.add_with(kind, choices)?;
         Ok(())
     }
 

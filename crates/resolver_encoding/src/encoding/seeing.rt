@@ -45,15 +45,12 @@ impl<N: Copy + Eq + Hash + Drop, S: Copy + Eq + Hash + Drop> Encoding<N, S> {
         ensures refusal { IfErr result (IsShortage (IsFull (notes_in self.new))) }
     {
         for other in earlier {
-            let kind = ClauseKind::HasBit {
+            self.add(ClauseKind::HasBit {
                 name,
                 instance: *other,
                 index,
                 value: false,
-            };
-            let first = (Origin::Solvable(*other), false);
-            let second = (Origin::Bit { name, index }, false);
-            self.add_pair(kind, first, second)?;
+            })?;
         }
         Ok(())
     }
@@ -111,15 +108,12 @@ impl<N: Copy + Eq + Hash + Drop, S: Copy + Eq + Hash + Drop> Encoding<N, S> {
     {
         for index in 0..digit_count(number) {
             let value = has_digit(number, index);
-            let kind = ClauseKind::HasBit {
+            self.add(ClauseKind::HasBit {
                 name,
                 instance: solvable,
                 index,
                 value,
-            };
-            let first = (Origin::Solvable(solvable), false);
-            let second = (Origin::Bit { name, index }, value);
-            self.add_pair(kind, first, second)?;
+            })?;
         }
         Ok(())
     }
@@ -145,7 +139,7 @@ impl<N: Copy + Eq + Hash + Drop, S: Copy + Eq + Hash + Drop> Encoding<N, S> {
             return Ok(());
         }
         let name = provider.solvable_name(solvable);
-        self.variables.intern(Origin::Solvable(solvable))?;
+        self.table.variables.intern(Origin::Solvable(solvable))?;
         let number = self.groups.named(name).len();
         self.begin_digit(provider, name, number, solvable)?;
         self.add_code(provider, name, number, solvable)?;

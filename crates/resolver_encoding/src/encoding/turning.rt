@@ -46,7 +46,7 @@ impl<N: Copy + Eq + Hash + Drop, S: Copy + Eq + Hash + Drop> Encoding<N, S> {
         ensures limits { KeepsLimits (notes_in self.old) (notes_in self.new) }
         ensures refusal { IfErr result (IsShortage (IsFull (notes_in self.new))) }
     {
-        let variable = self.variables.intern(Origin::Solvable(solvable))?;
+        let variable = self.table.variables.intern(Origin::Solvable(solvable))?;
         self.see(provider, solvable)?;
         Ok(variable)
     }
