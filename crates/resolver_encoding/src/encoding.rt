@@ -9,16 +9,16 @@ ghost use Rattle.resolver_encoding.specs.Encodings.{AddsKind, IsFull, IsUnread};
 ghost use Rattle.resolver_encoding.specs.Led.{AddsOnly};
 ghost use Rattle.resolver_encoding.specs.Refusals.{IsShortage};
 
-mod asking;
-mod constraining;
-mod deferring;
-mod gating;
-mod helping;
-mod hinting;
+mod candidates;
+mod constraints;
+mod deferred;
+mod gates;
+mod helpers;
+mod hints;
+mod packages;
 mod reading;
-mod requiring;
-mod seeing;
-mod turning;
+mod requirements;
+mod turns;
 
 use crate::choices::Choices;
 use crate::disjuncts::Entry;
