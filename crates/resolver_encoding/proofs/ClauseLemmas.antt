@@ -1,15 +1,14 @@
 -- Literals that are added, and clauses made of them.
-use Rattle.std.proofs.Common.{◌≡◌, ℕ, ◌+◌, ◌<◌, List, [], ◌∷◌, ◌++◌, length, get_or, take, sym, ap, ◌∙◌, subst, ⊎_elim, Contains, Vec, Global, append_assoc}
+use Rattle.std.proofs.Common.{◌≡◌, ℕ, ◌+◌, ◌<◌, List, [], ◌∷◌, ◌++◌, length, get_or, take, sym, ap, ◌∙◌, subst, ⊎_elim, Contains, append_assoc}
 use Rattle.std.proofs.Common.{append-nil, map}
 use Rattle.std.specs.List.{AllZip}
 use Rattle.std.proofs.lemmas.List.{take_more, map-append}
 use Rattle.resolver_clause_store.specs.Variables.{Keeps}
-use Rattle.resolver_clause_store.specs.declared.ClauseKind.{ClauseKind}
 use Rattle.resolver_clause_store.specs.declared.Literal.{Literal}
 use Rattle.resolver_clause_store.specs.declared.Origin.{Origin}
 use Rattle.resolver_clause_store.proofs.PlaceLemmas.{Keeps-same, Keeps-trans}
 use Rattle.resolver_encoding.specs.Atoms.{Atom}
-use Rattle.resolver_encoding.specs.Encodings.{Adds, AddsClause, AddsRequirement, Grows, Notes}
+use Rattle.resolver_encoding.specs.Encodings.{Adds, Grows}
 use Rattle.resolver_clause_store.proofs.ListLemmas.{AllZip-append, Contains-cons_cases as cons_cases, Contains-here as here, Contains-none as none_in}
 use Rattle.resolver_clause_store.proofs.ListLemmas.{Contains-there as there}
 use Rattle.resolver_encoding.specs.Values.{AreAtoms, IsAtom}
@@ -101,44 +100,3 @@ pub Adds-zip : {N S : Type 0} (origins : List (Origin N S)) (start ls : List Lit
 Adds-zip {N} {S} origins start ls as' none adds =
     let Zip : List Literal → Type 0 = λ l. AllZip (IsAtom origins) l as' in
     subst Zip (sym (adds.is ∙ ap (λ l. l ++ adds.added) none)) adds.are
-
-module _ {N S : Type 0} (old : Notes N S) (origins : List (Origin N S)) (limit : ℕ) (new : Notes N S) (kind : ClauseKind N S) (literals : Vec Literal Global)
-    (as' : List (Atom N S)) (grows : Grows old.origins origins) (same : limit ≡ old.variable_limit) (are : AllZip (IsAtom origins) literals.items as') where
-  -- a clause behind the others, after variables were added
-  pub clause_added : new ≡ record old { origins = origins; variable_limit = limit; table = old.table ++ literals ∷ []; kinds = old.kinds ++ kind ∷ [] } →
-      AddsClause old new kind as'
-  clause_added is =
-      let Grown : List (Origin N S) → Type 0 = λ os. Grows old.origins os in
-      let Zip : List (Origin N S) → Type 0 = λ os. AllZip (IsAtom os) literals.items as' in
-      let now : new.origins ≡ origins = ap (λ n. n.origins) is in
-      record {
-        origins = subst Grown (sym now) grows;
-        literals = literals;
-        are = subst Zip (sym now) are;
-        is = is ∙ (λ i. record old { origins = sym now i; variable_limit = same i; table = old.table ++ literals ∷ []; kinds = old.kinds ++ kind ∷ [] });
-      }
-
-  -- a clause that asks for candidates
-  pub requirement_added : new ≡ record old {
-    origins = origins;
-    variable_limit = limit;
-    table = old.table ++ literals ∷ [];
-    kinds = old.kinds ++ kind ∷ [];
-    requirements = old.requirements ++ length old.kinds ∷ [];
-  } → AddsRequirement old new kind as'
-  requirement_added is =
-      let Grown : List (Origin N S) → Type 0 = λ os. Grows old.origins os in
-      let Zip : List (Origin N S) → Type 0 = λ os. AllZip (IsAtom os) literals.items as' in
-      let now : new.origins ≡ origins = ap (λ n. n.origins) is in
-      record {
-        origins = subst Grown (sym now) grows;
-        literals = literals;
-        are = subst Zip (sym now) are;
-        is = is ∙ (λ i. record old {
-          origins = sym now i;
-          variable_limit = same i;
-          table = old.table ++ literals ∷ [];
-          kinds = old.kinds ++ kind ∷ [];
-          requirements = old.requirements ++ length old.kinds ∷ [];
-        });
-      }

@@ -1,5 +1,6 @@
 -- Steps of an encoding: one after another, one more clause, one more solvable, package or helper.
-use Rattle.std.proofs.Common.{◌≡◌, ℕ, ◌+◌, ◌<◌, Bool, map, List, [], ◌∷◌, ◌++◌, length, length-append, refl, sym, ap, ◌∙◌, subst, ⊎_elim, inl, inr, arith}
+use Rattle.std.proofs.Common.{Bool, true, false}
+use Rattle.std.proofs.Common.{◌≡◌, ℕ, ◌+◌, ◌<◌, map, List, [], ◌∷◌, ◌++◌, length, length-append, refl, sym, ap, ◌∙◌, subst, ⊎_elim, inl, inr, arith}
 use Rattle.std.proofs.Common.{append_assoc, append-nil, Contains, Vec, Global, ◌⊎◌}
 use Rattle.std.specs.Prelude.{Option, Some, ⊤, slice_get}
 use Rattle.std.specs.Option.{option_map_or}
@@ -17,14 +18,14 @@ use Rattle.resolver_clause_store.specs.declared.ClauseKind.TheVariants.{InstallR
 use Rattle.resolver_clause_store.specs.declared.ClauseKind.TheVariants.{ConstrainsParent, HasBit, Lock, Excluded}
 use Rattle.resolver_clause_store.specs.declared.Literal.{Literal}
 use Rattle.resolver_clause_store.specs.declared.Origin.{Origin}
-use Rattle.resolver_clause_store.specs.declared.Origin.TheVariants.{Root, Solvable}
+use Rattle.resolver_clause_store.specs.declared.Origin.TheVariants.{Root, Solvable, ConditionHelper}
 use Rattle.resolver_clause_store.specs.declared.Requirement.{Requirement}
 use Rattle.resolver_clause_store.specs.declared.VersionSetId.{VersionSetId}
 use Rattle.resolver_clause_store.proofs.PlaceLemmas.{Keeps-same, Keeps-trans, place_cases, place_left, place_of_member}
-use Rattle.resolver_encoding.specs.Atoms.{Atom, atoms_of}
+use Rattle.resolver_encoding.specs.Atoms.{Atom, atom, atoms_of, first_atom, front, helpers_of, second_atom, wanted}
 use Rattle.resolver_encoding.specs.Called.{Call, to_ask, to_see}
-use Rattle.resolver_encoding.specs.Encodings.{AddsClause, AddsRequirement, AsksForCandidates, Coding, Doing, Extends, Grows, HasProperHelper, IsAskStep}
-use Rattle.resolver_encoding.specs.Encodings.{IsEncodingOf, IsEncodingWhile, IsFollowed, IsLeft, IsReadStep, IsStep, IsStepWhile, KeepsLimits, Notes, idle}
+use Rattle.resolver_encoding.specs.Encodings.{AddsKind, AsksForCandidates, Coding, Doing, Extends, Grows, HasProperHelper, IsAskStep}
+use Rattle.resolver_encoding.specs.Encodings.{IsEncodingOf, IsEncodingWhile, IsFollowed, IsLeft, IsReadStep, IsStep, IsStepWhile, Notes, asking_with, idle}
 use Rattle.resolver_encoding.specs.Codes.{bit}
 use Rattle.resolver_encoding.specs.Groups.{IsAt}
 use Rattle.resolver_encoding.specs.Read.{IsForbidden, forbidden_direct, forbidden_helped}
@@ -61,11 +62,40 @@ Extends-within {X} xs ys more x h =
     let Has : List X → Type 0 = λ list. Contains list x in
     subst Has (sym more.is) (Contains-append_left xs more.more x h)
 
-pub KeepsLimits-same : {N S : Type 0} (notes : Notes N S) → KeepsLimits notes notes
-KeepsLimits-same notes = record { variables = refl; clauses = refl }
+-- it asks for no candidates
+abbrev pub IsPlain : {N S : Type 0} → ClauseKind N S → Type 0
+IsPlain (Requires by disjunct r) = ⊥
+IsPlain (GateRequires r) = ⊥
+IsPlain InstallRoot = ⊤
+IsPlain (AnyOf helper s) = ⊤
+IsPlain (Constrains by v s) = ⊤
+IsPlain (ConstrainsExcluded s v) = ⊤
+IsPlain (ConstrainsParent by v) = ⊤
+IsPlain (HasBit n s i b) = ⊤
+IsPlain (Lock s t) = ⊤
+IsPlain (Excluded s reason) = ⊤
 
-pub KeepsLimits-trans : {N S : Type 0} (one two three : Notes N S) → KeepsLimits one two → KeepsLimits two three → KeepsLimits one three
-KeepsLimits-trans one two three first second = record { variables = second.variables ∙ first.variables; clauses = second.clauses ∙ first.clauses }
+pub asks_not : {N S : Type 0} (kind : ClauseKind N S) → IsPlain kind → AsksForCandidates kind → ⊥
+asks_not {N} {S} kind plain asks =
+    let Plain : ClauseKind N S → Type 0 = λ k. IsPlain k in
+    ⊎_elim (λ w. subst Plain w.3 plain) (λ w. subst Plain w.1 plain) asks
+
+-- a clause asks for candidates and its number is noted, or neither
+abbrev AsksOrNot : {N S : Type 0} → ClauseKind N S → Type 0
+AsksOrNot kind = (AsksForCandidates kind × ((number : ℕ) (numbers : List ℕ) → asking_with kind number numbers ≡ numbers ++ number ∷ [])) ⊎
+    ((AsksForCandidates kind → ⊥) × ((number : ℕ) (numbers : List ℕ) → asking_with kind number numbers ≡ numbers))
+
+asks_or_not : {N S : Type 0} (kind : ClauseKind N S) → AsksOrNot kind
+asks_or_not (Requires by disjunct r) = inl (inl (by, disjunct, r, refl), λ number numbers. refl)
+asks_or_not (GateRequires r) = inl (inr (r, refl), λ number numbers. refl)
+asks_or_not InstallRoot = inr (asks_not InstallRoot tt, λ number numbers. refl)
+asks_or_not (AnyOf helper s) = inr (asks_not (AnyOf helper s) tt, λ number numbers. refl)
+asks_or_not (Constrains by v s) = inr (asks_not (Constrains by v s) tt, λ number numbers. refl)
+asks_or_not (ConstrainsExcluded s v) = inr (asks_not (ConstrainsExcluded s v) tt, λ number numbers. refl)
+asks_or_not (ConstrainsParent by v) = inr (asks_not (ConstrainsParent by v) tt, λ number numbers. refl)
+asks_or_not (HasBit n s i b) = inr (asks_not (HasBit n s i b) tt, λ number numbers. refl)
+asks_or_not (Lock s t) = inr (asks_not (Lock s t) tt, λ number numbers. refl)
+asks_or_not (Excluded s reason) = inr (asks_not (Excluded s reason) tt, λ number numbers. refl)
 
 -- a clause's literals stay those of its kind when variables are added
 AreInOrder-keeps : {N S : Type 0} (u : Universe N S) (old new : List (Origin N S)) (ls : List Literal) (kind : ClauseKind N S) → Keeps old new →
@@ -98,6 +128,26 @@ AreInOrder-zip u origins ls (Excluded s reason) h = tt
 pub IsClauseOf-zip : {N S : Type 0} (u : Universe N S) (origins : List (Origin N S)) (ls : List Literal) (kind : ClauseKind N S) →
     AllZip (IsAtom origins) ls (atoms_of u kind) → IsClauseOf u origins ls kind
 IsClauseOf-zip u origins ls kind h = record { atoms = AreAtoms-zip origins ls (atoms_of u kind) h; in_order = AreInOrder-zip u origins ls kind h }
+
+-- the helpers and the candidates of a clause
+abbrev behind : {N S : Type 0} → List VersionSetId → List S → List (Atom N S)
+behind helpers candidates = map (λ v. atom (ConditionHelper v) false) helpers ++ map (λ s. atom (Solvable s) true) candidates
+
+-- the atoms of which the literals of a clause are made
+abbrev pub made_of : {N S : Type 0} → Universe N S → Option (Origin N S × Bool) → ClauseKind N S → List (Atom N S)
+made_of u second kind = front (first_atom kind) second ++ behind (helpers_of kind) (wanted u kind)
+
+pub made_is : {N S : Type 0} (u : Universe N S) (kind : ClauseKind N S) → made_of u (second_atom kind) kind ≡ atoms_of u kind
+made_is u InstallRoot = refl
+made_is u (Requires by disjunct r) = refl
+made_is u (AnyOf helper s) = refl
+made_is u (Constrains by v s) = refl
+made_is u (GateRequires r) = refl
+made_is u (ConstrainsExcluded s v) = refl
+made_is u (ConstrainsParent by v) = refl
+made_is u (HasBit n s i b) = refl
+made_is u (Lock s t) = refl
+made_is u (Excluded s reason) = refl
 
 IsClauseOf-keeps : {N S : Type 0} (u : Universe N S) (old new : List (Origin N S)) (ls : List Literal) (kind : ClauseKind N S) → Keeps old new →
     IsClauseOf u old ls kind → IsClauseOf u new ls kind
@@ -196,9 +246,7 @@ module _ {N S : Type 0} (u : Universe N S) where
     pub coding : (c : Coding N S) → Contains doing.coding c → (i : ℕ) → codes c.name i c.instance ≡ bit c.number i
 
   -- a clause that may be added: it is true, due, and what it brings with it is there
-  pub record IsNext (doing : Doing N S) (root : Demands) (notes : Notes N S) (origins : List (Origin N S)) (literals : List Literal)
-      (kind : ClauseKind N S) : Type 0 where
-    pub clause : IsClauseOf u origins literals kind
+  pub record IsNext (doing : Doing N S) (root : Demands) (notes : Notes N S) (kind : ClauseKind N S) : Type 0 where
     pub is_true : (codes : N → ℕ → S → Bool) → HasCodes doing notes codes → IsTrueClause u codes root kind
     pub proper : HasProperHelper kind
     pub due : IsDue (doing.asking ++ notes.asked) notes.exempt kind
@@ -209,7 +257,7 @@ module _ {N S : Type 0} (u : Universe N S) where
     pub listed : (n : ℕ) (kind : ClauseKind N S) → slice_get kinds n ≡ Some kind → AsksForCandidates kind → Contains requirements n
     pub ask : (n : ℕ) → Contains requirements n → (kind : ClauseKind N S) × (slice_get kinds n ≡ Some kind) × AsksForCandidates kind
 
-  pub AreListed-plain : (kinds : List (ClauseKind N S)) (requirements : List ℕ) (kind : ClauseKind N S) → (AsksForCandidates kind → ⊥) →
+  AreListed-plain : (kinds : List (ClauseKind N S)) (requirements : List ℕ) (kind : ClauseKind N S) → (AsksForCandidates kind → ⊥) →
       AreListed kinds requirements → AreListed (kinds ++ kind ∷ []) requirements
   AreListed-plain kinds requirements kind plain before =
       let Asks : ClauseKind N S → Type 0 = λ k. AsksForCandidates k in
@@ -219,7 +267,7 @@ module _ {N S : Type 0} (u : Universe N S) where
         ask = λ n h. let w = before.ask n h in (w.0, place_left kinds (kind ∷ []) n w.0 w.1, w.2);
       }
 
-  pub AreListed-asking : (kinds : List (ClauseKind N S)) (requirements : List ℕ) (kind : ClauseKind N S) → AsksForCandidates kind →
+  AreListed-asking : (kinds : List (ClauseKind N S)) (requirements : List ℕ) (kind : ClauseKind N S) → AsksForCandidates kind →
       AreListed kinds requirements → AreListed (kinds ++ kind ∷ []) (requirements ++ length kinds ∷ [])
   AreListed-asking kinds requirements kind asking before =
       let Has : ℕ → Type 0 = λ n. Contains (requirements ++ length kinds ∷ []) n in
@@ -233,21 +281,36 @@ module _ {N S : Type 0} (u : Universe N S) where
             (Contains-push_cases requirements (length kinds) n h);
       }
 
+  -- with the number of the clause, where it asks for candidates
+  AreListed-kind : (kinds : List (ClauseKind N S)) (requirements : List ℕ) (kind : ClauseKind N S) → AreListed kinds requirements →
+      AreListed (kinds ++ kind ∷ []) (asking_with kind (length kinds) requirements)
+  AreListed-kind kinds requirements kind before =
+      let Listed : List ℕ → Type 0 = λ numbers. AreListed (kinds ++ kind ∷ []) numbers in
+      ⊎_elim (λ asks. subst Listed (sym (asks.1 (length kinds) requirements)) (AreListed-asking kinds requirements kind asks.0 before))
+      (λ plain. subst Listed (sym (plain.1 (length kinds) requirements)) (AreListed-plain kinds requirements kind plain.0 before))
+      (asks_or_not kind)
+
+  Extends-asking : (kind : ClauseKind N S) (number : ℕ) (numbers : List ℕ) → Extends numbers (asking_with kind number numbers)
+  Extends-asking kind number numbers =
+      let Longer : List ℕ → Type 0 = λ list. Extends numbers list in
+      ⊎_elim (λ asks. subst Longer (sym (asks.1 number numbers)) (Extends-push numbers number))
+      (λ plain. subst Longer (sym (plain.1 number numbers)) (Extends-same numbers)) (asks_or_not kind)
+
   abbrev pub with_clause : Notes N S → List (Origin N S) → List ℕ → Vec Literal Global → ClauseKind N S → Notes N S
   with_clause notes origins requirements literals kind =
       record notes { origins = origins; requirements = requirements; table = notes.table ++ literals ∷ []; kinds = notes.kinds ++ kind ∷ [] }
 
   IsEncoding-clause : (doing : Doing N S) (root : Demands) (notes : Notes N S) (origins : List (Origin N S)) (requirements : List ℕ)
-      (literals : Vec Literal Global) (kind : ClauseKind N S) → Grows notes.origins origins → AreListed (notes.kinds ++ kind ∷ []) requirements →
-      IsNext doing root notes origins literals.items kind → IsEncodingWhile u doing root notes →
+      (literals : Vec Literal Global) (kind : ClauseKind N S) → Grows notes.origins origins → IsClauseOf u origins literals.items kind →
+      AreListed (notes.kinds ++ kind ∷ []) requirements → IsNext doing root notes kind → IsEncodingWhile u doing root notes →
       IsEncodingWhile u doing root (with_clause notes origins requirements literals kind)
-  IsEncoding-clause doing root notes origins requirements literals kind grows listed next before =
+  IsEncoding-clause doing root notes origins requirements literals kind grows clause listed next before =
       let within = IsWithin-push notes.kinds kind in
       let Prepared : ClauseKind N S → Type 0 = λ k. IsPrepared doing notes k in
       record {
         root_first = grows.keeps.kept 0 Root before.root_first;
         distinct = grows.distinct before.distinct;
-        encoded = AreEncoded-push notes.origins origins notes.table notes.kinds literals kind grows.keeps before.encoded next.clause;
+        encoded = AreEncoded-push notes.origins origins notes.table notes.kinds literals kind grows.keeps before.encoded clause;
         codes = before.codes;
         own_codes = before.own_codes;
         each_true = All-push (IsTrueClause u before.codes root) notes.kinds kind before.each_true
@@ -299,44 +362,21 @@ module _ {N S : Type 0} (u : Universe N S) where
   pub IsStep-same : (doing : Doing N S) (Premise : Demands → Type 0) (notes : Notes N S) → IsStepWhile u doing Premise notes notes
   IsStep-same doing Premise notes = search (Keeps-same, Extends-same)
 
-  IsStep-with_clause : (doing : Doing N S) (Premise : Demands → Type 0) (old : Notes N S) (origins : List (Origin N S)) (requirements : List ℕ)
-      (literals : Vec Literal Global) (kind : ClauseKind N S) → Grows old.origins origins → Extends old.requirements requirements →
-      (AreListed old.kinds old.requirements → AreListed (old.kinds ++ kind ∷ []) requirements) →
-      ((root : Demands) → Premise root → IsEncodingWhile u doing root old → IsNext doing root old origins literals.items kind) →
-      IsStepWhile u doing Premise old (with_clause old origins requirements literals kind)
-  IsStep-with_clause doing Premise old origins requirements literals kind grows more listed next =
-      let keeps : StaysRight doing Premise old (with_clause old origins requirements literals kind) =
-      λ root premise before. IsEncoding-clause doing root old origins requirements literals kind grows
-      (listed (record { listed = before.listed; ask = before.ask })) (next root premise before) before in
-      assumption (IsStep-same doing Premise old, grows.keeps, Extends-push old.table literals, IsWithin-push old.kinds kind)
-
-  -- one more clause, which asks for no candidates
-  pub IsStep-clause : (doing : Doing N S) (Premise : Demands → Type 0) (old new : Notes N S) (kind : ClauseKind N S) (as' : List (Atom N S))
-      (adds : AddsClause old new kind as') → (AsksForCandidates kind → ⊥) →
-      ((root : Demands) → Premise root → IsEncodingWhile u doing root old → IsNext doing root old new.origins adds.literals.items kind) →
-      IsStepWhile u doing Premise old new
-  IsStep-clause doing Premise old new kind as' adds plain next =
+  -- one more clause
+  pub IsStep-clause : (doing : Doing N S) (Premise : Demands → Type 0) (old new : Notes N S) (kind : ClauseKind N S) → AddsKind u kind old new →
+      ((root : Demands) → Premise root → IsEncodingWhile u doing root old → IsNext doing root old kind) → IsStepWhile u doing Premise old new
+  IsStep-clause doing Premise old new kind adds next =
+      let numbers = asking_with kind (length old.kinds) old.requirements in
       let Step : Notes N S → Type 0 = λ n. IsStepWhile u doing Premise old n in
-      subst Step (sym adds.is) (IsStep-with_clause doing Premise old new.origins old.requirements adds.literals kind adds.origins
-      (Extends-same old.requirements) (AreListed-plain old.kinds old.requirements kind plain) next)
+      let keeps : StaysRight doing Premise old (with_clause old new.origins numbers adds.literals kind) =
+      λ root premise before. IsEncoding-clause doing root old new.origins numbers adds.literals kind adds.origins adds.clause
+      (AreListed-kind old.kinds old.requirements kind (record { listed = before.listed; ask = before.ask })) (next root premise before) before in
+      let longer : Extends old.requirements numbers = Extends-asking kind (length old.kinds) old.requirements in
+      subst Step (sym adds.is)
+      (assumption (IsStep-same doing Premise old, adds.origins.keeps, Extends-push old.table adds.literals, IsWithin-push old.kinds kind, longer))
 
-  -- one more clause, which asks for candidates
-  pub IsStep-requirement : (doing : Doing N S) (Premise : Demands → Type 0) (old new : Notes N S) (kind : ClauseKind N S) (as' : List (Atom N S))
-      (adds : AddsRequirement old new kind as') → AsksForCandidates kind →
-      ((root : Demands) → Premise root → IsEncodingWhile u doing root old → IsNext doing root old new.origins adds.literals.items kind) →
-      IsStepWhile u doing Premise old new
-  IsStep-requirement doing Premise old new kind as' adds asks next =
-      let Step : Notes N S → Type 0 = λ n. IsStepWhile u doing Premise old n in
-      subst Step (sym adds.is) (IsStep-with_clause doing Premise old new.origins (old.requirements ++ length old.kinds ∷ []) adds.literals kind adds.origins
-      (Extends-push old.requirements (length old.kinds)) (AreListed-asking old.kinds old.requirements kind asks) next)
-
-  pub clause_listed : (old new : Notes N S) (kind : ClauseKind N S) (as' : List (Atom N S)) → AddsClause old new kind as' → Contains new.kinds kind
-  clause_listed old new kind as' adds =
-      let Listed : Notes N S → Type 0 = λ n. Contains n.kinds kind in
-      subst Listed (sym adds.is) (Contains-push old.kinds kind)
-
-  pub requirement_listed : (old new : Notes N S) (kind : ClauseKind N S) (as' : List (Atom N S)) → AddsRequirement old new kind as' → Contains new.kinds kind
-  requirement_listed old new kind as' adds =
+  pub clause_listed : (old new : Notes N S) (kind : ClauseKind N S) → AddsKind u kind old new → Contains new.kinds kind
+  clause_listed old new kind adds =
       let Listed : Notes N S → Type 0 = λ n. Contains n.kinds kind in
       subst Listed (sym adds.is) (Contains-push old.kinds kind)
 

@@ -79,12 +79,6 @@ module _ {N S : Type 0} where
   AddsOnly-weaker Added More more old new adds =
       record { origins = AddsSuch-weaker Added More more old.origins new.origins adds.origins; deferred = adds.deferred }
 
-  -- variables, and then what adds none
-  pub AddsOnly-then : (Added : Origin N S → Type 0) (one three : Notes N S) (origins : List (Origin N S)) → AddsSuch Added one.origins origins →
-      three.origins ≡ origins → three.deferred ≡ one.deferred → AddsOnly Added one three
-  AddsOnly-then Added one three list such origins deferred =
-      record { origins = AddsSuch-trans Added one.origins list three.origins such (AddsSuch-equal Added list three.origins origins); deferred = deferred }
-
 module _ {N S : Type 0} (u : Universe N S) where
   pub locked_barred : (n : N) (t s : S) → u.name s ≡ n → (u.package_named n).locked ≡ Some t → Contains (u.package_named n).listed s → s ≢ t →
       (o : Origin N S) → (o ≡ Root) ⊎ (o ≡ Solvable s) → IsBarred u (IsAsking n) o

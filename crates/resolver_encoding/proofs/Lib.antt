@@ -5,6 +5,7 @@ pub mod SourceLemmas
 pub mod ListingLemmas
 pub mod ClauseLemmas
 pub mod EncodingLemmas
+pub mod RoomLemmas
 pub mod NoteLemmas
 pub mod SeeLemmas
 pub mod RequirementLemmas
@@ -31,4 +32,5 @@ pub mod TurnLemmas
 pub mod EncodedLemmas
 pub mod LeftOutLemmas
 pub mod LedLemmas
+pub mod TableLemmas
 pub mod LedReading

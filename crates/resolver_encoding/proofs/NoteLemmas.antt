@@ -1,4 +1,4 @@
--- Steps that note a clause of a plain kind, a variable, a solvable, a package or a helper.
+-- Steps that note a clause, a variable, a solvable, a package or a helper.
 use Rattle.std.proofs.Common.{◌≡◌, ◌≢◌, ◌⊎◌, ℕ, ◌+◌, ◌<◌, length, get_or, take, List, [], ◌∷◌, ◌++◌, sym, ◌∙◌, subst, ⊎_elim, inl, inr, Contains, All}
 use Rattle.std.proofs.Common.{Bool, true, false}
 use Rattle.std.specs.Prelude.{Option, Some, None, ⊤}
@@ -10,20 +10,19 @@ use Rattle.resolver_clause_store.specs.Lists.{IsWithin}
 use Rattle.resolver_clause_store.specs.Universe.{Universe, Demands, Package}
 use Rattle.resolver_clause_store.specs.Candidates.{matching, others}
 use Rattle.resolver_clause_store.specs.declared.ClauseKind.{ClauseKind}
-use Rattle.resolver_clause_store.specs.declared.ClauseKind.TheVariants.{InstallRoot, Requires, AnyOf, GateRequires, Constrains, ConstrainsExcluded}
-use Rattle.resolver_clause_store.specs.declared.ClauseKind.TheVariants.{ConstrainsParent, HasBit, Lock, Excluded}
+use Rattle.resolver_clause_store.specs.declared.ClauseKind.TheVariants.{AnyOf, GateRequires, ConstrainsExcluded}
+use Rattle.resolver_clause_store.specs.declared.ClauseKind.TheVariants.{Lock, Excluded}
 use Rattle.resolver_clause_store.specs.declared.Origin.{Origin}
 use Rattle.resolver_clause_store.specs.declared.Origin.TheVariants.{Root, ConditionHelper}
 use Rattle.resolver_clause_store.specs.declared.Requirement.{Requirement}
 use Rattle.resolver_clause_store.specs.declared.StringId.{StringId}
 use Rattle.resolver_clause_store.specs.declared.VersionSetId.{VersionSetId}
 use Rattle.resolver_clause_store.proofs.SetLemmas.{All-next}
-use Rattle.resolver_encoding.specs.Atoms.{atoms_of}
 use Rattle.resolver_encoding.specs.Called.{Call, IsAsking, IsNamedBy, IsSeeing, IsSeeingEach, to_ask, to_see}
-use Rattle.resolver_encoding.specs.Encodings.{AddsClause, AsksForCandidates, Doing, Extends, Grows, HasProperHelper, IsAskStep, IsEncoding}
+use Rattle.resolver_encoding.specs.Encodings.{AddsKind, Doing, Extends, Grows, HasProperHelper, IsAskStep, IsEncoding}
 use Rattle.resolver_encoding.specs.Encodings.{IsEncodingWhile, IsFollowed, IsLockRead, IsStep, IsStepWhile, Notes, asking_for, idle}
 use Rattle.resolver_encoding.specs.Truth.{AreDue, IsTrueClause}
-use Rattle.resolver_encoding.proofs.EncodingLemmas.{AreEncoded-keeps, Contains-kept, Extends-same, HasCodes, IsClauseOf-zip, IsDue, IsPrepared, IsStep-clause}
+use Rattle.resolver_encoding.proofs.EncodingLemmas.{AreEncoded-keeps, Contains-kept, Extends-same, HasCodes, IsDue, IsPrepared, IsStep-clause}
 use Rattle.resolver_encoding.proofs.EncodingLemmas.{IsStep-same, IsWithin-push, StaysRight}
 use Rattle.resolver_clause_store.proofs.ListLemmas.{Contains-cons_cases as cons_cases, Contains-here as here, Contains-there as there}
 
@@ -46,24 +45,6 @@ not_same {X} same identity x y b tested denied e =
     let Itself : X → Type 0 = λ z. same x z ≡ true in
     true≢false (sym (subst Itself e (identity.itself x)) ∙ sym tested ∙ denied)
 
--- it asks for no candidates
-abbrev pub IsPlain : {N S : Type 0} → ClauseKind N S → Type 0
-IsPlain (Requires by disjunct r) = ⊥
-IsPlain (GateRequires r) = ⊥
-IsPlain InstallRoot = ⊤
-IsPlain (AnyOf helper s) = ⊤
-IsPlain (Constrains by v s) = ⊤
-IsPlain (ConstrainsExcluded s v) = ⊤
-IsPlain (ConstrainsParent by v) = ⊤
-IsPlain (HasBit n s i b) = ⊤
-IsPlain (Lock s t) = ⊤
-IsPlain (Excluded s reason) = ⊤
-
-pub asks_not : {N S : Type 0} (kind : ClauseKind N S) → IsPlain kind → AsksForCandidates kind → ⊥
-asks_not {N} {S} kind plain asks =
-    let Plain : ClauseKind N S → Type 0 = λ k. IsPlain k in
-    ⊎_elim (λ w. subst Plain w.3 plain) (λ w. subst Plain w.1 plain) asks
-
 -- of a package by another name
 pub asking_same : {N S : Type 0} (n m : N) → n ≡ m → (call : Call N S) → IsAsking n call → IsAsking m call
 asking_same n m same (to_ask q) asking = sym same ∙ asking
@@ -83,21 +64,14 @@ module _ {N S : Type 0} (u : Universe N S) where
   named_here list i d n (to_ask m) below is same = (get_or list i d, All-get_or (Contains list) list i d below (All-contains_itself list), sym is ∙ same)
   named_here list i d n (to_see s) below is asking = asking
 
-  -- one more clause of a plain kind
-  pub IsStep-plain : (doing : Doing N S) (Premise : Demands → Type 0) (old new : Notes N S) (kind : ClauseKind N S) →
-      AddsClause old new kind (atoms_of u kind) → IsPlain kind →
+  -- one more clause, where what it needs depends on no problem
+  pub IsStep-kind : (doing : Doing N S) (Premise : Demands → Type 0) (old new : Notes N S) (kind : ClauseKind N S) → AddsKind u kind old new →
       ((root : Demands) → Premise root → IsEncodingWhile u doing root old → (codes : N → ℕ → S → Bool) → HasCodes u doing old codes →
       IsTrueClause u codes root kind) → HasProperHelper kind → IsDue u (doing.asking ++ old.asked) old.exempt kind → IsPrepared u doing old kind →
       IsStepWhile u doing Premise old new
-  IsStep-plain doing Premise old new kind adds plain is_true proper due prepared =
-      IsStep-clause u doing Premise old new kind (atoms_of u kind) adds (asks_not kind plain)
-      (λ root premise before. record {
-        clause = IsClauseOf-zip u new.origins adds.literals.items kind adds.are;
-        is_true = is_true root premise before;
-        proper = proper;
-        due = due;
-        prepared = prepared;
-      })
+  IsStep-kind doing Premise old new kind adds is_true proper due prepared =
+      IsStep-clause u doing Premise old new kind adds
+      (λ root premise before. record { is_true = is_true root premise before; proper = proper; due = due; prepared = prepared })
 
   -- variables were added
   pub IsStep-origins : (doing : Doing N S) (Premise : Demands → Type 0) (old new : Notes N S) (origins : List (Origin N S)) (limit : ℕ) →

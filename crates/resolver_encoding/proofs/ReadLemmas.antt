@@ -1,17 +1,18 @@
 -- What was read stays read, and when all was.
 use Rattle.std.proofs.Common.{◌≡◌, ℕ, ◌<◌, ◌≤◌, length, List, [], ◌∷◌, ◌++◌, refl, sym, ap, ◌∙◌, subst, ⊎_elim, inl, inr, arith, Contains}
-use Rattle.std.proofs.Common.{All, Vec, Global, Bool, true, ◌⊎◌}
+use Rattle.std.proofs.Common.{All, Bool, true, get_or}
 use Rattle.std.specs.Prelude.{Some, slice_get}
 use Rattle.std.specs.Cmp.{IsEquivalence}
 use Rattle.std.specs.List.{IsDistinct}
 use Rattle.std.proofs.lemmas.List.Elements.{All-contains, All-cons, All-nil, All-weaker}
 use Rattle.std.proofs.lemmas.Map.Made.{length-le_from_is_member}
 use Rattle.std.proofs.lemmas.Map.Views.{list_any-from_Contains, Contains-from_any}
-use Rattle.std.proofs.lemmas.Option.{slice_get_within}
+use Rattle.std.proofs.lemmas.Option.{slice_get-get_or, slice_get_within}
 use Rattle.std.proofs.lemmas.Bool.{false≢true}
 use Rattle.resolver_clause_store.specs.Laws.{IsIdentity}
 use Rattle.resolver_clause_store.specs.Lists.{IsWithin}
 use Rattle.resolver_clause_store.specs.Universe.{Universe, Demands, Needs, known, unknown}
+use Rattle.resolver_clause_store.specs.Variables.{AreDistinct}
 use Rattle.resolver_clause_store.specs.Candidates.{others, requirement_candidates, version_sets}
 use Rattle.resolver_clause_store.specs.Valid.{demands_of}
 use Rattle.resolver_clause_store.specs.declared.By.{By}
@@ -19,7 +20,6 @@ use Rattle.resolver_clause_store.specs.declared.By.TheVariants.{Root as ByRoot, 
 use Rattle.resolver_clause_store.specs.declared.ClauseKind.{ClauseKind}
 use Rattle.resolver_clause_store.specs.declared.ClauseKind.TheVariants.{InstallRoot, Requires, GateRequires, HasBit, Lock, Excluded}
 use Rattle.resolver_clause_store.specs.declared.ConditionalRequirement.{ConditionalRequirement}
-use Rattle.resolver_clause_store.specs.declared.Literal.{Literal}
 use Rattle.resolver_clause_store.specs.declared.Origin.{Origin}
 use Rattle.resolver_clause_store.specs.declared.Origin.TheVariants.{Root, Solvable, Bit, Gate, ConstraintHelper, ConditionHelper}
 use Rattle.resolver_clause_store.specs.declared.Requirement.{Requirement}
@@ -27,18 +27,19 @@ use Rattle.resolver_clause_store.specs.declared.VersionSetId.{VersionSetId}
 use Rattle.resolver_clause_store.specs.Statements.{IsPresent}
 use Rattle.resolver_clause_store.specs.TrueRules.{demands_by}
 use Rattle.resolver_encoding.specs.Atoms.{atom}
-use Rattle.resolver_encoding.specs.Encodings.{AsksForCandidates, AreDemandsRead, AreNeedsRead, HasProperHelper, IsConstraintRead, IsEncoding, IsLeft}
+use Rattle.resolver_encoding.specs.Encodings.{AddsKind, AsksForCandidates, AreDemandsRead, AreNeedsRead, HasProperHelper, IsConstraintRead, IsEncoding, IsLeft}
 use Rattle.resolver_encoding.specs.Encodings.{IsUnread, Notes}
+use Rattle.resolver_encoding.specs.Led.{AddsOnly}
 use Rattle.resolver_encoding.specs.Read.{IsForbidden}
 use Rattle.resolver_encoding.specs.ReadState.{Deferred, HasClause, has_direct, has_gate, IsRead, IsReadRequirement}
 use Rattle.resolver_encoding.specs.SoFar.{IsHalfRead}
 use Rattle.resolver_encoding.specs.Truth.{IsTrueClause, no_codes}
-use Rattle.resolver_encoding.specs.Values.{IsAtom, IsClauseOf}
+use Rattle.resolver_encoding.specs.Values.{IsClauseOf}
 use Rattle.resolver_clause_store.specs.Formula.{clause_at}
 use Rattle.resolver_clause_store.proofs.PlaceLemmas.{place_cases}
-use Rattle.resolver_encoding.proofs.EncodingLemmas.{IsClauseOf-zip, IsForbidden-within}
+use Rattle.resolver_encoding.proofs.EncodingLemmas.{IsForbidden-within, asks_not}
 use Rattle.resolver_encoding.proofs.CodeLemmas.{apart_of_digits}
-use Rattle.resolver_encoding.proofs.NoteLemmas.{asks_not}
+use Rattle.resolver_clause_store.proofs.ListLemmas.{Contains-at as place_in}
 use Rattle.resolver_clause_store.proofs.ListLemmas.{Contains-cons_cases as cons_cases, Contains-here as here, Contains-none as none_in, Contains-there as there}
 use Rattle.resolver_encoding.proofs.GroupLemmas.{named_of_number as IsNamed-at}
 
@@ -176,27 +177,25 @@ module _ {N S : Type 0} (u : Universe N S) where
   none {X} xs x e h = let Has : List X → Type 0 = λ list. Contains list x in none_in x (subst Has e h)
 
   -- the root alone
-  pub installed : (old new : Notes N S) (limit : ℕ) (literals : Vec Literal Global) (l : Literal) → IsUnread old →
-      IsAtom {N = N} {S = S} (Root ∷ []) l (atom Root true) → literals.items ≡ l ∷ [] →
-      new ≡ record old { origins = Root ∷ []; variable_limit = limit; table = literals ∷ []; kinds = InstallRoot ∷ [] } → (root : Demands) →
+  pub installed : (old new : Notes N S) → IsUnread old → AddsKind u InstallRoot old new → AddsOnly (λ o. o ≡ Root) old new → (root : Demands) →
       IsEncoding u root new
-  installed old new limit literals l unread is items e root =
+  installed old new unread adds only root =
+      let literals = adds.literals in
+      let os = new.origins in
       let Right : Notes N S → Type 0 = λ n. IsEncoding u root n in
-      let Literals : List Literal → Type 0 = λ ls. IsClauseOf {N = N} {S = S} u (Root ∷ []) ls InstallRoot in
       let InNoSeen : List S → Type 0 = λ xs. All (λ s. Contains xs s → ⊥) xs in
-      subst Right (sym e) (record {
-        root_first = refl;
-        distinct = record {
-          same = λ i k x one other. let below_i : i < 1 = slice_get_within (Root ∷ []) i x one in
-              let below_k : k < 1 = slice_get_within (Root ∷ []) k x other in omega (arith, below_i, below_k);
-        };
+      let AreApart : List (Origin N S) → Type 0 = λ list. AreDistinct list in
+      let are : new ≡ record old { origins = os; table = literals ∷ []; kinds = InstallRoot ∷ [] } = adds.is ∙
+      (λ i. record old { origins = os; table = unread.no_table i ++ literals ∷ []; kinds = unread.no_kinds i ++ InstallRoot ∷ [] }) in
+      subst Right (sym are) (record {
+        root_first = root_at;
+        distinct = adds.origins.distinct (subst AreApart (sym unread.no_origins) (record { same = λ i k x one other. absurd (none_at [] i x refl one) }));
         encoded = record {
           count = refl;
           each = λ n kind at.
               let w = is_install n kind at in
-              let At : ℕ → ClauseKind N S → Type 0 = λ m k. IsClauseOf u (Root ∷ []) (clause_at (literals ∷ []) m) k in
-              subst (λ k. At n k) w.1 (subst (λ m. At m InstallRoot) (sym w.0)
-              (subst Literals (sym items) (IsClauseOf-zip u (Root ∷ []) (l ∷ []) InstallRoot (is, tt))));
+              let At : ℕ → ClauseKind N S → Type 0 = λ m k. IsClauseOf u os (clause_at (literals ∷ []) m) k in
+              subst (λ k. At n k) w.1 (subst (λ m. At m InstallRoot) (sym w.0) adds.clause);
         };
         codes = no_codes;
         own_codes = record { named = λ n i s e. absurd (false≢true e) };
@@ -234,6 +233,18 @@ module _ {N S : Type 0} (u : Universe N S) where
         sound_waiting = unread.sound_waiting;
       })
     where
+      -- some variable stands for the root, and none for anything else
+      root_at : slice_get new.origins 0 ≡ Some Root
+      root_at =
+          let w = adds.clause.atoms.each_atom (atom Root true) (here (atom Root true) []) in
+          let below : 0 < length new.origins = omega (arith, slice_get_within new.origins w.0.variable Root w.2.origin) in
+          let first = slice_get-get_or new.origins 0 Root below in
+          let is : get_or new.origins 0 Root ≡ Root = ⊎_elim
+          (λ (earlier : Contains old.origins (get_or new.origins 0 Root)). absurd (none old.origins (get_or new.origins 0 Root) unread.no_origins earlier))
+          (λ (same : get_or new.origins 0 Root ≡ Root). same)
+          (only.origins.only (get_or new.origins 0 Root) (place_in new.origins 0 (get_or new.origins 0 Root) first)) in
+          first ∙ ap (λ o. Some o) is
+
       not_there : (kind : ClauseKind N S) → (InstallRoot ≡ kind → ⊥) → Contains (InstallRoot ∷ []) kind → ⊥
       not_there kind differ h = ⊎_elim (λ (e : InstallRoot ≡ kind). differ e) (λ (later : Contains [] kind). none_in kind later)
           (cons_cases InstallRoot [] kind h)
@@ -243,11 +254,3 @@ module _ {N S : Type 0} (u : Universe N S) where
           (λ (before : slice_get [] n ≡ Some kind). absurd (omega (arith, slice_get_within [] n kind before)))
           (λ (last : (n ≡ length {A = ClauseKind N S} []) × (InstallRoot ≡ kind)). last)
           (place_cases [] InstallRoot n kind at)
-
--- the first variable is the only one
-pub alone : {N S : Type 0} (old new : List (Origin N S)) (v : ℕ) → old ≡ [] → (new ≡ old) ⊎ (new ≡ old ++ Root ∷ []) → slice_get new v ≡ Some Root →
-    new ≡ Root ∷ []
-alone old new v none added here = ⊎_elim
-    (λ same. let nothing : length new ≡ 0 = ap length (same ∙ none) in absurd (omega (arith, nothing, slice_get_within new v Root here)))
-    (λ more. more ∙ ap (λ list. list ++ Root ∷ []) none)
-    added

@@ -14,17 +14,16 @@ use Rattle.resolver_clause_store.specs.declared.ClauseKind.TheVariants.{Constrai
 use Rattle.resolver_clause_store.specs.declared.Origin.TheVariants.{Root, Solvable, Bit, Gate, ConstraintHelper, ConditionHelper}
 use Rattle.resolver_encoding.specs.Called.{Call, IsSeeing, to_ask, to_see}
 use Rattle.resolver_encoding.specs.Codes.{bit}
-use Rattle.resolver_encoding.specs.Encodings.{AddsClause, Coding, Extends, HasProperHelper, IsAskStep, IsEncoding, IsEncodingWhile, IsFollowed, IsStepWhile}
+use Rattle.resolver_encoding.specs.Encodings.{AddsKind, Coding, Extends, HasProperHelper, IsAskStep, IsEncoding, IsEncodingWhile, IsFollowed, IsStepWhile}
 use Rattle.resolver_encoding.specs.Encodings.{Notes, coding_for}
 use Rattle.resolver_encoding.specs.Groups.{AddsNamed, AreGroups, IsAt, IsNamed}
 use Rattle.resolver_encoding.specs.declared.groups.Groups.{Groups}
 use Rattle.resolver_encoding.specs.Truth.{AreCodes, IsTrueClause}
-use Rattle.resolver_encoding.proofs.EncodingLemmas.{Extends-push, IsClauseOf-zip, IsStep-clause, IsWithin-push, IsWithin-same}
+use Rattle.resolver_encoding.proofs.EncodingLemmas.{Extends-push, IsStep-clause, IsWithin-push, IsWithin-same}
 use Rattle.resolver_encoding.proofs.GroupLemmas.{named_of_number, number_is}
 use Rattle.resolver_encoding.proofs.CodeLemmas.{no_digit, pow_same}
-use Rattle.resolver_encoding.proofs.NoteLemmas.{IsStep-plain, asks_not, holds_also}
+use Rattle.resolver_encoding.proofs.NoteLemmas.{IsStep-kind, holds_also}
 use Rattle.resolver_clause_store.proofs.ListLemmas.{Contains-at as place_in, Contains-cons_cases as cons_cases, Contains-here as here, Contains-none as none_in}
-use Rattle.resolver_encoding.specs.Atoms.{atoms_of}
 
 -- the first where the test says so, and else the second
 abbrev pick : Bool → Bool → Bool → Bool
@@ -140,24 +139,22 @@ module _ {N S : Type 0} (u : Universe N S) where
         search
 
     -- one more clause of the solvable's code
-    pub IsStep-own : (old new : Notes N S) (i : ℕ) (b : Bool) → AddsClause old new (HasBit n s i b) (atoms_of u (HasBit n s i b)) → u.name s ≡ n → b ≡ bit k i →
+    pub IsStep-own : (old new : Notes N S) (i : ℕ) (b : Bool) → AddsKind u (HasBit n s i b) old new → u.name s ≡ n → b ≡ bit k i →
         IsStepWhile u (coding_for n k s) (λ root. ⊤) old new
     IsStep-own old new i b adds name is =
         let one : Coding N S = record { name = n; number = k; instance = s } in
-        IsStep-plain u (coding_for n k s) (λ root. ⊤) old new (HasBit n s i b) adds tt
+        IsStep-kind u (coding_for n k s) (λ root. ⊤) old new (HasBit n s i b) adds
         (λ root _ before codes has. (name, has.coding one (here one []) i ∙ sym is)) tt tt (inr (here s []))
 
     -- an earlier one has the digit that begins with the solvable's number, and it is not set
-    pub IsStep-begun : (old new : Notes N S) (i j : ℕ) (t : S) → AddsClause old new (HasBit n t i false) (atoms_of u (HasBit n t i false)) → k ≡ 2 ^ i →
+    pub IsStep-begun : (old new : Notes N S) (i j : ℕ) (t : S) → AddsKind u (HasBit n t i false) old new → k ≡ 2 ^ i →
         (AreGroups old.groups → j < k) → IsAt old.groups n j t → IsStepWhile u (coding_for n k s) (λ root. ⊤) old new
     IsStep-begun old new i j t adds begins below at =
-        let kind : ClauseKind N S = HasBit n t i false in
-        IsStep-clause u (coding_for n k s) (λ root. ⊤) old new kind (atoms_of u kind) adds (asks_not kind tt)
+        IsStep-clause u (coding_for n k s) (λ root. ⊤) old new (HasBit n t i false) adds
         (λ root _ before.
         let member = before.members n t (named_of_number old.groups n j t at) in
         let less : j < 2 ^ i = omega (arith, begins, below before.sound_groups) in
         record {
-          clause = IsClauseOf-zip u new.origins adds.literals.items kind adds.are;
           is_true = λ codes has. (member.0, has.placed n j t at i ∙ no_digit j i less);
           proper = tt;
           due = tt;

@@ -1,5 +1,5 @@
 -- Turns of soft requirements: a solvable is registered, exempt, and exempt no longer.
-use Rattle.std.proofs.Common.{◌≡◌, ◌≢◌, ◌⊎◌, Bool, true, false, List, [], ◌∷◌, ◌++◌, refl, sym, ap, ◌∙◌, subst, ⊎_elim, inl, inr, All, Contains}
+use Rattle.std.proofs.Common.{◌≡◌, ◌≢◌, ◌⊎◌, ℕ, length, Bool, true, false, List, [], ◌∷◌, ◌++◌, refl, sym, ap, ◌∙◌, subst, ⊎_elim, inl, inr, All, Contains}
 use Rattle.std.specs.Prelude.{Option, Some, ⊤}
 use Rattle.std.proofs.lemmas.Bool.{cases_Bool, true≢false}
 use Rattle.std.proofs.lemmas.List.Elements.{All-contains, Contains-append_left, Contains-push_cases}
@@ -13,9 +13,8 @@ use Rattle.resolver_clause_store.specs.declared.ClauseKind.TheVariants.{Lock, Ex
 use Rattle.resolver_clause_store.specs.declared.Origin.TheVariants.{Solvable}
 use Rattle.resolver_clause_store.specs.declared.StringId.{StringId}
 use Rattle.resolver_clause_store.proofs.PlaceLemmas.{Keeps-same}
-use Rattle.resolver_encoding.specs.Atoms.{Atom}
 use Rattle.resolver_encoding.specs.Called.{AreAsked, IsAsking, IsSeeing, to_ask}
-use Rattle.resolver_encoding.specs.Encodings.{AddsClause, IsEncoding, IsEncodingWhile, IsLeft, IsStepWhile, Notes, idle, owing_for, IsAskStep}
+use Rattle.resolver_encoding.specs.Encodings.{AddsKind, IsEncoding, IsEncodingWhile, IsLeft, IsStepWhile, Notes, asking_with, idle, owing_for, IsAskStep}
 use Rattle.resolver_encoding.specs.ReadState.{Deferred}
 use Rattle.resolver_encoding.specs.SoFar.{IsHalfRead}
 use Rattle.resolver_encoding.specs.Truth.{AreDue}
@@ -184,9 +183,12 @@ module _ {N S : Type 0} (u : Universe N S) where
   pub AddsPlainly-trans : (one two three : Notes N S) → AddsPlainly one two → AddsPlainly two three → AddsPlainly one three
   AddsPlainly-trans one two three first second = record { requirements = second.requirements ∙ first.requirements; seen = second.seen ∙ first.seen }
 
-  pub AddsPlainly-clause : (old new : Notes N S) (kind : ClauseKind N S) (atoms : List (Atom N S)) → AddsClause old new kind atoms → AddsPlainly old new
-  AddsPlainly-clause old new kind atoms adds =
-      record { requirements = ap (λ (n : Notes N S). n.requirements) adds.is; seen = ap (λ (n : Notes N S). n.seen) adds.is }
+  pub AddsPlainly-clause : (old new : Notes N S) (kind : ClauseKind N S) → ((numbers : List ℕ) → asking_with kind (length old.kinds) numbers ≡ numbers) →
+      AddsKind u kind old new → AddsPlainly old new
+  AddsPlainly-clause old new kind plain adds = record {
+    requirements = ap (λ (n : Notes N S). n.requirements) adds.is ∙ plain old.requirements;
+    seen = ap (λ (n : Notes N S). n.seen) adds.is;
+  }
 
   -- a step that asked one package
   pub AsksOnly-of : (n : N) (old new : Notes N S) → IsAskStep u (IsAsking n) (λ root. ⊤) old new → Contains new.asked n → AddsPlainly old new →

@@ -1,5 +1,5 @@
 -- What clauses say of sets of solvables. An atom is what a variable stands for, and whether it is to be true.
-use Rattle.std.specs.Prelude.{ℕ, ◌≡◌, Bool, true, false, List, [], ◌∷◌, ◌++◌, Contains, map, ⊤}
+use Rattle.std.specs.Prelude.{ℕ, ◌≡◌, Bool, true, false, List, [], ◌∷◌, ◌++◌, Contains, Option, Some, None, map, ⊤}
 use Rattle.std.specs.List.{list_any}
 use Rattle.std.specs.Bool.{beq}
 use Rattle.resolver_clause_store.specs.Universe.{Universe}
@@ -40,6 +40,49 @@ atoms_of u (ConstrainsParent parent version_set) = atom (origin_by parent) false
 atoms_of u (HasBit name instance index value) = atom (Solvable instance) false ∷ atom (Bit name index) value ∷ []
 atoms_of u (Lock locked forbidden) = atom Root false ∷ atom (Solvable forbidden) false ∷ []
 atoms_of u (Excluded solvable reason) = atom (Solvable solvable) false ∷ []
+
+-- the candidates of which a clause wants one
+abbrev pub wanted : {N S : Type 0} → Universe N S → ClauseKind N S → List S
+wanted u (Requires parent disjunct requirement) = requirement_candidates u requirement
+wanted u (GateRequires requirement) = requirement_candidates u requirement
+wanted u kind = []
+
+-- the first atom of a clause
+abbrev pub first_atom : {N S : Type 0} → ClauseKind N S → Origin N S × Bool
+first_atom InstallRoot = (Root, true)
+first_atom (Requires parent disjunct requirement) = (origin_by parent, false)
+first_atom (AnyOf helper candidate) = (helper, true)
+first_atom (Constrains parent version_set candidate) = (origin_by parent, false)
+first_atom (GateRequires requirement) = (Gate requirement, false)
+first_atom (ConstrainsExcluded candidate version_set) = (Solvable candidate, false)
+first_atom (ConstrainsParent parent version_set) = (origin_by parent, false)
+first_atom (HasBit name instance index value) = (Solvable instance, false)
+first_atom (Lock locked forbidden) = (Root, false)
+first_atom (Excluded solvable reason) = (Solvable solvable, false)
+
+-- the second one, where it is neither a helper's of a list nor a candidate's
+abbrev pub second_atom : {N S : Type 0} → ClauseKind N S → Option (Origin N S × Bool)
+second_atom (AnyOf helper candidate) = Some (Solvable candidate, false)
+second_atom (Constrains parent version_set candidate) = Some (Solvable candidate, false)
+second_atom (ConstrainsExcluded candidate version_set) = Some (ConstraintHelper version_set, true)
+second_atom (ConstrainsParent parent version_set) = Some (ConstraintHelper version_set, false)
+second_atom (HasBit name instance index value) = Some (Bit name index, value)
+second_atom (Lock locked forbidden) = Some (Solvable forbidden, false)
+second_atom kind = None
+
+-- the version sets of conditions on whose helpers a clause depends
+abbrev pub helpers_of : {N S : Type 0} → ClauseKind N S → List VersionSetId
+helpers_of (Requires parent disjunct requirement) = disjunct.items
+helpers_of kind = []
+
+-- one or two atoms at the front of a clause
+abbrev pub front : {N S : Type 0} → Origin N S × Bool → Option (Origin N S × Bool) → List (Atom N S)
+front first None = atom first.0 first.1 ∷ []
+front first (Some second) = atom first.0 first.1 ∷ atom second.0 second.1 ∷ []
+
+-- some atom is about the origin
+abbrev pub IsMentioned : {N S : Type 0} → List (Atom N S) → Origin N S → Type 0
+IsMentioned {N} {S} atoms o = (a : Atom N S) × Contains atoms a × (o ≡ a.origin)
 
 -- whether the set has the solvable
 abbrev pub has : {N S : Type 0} → Universe N S → List S → S → Bool

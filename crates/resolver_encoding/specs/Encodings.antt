@@ -29,7 +29,7 @@ use Rattle.resolver_encoding.specs.Codes.{bit}
 use Rattle.resolver_encoding.specs.Read.{IsForbidden}
 use Rattle.resolver_encoding.specs.ReadState.{Deferred, HasClause, IsReadRequirement}
 use Rattle.resolver_encoding.specs.Truth.{AreCodes, AreDue, IsTrueClause}
-use Rattle.resolver_encoding.specs.Values.{AreEncoded, IsAtom}
+use Rattle.resolver_encoding.specs.Values.{AreEncoded, IsAtom, IsClauseOf}
 use Rattle.resolver_encoding.specs.declared.groups.Groups.{Groups}
 
 -- what each variable stands for, the literals and the kind of each clause, the numbers of the clauses that ask for
@@ -289,24 +289,22 @@ pub record Grows {N S : Type 0} (old new : List (Origin N S)) : Type 0 where
   pub keeps : Keeps old new
   pub distinct : AreDistinct old → AreDistinct new
 
--- one more clause, which asks for no candidates, of literals that are these atoms
-pub record AddsClause {N S : Type 0} (old new : Notes N S) (kind : ClauseKind N S) (atoms : List (Atom N S)) : Type 0 where
-  pub origins : Grows old.origins new.origins
-  pub literals : Vec Literal Global
-  pub are : AllZip (IsAtom new.origins) literals.items atoms
-  pub is : new ≡ record old { origins = new.origins; table = old.table ++ literals ∷ []; kinds = old.kinds ++ kind ∷ [] }
+-- the numbers of the clauses that ask for candidates, with that of one more clause where it does
+abbrev pub asking_with : {N S : Type 0} → ClauseKind N S → ℕ → List ℕ → List ℕ
+asking_with (Requires by disjunct r) number numbers = numbers ++ number ∷ []
+asking_with (GateRequires r) number numbers = numbers ++ number ∷ []
+asking_with kind number numbers = numbers
 
--- one more clause, which asks for candidates
-pub record AddsRequirement {N S : Type 0} (old new : Notes N S) (kind : ClauseKind N S) (atoms : List (Atom N S)) : Type 0 where
+-- one more clause, with the literals of its kind
+pub record AddsKind {N S : Type 0} (u : Universe N S) (kind : ClauseKind N S) (old new : Notes N S) : Type 0 where
   pub origins : Grows old.origins new.origins
   pub literals : Vec Literal Global
-  pub are : AllZip (IsAtom new.origins) literals.items atoms
+  pub clause : IsClauseOf u new.origins literals.items kind
   pub is : new ≡ record old {
     origins = new.origins;
     table = old.table ++ literals ∷ [];
     kinds = old.kinds ++ kind ∷ [];
-    requirements = old.requirements ++
-        length old.kinds ∷ [];
+    requirements = asking_with kind (length old.kinds) old.requirements;
   }
 
 -- what is read of a requirement, of a constraint, of the root or a solvable

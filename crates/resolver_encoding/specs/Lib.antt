@@ -11,6 +11,7 @@ pub mod Sources
 pub mod Listing
 pub mod Refusals
 pub mod Encodings
+pub mod Tables
 pub mod Trails
 pub mod Notes
 pub mod Called

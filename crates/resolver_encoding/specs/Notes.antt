@@ -1,22 +1,34 @@
--- What an encoding has noted.
-use Rattle.std.specs.Prelude.{map}
+-- What a table of clauses holds, and what an encoding has noted.
+use Rattle.std.specs.Prelude.{◌≡◌, map}
 use Rattle.std.specs.Option.{option_map}
 use Rattle.resolver_clause_store.specs.Variables.{IsBounded as AreBounded, limit_in, origins_in}
 use Rattle.resolver_clause_store.specs.declared.RequirementClause.{RequirementClause}
 use Rattle.resolver_encoding.specs.Encodings.{Notes}
 use Rattle.resolver_encoding.specs.ReadState.{Deferred}
+use Rattle.resolver_encoding.specs.Tables.{Table}
 use Rattle.resolver_encoding.specs.declared.encoding.Encoding.{Encoding}
 use Rattle.resolver_encoding.specs.declared.disjuncts.Entry.{Entry}
+use Rattle.resolver_encoding.specs.declared.table.ClauseTable.{ClauseTable}
 
 abbrev pub entry_of : {S : Type 0} → Entry S → Deferred S
 entry_of entry = record { by = entry.by; disjunct = entry.disjunct.items; requirement = entry.requirement }
 
+abbrev pub table_in : {N S : Type 0} → ClauseTable N S → Table N S
+table_in t = record {
+  origins = origins_in t.variables;
+  literals = t.literals.items;
+  kinds = t.kinds.items;
+  requirements = map (λ (r : RequirementClause). r.number) t.requirements.items;
+  variable_limit = limit_in t.variables;
+  clause_limit = t.clause_limit;
+}
+
 abbrev pub notes_in : {N S : Type 0} → Encoding N S → Notes N S
 notes_in e = record {
-  origins = origins_in e.variables;
-  table = e.literals.items;
-  kinds = e.kinds.items;
-  requirements = map (λ (r : RequirementClause). r.number) e.requirements.items;
+  origins = origins_in e.table.variables;
+  table = e.table.literals.items;
+  kinds = e.table.kinds.items;
+  requirements = map (λ (r : RequirementClause). r.number) e.table.requirements.items;
   seen = e.seen.keys;
   groups = e.groups;
   asked = e.asked.keys;
@@ -27,10 +39,16 @@ notes_in e = record {
   deferred = map (option_map entry_of) e.deferred.items;
   waiting = e.waiting;
   exempt = e.exempt.keys;
-  variable_limit = limit_in e.variables;
-  clause_limit = e.clause_limit;
+  variable_limit = limit_in e.table.variables;
+  clause_limit = e.table.clause_limit;
 }
 
 -- there are no more variables than there may be
 abbrev pub IsBounded : {N S : Type 0} → Encoding N S → Type 0
-IsBounded e = AreBounded e.variables
+IsBounded e = AreBounded e.table.variables
+
+-- there still are not, and as many variables and as many clauses may be there as before
+pub record KeepsRoom {N S : Type 0} (old new : Encoding N S) : Type 0 where
+  pub bounded : IsBounded new
+  pub variables : (notes_in new).variable_limit ≡ (notes_in old).variable_limit
+  pub clauses : (notes_in new).clause_limit ≡ (notes_in old).clause_limit

@@ -1,6 +1,6 @@
 //! The candidates of a requirement, and where those of each version set end.
 
-ghost use Rattle.std.specs.Prelude.{◌≡◌, ◌<◌, ◌^◌, All, IfErr, IfOk, OnOk};
+ghost use Rattle.std.specs.Prelude.{◌≡◌, ◌<◌, ◌^◌, [], All, IfErr, IfOk, OnOk};
 ghost use Rattle.resolver_clause_store.specs.Caches.{IsTrueCache};
 ghost use Rattle.resolver_clause_store.specs.Candidates.{requirement_candidates as candidates_of};
 ghost use Rattle.resolver_clause_store.specs.Interruptions.{IsInterruption};
@@ -19,6 +19,19 @@ use std::hash::Hash;
 pub(crate) struct Choices<S: Drop> {
     pub(crate) candidates: Vec<S>,
     pub(crate) counts: Vec<usize>,
+}
+
+impl<S: Drop> Choices<S> {
+    /// No candidates, of no version set.
+    pub(crate) fn none(alloc: Global) -> Self
+        ensures none { result.candidates.items ≡ [] }
+        ensures small { All (λ n. n < 2 ^ 63) result.counts.items }
+    {
+        Choices {
+            candidates: Vec::new(alloc),
+            counts: Vec::new(alloc),
+        }
+    }
 }
 
 /// Adds what is not there yet at the end.

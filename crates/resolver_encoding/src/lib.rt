@@ -13,6 +13,7 @@ mod listing;
 mod literals;
 mod progress;
 mod sources;
+mod table;
 
 pub use chosen::Chosen;
 pub use codes::{digit_count, has_digit};

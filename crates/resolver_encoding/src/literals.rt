@@ -1,4 +1,4 @@
-//! Literals of origins.
+//! The literals of a clause, by its kind.
 
 ghost use Rattle.std.specs.Prelude.{◌≡◌, [], ◌∷◌, Contains, IfErr, MatchBool, OnOk, false, map, true};
 ghost use Rattle.resolver_clause_store.specs.Laws.{IsIdentity};
@@ -6,16 +6,17 @@ ghost use Rattle.resolver_clause_store.specs.Variables.{IsBounded, IsFull as Are
 ghost use Rattle.resolver_clause_store.specs.declared.Origin.TheVariants.{ConditionHelper, Solvable};
 ghost use Rattle.resolver_clause_store.specs.declared.VersionSetId.{VersionSetId as Id};
 ghost use Rattle.resolver_clause_store.specs.declared.By.TheVariants.{Solvable as BySolvable};
-ghost use Rattle.resolver_encoding.specs.Atoms.{atom, origin_by};
+ghost use Rattle.resolver_encoding.specs.Atoms.{IsMentioned, atom, first_atom, front, helpers_of, origin_by};
 ghost use Rattle.resolver_encoding.specs.Encodings.{Adds, Grows};
 ghost use Rattle.resolver_encoding.specs.Led.{AddsSuch};
 ghost use Rattle.resolver_encoding.specs.Refusals.{IsShortage};
+ghost use Rattle.resolver_encoding.specs.Tables.{IsBeside, IsSecond};
 
-use resolver_clause_store::{By, Exhausted, Literal, Origin, Variables, VersionSetId};
+use resolver_clause_store::{By, ClauseKind, Exhausted, Literal, Origin, Variables, VersionSetId};
 use std::hash::Hash;
 
 /// What the variable of the root, or of a solvable, stands for.
-pub(crate) fn origin_of<N, S>(by: By<S>) -> Origin<N, S>
+fn origin_of<N, S: Copy>(by: By<S>) -> Origin<N, S>
     ensures { result ≡ origin_by by }
 {
     match by {
@@ -24,8 +25,26 @@ pub(crate) fn origin_of<N, S>(by: By<S>) -> Origin<N, S>
     }
 }
 
+/// What the first literal of a clause is about, and whether it is to be there.
+pub(crate) fn first_of<N: Copy, S: Copy>(kind: &ClauseKind<N, S>) -> (Origin<N, S>, bool)
+    ensures { result ≡ first_atom kind.now }
+{
+    match kind {
+        ClauseKind::InstallRoot => (Origin::Root, true),
+        ClauseKind::Requires { parent, .. } => (origin_of(*parent), false),
+        ClauseKind::AnyOf { helper, .. } => (*helper, true),
+        ClauseKind::Constrains { parent, .. } => (origin_of(*parent), false),
+        ClauseKind::GateRequires { requirement } => (Origin::Gate(*requirement), false),
+        ClauseKind::ConstrainsExcluded { candidate, .. } => (Origin::Solvable(*candidate), false),
+        ClauseKind::ConstrainsParent { parent, .. } => (origin_of(*parent), false),
+        ClauseKind::HasBit { instance, .. } => (Origin::Solvable(*instance), false),
+        ClauseKind::Lock { .. } => (Origin::Root, false),
+        ClauseKind::Excluded { solvable, .. } => (Origin::Solvable(*solvable), false),
+    }
+}
+
 /// Whether it is this solvable.
-pub(crate) fn is_by<S: Copy + Eq>(by: By<S>, solvable: S) -> bool
+fn is_by<S: Copy + Eq>(by: By<S>, solvable: S) -> bool
     requires { IsIdentity S.eq }
     ensures { MatchBool result (by ≡ BySolvable solvable) (by ≡ BySolvable solvable → ⊥) }
 {
@@ -35,8 +54,70 @@ pub(crate) fn is_by<S: Copy + Eq>(by: By<S>, solvable: S) -> bool
     }
 }
 
+/// The candidate beside the root or the solvable that constrains it, and nothing beside a solvable that constrains itself.
+fn beside<N, S: Copy + Eq>(by: By<S>, candidate: S) -> Option<(Origin<N, S>, bool)>
+    requires { IsIdentity S.eq }
+    ensures { IsBeside by candidate result }
+{
+    if is_by(by, candidate) {
+        return None;
+    }
+    Some((Origin::Solvable(candidate), false))
+}
+
+/// What the second literal of a clause is about, and whether it is to be there, where it has one besides helpers of a disjunct and
+/// candidates.
+pub(crate) fn second_of<N: Copy, S: Copy + Eq>(
+    kind: &ClauseKind<N, S>,
+) -> Option<(Origin<N, S>, bool)>
+    requires { IsIdentity S.eq }
+    ensures { IsSecond kind.now result }
+{
+    match kind {
+        ClauseKind::InstallRoot => None,
+        ClauseKind::Requires { .. } => None,
+        ClauseKind::AnyOf { candidate, .. } => Some((Origin::Solvable(*candidate), false)),
+        ClauseKind::Constrains {
+            parent,
+            candidate,
+            ..
+        } => beside(*parent, *candidate),
+        ClauseKind::GateRequires { .. } => None,
+        ClauseKind::ConstrainsExcluded { version_set, .. } => {
+            Some((Origin::ConstraintHelper(*version_set), true))
+        }
+        ClauseKind::ConstrainsParent { version_set, .. } => {
+            Some((Origin::ConstraintHelper(*version_set), false))
+        }
+        ClauseKind::HasBit {
+            name,
+            index,
+            value,
+            ..
+        } => Some((
+            Origin::Bit {
+                name: *name,
+                index: *index,
+            },
+            *value,
+        )),
+        ClauseKind::Lock { forbidden, .. } => Some((Origin::Solvable(*forbidden), false)),
+        ClauseKind::Excluded { .. } => None,
+    }
+}
+
+/// The version sets of conditions on whose helpers a clause depends.
+pub(crate) fn depends_on<N, S>(kind: &ClauseKind<N, S>) -> &[VersionSetId]
+    ensures { result.now ≡ helpers_of kind.now }
+{
+    match kind {
+        ClauseKind::Requires { disjunct, .. } => disjunct.as_slice(),
+        _ => &[],
+    }
+}
+
 /// Puts the literal of an origin behind the others.
-pub(crate) fn push_literal<N: Copy + Eq + Hash + Drop, S: Copy + Eq + Hash + Drop>(
+fn push_literal<N: Copy + Eq + Hash + Drop, S: Copy + Eq + Hash + Drop>(
     variables: &mut Variables<N, S>,
     literals: &mut Vec<Literal>,
     origin: Origin<N, S>,
@@ -55,6 +136,33 @@ pub(crate) fn push_literal<N: Copy + Eq + Hash + Drop, S: Copy + Eq + Hash + Dro
     let variable = variables.intern(origin)?;
     literals.push(Literal { variable, positive })?;
     Ok(())
+}
+
+/// Puts the one or two literals at the front of a clause behind the others.
+pub(crate) fn push_front<N: Copy + Eq + Hash + Drop, S: Copy + Eq + Hash + Drop>(
+    variables: &mut Variables<N, S>,
+    literals: &mut Vec<Literal>,
+    first: (Origin<N, S>, bool),
+    second: Option<(Origin<N, S>, bool)>,
+) -> Result<(), Exhausted>
+    requires names { IsIdentity N.eq }
+    requires solvables { IsIdentity S.eq }
+    requires bounded { IsBounded variables.old }
+    ensures bounded { IsBounded variables.new }
+    ensures limit { limit_in variables.new ≡ limit_in variables.old }
+    ensures grows { Grows (origins_in variables.old) (origins_in variables.new) }
+    ensures added { OnOk result (Adds (origins_in variables.new) literals.old.items literals.new.items (front first second)) }
+    ensures adds { AddsSuch (IsMentioned (front first second)) (origins_in variables.old) (origins_in variables.new) }
+    ensures refusal { IfErr result (IsShortage (AreFull variables.new)) }
+{
+    push_literal(variables, literals, first.0, first.1)?;
+    match second {
+        None => Ok(()),
+        Some(second) => {
+            push_literal(variables, literals, second.0, second.1)?;
+            Ok(())
+        }
+    }
 }
 
 /// Puts the negated literal of each condition helper behind the others.

@@ -26,7 +26,7 @@ use crate::progress::Progress;
 use indexmap::IndexSet;
 use resolver_clause_store::{
     By, Cache, ClauseKind, ConditionalRequirement, Dependencies, DependencyProvider, Exhausted,
-    Interner, Interrupted, Literal, Origin, StringId, VersionSetId, append, is_among,
+    Interner, Interrupted, StringId, VersionSetId, append, is_among,
 };
 use std::hash::Hash;
 
@@ -44,7 +44,7 @@ fn progress_of(read: bool, fired: bool) -> Progress
 }
 
 impl<N: Copy + Eq + Hash + Drop, S: Copy + Eq + Hash + Drop> Encoding<N, S> {
-    ghost use Rattle.resolver_encoding.specs.Notes.{IsBounded, notes_in};
+    ghost use Rattle.resolver_encoding.specs.Notes.{IsBounded, KeepsRoom, notes_in};
 
     /// Forbids a solvable whose dependencies are unknown.
     fn forbid_unknown<D: DependencyProvider<NameId = N, SolvableId = S>>(
@@ -55,15 +55,13 @@ impl<N: Copy + Eq + Hash + Drop, S: Copy + Eq + Hash + Drop> Encoding<N, S> {
     ) -> Result<(), Exhausted>
         requires bounded { IsBounded self.old }
         requires unknown { (D.universe provider.now).needs solvable ≡ unknown reason }
-        ensures bounded { IsBounded self.new }
+        ensures room { KeepsRoom self.old self.new }
         ensures step { OnOk result (IsStep (D.universe provider.now) (λ root. ⊤) (notes_in self.old) (notes_in self.new)) }
         ensures forbidden { OnOk result (Contains (notes_in self.new).kinds (ExcludedKind solvable reason)) }
         ensures adds { AddsOnly (λ o. o ≡ SolvableOrigin solvable) (notes_in self.old) (notes_in self.new) }
-        ensures limits { KeepsLimits (notes_in self.old) (notes_in self.new) }
         ensures refusal { IfErr result (IsShortage (IsFull (notes_in self.new))) }
     {
-        let kind = ClauseKind::Excluded { solvable, reason };
-        self.add_unit(kind, Origin::Solvable(solvable), false)?;
+        self.add(ClauseKind::Excluded { solvable, reason })?;
         Ok(())
     }
 
@@ -76,13 +74,12 @@ impl<N: Copy + Eq + Hash + Drop, S: Copy + Eq + Hash + Drop> Encoding<N, S> {
     ) -> Result<(), Interrupted<D::Cancel>>
         requires bounded { IsBounded self.old }
         requires is_true { IsTrueCache (D.universe provider.now) cache.old }
-        ensures bounded { IsBounded self.new }
+        ensures room { KeepsRoom self.old self.new }
         ensures is_true { IsTrueCache (D.universe provider.now) cache.new }
         ensures step { OnOk result (IsAskStep (D.universe provider.now) (IsPlainlyNamed (D.universe provider.now) requirement) (λ root. ⊤) (notes_in self.old)
             (notes_in self.new)) }
         ensures adds { AddsOnly (IsBarred (D.universe provider.now) (IsPlainlyNamed (D.universe provider.now) requirement)) (notes_in self.old)
             (notes_in self.new) }
-        ensures limits { KeepsLimits (notes_in self.old) (notes_in self.new) }
         ensures refusal { IfErr result (IsStop (D.may_cancel provider.now) (IsFull (notes_in self.new))) }
     {
         match requirement.condition {
@@ -103,7 +100,7 @@ impl<N: Copy + Eq + Hash + Drop, S: Copy + Eq + Hash + Drop> Encoding<N, S> {
     ) -> Result<(), Interrupted<D::Cancel>>
         requires bounded { IsBounded self.old }
         requires is_true { IsTrueCache (D.universe provider.now) cache.old }
-        ensures bounded { IsBounded self.new }
+        ensures room { KeepsRoom self.old self.new }
         ensures is_true { IsTrueCache (D.universe provider.now) cache.new }
         ensures step { OnOk result (IsAskStep (D.universe provider.now) (λ n.
             (r : ConditionalRequirement) × Contains requirements.now r × IsPlainlyNamed (D.universe provider.now) r n) (λ root. ⊤) (notes_in self.old)
@@ -112,7 +109,6 @@ impl<N: Copy + Eq + Hash + Drop, S: Copy + Eq + Hash + Drop> Encoding<N, S> {
             (IsBarred (D.universe provider.now)
             (λ n. (r : ConditionalRequirement) × Contains requirements.now r × IsPlainlyNamed (D.universe provider.now) r n))
             (notes_in self.old) (notes_in self.new) }
-        ensures limits { KeepsLimits (notes_in self.old) (notes_in self.new) }
         ensures refusal { IfErr result (IsStop (D.may_cancel provider.now) (IsFull (notes_in self.new))) }
     {
         for requirement in requirements {
@@ -134,7 +130,7 @@ impl<N: Copy + Eq + Hash + Drop, S: Copy + Eq + Hash + Drop> Encoding<N, S> {
         requires is_true { IsTrueCache (D.universe provider.now) cache.old }
         requires encoding { IsEncodingOf (D.universe provider.now) (λ root. All (λ r. AsksFor (D.universe provider.now) by r root) requirements.now)
             (notes_in self.old) }
-        ensures bounded { IsBounded self.new }
+        ensures room { KeepsRoom self.old self.new }
         ensures is_true { IsTrueCache (D.universe provider.now) cache.new }
         ensures step { OnOk result (IsReadStep (D.universe provider.now) (IsUnmet (D.universe provider.now) chosen.now.keys by)
             (IsCalledByEach (D.universe provider.now) chosen.now.keys requirements.now) (λ root.
@@ -143,7 +139,6 @@ impl<N: Copy + Eq + Hash + Drop, S: Copy + Eq + Hash + Drop> Encoding<N, S> {
             (IsReadRequirement (D.universe provider.now) (notes_in self.new).kinds (IsLeft (notes_in self.new)) by) requirements.now) }
         ensures brings { Brings (D.universe provider.now) (IsCalledByEach (D.universe provider.now) chosen.now.keys requirements.now)
             (IsOwn (D.universe provider.now) by (with_requirements requirements.now)) (notes_in self.old) (notes_in self.new) }
-        ensures limits { KeepsLimits (notes_in self.old) (notes_in self.new) }
         ensures refusal { IfErr result (IsStop (D.may_cancel provider.now) (IsFull (notes_in self.new))) }
     {
         for requirement in requirements {
@@ -164,7 +159,7 @@ impl<N: Copy + Eq + Hash + Drop, S: Copy + Eq + Hash + Drop> Encoding<N, S> {
         requires is_true { IsTrueCache (D.universe provider.now) cache.old }
         requires encoding { IsEncodingOf (D.universe provider.now) (λ root. All (λ v. AsksWithin (D.universe provider.now) by v root) constraints.now)
             (notes_in self.old) }
-        ensures bounded { IsBounded self.new }
+        ensures room { KeepsRoom self.old self.new }
         ensures is_true { IsTrueCache (D.universe provider.now) cache.new }
         ensures step { OnOk result (IsAskStep (D.universe provider.now) (IsNamedBy (D.universe provider.now) constraints.now) (λ root.
             All (λ v. AsksWithin (D.universe provider.now) by v root) constraints.now) (notes_in self.old) (notes_in self.new)) }
@@ -172,7 +167,6 @@ impl<N: Copy + Eq + Hash + Drop, S: Copy + Eq + Hash + Drop> Encoding<N, S> {
         ensures asked { OnOk result (All (λ v. Contains (notes_in self.new).asked ((D.universe provider.now).version_set_name v)) constraints.now) }
         ensures brings { Brings (D.universe provider.now) (IsNamedBy (D.universe provider.now) constraints.now)
             (IsOwn (D.universe provider.now) by (with_constraints constraints.now)) (notes_in self.old) (notes_in self.new) }
-        ensures limits { KeepsLimits (notes_in self.old) (notes_in self.new) }
         ensures refusal { IfErr result (IsStop (D.may_cancel provider.now) (IsFull (notes_in self.new))) }
     {
         for version_set in constraints {
@@ -196,7 +190,7 @@ impl<N: Copy + Eq + Hash + Drop, S: Copy + Eq + Hash + Drop> Encoding<N, S> {
         requires is_true { IsTrueCache (D.universe provider.now) cache.old }
         requires encoding { IsEncodingOf (D.universe provider.now) (λ root.
             demands_by (D.universe provider.now) root by ≡ (record { requirements = requirements.now; constraints = constraints.now })) (notes_in self.old) }
-        ensures bounded { IsBounded self.new }
+        ensures room { KeepsRoom self.old self.new }
         ensures is_true { IsTrueCache (D.universe provider.now) cache.new }
         ensures step { OnOk result (IsReadStep (D.universe provider.now) (IsUnmet (D.universe provider.now) chosen.now.keys by)
             (IsDemanded (D.universe provider.now) chosen.now.keys (record { requirements = requirements.now; constraints = constraints.now })) (λ root.
@@ -208,7 +202,6 @@ impl<N: Copy + Eq + Hash + Drop, S: Copy + Eq + Hash + Drop> Encoding<N, S> {
             (IsDemanded (D.universe provider.now) chosen.now.keys (record { requirements = requirements.now; constraints = constraints.now }))
             (IsOwn (D.universe provider.now) by (record { requirements = requirements.now; constraints = constraints.now })) (notes_in self.old)
             (notes_in self.new) }
-        ensures limits { KeepsLimits (notes_in self.old) (notes_in self.new) }
         ensures refusal { IfErr result (IsStop (D.may_cancel provider.now) (IsFull (notes_in self.new))) }
     {
         self.ask_plain_each(provider, cache, requirements)?;
@@ -229,7 +222,7 @@ impl<N: Copy + Eq + Hash + Drop, S: Copy + Eq + Hash + Drop> Encoding<N, S> {
         requires bounded { IsBounded self.old }
         requires is_true { IsTrueCache (D.universe provider.now) cache.old }
         requires encoding { IsEncodingOf (D.universe provider.now) (λ root. ⊤) (notes_in self.old) }
-        ensures bounded { IsBounded self.new }
+        ensures room { KeepsRoom self.old self.new }
         ensures is_true { IsTrueCache (D.universe provider.now) cache.new }
         ensures step { OnOk result (IsReadStep (D.universe provider.now) (IsUnmet (D.universe provider.now) chosen.now.keys (BySolvable solvable))
             (IsDemanded (D.universe provider.now) chosen.now.keys (demands_of ((D.universe provider.now).needs solvable))) (λ root. ⊤) (notes_in self.old)
@@ -239,7 +232,6 @@ impl<N: Copy + Eq + Hash + Drop, S: Copy + Eq + Hash + Drop> Encoding<N, S> {
             (IsDemanded (D.universe provider.now) chosen.now.keys (demands_of ((D.universe provider.now).needs solvable)))
             (IsOwn (D.universe provider.now) (BySolvable solvable) (demands_of ((D.universe provider.now).needs solvable))) (notes_in self.old)
             (notes_in self.new) }
-        ensures limits { KeepsLimits (notes_in self.old) (notes_in self.new) }
         ensures refusal { IfErr result (IsStop (D.may_cancel provider.now) (IsFull (notes_in self.new))) }
     {
         cache.fetch_dependencies(provider, solvable)?;
@@ -270,7 +262,7 @@ impl<N: Copy + Eq + Hash + Drop, S: Copy + Eq + Hash + Drop> Encoding<N, S> {
         requires is_true { IsTrueCache (D.universe provider.now) cache.old }
         requires encoding { IsEncodingOf (D.universe provider.now) (λ root. ⊤) (notes_in self.old) }
         requires known { Contains (notes_in self.old).origins (SolvableOrigin solvable) }
-        ensures bounded { IsBounded self.new }
+        ensures room { KeepsRoom self.old self.new }
         ensures is_true { IsTrueCache (D.universe provider.now) cache.new }
         ensures reading { OnOk result (IsReadingOf (D.universe provider.now) chosen.now.keys (λ s. solvable ≡ s) (notes_in self.old) (notes_in self.new)) }
         ensures here { OnOk result (Contains (notes_in self.new).read solvable) }
@@ -279,7 +271,6 @@ impl<N: Copy + Eq + Hash + Drop, S: Copy + Eq + Hash + Drop> Encoding<N, S> {
             (IsDemanded (D.universe provider.now) chosen.now.keys (demands_of ((D.universe provider.now).needs solvable)))
             (IsOwn (D.universe provider.now) (BySolvable solvable) (demands_of ((D.universe provider.now).needs solvable))) (notes_in self.old)
             (notes_in self.new) }
-        ensures limits { KeepsLimits (notes_in self.old) (notes_in self.new) }
         ensures refusal { IfErr result (IsStop (D.may_cancel provider.now) (IsFull (notes_in self.new))) }
     {
         if is_among(&self.read, &solvable) {
@@ -303,7 +294,7 @@ impl<N: Copy + Eq + Hash + Drop, S: Copy + Eq + Hash + Drop> Encoding<N, S> {
         requires half { IsHalfReading (D.universe provider.now) (notes_in self.old) }
         requires known { All (λ s. Contains (notes_in self.old).origins (SolvableOrigin s)) chosen.now.keys }
         requires within { from ≤ length chosen.now.keys }
-        ensures bounded { IsBounded self.new }
+        ensures room { KeepsRoom self.old self.new }
         ensures is_true { IsTrueCache (D.universe provider.now) cache.new }
         ensures reading { OnOk result (IsReadingOf (D.universe provider.now) chosen.now.keys (Contains chosen.now.keys) (notes_in self.old)
             (notes_in self.new)) }
@@ -312,7 +303,6 @@ impl<N: Copy + Eq + Hash + Drop, S: Copy + Eq + Hash + Drop> Encoding<N, S> {
         ensures fit { OnOk result (((s : S) → Contains (notes_in self.new).read s → Contains (notes_in self.new).origins (SolvableOrigin s)) →
             length (notes_in self.new).read ≤ length (notes_in self.new).origins) }
         ensures led { KeepsLed (D.universe provider.now) chosen.now.keys (notes_in self.old) (notes_in self.new) }
-        ensures limits { KeepsLimits (notes_in self.old) (notes_in self.new) }
         ensures refusal { IfErr result (IsStop (D.may_cancel provider.now) (IsFull (notes_in self.new))) }
     {
         let before = self.read.len();
@@ -333,21 +323,14 @@ impl<N: Copy + Eq + Hash + Drop, S: Copy + Eq + Hash + Drop> Encoding<N, S> {
     ) -> Result<(), Exhausted>
         requires bounded { IsBounded self.old }
         requires nothing_read { IsUnread (notes_in self.old) }
-        ensures bounded { IsBounded self.new }
+        ensures room { KeepsRoom self.old self.new }
         ensures installed { OnOk result ((root : Demands) → IsEncoding (D.universe provider.now) root (notes_in self.new)) }
         ensures nothing { OnOk result (IsBare (notes_in self.new)) }
         ensures exempt { OnOk result ((notes_in self.new).exempt ≡ (notes_in self.old).exempt) }
         ensures adds { AddsOnly (λ o. o ≡ RootOrigin) (notes_in self.old) (notes_in self.new) }
-        ensures limits { KeepsLimits (notes_in self.old) (notes_in self.new) }
         ensures refusal { IfErr result (IsShortage (IsFull (notes_in self.new))) }
     {
-        let variable = self.variables.intern(Origin::Root)?;
-        let mut literals = Vec::new(self.alloc);
-        literals.push(Literal {
-            variable,
-            positive: true,
-        })?;
-        self.add_clause(ClauseKind::InstallRoot, literals)?;
+        self.add(ClauseKind::InstallRoot)?;
         Ok(())
     }
 

@@ -4,10 +4,11 @@ use Rattle.std.proofs.lemmas.List.Elements.{All-nil}
 use Rattle.resolver_encoding.specs.Called.{IsAsking, IsNamedBy}
 use Rattle.resolver_encoding.specs.Notes.{notes_in}
 use Rattle.resolver_clause_store.proofs.SetLemmas.{All-done}
-use Rattle.resolver_encoding.proofs.EncodingLemmas.{IsAskStep-same, IsAskStep-trans, IsAskStep-weaker, KeepsLimits-same, KeepsLimits-trans}
+use Rattle.resolver_encoding.proofs.EncodingLemmas.{IsAskStep-same, IsAskStep-trans, IsAskStep-weaker}
 use Rattle.resolver_encoding.proofs.NoteLemmas.{All-grown_at, named_here}
 use Rattle.resolver_encoding.proofs.LedLemmas.{AddsOnly-equal, AddsOnly-trans}
 use Rattle.resolver_encoding.proofs.LedLemmas.{AddsOnly-weaker, IsBarred-weaker}
+use Rattle.resolver_encoding.proofs.RoomLemmas.{KeepsRoom-of, KeepsRoom-same, KeepsRoom-trans}
 use Rattle.resolver_encoding.proofs.encoding.Encoding.ask_each.Goals as goal
 
 pub loop-version_set-init : goal.loop-version_set-init
@@ -15,8 +16,7 @@ loop-version_set-init g c =
     let u = g.D.Interner.universe c.args.provider.now in
     record {
       adds = AddsOnly-equal _ _ _ refl refl;
-      bounded = c.requires.bounded;
-      limits = KeepsLimits-same _;
+      room = KeepsRoom-same _ c.requires.bounded;
       step = IsAskStep-same u (IsNamedBy u c.args.named.now) (λ root. ⊤) (notes_in c.args.self.now);
       asked = All-nil (λ v. Contains (notes_in c.args.self.now).asked (u.version_set_name v));
       is_true = c.requires.is_true;
@@ -31,8 +31,7 @@ loop-version_set-preserved g c =
           (AddsOnly-weaker _ _ (IsBarred-weaker (g.D.Interner.universe c.args.provider.now) _ _ (λ call is.
           named_here (g.D.Interner.universe c.args.provider.now) c.args.named.now c.loop-version_set.version_set-index _ _ call
           (omega arith) c.version_set_name.ensures is)) _ _ c.ask.ensures.adds);
-      bounded = c.ask.ensures.bounded;
-      limits = KeepsLimits-trans _ _ _ before.limits c.ask.ensures.limits;
+      room = KeepsRoom-trans _ _ _ before.room (KeepsRoom-of _ _ c.ask.ensures.bounded c.ask.ensures.limits);
       step = IsAskStep-trans u (IsNamedBy u c.args.named.now) (λ root. ⊤) _ _ _ before.step
           (IsAskStep-weaker u (IsAsking c.version_set_name.result) (IsNamedBy u c.args.named.now) (λ call is.
           named_here u c.args.named.now c.loop-version_set.version_set-index _ _ call (omega arith) c.version_set_name.ensures is) (λ root. ⊤) (λ root.

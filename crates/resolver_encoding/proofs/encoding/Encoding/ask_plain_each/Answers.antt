@@ -3,10 +3,11 @@ use Rattle.std.specs.Prelude.{⊤}
 use Rattle.resolver_clause_store.specs.declared.ConditionalRequirement.{ConditionalRequirement}
 use Rattle.resolver_encoding.specs.Called.{Call, IsPlainlyNamed}
 use Rattle.resolver_encoding.specs.Notes.{notes_in}
-use Rattle.resolver_encoding.proofs.EncodingLemmas.{IsAskStep-same, IsAskStep-trans, IsAskStep-weaker, KeepsLimits-same, KeepsLimits-trans}
+use Rattle.resolver_encoding.proofs.EncodingLemmas.{IsAskStep-same, IsAskStep-trans, IsAskStep-weaker}
 use Rattle.resolver_encoding.proofs.RequirementLemmas.{plainly_here}
 use Rattle.resolver_encoding.specs.Led.{IsBarred}
 use Rattle.resolver_encoding.proofs.LedLemmas.{AddsOnly-equal, AddsOnly-trans, AddsOnly-weaker, IsBarred-weaker}
+use Rattle.resolver_encoding.proofs.RoomLemmas.{KeepsRoom-same, KeepsRoom-trans}
 use Rattle.resolver_encoding.proofs.encoding.Encoding.ask_plain_each.Goals as goal
 
 pub loop-requirement-init : goal.loop-requirement-init
@@ -14,8 +15,7 @@ loop-requirement-init g c =
     let u = g.D.Interner.universe c.args.provider.now in
     record {
       adds = AddsOnly-equal _ _ _ refl refl;
-      bounded = c.requires.bounded;
-      limits = KeepsLimits-same _;
+      room = KeepsRoom-same _ c.requires.bounded;
       step = IsAskStep-same u (λ n. (r : ConditionalRequirement) × Contains c.args.requirements.now r × IsPlainlyNamed u r n) (λ root. ⊤)
           (notes_in c.args.self.now);
       is_true = c.requires.is_true;
@@ -34,8 +34,7 @@ loop-requirement-preserved g c =
           (AddsOnly-weaker (IsBarred u (IsPlainlyNamed u _)) (IsBarred u Called)
           (IsBarred-weaker u (IsPlainlyNamed u _) Called (λ n named. plainly_here u xs i _ n (omega arith) named)) (notes_in c.loop-requirement.self)
           (notes_in c.ask_plain.new.self) c.ask_plain.ensures.adds);
-      bounded = c.ask_plain.ensures.bounded;
-      limits = KeepsLimits-trans _ _ _ before.limits c.ask_plain.ensures.limits;
+      room = KeepsRoom-trans _ _ _ before.room c.ask_plain.ensures.room;
       step = IsAskStep-trans u Called (λ root. ⊤) _ _ _ before.step
           (IsAskStep-weaker u (IsPlainlyNamed u _) Called (λ n named. plainly_here u xs i _ n (omega arith) named) (λ root. ⊤) (λ root. ⊤) (λ root _.
           tt) _ _ c.in_ok-ask_plain.ensures.step);

@@ -4,9 +4,10 @@ use Rattle.resolver_encoding.specs.Encodings.{AsksWithin, idle}
 use Rattle.resolver_encoding.specs.Notes.{notes_in}
 use Rattle.resolver_encoding.specs.Read.{IsForbidden, forbidden_direct}
 use Rattle.resolver_clause_store.proofs.SetLemmas.{All-done, Contains-item}
-use Rattle.resolver_encoding.proofs.EncodingLemmas.{IsForbidden-within, IsStep-same, IsStep-trans, KeepsLimits-same, KeepsLimits-trans}
+use Rattle.resolver_encoding.proofs.EncodingLemmas.{IsForbidden-within, IsStep-same, IsStep-trans}
 use Rattle.resolver_encoding.proofs.NoteLemmas.{All-grown}
 use Rattle.resolver_encoding.proofs.LedLemmas.{AddsOnly-equal, AddsOnly-trans}
+use Rattle.resolver_encoding.proofs.RoomLemmas.{KeepsRoom-same, KeepsRoom-trans}
 use Rattle.resolver_encoding.proofs.encoding.Encoding.constrain_each.Goals as goal
 
 pub loop-candidate-init : goal.loop-candidate-init
@@ -14,8 +15,7 @@ loop-candidate-init g c =
     let u = g.D.Interner.universe c.args.provider.now in
     record {
       adds = AddsOnly-equal _ _ _ refl refl;
-      bounded = c.requires.bounded;
-      limits = KeepsLimits-same _;
+      room = KeepsRoom-same _ c.requires.bounded;
       step = IsStep-same u idle (AsksWithin u c.args.by c.args.version_set) (notes_in c.args.self.now);
       read = All-nil (IsForbidden (notes_in c.args.self.now).kinds c.args.by c.args.version_set);
     }
@@ -33,8 +33,7 @@ loop-candidate-preserved g c =
     let step = c.in_ok-constrain.ensures.step in
     record {
       adds = AddsOnly-trans _ _ _ _ before.adds c.constrain.ensures.adds;
-      bounded = c.constrain.ensures.bounded;
-      limits = KeepsLimits-trans _ _ _ before.limits c.constrain.ensures.limits;
+      room = KeepsRoom-trans _ _ _ before.room c.constrain.ensures.room;
       step = IsStep-trans u idle (AsksWithin u c.args.by c.args.version_set) _ _ _ before.step step;
       read = All-grown (IsForbidden (notes_in c.loop-candidate.self).kinds c.args.by c.args.version_set)
           (IsForbidden (notes_in c.constrain.new.self).kinds c.args.by c.args.version_set) c.args.forbidden.now c.loop-candidate.candidate-index

@@ -1,14 +1,15 @@
-use Rattle.std.proofs.Common.{refl, inl, sym, subst, All, Contains, List}
+use Rattle.std.proofs.Common.{sym, subst, All, Contains, List}
 use Rattle.std.specs.Prelude.{⊤}
 use Rattle.std.proofs.lemmas.List.Elements.{All-contains}
 use Rattle.resolver_clause_store.specs.Candidates.{version_sets}
 use Rattle.resolver_clause_store.specs.declared.VersionSetId.{VersionSetId}
-use Rattle.resolver_clause_store.specs.declared.ClauseKind.{ClauseKind}
 use Rattle.resolver_clause_store.specs.declared.ClauseKind.TheVariants.{Requires}
 use Rattle.resolver_encoding.specs.Encodings.{IsTrueUnder, idle}
 use Rattle.resolver_encoding.specs.Notes.{notes_in}
-use Rattle.resolver_encoding.proofs.EncodingLemmas.{IsClauseOf-zip, IsStep-requirement, IsStep-trans, IsStep-weaker, requirement_listed}
-use Rattle.resolver_encoding.proofs.LedLemmas.{AddsOnly-trans, helped_choices}
+use Rattle.resolver_encoding.proofs.EncodingLemmas.{IsStep-trans, IsStep-weaker, clause_listed}
+use Rattle.resolver_encoding.proofs.NoteLemmas.{IsStep-kind}
+use Rattle.resolver_encoding.proofs.LedLemmas.{AddsOnly-trans, AddsOnly-weaker, helped_choices}
+use Rattle.resolver_encoding.proofs.TableLemmas.{requirement_mentions}
 use Rattle.resolver_encoding.proofs.encoding.Encoding.encode_choices.Goals as goal
 
 pub returns-clause-step : goal.returns-clause-step
@@ -19,47 +20,42 @@ returns-clause-step g c =
     let list = c.args.disjunct in
     let Premise = IsTrueUnder u by list.items r in
     let mid = notes_in c.help_each.new.self in
-    let kind : ClauseKind g.row.N.Denot g.row.S.Denot = Requires by list r in
-    let adds = c.in_ok-add_requirement.ensures.added in
+    let adds = c.in_ok-add_with.ensures.added u c.requires.candidates in
     let grown = c.in_ok-help_each.ensures.step in
     let AllHelped : List VersionSetId → Type 0 = λ list. All (Contains mid.helped) list in
     let helped = subst AllHelped c.deref.ensures.value c.in_ok-help_each.ensures.helped in
     IsStep-trans u idle Premise _ _ _ (IsStep-weaker u idle (λ root. ⊤) Premise (λ root _. tt) _ _ grown)
-    (IsStep-requirement u idle Premise mid (notes_in c.add_requirement.new.self) kind _ adds (inl (by, list, r, refl))
-    (λ root asks before. record {
-      clause = IsClauseOf-zip u (notes_in c.add_requirement.new.self).origins adds.literals.items kind adds.are;
-      is_true = λ codes _. asks;
-      proper = tt;
-      due = tt;
-      prepared = record {
-        helpers = λ v h. All-contains (Contains mid.helped) list.items v helped h;
-        packages = λ v h. let Has : List g.row.N.Denot → Type 0 = λ names. Contains names (u.version_set_name v) in
-            subst Has (sym grown.asked) (All-contains (λ w. Contains (notes_in c.args.self.now).asked (u.version_set_name w))
-            (version_sets u r) v c.requires.asked h);
-        candidates = λ s h. let Has : List g.row.S.Denot → Type 0 = λ list. Contains list s in
-            subst Has (sym grown.seen) (All-contains (Contains (notes_in c.args.self.now).seen) c.args.choices.now.candidates.items s c.requires.seen
-            (subst Has (sym c.requires.candidates) h));
-        once = c.requires.once;
-      };
+    (IsStep-kind u idle Premise mid (notes_in c.add_with.new.self) (Requires by list r) adds (λ root asks before codes _. asks) tt tt (record {
+      helpers = λ v h. All-contains (Contains mid.helped) list.items v helped h;
+      packages = λ v h. let Has : List g.row.N.Denot → Type 0 = λ names. Contains names (u.version_set_name v) in
+          subst Has (sym grown.asked) (All-contains (λ w. Contains (notes_in c.args.self.now).asked (u.version_set_name w))
+          (version_sets u r) v c.requires.asked h);
+      candidates = λ s h. let Has : List g.row.S.Denot → Type 0 = λ list. Contains list s in
+          subst Has (sym grown.seen) (All-contains (Contains (notes_in c.args.self.now).seen) c.args.choices.now.candidates.items s c.requires.seen
+          (subst Has (sym c.requires.candidates) h));
+      once = c.requires.once;
     }))
 
 pub returns-clause-read : goal.returns-clause-read
 returns-clause-read g c =
     let u = g.D.Interner.universe c.args.provider.now in
-    requirement_listed u (notes_in c.help_each.new.self) (notes_in c.add_requirement.new.self) _ _ c.in_ok-add_requirement.ensures.added
+    clause_listed u (notes_in c.help_each.new.self) (notes_in c.add_with.new.self) _ (c.in_ok-add_with.ensures.added u c.requires.candidates)
 
 pub returns-in_err-help_each-clause-adds : goal.returns-in_err-help_each-clause-adds
 returns-in_err-help_each-clause-adds g c =
     (helped_choices (g.D.Interner.universe c.args.provider.now) c.args.by c.args.requirement c.args.disjunct.items c.deref.result.now c.deref.ensures.value
     (notes_in c.args.self.now) (notes_in c.help_each.new.self) c.help_each.ensures.adds)
 
-pub returns-in_err-add_requirement-clause-adds : goal.returns-in_err-add_requirement-clause-adds
-returns-in_err-add_requirement-clause-adds g c =
-    AddsOnly-trans _ _ _ _ (helped_choices
-    (g.D.Interner.universe c.args.provider.now) c.args.by c.args.requirement c.args.disjunct.items c.deref.result.now c.deref.ensures.value
-    (notes_in c.args.self.now) (notes_in c.help_each.new.self) c.help_each.ensures.adds) c.add_requirement.ensures.adds
+pub returns-in_err-add_with-clause-adds : goal.returns-in_err-add_with-clause-adds
+returns-in_err-add_with-clause-adds g c =
+    let u = g.D.Interner.universe c.args.provider.now in
+    AddsOnly-trans _ _ _ _ (helped_choices u c.args.by c.args.requirement c.args.disjunct.items c.deref.result.now c.deref.ensures.value
+    (notes_in c.args.self.now) (notes_in c.help_each.new.self) c.help_each.ensures.adds)
+    (AddsOnly-weaker _ _ (requirement_mentions u c.args.by c.args.disjunct c.args.requirement) _ _ (c.add_with.ensures.adds u c.requires.candidates))
 
 pub returns-clause-adds : goal.returns-clause-adds
-returns-clause-adds g c = AddsOnly-trans _ _ _ _
-    (helped_choices (g.D.Interner.universe c.args.provider.now) c.args.by c.args.requirement c.args.disjunct.items c.deref.result.now c.deref.ensures.value
-    (notes_in c.args.self.now) (notes_in c.help_each.new.self) c.help_each.ensures.adds) c.add_requirement.ensures.adds
+returns-clause-adds g c =
+    let u = g.D.Interner.universe c.args.provider.now in
+    AddsOnly-trans _ _ _ _ (helped_choices u c.args.by c.args.requirement c.args.disjunct.items c.deref.result.now c.deref.ensures.value
+    (notes_in c.args.self.now) (notes_in c.help_each.new.self) c.help_each.ensures.adds)
+    (AddsOnly-weaker _ _ (requirement_mentions u c.args.by c.args.disjunct c.args.requirement) _ _ (c.add_with.ensures.adds u c.requires.candidates))

@@ -5,18 +5,18 @@ use Rattle.resolver_clause_store.specs.declared.ClauseKind.TheVariants.{Excluded
 use Rattle.resolver_encoding.specs.Encodings.{asking_for}
 use Rattle.resolver_encoding.specs.Notes.{notes_in}
 use Rattle.resolver_clause_store.proofs.SetLemmas.{All-done, Contains-item}
-use Rattle.resolver_encoding.proofs.EncodingLemmas.{IsStep-same, IsStep-trans, KeepsLimits-same, KeepsLimits-trans}
+use Rattle.resolver_encoding.proofs.EncodingLemmas.{IsStep-same, IsStep-trans}
 use Rattle.resolver_encoding.proofs.NoteLemmas.{All-grown}
 use Rattle.resolver_encoding.proofs.TurnLemmas.{AddsPlainly-same, AddsPlainly-trans}
 use Rattle.resolver_clause_store.proofs.ListLemmas.{Contains-here as here}
 use Rattle.resolver_encoding.proofs.LedLemmas.{AddsOnly-equal, AddsOnly-trans}
+use Rattle.resolver_encoding.proofs.RoomLemmas.{KeepsRoom-same, KeepsRoom-trans}
 use Rattle.resolver_encoding.proofs.encoding.Encoding.exclude_each.Goals as goal
 
 pub loop-solvable-init : goal.loop-solvable-init
 loop-solvable-init g c = record {
   adds = AddsOnly-equal _ _ _ refl refl;
-  bounded = c.requires.bounded;
-  limits = KeepsLimits-same _;
+  room = KeepsRoom-same _ c.requires.bounded;
   step = IsStep-same (g.D.Interner.universe c.args.provider.now) (asking_for c.args.name) (λ root. ⊤) (notes_in c.args.self.now);
   read = All-nil (λ e. (Contains (notes_in c.args.self.now).exempt e.0 → ⊥) → Contains (notes_in c.args.self.now).kinds (Excluded e.0 e.1));
   plain = AddsPlainly-same (g.D.Interner.universe c.args.provider.now) (notes_in c.args.self.now);
@@ -47,8 +47,7 @@ loop-solvable-preserved g c =
     Contains (notes_in c.exclude.new.self).kinds (Excluded c.loop-solvable-item.result.0 c.loop-solvable-item.result.1) in
     record {
       adds = AddsOnly-trans _ _ _ _ before.adds c.exclude.ensures.adds;
-      bounded = c.exclude.ensures.bounded;
-      limits = KeepsLimits-trans _ _ _ before.limits c.exclude.ensures.limits;
+      room = KeepsRoom-trans _ _ _ before.room c.exclude.ensures.room;
       step = IsStep-trans u (asking_for c.args.name) (λ root. ⊤) _ _ _ before.step step;
       read = All-grown (λ e. (Contains (notes_in c.args.self.now).exempt e.0 → ⊥) → Contains (notes_in c.loop-solvable.self).kinds (Excluded e.0 e.1)) (λ e.
           (Contains (notes_in c.args.self.now).exempt e.0 → ⊥) →

@@ -1,12 +1,12 @@
 use Rattle.std.proofs.Common.{arith, refl}
 use Rattle.std.proofs.lemmas.Option.{slice_get_read}
 use Rattle.resolver_encoding.specs.Notes.{notes_in}
-use Rattle.resolver_encoding.proofs.EncodingLemmas.{KeepsLimits-trans}
 use Rattle.resolver_encoding.proofs.FiringLemmas.{AreQuiet-done, AreQuiet-more, HasFired-trans, IsFiring-trans, groups_kept}
 use Rattle.resolver_encoding.specs.Called.{to_see}
 use Rattle.resolver_encoding.specs.Led.{IsFired, NoneOwn}
 use Rattle.resolver_encoding.proofs.LedLemmas.{Brings-trans, Brings-weaker}
 use Rattle.resolver_encoding.proofs.LedReading.{fired_before}
+use Rattle.resolver_encoding.proofs.RoomLemmas.{KeepsRoom-trans}
 use Rattle.resolver_encoding.proofs.encoding.Encoding.fire_deferred.Goals as goal
 
 pub loop-place-preserved : goal.loop-place-preserved
@@ -28,8 +28,7 @@ loop-place-preserved g c =
           Brings-trans u (IsFired u set one) NoneOwn one two three (λ s h. here.firing.called (to_see s) h) here.brings
           (Brings-weaker u (IsFired u set two) (IsFired u set one) (fired_before u set one two here.firing) NoneOwn NoneOwn (λ o h.
           h) two three c.fire_waiting.ensures.brings);
-      bounded = c.fire_waiting.ensures.bounded;
-      limits = KeepsLimits-trans one two three before.limits c.fire_waiting.ensures.limits;
+      room = KeepsRoom-trans _ _ _ before.room c.fire_waiting.ensures.room;
       is_true = c.fire_waiting.ensures.is_true;
       firing = IsFiring-trans u set one two three before.firing c.in_ok-any.ensures.firing;
       quiet = λ sound. AreQuiet-more u set two three c.args.from c.loop-place.place _ c.in_ok-any.ensures.firing

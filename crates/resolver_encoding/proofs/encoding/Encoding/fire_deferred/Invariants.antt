@@ -1,7 +1,6 @@
 use Rattle.resolver_clause_store.specs.Caches.{IsTrueCache}
-use Rattle.resolver_encoding.specs.Encodings.{KeepsLimits}
 use Rattle.resolver_encoding.specs.Groups.{AreGroups}
-use Rattle.resolver_encoding.specs.Notes.{IsBounded, notes_in}
+use Rattle.resolver_encoding.specs.Notes.{KeepsRoom, notes_in}
 use Rattle.resolver_encoding.specs.SoFar.{HasFired, IsFiring}
 use Rattle.resolver_encoding.proofs.FiringLemmas.{AreQuiet}
 use Rattle.resolver_encoding.specs.Led.{Brings, IsFired, NoneOwn}
@@ -9,8 +8,7 @@ use Rattle.resolver_encoding.proofs.encoding.Encoding.fire_deferred.Given as goa
 
 abbrev pub invariant-loop-place : goal.invariant-loop-place
 invariant-loop-place g l = record {
-  bounded : IsBounded l.self;
-  limits : KeepsLimits (notes_in l.fn.self) (notes_in l.self);
+  room : KeepsRoom l.fn.self l.self;
   is_true : IsTrueCache (g.D.Interner.universe l.provider) l.cache;
   brings : Brings (g.D.Interner.universe l.provider) (IsFired (g.D.Interner.universe l.provider) l.chosen.keys (notes_in l.fn.self)) NoneOwn
       (notes_in l.fn.self) (notes_in l.self);

@@ -2,13 +2,13 @@ use Rattle.std.proofs.Common.{arith}
 use Rattle.resolver_clause_store.proofs.SetLemmas.{All-done}
 use Rattle.resolver_encoding.specs.Notes.{notes_in}
 use Rattle.resolver_encoding.specs.SoFar.{IsQuietAt}
-use Rattle.resolver_encoding.proofs.EncodingLemmas.{KeepsLimits-trans}
 use Rattle.resolver_encoding.proofs.FiringLemmas.{HasFired-trans, IsFiring-trans, IsQuietAt-kept}
 use Rattle.resolver_encoding.proofs.NoteLemmas.{All-grown_at}
 use Rattle.resolver_encoding.specs.Called.{to_see}
 use Rattle.resolver_encoding.specs.Led.{IsFired, NoneOwn}
 use Rattle.resolver_encoding.proofs.LedLemmas.{Brings-trans, Brings-weaker}
 use Rattle.resolver_encoding.proofs.LedReading.{fired_before}
+use Rattle.resolver_encoding.proofs.RoomLemmas.{KeepsRoom-trans}
 use Rattle.resolver_encoding.proofs.encoding.Encoding.fire_each.Goals as goal
 
 pub loop-number-preserved : goal.loop-number-preserved
@@ -30,8 +30,7 @@ loop-number-preserved g c =
           Brings-trans u (IsFired u set one) NoneOwn one two three (λ s h. here.firing.called (to_see s) h) here.brings
           (Brings-weaker u (IsFired u set two) (IsFired u set one) (fired_before u set one two here.firing) NoneOwn NoneOwn (λ o h.
           h) two three c.fire_if_due.ensures.brings);
-      bounded = c.fire_if_due.ensures.bounded;
-      limits = KeepsLimits-trans one two three before.limits c.fire_if_due.ensures.limits;
+      room = KeepsRoom-trans _ _ _ before.room c.fire_if_due.ensures.room;
       is_true = c.fire_if_due.ensures.is_true;
       firing = IsFiring-trans u set one two three before.firing c.in_ok-any.ensures.firing;
       quiet = All-grown_at (IsQuietAt u set two) (IsQuietAt u set three) c.args.numbers.now c.loop-number.number-index _ (λ k h.

@@ -4,10 +4,11 @@ use Rattle.std.proofs.lemmas.List.Elements.{All-nil}
 use Rattle.resolver_encoding.specs.Encodings.{idle}
 use Rattle.resolver_encoding.specs.Notes.{notes_in}
 use Rattle.resolver_clause_store.proofs.SetLemmas.{All-done}
-use Rattle.resolver_encoding.proofs.EncodingLemmas.{IsStep-same, IsStep-trans, KeepsLimits-same, KeepsLimits-trans}
+use Rattle.resolver_encoding.proofs.EncodingLemmas.{IsStep-same, IsStep-trans}
 use Rattle.resolver_encoding.proofs.NoteLemmas.{All-grown_at}
 use Rattle.std.proofs.lemmas.List.Elements.{Contains-get_or}
 use Rattle.resolver_encoding.proofs.LedLemmas.{AddsOnly-equal, AddsOnly-trans, AddsOnly-weaker}
+use Rattle.resolver_encoding.proofs.RoomLemmas.{KeepsRoom-same, KeepsRoom-trans}
 use Rattle.resolver_encoding.proofs.encoding.Encoding.help_each.Goals as goal
 
 pub loop-version_set-init : goal.loop-version_set-init
@@ -15,8 +16,7 @@ loop-version_set-init g c =
     let u = g.D.Interner.universe c.args.provider.now in
     record {
       adds = AddsOnly-equal _ _ _ refl refl;
-      bounded = c.requires.bounded;
-      limits = KeepsLimits-same _;
+      room = KeepsRoom-same _ c.requires.bounded;
       step = IsStep-same u idle (λ root. ⊤) (notes_in c.args.self.now);
       helped = All-nil (Contains (notes_in c.args.self.now).helped);
       is_true = c.requires.is_true;
@@ -33,8 +33,7 @@ loop-version_set-preserved g c =
             Contains-get_or c.args.disjunct.now c.loop-version_set.version_set-index _ (omega arith),
             is,
           )) _ _ c.help.ensures.adds);
-      bounded = c.help.ensures.bounded;
-      limits = KeepsLimits-trans _ _ _ before.limits c.help.ensures.limits;
+      room = KeepsRoom-trans _ _ _ before.room c.help.ensures.room;
       step = IsStep-trans u idle (λ root. ⊤) _ _ _ before.step c.in_ok-help.ensures.step;
       helped = All-grown_at (Contains c.loop-version_set.self.helped.keys)
           (Contains c.help.new.self.helped.keys) c.args.disjunct.now c.loop-version_set.version_set-index _ (λ y h. c.in_ok-help.ensures.step.helped _ h)

@@ -9,17 +9,18 @@ use Rattle.resolver_clause_store.specs.declared.Origin.TheVariants.{ConditionHel
 use Rattle.resolver_encoding.specs.Encodings.{idle}
 use Rattle.resolver_encoding.specs.Notes.{notes_in}
 use Rattle.resolver_clause_store.proofs.SetLemmas.{All-done, Contains-item}
-use Rattle.resolver_encoding.proofs.EncodingLemmas.{IsStep-same, IsStep-trans, KeepsLimits-same, KeepsLimits-trans, clause_listed}
-use Rattle.resolver_encoding.proofs.NoteLemmas.{All-grown, IsStep-plain}
+use Rattle.resolver_encoding.proofs.EncodingLemmas.{IsStep-same, IsStep-trans, clause_listed}
+use Rattle.resolver_encoding.proofs.NoteLemmas.{All-grown, IsStep-kind}
 use Rattle.resolver_clause_store.proofs.ListLemmas.{list_any-contains}
 use Rattle.resolver_encoding.proofs.LedLemmas.{AddsOnly-equal, AddsOnly-trans, AddsOnly-weaker, helper_pair}
+use Rattle.resolver_encoding.proofs.TableLemmas.{mentioned_two}
+use Rattle.resolver_encoding.proofs.RoomLemmas.{KeepsRoom-same, KeepsRoom-trans}
 use Rattle.resolver_encoding.proofs.encoding.Encoding.imply_each.Goals as goal
 
 pub loop-candidate-init : goal.loop-candidate-init
 loop-candidate-init g c = record {
   adds = AddsOnly-equal _ _ _ refl refl;
-  bounded = c.requires.bounded;
-  limits = KeepsLimits-same _;
+  room = KeepsRoom-same _ c.requires.bounded;
   step = IsStep-same (g.D.Interner.universe c.args.provider.now) idle (λ root. ⊤) (notes_in c.args.self.now);
   follow = All-nil (λ s. Contains (notes_in c.args.self.now).kinds (AnyOf (ConditionHelper c.args.version_set) s));
   helped = refl;
@@ -36,22 +37,21 @@ loop-candidate-preserved g c =
     subst Has c.requires.candidates (Contains-item c.args.candidates.now c.loop-candidate.candidate-index s (omega arith) c.candidate-item.is) in
     let Identity : (g.row.S.Denot → g.row.S.Denot → Bool) → Type 0 = λ same. IsIdentity same in
     let identity = subst Identity (sym (g.met.D.Interner.solvables_compare c.args.provider.now)) g.met.D.Interner.solvables_are_values in
-    let adds = c.in_ok-add_pair.ensures.added in
-    let step = IsStep-plain u idle (λ root. ⊤) (notes_in c.loop-candidate.self) (notes_in c.add_pair.new.self)
-    (AnyOf (ConditionHelper v) s) adds tt (λ root _ _ codes _.
+    let adds = c.in_ok-add.ensures.added u refl in
+    let step = IsStep-kind u idle (λ root. ⊤) (notes_in c.loop-candidate.self) (notes_in c.add.new.self)
+    (AnyOf (ConditionHelper v) s) adds (λ root _ _ codes _.
     (tt, list_any-contains (u.same_solvable s) (matching u v) s matches (identity.itself s))) tt tt tt in
     record {
       adds = AddsOnly-trans _ _ _ _ before.adds
-          (AddsOnly-weaker _ _ (helper_pair (g.D.Interner.universe c.args.provider.now) c.args.version_set c.candidate-item.result
+          (AddsOnly-weaker _ _ (λ o is. helper_pair u c.args.version_set c.candidate-item.result
           (rw c.requires.candidates at (Contains-item c.args.candidates.now c.loop-candidate.candidate-index c.candidate-item.result
-          (omega arith) c.candidate-item.is))) _ _ c.add_pair.ensures.adds);
-      bounded = c.add_pair.ensures.bounded;
-      limits = KeepsLimits-trans _ _ _ before.limits c.add_pair.ensures.limits;
+          (omega arith) c.candidate-item.is)) o (mentioned_two _ _ o is)) _ _ (c.add.ensures.adds u refl));
+      room = KeepsRoom-trans _ _ _ before.room c.add.ensures.room;
       step = IsStep-trans u idle (λ root. ⊤) _ _ _ before.step step;
       follow = All-grown (λ t. Contains (notes_in c.loop-candidate.self).kinds (AnyOf (ConditionHelper v) t)) (λ t.
-          Contains (notes_in c.add_pair.new.self).kinds (AnyOf (ConditionHelper v) t)) c.args.candidates.now c.loop-candidate.candidate-index s (λ y h.
+          Contains (notes_in c.add.new.self).kinds (AnyOf (ConditionHelper v) t)) c.args.candidates.now c.loop-candidate.candidate-index s (λ y h.
           step.kinds _ h) (omega arith) c.candidate-item.is before.follow
-          (clause_listed u (notes_in c.loop-candidate.self) (notes_in c.add_pair.new.self) _ _ adds);
+          (clause_listed u (notes_in c.loop-candidate.self) (notes_in c.add.new.self) _ adds);
       helped = ap (λ n. n.helped) adds.is ∙ before.helped;
     }
 
@@ -60,9 +60,10 @@ returns-clause-follow g c = All-done (λ t.
     Contains (notes_in c.loop-candidate.self).kinds (AnyOf (ConditionHelper c.args.version_set) t)) c.args.candidates.now c.loop-candidate.candidate-index
     (omega arith) c.loop-candidate.invariant.follow
 
-pub returns-in_err-add_pair-clause-adds : goal.returns-in_err-add_pair-clause-adds
-returns-in_err-add_pair-clause-adds g c =
+pub returns-in_err-add-clause-adds : goal.returns-in_err-add-clause-adds
+returns-in_err-add-clause-adds g c =
+    let u = g.D.Interner.universe c.args.provider.now in
     AddsOnly-trans _ _ _ _ c.loop-candidate.invariant.adds
-    (AddsOnly-weaker _ _ (helper_pair (g.D.Interner.universe c.args.provider.now) c.args.version_set c.candidate-item.result
+    (AddsOnly-weaker _ _ (λ o is. helper_pair u c.args.version_set c.candidate-item.result
     (rw c.requires.candidates at (Contains-item c.args.candidates.now c.loop-candidate.candidate-index c.candidate-item.result
-    (omega arith) c.candidate-item.is))) _ _ c.add_pair.ensures.adds)
+    (omega arith) c.candidate-item.is)) o (mentioned_two _ _ o is)) _ _ (c.add.ensures.adds u refl))

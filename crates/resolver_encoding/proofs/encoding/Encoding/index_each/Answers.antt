@@ -3,8 +3,8 @@ use Rattle.std.proofs.lemmas.List.{take_all}
 use Rattle.resolver_clause_store.specs.declared.VersionSetId.{VersionSetId}
 use Rattle.resolver_encoding.specs.Notes.{notes_in}
 use Rattle.resolver_encoding.specs.SoFar.{IsIndexing}
-use Rattle.resolver_encoding.proofs.EncodingLemmas.{KeepsLimits-same}
 use Rattle.resolver_encoding.proofs.FiringLemmas.{IsIndexing-more, IsIndexing-same}
+use Rattle.resolver_encoding.proofs.RoomLemmas.{KeepsRoom-same}
 use Rattle.resolver_encoding.proofs.encoding.Encoding.index_each.Goals as goal
 
 pub loop-version_set-init : goal.loop-version_set-init
@@ -13,8 +13,7 @@ loop-version_set-init g c =
     record {
       origins = refl;
       still = refl;
-      bounded = c.requires.bounded;
-      limits = KeepsLimits-same (notes_in c.args.self.now);
+      room = KeepsRoom-same _ c.requires.bounded;
       indexed = IsIndexing-same u c.args.number (notes_in c.args.self.now);
     }
 
@@ -25,8 +24,7 @@ loop-version_set-preserved g c =
     record {
       origins = before.origins;
       still = before.still;
-      bounded = before.bounded;
-      limits = record { variables = before.limits.variables; clauses = before.limits.clauses };
+      room = record { bounded = before.room.bounded; variables = before.room.variables; clauses = before.room.clauses };
       indexed = IsIndexing-more u c.args.number c.args.disjunct.now c.loop-version_set.version_set-index _ (notes_in c.args.self.now)
           (notes_in c.loop-version_set.self) _ _ c.version_set_name-name.ensures (omega arith) before.indexed c.in_ok-add.ensures.added refl;
     }

@@ -1,11 +1,12 @@
-use Rattle.std.proofs.Common.{◌≡◌, ◌++◌, sym, subst, Contains}
+use Rattle.std.proofs.Common.{◌≡◌, ◌++◌, ap, refl, sym, subst, Contains}
 use Rattle.std.specs.Prelude.{⊤, Some}
 use Rattle.resolver_clause_store.specs.declared.ClauseKind.TheVariants.{Lock}
 use Rattle.resolver_encoding.specs.Notes.{notes_in}
 use Rattle.resolver_encoding.proofs.EncodingLemmas.{clause_listed}
-use Rattle.resolver_encoding.proofs.NoteLemmas.{IsStep-plain, not_same}
+use Rattle.resolver_encoding.proofs.NoteLemmas.{IsStep-kind, not_same}
 use Rattle.resolver_encoding.proofs.TurnLemmas.{AddsPlainly-clause}
 use Rattle.resolver_encoding.proofs.LedLemmas.{AddsOnly-weaker, locked_barred}
+use Rattle.resolver_encoding.proofs.TableLemmas.{mentioned_two}
 use Rattle.resolver_encoding.proofs.encoding.Encoding.lock_out.Goals as goal
 
 pub returns-clause-step : goal.returns-clause-step
@@ -15,26 +16,33 @@ returns-clause-step g c =
     let Listed : g.row.N.Denot → Type 0 = λ n. Contains (u.package_named n).listed c.args.candidate in
     let apart = not_same g.S.PartialEq.eq g.met.D.Interner.solvables_are_values c.args.candidate c.args.locked c.eq.result c.eq.ensures c.if-eq.false in
     λ doing inside. let Asks : g.row.N.Denot → Type 0 = λ n. Contains (doing.asking ++ (notes_in c.args.self.now).asked) n in
-    IsStep-plain u doing (λ root. ⊤) (notes_in c.args.self.now) _ (Lock c.args.locked c.args.candidate) c.in_ok-add_pair.ensures.added tt
+    IsStep-kind u doing (λ root. ⊤) (notes_in c.args.self.now) _ (Lock c.args.locked c.args.candidate) (c.in_ok-add.ensures.added u refl)
     (λ root _ _ codes _. (subst Locked (sym c.requires.named) c.requires.lock, subst Listed (sym c.requires.named) c.requires.listed, apart)) tt
     (subst Asks (sym c.requires.named) inside, c.if-is_among.ensures) tt
 
 pub returns-clause-forbidden : goal.returns-clause-forbidden
 returns-clause-forbidden g c =
-    λ differ free. clause_listed (g.D.Interner.universe c.args.provider.now) (notes_in c.args.self.now) _ _ _ c.in_ok-add_pair.ensures.added
+    let u = g.D.Interner.universe c.args.provider.now in
+    λ differ free. clause_listed u (notes_in c.args.self.now) _ _ (c.in_ok-add.ensures.added u refl)
 
 pub returns-clause-plain : goal.returns-clause-plain
-returns-clause-plain g c = AddsPlainly-clause (g.D.Interner.universe c.args.provider.now) (notes_in c.args.self.now) _ _ _ c.in_ok-add_pair.ensures.added
+returns-clause-plain g c =
+    let u = g.D.Interner.universe c.args.provider.now in
+    AddsPlainly-clause u (notes_in c.args.self.now) _ (Lock c.args.locked c.args.candidate) (λ numbers. refl) (c.in_ok-add.ensures.added u refl)
 
-pub returns-in_err-add_pair-clause-adds : goal.returns-in_err-add_pair-clause-adds
-returns-in_err-add_pair-clause-adds g c =
-    AddsOnly-weaker _ _ (locked_barred
-    (g.D.Interner.universe c.args.provider.now) c.args.name c.args.locked c.args.candidate c.requires.named c.requires.lock c.requires.listed
-    (not_same g.S.PartialEq.eq g.met.D.Interner.solvables_are_values c.args.candidate c.args.locked c.eq.result c.eq.ensures c.if-eq.false)) _ _
-    c.add_pair.ensures.adds
+pub returns-clause-asked : goal.returns-clause-asked
+returns-clause-asked g c = ap (λ n. n.asked) (c.in_ok-add.ensures.added (g.D.Interner.universe c.args.provider.now) refl).is
+
+pub returns-in_err-add-clause-adds : goal.returns-in_err-add-clause-adds
+returns-in_err-add-clause-adds g c =
+    let u = g.D.Interner.universe c.args.provider.now in
+    AddsOnly-weaker _ _ (λ o is. locked_barred u c.args.name c.args.locked c.args.candidate c.requires.named c.requires.lock c.requires.listed
+    (not_same g.S.PartialEq.eq g.met.D.Interner.solvables_are_values c.args.candidate c.args.locked c.eq.result c.eq.ensures c.if-eq.false)
+    o (mentioned_two _ _ o is)) _ _ (c.add.ensures.adds u refl)
 
 pub returns-clause-adds : goal.returns-clause-adds
-returns-clause-adds g c = AddsOnly-weaker _ _
-    (locked_barred (g.D.Interner.universe c.args.provider.now) c.args.name c.args.locked c.args.candidate c.requires.named c.requires.lock c.requires.listed
-    (not_same g.S.PartialEq.eq g.met.D.Interner.solvables_are_values c.args.candidate c.args.locked c.eq.result c.eq.ensures c.if-eq.false)) _ _
-    c.add_pair.ensures.adds
+returns-clause-adds g c =
+    let u = g.D.Interner.universe c.args.provider.now in
+    AddsOnly-weaker _ _ (λ o is. locked_barred u c.args.name c.args.locked c.args.candidate c.requires.named c.requires.lock c.requires.listed
+    (not_same g.S.PartialEq.eq g.met.D.Interner.solvables_are_values c.args.candidate c.args.locked c.eq.result c.eq.ensures c.if-eq.false)
+    o (mentioned_two _ _ o is)) _ _ (c.add.ensures.adds u refl)

@@ -5,18 +5,18 @@ use Rattle.resolver_clause_store.specs.declared.ClauseKind.TheVariants.{Lock}
 use Rattle.resolver_encoding.specs.Encodings.{asking_for}
 use Rattle.resolver_encoding.specs.Notes.{notes_in}
 use Rattle.resolver_clause_store.proofs.SetLemmas.{All-done, Contains-item}
-use Rattle.resolver_encoding.proofs.EncodingLemmas.{IsStep-same, IsStep-trans, KeepsLimits-same, KeepsLimits-trans}
+use Rattle.resolver_encoding.proofs.EncodingLemmas.{IsStep-same, IsStep-trans}
 use Rattle.resolver_encoding.proofs.NoteLemmas.{All-grown}
 use Rattle.resolver_encoding.proofs.TurnLemmas.{AddsPlainly-same, AddsPlainly-trans}
 use Rattle.resolver_clause_store.proofs.ListLemmas.{Contains-here as here}
 use Rattle.resolver_encoding.proofs.LedLemmas.{AddsOnly-equal, AddsOnly-trans}
+use Rattle.resolver_encoding.proofs.RoomLemmas.{KeepsRoom-same, KeepsRoom-trans}
 use Rattle.resolver_encoding.proofs.encoding.Encoding.lock_out_others.Goals as goal
 
 pub loop-candidate-init : goal.loop-candidate-init
 loop-candidate-init g c = record {
   adds = AddsOnly-equal _ _ _ refl refl;
-  bounded = c.requires.bounded;
-  limits = KeepsLimits-same _;
+  room = KeepsRoom-same _ c.requires.bounded;
   step = IsStep-same (g.D.Interner.universe c.args.provider.now) (asking_for c.args.name) (λ root. ⊤) (notes_in c.args.self.now);
   forbidden = All-nil (λ s. (s ≡ c.in-Some.locked → ⊥) → (Contains (notes_in c.args.self.now).exempt s → ⊥) →
       Contains (notes_in c.args.self.now).kinds (Lock c.in-Some.locked s));
@@ -48,8 +48,7 @@ loop-candidate-preserved g c =
     Contains (notes_in c.lock_out.new.self).kinds (Lock t c.candidate-item.result) in
     record {
       adds = AddsOnly-trans _ _ _ _ before.adds c.lock_out.ensures.adds;
-      bounded = c.lock_out.ensures.bounded;
-      limits = KeepsLimits-trans _ _ _ before.limits c.lock_out.ensures.limits;
+      room = KeepsRoom-trans _ _ _ before.room c.lock_out.ensures.room;
       step = IsStep-trans u (asking_for c.args.name) (λ root. ⊤) _ _ _ before.step step;
       forbidden = All-grown (λ s. (s ≡ t → ⊥) → (Contains (notes_in c.args.self.now).exempt s → ⊥) →
           Contains (notes_in c.loop-candidate.self).kinds (Lock t s)) (λ s.

@@ -1,15 +1,15 @@
-use Rattle.std.proofs.Common.{refl, inr, sym, subst, Contains, List}
+use Rattle.std.proofs.Common.{refl, sym, subst, Contains, List}
 use Rattle.std.specs.Prelude.{⊤}
 use Rattle.std.proofs.lemmas.List.Elements.{All-contains, Contains-push}
 use Rattle.resolver_clause_store.specs.Candidates.{version_sets}
-use Rattle.resolver_clause_store.specs.declared.ClauseKind.{ClauseKind}
 use Rattle.resolver_clause_store.specs.declared.ClauseKind.TheVariants.{GateRequires}
 use Rattle.resolver_clause_store.specs.declared.Requirement.{Requirement}
 use Rattle.resolver_encoding.specs.Encodings.{idle}
 use Rattle.resolver_encoding.specs.Notes.{notes_in}
-use Rattle.resolver_encoding.proofs.EncodingLemmas.{IsClauseOf-zip, IsStep-requirement, IsStep-trans, requirement_listed}
-use Rattle.resolver_encoding.proofs.NoteLemmas.{IsStep-gated}
-use Rattle.resolver_encoding.proofs.LedLemmas.{AddsOnly-same_as}
+use Rattle.resolver_encoding.proofs.EncodingLemmas.{IsStep-trans, clause_listed}
+use Rattle.resolver_encoding.proofs.NoteLemmas.{IsStep-gated, IsStep-kind}
+use Rattle.resolver_encoding.proofs.LedLemmas.{AddsOnly-same_as, AddsOnly-weaker}
+use Rattle.resolver_encoding.proofs.TableLemmas.{gate_mentions}
 use Rattle.resolver_encoding.proofs.encoding.Encoding.make_gate.Goals as goal
 
 pub returns-clause-step : goal.returns-clause-step
@@ -17,31 +17,34 @@ returns-clause-step g c =
     let u = g.D.Interner.universe c.args.provider.now in
     let r = c.args.requirement in
     let old = notes_in c.args.self.now in
-    let mid = notes_in c.add_gate.new.self in
-    let kind : ClauseKind g.row.N.Denot g.row.S.Denot = GateRequires r in
-    let adds = c.in_ok-add_gate.ensures.added in
+    let mid = notes_in c.add_with.new.self in
+    let adds = c.in_ok-add_with.ensures.added u c.requires.candidates in
     IsStep-trans u idle (λ root. ⊤) _ _ _
-    (IsStep-requirement u idle (λ root. ⊤) old mid kind _ adds (inr (r, refl))
-    (λ root _ before. record {
-      clause = IsClauseOf-zip u mid.origins adds.literals.items kind adds.are;
-      is_true = λ codes _. tt;
-      proper = tt;
-      due = tt;
-      prepared = record {
-        packages = λ v h. All-contains (λ w. Contains old.asked (u.version_set_name w)) (version_sets u r) v c.requires.asked h;
-        candidates = λ s h. let Has : List g.row.S.Denot → Type 0 = λ list. Contains list s in
-            All-contains (Contains old.seen) c.args.choices.now.candidates.items s c.requires.seen (subst Has (sym c.requires.candidates) h);
-      };
+    (IsStep-kind u idle (λ root. ⊤) old mid (GateRequires r) adds (λ root _ before codes _. tt) tt tt (record {
+      packages = λ v h. All-contains (λ w. Contains old.asked (u.version_set_name w)) (version_sets u r) v c.requires.asked h;
+      candidates = λ s h. let Has : List g.row.S.Denot → Type 0 = λ list. Contains list s in
+          All-contains (Contains old.seen) c.args.choices.now.candidates.items s c.requires.seen (subst Has (sym c.requires.candidates) h);
     }))
-    (IsStep-gated u mid _ r (λ i. record mid { gates = c.in_ok-append.ensures.keys i }) (requirement_listed u old mid kind _ adds))
+    (IsStep-gated u mid _ r (λ i. record mid { gates = c.in_ok-append.ensures.keys i }) (clause_listed u old mid (GateRequires r) adds))
 
 pub returns-clause-gate : goal.returns-clause-gate
 returns-clause-gate g c =
     let Has : List Requirement → Type 0 = λ list. Contains list c.args.requirement in
-    subst Has (sym c.in_ok-append.ensures.keys) (Contains-push c.add_gate.new.self.gates.keys c.args.requirement)
+    subst Has (sym c.in_ok-append.ensures.keys) (Contains-push c.add_with.new.self.gates.keys c.args.requirement)
+
+pub returns-in_err-add_with-clause-adds : goal.returns-in_err-add_with-clause-adds
+returns-in_err-add_with-clause-adds g c =
+    let u = g.D.Interner.universe c.args.provider.now in
+    AddsOnly-weaker _ _ (gate_mentions u c.args.requirement) _ _ (c.add_with.ensures.adds u c.requires.candidates)
 
 pub returns-in_err-append-clause-adds : goal.returns-in_err-append-clause-adds
-returns-in_err-append-clause-adds g c = AddsOnly-same_as _ (notes_in c.args.self.now) (notes_in c.add_gate.new.self) _ c.add_gate.ensures.adds refl refl
+returns-in_err-append-clause-adds g c =
+    let u = g.D.Interner.universe c.args.provider.now in
+    AddsOnly-same_as _ (notes_in c.args.self.now) (notes_in c.add_with.new.self) _
+    (AddsOnly-weaker _ _ (gate_mentions u c.args.requirement) _ _ (c.add_with.ensures.adds u c.requires.candidates)) refl refl
 
 pub returns-clause-adds : goal.returns-clause-adds
-returns-clause-adds g c = AddsOnly-same_as _ (notes_in c.args.self.now) (notes_in c.add_gate.new.self) _ c.add_gate.ensures.adds refl refl
+returns-clause-adds g c =
+    let u = g.D.Interner.universe c.args.provider.now in
+    AddsOnly-same_as _ (notes_in c.args.self.now) (notes_in c.add_with.new.self) _
+    (AddsOnly-weaker _ _ (gate_mentions u c.args.requirement) _ _ (c.add_with.ensures.adds u c.requires.candidates)) refl refl

@@ -7,18 +7,19 @@ use Rattle.resolver_encoding.specs.Encodings.{coding_for}
 use Rattle.resolver_encoding.specs.Groups.{AreGroups, IsAt}
 use Rattle.resolver_encoding.specs.declared.groups.Groups.{Groups}
 use Rattle.resolver_encoding.specs.Notes.{notes_in}
-use Rattle.resolver_encoding.proofs.EncodingLemmas.{IsStep-same, IsStep-trans, KeepsLimits-same, KeepsLimits-trans, clause_listed}
+use Rattle.resolver_encoding.proofs.EncodingLemmas.{IsStep-same, IsStep-trans, clause_listed}
 use Rattle.resolver_encoding.proofs.NoteLemmas.{All-grown}
 use Rattle.resolver_encoding.proofs.SeeLemmas.{IsStep-begun, place_of_item}
 use Rattle.resolver_encoding.proofs.GroupLemmas.{named_of_number}
 use Rattle.resolver_encoding.proofs.LedLemmas.{AddsOnly-equal, AddsOnly-trans, AddsOnly-weaker, begun_coded}
+use Rattle.resolver_encoding.proofs.TableLemmas.{mentioned_two}
+use Rattle.resolver_encoding.proofs.RoomLemmas.{KeepsRoom-same, KeepsRoom-trans}
 use Rattle.resolver_encoding.proofs.encoding.Encoding.open_digit.Goals as goal
 
 pub loop-other-init : goal.loop-other-init
 loop-other-init g c = record {
   adds = AddsOnly-equal _ _ _ refl refl;
-  bounded = c.requires.bounded;
-  limits = KeepsLimits-same _;
+  room = KeepsRoom-same _ c.requires.bounded;
   step = IsStep-same (g.D.Interner.universe c.args.provider.now) (coding_for c.args.name c.args.number c.args.solvable) (λ root. ⊤) (notes_in c.args.self.now);
   begun = All-nil (λ t. Contains (notes_in c.args.self.now).kinds (HasBit c.args.name t c.args.index false));
   groups = refl;
@@ -37,24 +38,24 @@ loop-other-preserved g c =
     let j = c.loop-other.other-index in
     let before = c.loop-other.invariant in
     let old = notes_in c.loop-other.self in
-    let new = notes_in c.add_pair.new.self in
+    let new = notes_in c.add.new.self in
     let Sound : Groups g.row.N.Denot g.row.S.Denot → Type 0 = λ gs. AreGroups gs in
     let At : Groups g.row.N.Denot g.row.S.Denot → Type 0 = λ gs. IsAt gs n j t in
     let at = c.requires.earlier j t (place_of_item c.args.earlier.now j t (omega arith) c.other-item.is) in
-    let adds = c.in_ok-add_pair.ensures.added in
+    let adds = c.in_ok-add.ensures.added u refl in
     let step = IsStep-begun u g.N.PartialEq.eq g.S.PartialEq.eq g.met.D.Interner.names_are_values g.met.D.Interner.solvables_are_values n k s old new i j t adds
     c.requires.number
     (λ sound. c.requires.below (subst Sound before.groups sound) j t at) (subst At (sym before.groups) at) in
     record {
       adds = AddsOnly-trans _ _ _ _ before.adds
-          (AddsOnly-weaker _ _ (begun_coded _ c.args.name c.args.number c.args.solvable c.other-item.result c.args.index c.requires.number
+          (AddsOnly-weaker _ _ (λ o is. begun_coded _ c.args.name c.args.number c.args.solvable c.other-item.result c.args.index c.requires.number
           (named_of_number _ _ _ _ (c.requires.earlier c.loop-other.other-index c.other-item.result
-          (place_of_item c.args.earlier.now c.loop-other.other-index c.other-item.result (omega arith) c.other-item.is)))) _ _ c.add_pair.ensures.adds);
-      bounded = c.add_pair.ensures.bounded;
-      limits = KeepsLimits-trans _ _ _ before.limits c.add_pair.ensures.limits;
+          (place_of_item c.args.earlier.now c.loop-other.other-index c.other-item.result (omega arith) c.other-item.is)))
+          o (mentioned_two _ _ o is)) _ _ (c.add.ensures.adds u refl));
+      room = KeepsRoom-trans _ _ _ before.room c.add.ensures.room;
       step = IsStep-trans u (coding_for n k s) (λ root. ⊤) _ _ _ before.step step;
       begun = All-grown (λ x. Contains old.kinds (HasBit n x i false)) (λ x. Contains new.kinds (HasBit n x i false)) c.args.earlier.now j t (λ y h.
-          step.kinds _ h) (omega arith) c.other-item.is before.begun (clause_listed u old new _ _ adds);
+          step.kinds _ h) (omega arith) c.other-item.is before.begun (clause_listed u old new _ adds);
       groups = ap (λ x. x.groups) adds.is ∙ before.groups;
       seen = ap (λ x. x.seen) adds.is ∙ before.seen;
       requirements = ap (λ x. x.requirements) adds.is ∙ before.requirements;
@@ -65,9 +66,11 @@ returns-clause-begun g c = All-done (λ x.
     Contains (notes_in c.loop-other.self).kinds (HasBit c.args.name x c.args.index false)) c.args.earlier.now c.loop-other.other-index
     (omega arith) c.loop-other.invariant.begun
 
-pub returns-in_err-add_pair-clause-adds : goal.returns-in_err-add_pair-clause-adds
-returns-in_err-add_pair-clause-adds g c =
+pub returns-in_err-add-clause-adds : goal.returns-in_err-add-clause-adds
+returns-in_err-add-clause-adds g c =
+    let u = g.D.Interner.universe c.args.provider.now in
     AddsOnly-trans _ _ _ _ c.loop-other.invariant.adds
-    (AddsOnly-weaker _ _ (begun_coded _ c.args.name c.args.number c.args.solvable c.other-item.result c.args.index c.requires.number
+    (AddsOnly-weaker _ _ (λ o is. begun_coded _ c.args.name c.args.number c.args.solvable c.other-item.result c.args.index c.requires.number
     (named_of_number _ _ _ _ (c.requires.earlier c.loop-other.other-index c.other-item.result
-    (place_of_item c.args.earlier.now c.loop-other.other-index c.other-item.result (omega arith) c.other-item.is)))) _ _ c.add_pair.ensures.adds)
+    (place_of_item c.args.earlier.now c.loop-other.other-index c.other-item.result (omega arith) c.other-item.is)))
+    o (mentioned_two _ _ o is)) _ _ (c.add.ensures.adds u refl))

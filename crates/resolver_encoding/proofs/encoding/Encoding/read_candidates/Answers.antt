@@ -4,11 +4,12 @@ use Rattle.resolver_clause_store.proofs.PlaceLemmas.{Keeps-trans}
 use Rattle.resolver_clause_store.proofs.SetLemmas.{All-done}
 use Rattle.resolver_encoding.specs.Hints.{AreReadIfHinted, IsHinted}
 use Rattle.resolver_encoding.specs.Notes.{notes_in}
-use Rattle.resolver_encoding.proofs.EncodingLemmas.{Extends-trans, Extends-within, KeepsLimits-same, KeepsLimits-trans}
+use Rattle.resolver_encoding.proofs.EncodingLemmas.{Extends-trans, Extends-within}
 use Rattle.resolver_encoding.proofs.HintLemmas.{candidates_same, candidates_seen, hinted_none, hinted_one, hinted_trans}
 use Rattle.resolver_encoding.proofs.NoteLemmas.{All-grown}
 use Rattle.resolver_encoding.proofs.SoFarLemmas.{IsMoreOrSame-trans}
 use Rattle.resolver_encoding.proofs.LedReading.{KeepsLed-same, KeepsLed-trans, led_read}
+use Rattle.resolver_encoding.proofs.RoomLemmas.{KeepsRoom-same, KeepsRoom-trans}
 use Rattle.resolver_encoding.proofs.encoding.Encoding.read_candidates.Goals as goal
 
 pub loop-candidate-init : goal.loop-candidate-init
@@ -16,8 +17,7 @@ loop-candidate-init g c =
     let u = g.D.Interner.universe c.args.provider.now in
     record {
       led = KeepsLed-same u c.args.chosen.now.keys (notes_in c.args.self.now);
-      bounded = c.requires.bounded;
-      limits = KeepsLimits-same _;
+      room = KeepsRoom-same _ c.requires.bounded;
       half = c.requires.half;
       reading = hinted_none u c.args.chosen.now.keys c.args.place (notes_in c.args.self.now);
       read = All-nil (λ s. IsHinted u s → Contains (notes_in c.args.self.now).read s);
@@ -72,8 +72,7 @@ loop-candidate-preserved g c =
           (candidates_seen u half.root one half.half.encoding c.args.place s (subst Among c.requires.listed inside)) in
           KeepsLed-trans u set one two three here.reading.near here.led
           (led_read u set s two three (λ root seeds packages near all. near.seen s seen) c.read_candidate.ensures.brings);
-      bounded = c.read_candidate.ensures.bounded;
-      limits = KeepsLimits-trans _ _ _ before.limits c.read_candidate.ensures.limits;
+      room = KeepsRoom-trans _ _ _ before.room c.read_candidate.ensures.room;
       half = record { root = before.half.root; half = reading.keeps before.half.root before.half.half };
       reading = hinted_trans u set half.root c.args.place one two three half.half before.reading now;
       read = All-grown (λ t. IsHinted u t → Contains two.read t) (λ t.

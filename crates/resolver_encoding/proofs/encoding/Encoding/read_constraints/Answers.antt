@@ -7,13 +7,13 @@ use Rattle.resolver_encoding.specs.Encodings.{AsksWithin, IsConstraintRead}
 use Rattle.resolver_encoding.specs.Notes.{notes_in}
 use Rattle.resolver_clause_store.proofs.SetLemmas.{All-done}
 use Rattle.resolver_encoding.proofs.EncodingLemmas.{IsAskStep-same, IsAskStep-trans, IsAskStep-weaker, IsEncodingOf-asked, IsEncodingOf-weaker}
-use Rattle.resolver_encoding.proofs.EncodingLemmas.{KeepsLimits-same, KeepsLimits-trans}
 use Rattle.resolver_encoding.proofs.NoteLemmas.{All-grown_at, named_here}
 use Rattle.resolver_encoding.proofs.ReadLemmas.{IsConstraintRead-within}
 use Rattle.std.proofs.lemmas.List.Elements.{Contains-get_or}
 use Rattle.resolver_clause_store.specs.declared.Origin.{Origin}
 use Rattle.resolver_encoding.specs.Led.{IsOwn, with_constraints}
 use Rattle.resolver_encoding.proofs.LedLemmas.{Brings-same, Brings-trans, Brings-weaker, IsOwn-within, none_within, one_within}
+use Rattle.resolver_encoding.proofs.RoomLemmas.{KeepsRoom-same, KeepsRoom-trans}
 use Rattle.resolver_encoding.proofs.encoding.Encoding.read_constraints.Goals as goal
 
 pub loop-version_set-init : goal.loop-version_set-init
@@ -21,8 +21,7 @@ loop-version_set-init g c =
     let u = g.D.Interner.universe c.args.provider.now in
     record {
       brings = Brings-same u (IsNamedBy u c.args.constraints.now) (IsOwn u c.args.by (with_constraints c.args.constraints.now)) (notes_in c.args.self.now);
-      bounded = c.requires.bounded;
-      limits = KeepsLimits-same _;
+      room = KeepsRoom-same _ c.requires.bounded;
       step = IsAskStep-same u (IsNamedBy u c.args.constraints.now) (λ root. All (λ v. AsksWithin u c.args.by v root) c.args.constraints.now)
           (notes_in c.args.self.now);
       read = All-nil (IsConstraintRead u (notes_in c.args.self.now).kinds c.args.by);
@@ -61,8 +60,7 @@ loop-version_set-preserved g c =
           (IsOwn u by (with_constraints (_ ∷ []))) Own
           (IsOwn-within u by (with_constraints (_ ∷ [])) (with_constraints xs) (none_within [])
           (one_within _ xs (Contains-get_or xs i _ below))) mid new c.read_constraint.ensures.brings);
-      bounded = c.read_constraint.ensures.bounded;
-      limits = KeepsLimits-trans _ _ _ before.limits c.read_constraint.ensures.limits;
+      room = KeepsRoom-trans _ _ _ before.room c.read_constraint.ensures.room;
       step = IsAskStep-trans u (IsNamedBy u xs) (λ root. All (λ v. AsksWithin u c.args.by v root) c.args.constraints.now) _ _ _ before.step
           (IsAskStep-weaker u (IsAsking (u.version_set_name (get_or xs i _))) (IsNamedBy u xs) (λ call is. named_here u xs i _ _ call below refl is)
           (AsksWithin u c.args.by _) (λ root. All (λ v. AsksWithin u c.args.by v root) c.args.constraints.now) (λ root all.

@@ -1,4 +1,3 @@
-use Rattle.std.proofs.Common.{◌∙◌}
 use Rattle.std.proofs.Common.{◌≡◌, inl, inr, sym, subst, All, Contains, List, ◌⊎◌, ⊎_elim}
 use Rattle.std.specs.Prelude.{Option, Some, ⊤}
 use Rattle.std.proofs.lemmas.List.Elements.{All-contains_itself, All-weaker}
@@ -16,6 +15,7 @@ use Rattle.resolver_encoding.proofs.RequirementLemmas.{plainly_called}
 use Rattle.resolver_clause_store.specs.declared.Origin.{Origin}
 use Rattle.resolver_encoding.specs.Led.{IsOwn, with_constraints, with_requirements}
 use Rattle.resolver_encoding.proofs.LedLemmas.{Brings-trans, Brings-weaker, IsOwn-within, barred_brings, none_within}
+use Rattle.resolver_encoding.proofs.RoomLemmas.{KeepsRoom-trans}
 use Rattle.resolver_encoding.proofs.encoding.Encoding.read_demands.Goals as goal
 
 pub read_requirements-requires-clause-encoding : goal.read_requirements-requires-clause-encoding
@@ -229,40 +229,25 @@ returns-clause-brings g c =
     (Brings-weaker u (IsNamedBy u vs) Called (λ n h. inr h) (IsOwn u by (with_constraints vs)) Own
     (IsOwn-within u by (with_constraints vs) demands (none_within rs) (λ v h. h)) required new c.read_constraints.ensures.brings)
 
-pub returns-clause-bounded : goal.returns-clause-bounded
-returns-clause-bounded g c = c.read_constraints.ensures.bounded
-
 pub returns-clause-is_true : goal.returns-clause-is_true
 returns-clause-is_true g c = c.read_constraints.ensures.is_true
 
-pub returns-clause-limits : goal.returns-clause-limits
-returns-clause-limits g c =
-    let one = c.ask_plain_each.ensures.limits in
-    let two = c.ask_each.ensures.limits in
-    let three = c.read_requirements.ensures.limits in
-    let four = c.read_constraints.ensures.limits in
-    record { variables = four.variables ∙ three.variables ∙ two.variables ∙ one.variables; clauses = four.clauses ∙ three.clauses ∙ two.clauses ∙ one.clauses }
+pub returns-clause-room : goal.returns-clause-room
+returns-clause-room g c =
+    KeepsRoom-trans _ _ _ c.ask_plain_each.ensures.room (KeepsRoom-trans _ _ _ c.ask_each.ensures.room
+    (KeepsRoom-trans _ _ _ c.read_requirements.ensures.room c.read_constraints.ensures.room))
 
-pub returns-in_err-read_constraints-clause-limits : goal.returns-in_err-read_constraints-clause-limits
-returns-in_err-read_constraints-clause-limits g c =
-    let one = c.ask_plain_each.ensures.limits in
-    let two = c.ask_each.ensures.limits in
-    let three = c.read_requirements.ensures.limits in
-    let four = c.read_constraints.ensures.limits in
-    record { variables = four.variables ∙ three.variables ∙ two.variables ∙ one.variables; clauses = four.clauses ∙ three.clauses ∙ two.clauses ∙ one.clauses }
+pub returns-in_err-read_constraints-clause-room : goal.returns-in_err-read_constraints-clause-room
+returns-in_err-read_constraints-clause-room g c =
+    KeepsRoom-trans _ _ _ c.ask_plain_each.ensures.room (KeepsRoom-trans _ _ _ c.ask_each.ensures.room
+    (KeepsRoom-trans _ _ _ c.read_requirements.ensures.room c.read_constraints.ensures.room))
 
-pub returns-in_err-read_requirements-clause-limits : goal.returns-in_err-read_requirements-clause-limits
-returns-in_err-read_requirements-clause-limits g c =
-    let one = c.ask_plain_each.ensures.limits in
-    let two = c.ask_each.ensures.limits in
-    let three = c.read_requirements.ensures.limits in
-    record { variables = three.variables ∙ two.variables ∙ one.variables; clauses = three.clauses ∙ two.clauses ∙ one.clauses }
+pub returns-in_err-read_requirements-clause-room : goal.returns-in_err-read_requirements-clause-room
+returns-in_err-read_requirements-clause-room g c =
+    KeepsRoom-trans _ _ _ c.ask_plain_each.ensures.room (KeepsRoom-trans _ _ _ c.ask_each.ensures.room c.read_requirements.ensures.room)
 
-pub returns-in_err-ask_each-clause-limits : goal.returns-in_err-ask_each-clause-limits
-returns-in_err-ask_each-clause-limits g c =
-    let one = c.ask_plain_each.ensures.limits in
-    let two = c.ask_each.ensures.limits in
-    record { variables = two.variables ∙ one.variables; clauses = two.clauses ∙ one.clauses }
+pub returns-in_err-ask_each-clause-room : goal.returns-in_err-ask_each-clause-room
+returns-in_err-ask_each-clause-room g c = KeepsRoom-trans _ _ _ c.ask_plain_each.ensures.room c.ask_each.ensures.room
 
 pub returns-clause-refusal : goal.returns-clause-refusal
 returns-clause-refusal g c = tt

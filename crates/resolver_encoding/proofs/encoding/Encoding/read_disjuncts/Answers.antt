@@ -4,7 +4,7 @@ use Rattle.resolver_encoding.specs.Called.{IsCalledBy, to_see}
 use Rattle.resolver_encoding.specs.Encodings.{AsksFor, IsDisjunctRead, IsUnmet}
 use Rattle.resolver_encoding.specs.Notes.{notes_in}
 use Rattle.resolver_clause_store.proofs.SetLemmas.{All-done, Contains-item}
-use Rattle.resolver_encoding.proofs.EncodingLemmas.{Extends-within, IsReadStep-same, IsReadStep-trans, KeepsLimits-same, KeepsLimits-trans}
+use Rattle.resolver_encoding.proofs.EncodingLemmas.{Extends-within, IsReadStep-same, IsReadStep-trans}
 use Rattle.resolver_encoding.proofs.NoteLemmas.{All-grown}
 use Rattle.resolver_clause_store.specs.declared.VersionSetId.{VersionSetId}
 use Rattle.resolver_encoding.proofs.RequirementLemmas.{IsDisjunctRead-grown, items_of, requirement_read}
@@ -12,6 +12,7 @@ use Rattle.resolver_clause_store.proofs.ListLemmas.{Contains-map}
 use Rattle.resolver_clause_store.specs.declared.Origin.{Origin}
 use Rattle.resolver_encoding.specs.Led.{IsOwn, with_requirements}
 use Rattle.resolver_encoding.proofs.LedLemmas.{Brings-same, Brings-trans}
+use Rattle.resolver_encoding.proofs.RoomLemmas.{KeepsRoom-same, KeepsRoom-trans}
 use Rattle.resolver_encoding.proofs.encoding.Encoding.read_disjuncts.Goals as goal
 
 pub loop-disjunct-init : goal.loop-disjunct-init
@@ -21,8 +22,7 @@ loop-disjunct-init g c =
     record {
       brings = λ root asks before. Brings-same u (IsCalledBy u set c.args.requirement) (IsOwn u c.args.by (with_requirements (c.args.requirement ∷ [])))
           (notes_in c.args.self.now);
-      bounded = c.requires.bounded;
-      limits = KeepsLimits-same _;
+      room = KeepsRoom-same _ c.requires.bounded;
       step = IsReadStep-same u (IsUnmet u set c.args.by) (IsCalledBy u set c.args.requirement) (AsksFor u c.args.by c.args.requirement)
           (notes_in c.args.self.now);
       read = All-nil (λ list. IsDisjunctRead (notes_in c.args.self.now) c.args.by c.args.requirement.requirement list.items);
@@ -61,8 +61,7 @@ loop-disjunct-preserved g c =
           let mid = notes_in c.loop-disjunct.self in
           Brings-trans u Called Own old mid (notes_in c.read_disjunct.new.self) (λ s h. here.step.called (to_see s) h) (here.brings root asks before)
           (c.read_disjunct.ensures.brings root (here.step.keeps root asks before));
-      bounded = c.read_disjunct.ensures.bounded;
-      limits = KeepsLimits-trans _ _ _ before.limits c.read_disjunct.ensures.limits;
+      room = KeepsRoom-trans _ _ _ before.room c.read_disjunct.ensures.room;
       step = IsReadStep-trans u (IsUnmet u set c.args.by) (IsCalledBy u set r) (AsksFor u c.args.by r) _ _ _ before.step step;
       read = All-grown (λ list. IsDisjunctRead (notes_in c.loop-disjunct.self) c.args.by r.requirement list.items) (λ list.
           IsDisjunctRead (notes_in c.read_disjunct.new.self) c.args.by r.requirement list.items) c.args.disjuncts.now c.loop-disjunct.disjunct-index

@@ -1,8 +1,8 @@
 use Rattle.std.proofs.Common.{All, take}
 use Rattle.resolver_clause_store.specs.Caches.{IsTrueCache}
 use Rattle.resolver_encoding.specs.Called.{IsCalledBy}
-use Rattle.resolver_encoding.specs.Encodings.{AsksFor, IsDisjunctRead, IsReadStep, IsUnmet, KeepsLimits}
-use Rattle.resolver_encoding.specs.Notes.{IsBounded, notes_in}
+use Rattle.resolver_encoding.specs.Encodings.{AsksFor, IsDisjunctRead, IsReadStep, IsUnmet}
+use Rattle.resolver_encoding.specs.Notes.{KeepsRoom, notes_in}
 use Rattle.std.proofs.Common.{◌∷◌, []}
 use Rattle.resolver_clause_store.specs.Universe.{Demands}
 use Rattle.resolver_encoding.specs.Led.{Brings, IsOwn, with_requirements}
@@ -11,8 +11,7 @@ use Rattle.resolver_encoding.proofs.encoding.Encoding.read_disjuncts.Given as go
 
 abbrev pub invariant-loop-disjunct : goal.invariant-loop-disjunct
 invariant-loop-disjunct g l = record {
-  bounded : IsBounded l.self;
-  limits : KeepsLimits (notes_in l.fn.self) (notes_in l.self);
+  room : KeepsRoom l.fn.self l.self;
   step : IsReadStep (g.D.Interner.universe l.provider) (IsUnmet (g.D.Interner.universe l.provider) l.chosen.keys l.by)
       (IsCalledBy (g.D.Interner.universe l.provider) l.chosen.keys l.requirement) (AsksFor (g.D.Interner.universe l.provider) l.by l.requirement)
       (notes_in l.fn.self) (notes_in l.self);

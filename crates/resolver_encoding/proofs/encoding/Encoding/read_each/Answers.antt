@@ -3,13 +3,14 @@ use Rattle.std.proofs.Common.{get_or}
 use Rattle.std.proofs.lemmas.List.Elements.{All-contains}
 use Rattle.resolver_clause_store.specs.declared.Origin.TheVariants.{Solvable}
 use Rattle.resolver_encoding.specs.Notes.{notes_in}
-use Rattle.resolver_encoding.proofs.EncodingLemmas.{Contains-kept, Extends-within, KeepsLimits-same, KeepsLimits-trans}
+use Rattle.resolver_encoding.proofs.EncodingLemmas.{Contains-kept, Extends-within}
 use Rattle.resolver_encoding.proofs.SoFarLemmas.{AreEach-done, AreEach-more, AreEach-none, IsMoreOrSame-trans, IsReadingOf-same}
 use Rattle.resolver_encoding.proofs.SoFarLemmas.{IsReadingOf-trans, IsReadingOf-weaker, no_more_read}
 use Rattle.resolver_encoding.proofs.ReadLemmas.{seen_fit}
 use Rattle.resolver_clause_store.specs.Near.{IsNear}
 use Rattle.resolver_encoding.proofs.LedReading.{KeepsLed-same, KeepsLed-trans, led_read}
 use Rattle.resolver_encoding.proofs.ReachLemmas.{near_read}
+use Rattle.resolver_encoding.proofs.RoomLemmas.{KeepsRoom-same, KeepsRoom-trans}
 use Rattle.resolver_encoding.proofs.encoding.Encoding.read_each.Goals as goal
 
 pub loop-place-init : goal.loop-place-init
@@ -18,8 +19,7 @@ loop-place-init g c =
     let set = c.args.chosen.now.keys in
     record {
       led = KeepsLed-same u set (notes_in c.args.self.now);
-      bounded = c.requires.bounded;
-      limits = KeepsLimits-same _;
+      room = KeepsRoom-same _ c.requires.bounded;
       half = c.requires.half;
       reading = IsReadingOf-same u set (Contains set) (notes_in c.args.self.now);
       read = AreEach-none (Contains (notes_in c.args.self.now).read) set c.args.from;
@@ -65,8 +65,7 @@ loop-place-preserved g c =
           (λ root seeds packages near all.
           near_read u root seeds packages set (Contains set) one two here.reading near all (λ t h. All-contains (IsNear u root seeds) set t all h))
           here.led (led_read u set s two three (λ root seeds packages near all. All-contains (IsNear u root seeds) set s all inside) c.read_new.ensures.brings);
-      bounded = c.read_new.ensures.bounded;
-      limits = KeepsLimits-trans _ _ _ before.limits c.read_new.ensures.limits;
+      room = KeepsRoom-trans _ _ _ before.room c.read_new.ensures.room;
       half = record { root = before.half.root; half = reading.keeps before.half.root before.half.half };
       reading = IsReadingOf-trans u set (Contains set) _ _ _ before.reading
           (IsReadingOf-weaker u set (λ t. s ≡ t) (Contains set) (λ t same. subst Among same inside) _ _ reading);

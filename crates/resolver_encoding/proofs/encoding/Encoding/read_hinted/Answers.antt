@@ -3,9 +3,9 @@ use Rattle.resolver_encoding.specs.Encodings.{Notes}
 use Rattle.resolver_encoding.specs.Hints.{AreHintsReadTo}
 use Rattle.resolver_encoding.specs.Notes.{notes_in}
 use Rattle.resolver_encoding.specs.SoFar.{HasRead}
-use Rattle.resolver_encoding.proofs.EncodingLemmas.{KeepsLimits-same, KeepsLimits-trans}
 use Rattle.resolver_encoding.proofs.HintLemmas.{HasRead-then, hinted_later, hinted_none, hinted_trans, hints_grown, hints_joined, hints_none, longer}
 use Rattle.resolver_encoding.proofs.LedReading.{KeepsLed-same, KeepsLed-trans}
+use Rattle.resolver_encoding.proofs.RoomLemmas.{KeepsRoom-same, KeepsRoom-trans}
 use Rattle.resolver_encoding.proofs.encoding.Encoding.read_hinted.Goals as goal
 
 pub waves-init : goal.waves-init
@@ -14,8 +14,7 @@ waves-init g c =
     let notes = notes_in c.args.self.now in
     record {
       led = KeepsLed-same u c.args.chosen.now.keys notes;
-      bounded = c.requires.bounded;
-      limits = KeepsLimits-same _;
+      room = KeepsRoom-same _ c.requires.bounded;
       half = c.requires.half;
       reading = hinted_none u c.args.chosen.now.keys c.args.from notes;
       forward = omega arith;
@@ -42,8 +41,7 @@ waves-preserved g c =
     record {
       led = KeepsLed-trans (g.D.Interner.universe c.args.provider.now) c.args.chosen.now.keys (notes_in c.args.self.now) (notes_in c.waves.self)
           (notes_in c.read_hinted_each.new.self) c.waves.invariant.reading.near c.waves.invariant.led c.read_hinted_each.ensures.led;
-      bounded = found.bounded;
-      limits = KeepsLimits-trans _ _ _ before.limits c.read_hinted_each.ensures.limits;
+      room = KeepsRoom-trans _ _ _ before.room c.read_hinted_each.ensures.room;
       half = record { root = before.half.root; half = reading.keeps before.half.root before.half.half };
       reading = hinted_trans u set c.requires.half.root c.args.from one two three c.requires.half.half before.reading
           (hinted_later u set c.args.from c.waves.place before.forward two three found.reading);
@@ -64,7 +62,7 @@ waves-smaller g c =
     let found = c.in_ok-read_hinted_each.ensures in
     let Was : Bool → Type 0 = λ b. HasRead two three b in
     let now : length two.read < length three.read = subst Was c.if-not-branch.false found.any_new in
-    omega (arith, now, found.fit, c.read_hinted_each.ensures.limits.variables)
+    omega (arith, now, found.fit, c.read_hinted_each.ensures.room.variables)
 
 pub returns-then-not-branch-clause-here : goal.returns-then-not-branch-clause-here
 returns-then-not-branch-clause-here g c =

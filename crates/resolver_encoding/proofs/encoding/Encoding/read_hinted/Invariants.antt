@@ -1,16 +1,14 @@
 use Rattle.std.proofs.Common.{length, ◌-◌, ◌≤◌}
 use Rattle.resolver_clause_store.specs.Caches.{IsTrueCache}
-use Rattle.resolver_encoding.specs.Encodings.{KeepsLimits}
 use Rattle.resolver_encoding.specs.Hints.{AreHintsReadTo}
-use Rattle.resolver_encoding.specs.Notes.{IsBounded, notes_in}
+use Rattle.resolver_encoding.specs.Notes.{KeepsRoom, notes_in}
 use Rattle.resolver_encoding.specs.SoFar.{HasRead, IsHalfReading, IsHintedReading}
 use Rattle.resolver_encoding.specs.Led.{KeepsLed}
 use Rattle.resolver_encoding.proofs.encoding.Encoding.read_hinted.Given as goal
 
 abbrev pub invariant-waves : goal.invariant-waves
 invariant-waves g l = record {
-  bounded : IsBounded l.self;
-  limits : KeepsLimits (notes_in l.fn.self) (notes_in l.self);
+  room : KeepsRoom l.fn.self l.self;
   half : IsHalfReading (g.D.Interner.universe l.provider) (notes_in l.self);
   reading : IsHintedReading (g.D.Interner.universe l.provider) l.chosen.keys l.from (notes_in l.fn.self) (notes_in l.self);
   forward : l.from ≤ l.place;

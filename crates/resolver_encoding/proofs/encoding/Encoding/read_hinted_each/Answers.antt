@@ -1,10 +1,10 @@
 use Rattle.std.proofs.Common.{◌+◌, ◌≤◌, arith, inl, length, refl}
 use Rattle.resolver_encoding.specs.Notes.{notes_in}
-use Rattle.resolver_encoding.proofs.EncodingLemmas.{KeepsLimits-same, KeepsLimits-trans}
 use Rattle.resolver_encoding.proofs.HintLemmas.{hinted_later, hinted_none, hinted_trans, hints_at, hints_grown, hints_joined, hints_none, hints_until, longer}
 use Rattle.resolver_encoding.proofs.ReadLemmas.{seen_fit}
 use Rattle.resolver_encoding.proofs.SoFarLemmas.{IsMoreOrSame-trans, no_more_read}
 use Rattle.resolver_encoding.proofs.LedReading.{KeepsLed-same, KeepsLed-trans}
+use Rattle.resolver_encoding.proofs.RoomLemmas.{KeepsRoom-same, KeepsRoom-trans}
 use Rattle.resolver_encoding.proofs.encoding.Encoding.read_hinted_each.Goals as goal
 
 pub loop-place-init : goal.loop-place-init
@@ -12,8 +12,7 @@ loop-place-init g c =
     let u = g.D.Interner.universe c.args.provider.now in
     record {
       led = KeepsLed-same u c.args.chosen.now.keys (notes_in c.args.self.now);
-      bounded = c.requires.bounded;
-      limits = KeepsLimits-same _;
+      room = KeepsRoom-same _ c.requires.bounded;
       half = c.requires.half;
       reading = hinted_none u c.args.chosen.now.keys c.args.from (notes_in c.args.self.now);
       read = hints_none u c.args.from (notes_in c.args.self.now);
@@ -43,8 +42,7 @@ loop-place-preserved g c =
     record {
       led = KeepsLed-trans (g.D.Interner.universe c.args.provider.now) c.args.chosen.now.keys (notes_in c.args.self.now) (notes_in c.loop-place.self)
           (notes_in c.read_hinted_at.new.self) c.loop-place.invariant.reading.near c.loop-place.invariant.led c.read_hinted_at.ensures.led;
-      bounded = c.read_hinted_at.ensures.bounded;
-      limits = KeepsLimits-trans _ _ _ before.limits c.read_hinted_at.ensures.limits;
+      room = KeepsRoom-trans _ _ _ before.room c.read_hinted_at.ensures.room;
       half = record { root = half.root; half = reading.keeps half.root half.half };
       reading = hinted_trans u set c.requires.half.root c.args.from one two three c.requires.half.half before.reading
           (hinted_later u set c.args.from c.loop-place.place (omega arith) two three here);
@@ -67,7 +65,7 @@ returns-then-before-len-clause-fit g c =
     let fit : length notes.read ≤ length notes.origins =
     seen_fit g.S.PartialEq.eq g.met.D.Interner.solvables_are_values g.met.S.Eq.laws c.loop-place.self.read.keys notes.origins c.len.ensures.unique
     c.loop-place.invariant.half.half.read_known in
-    omega (arith, fit, c.loop-place.invariant.bounded.bounded)
+    omega (arith, fit, c.loop-place.invariant.room.bounded.bounded)
 
 pub returns-clause-here : goal.returns-clause-here
 returns-clause-here g c = hints_until (g.D.Interner.universe c.args.provider.now) c.args.from c.args.until c.loop-place.place (notes_in c.loop-place.self)
@@ -79,7 +77,7 @@ returns-clause-fit g c =
     let fit : length notes.read ≤ length notes.origins =
     seen_fit g.S.PartialEq.eq g.met.D.Interner.solvables_are_values g.met.S.Eq.laws c.loop-place.self.read.keys notes.origins c.len.ensures.unique
     c.loop-place.invariant.half.half.read_known in
-    omega (arith, fit, c.loop-place.invariant.bounded.bounded)
+    omega (arith, fit, c.loop-place.invariant.room.bounded.bounded)
 
 pub returns-clause-any_new : goal.returns-clause-any_new
 returns-clause-any_new g c = no_more_read _ _ c.loop-place.invariant.more (omega (arith, c.len.ensures.len, c.len-before.ensures.len))

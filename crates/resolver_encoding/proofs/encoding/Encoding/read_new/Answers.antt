@@ -1,6 +1,6 @@
 use Rattle.std.proofs.Common.{subst, sym, List, Contains}
 use Rattle.std.proofs.lemmas.List.Elements.{Contains-push}
-use Rattle.resolver_encoding.proofs.EncodingLemmas.{KeepsLimits-same}
+use Rattle.resolver_encoding.proofs.RoomLemmas.{KeepsRoom-same}
 use Rattle.std.proofs.Common.{◌≡◌, inl, inr, refl}
 use Rattle.resolver_encoding.specs.Notes.{notes_in}
 use Rattle.resolver_encoding.proofs.SoFarLemmas.{HasRead-read, IsReadingOf-read, IsReadingOf-same}
@@ -69,23 +69,17 @@ returns-clause-brings g c =
     let Own : Origin g.row.N.Denot g.row.S.Denot → Type 0 = IsOwn u (Solvable s) needed in
     Brings-same_as u Called Own old (notes_in c.read_solvable.new.self) _ c.read_solvable.ensures.brings refl refl
 
-pub returns-then-is_among-clause-bounded : goal.returns-then-is_among-clause-bounded
-returns-then-is_among-clause-bounded g c = c.requires.bounded
-
 pub returns-then-is_among-clause-is_true : goal.returns-then-is_among-clause-is_true
 returns-then-is_among-clause-is_true g c = c.requires.is_true
 
 pub returns-then-is_among-clause-here : goal.returns-then-is_among-clause-here
 returns-then-is_among-clause-here g c = c.if-is_among.ensures
 
-pub returns-then-is_among-clause-limits : goal.returns-then-is_among-clause-limits
-returns-then-is_among-clause-limits g c = KeepsLimits-same (notes_in c.args.self.now)
+pub returns-then-is_among-clause-room : goal.returns-then-is_among-clause-room
+returns-then-is_among-clause-room g c = KeepsRoom-same _ c.requires.bounded
 
 pub returns-then-is_among-clause-refusal : goal.returns-then-is_among-clause-refusal
 returns-then-is_among-clause-refusal g c = tt
-
-pub returns-clause-bounded : goal.returns-clause-bounded
-returns-clause-bounded g c = c.read_solvable.ensures.bounded
 
 pub returns-clause-here : goal.returns-clause-here
 returns-clause-here g c =
@@ -95,15 +89,15 @@ returns-clause-here g c =
 pub returns-clause-is_true : goal.returns-clause-is_true
 returns-clause-is_true g c = c.read_solvable.ensures.is_true
 
-pub returns-clause-limits : goal.returns-clause-limits
-returns-clause-limits g c =
-    let it = c.read_solvable.ensures.limits in
-    record { variables = it.variables; clauses = it.clauses }
+pub returns-clause-room : goal.returns-clause-room
+returns-clause-room g c =
+    let it = c.read_solvable.ensures.room in
+    record { bounded = it.bounded; variables = it.variables; clauses = it.clauses }
 
-pub returns-in_err-append-clause-limits : goal.returns-in_err-append-clause-limits
-returns-in_err-append-clause-limits g c =
-    let it = c.read_solvable.ensures.limits in
-    record { variables = it.variables; clauses = it.clauses }
+pub returns-in_err-append-clause-room : goal.returns-in_err-append-clause-room
+returns-in_err-append-clause-room g c =
+    let it = c.read_solvable.ensures.room in
+    record { bounded = it.bounded; variables = it.variables; clauses = it.clauses }
 
 pub returns-clause-refusal : goal.returns-clause-refusal
 returns-clause-refusal g c = tt

@@ -7,7 +7,7 @@ use Rattle.resolver_encoding.specs.Notes.{notes_in}
 use Rattle.resolver_encoding.specs.ReadState.{IsReadRequirement}
 use Rattle.resolver_clause_store.proofs.SetLemmas.{All-done}
 use Rattle.resolver_encoding.proofs.EncodingLemmas.{Extends-within, IsEncodingOf-read, IsEncodingOf-weaker, IsReadStep-same, IsReadStep-trans}
-use Rattle.resolver_encoding.proofs.EncodingLemmas.{IsReadStep-weaker, KeepsLimits-same, KeepsLimits-trans}
+use Rattle.resolver_encoding.proofs.EncodingLemmas.{IsReadStep-weaker}
 use Rattle.resolver_encoding.proofs.NoteLemmas.{All-grown_at}
 use Rattle.resolver_encoding.proofs.ReadLemmas.{IsReadRequirement-within}
 use Rattle.resolver_encoding.proofs.RequirementLemmas.{called_here}
@@ -15,6 +15,7 @@ use Rattle.std.proofs.lemmas.List.Elements.{Contains-get_or}
 use Rattle.resolver_clause_store.specs.declared.Origin.{Origin}
 use Rattle.resolver_encoding.specs.Led.{IsOwn, with_requirements}
 use Rattle.resolver_encoding.proofs.LedLemmas.{Brings-same, Brings-trans, Brings-weaker, IsOwn-within, none_within, one_within}
+use Rattle.resolver_encoding.proofs.RoomLemmas.{KeepsRoom-same, KeepsRoom-trans}
 use Rattle.resolver_encoding.proofs.encoding.Encoding.read_requirements.Goals as goal
 
 pub loop-requirement-init : goal.loop-requirement-init
@@ -24,8 +25,7 @@ loop-requirement-init g c =
     let old = notes_in c.args.self.now in
     record {
       brings = Brings-same u (IsCalledByEach u set c.args.requirements.now) (IsOwn u c.args.by (with_requirements c.args.requirements.now)) old;
-      bounded = c.requires.bounded;
-      limits = KeepsLimits-same _;
+      room = KeepsRoom-same _ c.requires.bounded;
       step = IsReadStep-same u (IsUnmet u set c.args.by) (IsCalledByEach u set c.args.requirements.now) (λ root.
           All (λ r. AsksFor u c.args.by r root) c.args.requirements.now) old;
       read = All-nil (IsReadRequirement u old.kinds (IsLeft old) c.args.by);
@@ -66,8 +66,7 @@ loop-requirement-preserved g c =
           (Brings-weaker u (IsCalledBy u set _) Called (λ n called. called_here u set xs i _ n below called) (IsOwn u by (with_requirements (_ ∷ []))) Own
           (IsOwn-within u by (with_requirements (_ ∷ [])) (with_requirements xs) (one_within _ xs (Contains-get_or xs i _ below))
           (none_within [])) mid new c.read_requirement.ensures.brings);
-      bounded = c.read_requirement.ensures.bounded;
-      limits = KeepsLimits-trans _ _ _ before.limits c.read_requirement.ensures.limits;
+      room = KeepsRoom-trans _ _ _ before.room c.read_requirement.ensures.room;
       step = IsReadStep-trans u (IsUnmet u set by) (IsCalledByEach u set xs) Premise _ _ _ before.step
           (IsReadStep-weaker u (IsUnmet u set by) (IsCalledBy u set _) (IsCalledByEach u set xs) (λ n called. called_here u set xs i _ n below called)
           (AsksFor u by _) Premise (λ root all. All-get_or (λ v. AsksFor u by v root) xs i _ below all) _ _ step);

@@ -1,16 +1,15 @@
 use Rattle.std.proofs.Common.{All, take}
 use Rattle.resolver_clause_store.specs.Caches.{IsTrueCache}
 use Rattle.resolver_encoding.specs.Called.{IsCalledByEach}
-use Rattle.resolver_encoding.specs.Encodings.{AsksFor, IsLeft, IsReadStep, IsUnmet, KeepsLimits}
-use Rattle.resolver_encoding.specs.Notes.{IsBounded, notes_in}
+use Rattle.resolver_encoding.specs.Encodings.{AsksFor, IsLeft, IsReadStep, IsUnmet}
+use Rattle.resolver_encoding.specs.Notes.{KeepsRoom, notes_in}
 use Rattle.resolver_encoding.specs.ReadState.{IsReadRequirement}
 use Rattle.resolver_encoding.specs.Led.{Brings, IsOwn, with_requirements}
 use Rattle.resolver_encoding.proofs.encoding.Encoding.read_requirements.Given as goal
 
 abbrev pub invariant-loop-requirement : goal.invariant-loop-requirement
 invariant-loop-requirement g l = record {
-  bounded : IsBounded l.self;
-  limits : KeepsLimits (notes_in l.fn.self) (notes_in l.self);
+  room : KeepsRoom l.fn.self l.self;
   step : IsReadStep (g.D.Interner.universe l.provider) (IsUnmet (g.D.Interner.universe l.provider) l.chosen.keys l.by)
       (IsCalledByEach (g.D.Interner.universe l.provider) l.chosen.keys l.requirements) (λ root.
       All (λ r. AsksFor (g.D.Interner.universe l.provider) l.by r root) l.requirements) (notes_in l.fn.self) (notes_in l.self);

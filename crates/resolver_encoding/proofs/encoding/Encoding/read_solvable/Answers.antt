@@ -157,14 +157,11 @@ returns-in_ok-read_demands-in-Known-clause-brings g c =
     let Brought : Demands → Type 0 = λ d. Brings u (IsDemanded u set d) (IsOwn u (Solvable s) d) old new in
     subst Brought (sym same) c.read_demands.ensures.brings
 
-pub returns-in_ok-forbid_unknown-in-Unknown-clause-bounded : goal.returns-in_ok-forbid_unknown-in-Unknown-clause-bounded
-returns-in_ok-forbid_unknown-in-Unknown-clause-bounded g c = c.forbid_unknown.ensures.bounded
-
 pub returns-in_ok-forbid_unknown-in-Unknown-clause-is_true : goal.returns-in_ok-forbid_unknown-in-Unknown-clause-is_true
 returns-in_ok-forbid_unknown-in-Unknown-clause-is_true g c = c.fetch_dependencies.ensures.is_true
 
-pub returns-in_ok-forbid_unknown-in-Unknown-clause-limits : goal.returns-in_ok-forbid_unknown-in-Unknown-clause-limits
-returns-in_ok-forbid_unknown-in-Unknown-clause-limits g c = c.forbid_unknown.ensures.limits
+pub returns-in_ok-forbid_unknown-in-Unknown-clause-room : goal.returns-in_ok-forbid_unknown-in-Unknown-clause-room
+returns-in_ok-forbid_unknown-in-Unknown-clause-room g c = c.forbid_unknown.ensures.room
 
 pub returns-in_ok-forbid_unknown-in-Unknown-clause-refusal : goal.returns-in_ok-forbid_unknown-in-Unknown-clause-refusal
 returns-in_ok-forbid_unknown-in-Unknown-clause-refusal g c = tt
@@ -176,14 +173,11 @@ returns-in_ok-forbid_unknown-in-Unknown-clause-read g c =
     let Read : Needs → Type 0 = λ needs. AreNeedsRead u (notes_in c.forbid_unknown.new.self) c.args.solvable needs in
     subst Read answer c.in_ok-forbid_unknown-in-Unknown.ensures.forbidden
 
-pub returns-in_ok-read_demands-in-Known-clause-bounded : goal.returns-in_ok-read_demands-in-Known-clause-bounded
-returns-in_ok-read_demands-in-Known-clause-bounded g c = c.read_demands.ensures.bounded
-
 pub returns-in_ok-read_demands-in-Known-clause-is_true : goal.returns-in_ok-read_demands-in-Known-clause-is_true
 returns-in_ok-read_demands-in-Known-clause-is_true g c = c.read_demands.ensures.is_true
 
-pub returns-in_ok-read_demands-in-Known-clause-limits : goal.returns-in_ok-read_demands-in-Known-clause-limits
-returns-in_ok-read_demands-in-Known-clause-limits g c = c.read_demands.ensures.limits
+pub returns-in_ok-read_demands-in-Known-clause-room : goal.returns-in_ok-read_demands-in-Known-clause-room
+returns-in_ok-read_demands-in-Known-clause-room g c = c.read_demands.ensures.room
 
 pub returns-in_ok-read_demands-in-Known-clause-refusal : goal.returns-in_ok-read_demands-in-Known-clause-refusal
 returns-in_ok-read_demands-in-Known-clause-refusal g c = tt

@@ -5,17 +5,17 @@ use Rattle.resolver_clause_store.specs.declared.ClauseKind.TheVariants.{Excluded
 use Rattle.resolver_encoding.specs.Encodings.{owing_for}
 use Rattle.resolver_encoding.specs.Notes.{notes_in}
 use Rattle.resolver_clause_store.proofs.SetLemmas.{All-done, Contains-item}
-use Rattle.resolver_encoding.proofs.EncodingLemmas.{IsStep-same, IsStep-trans, KeepsLimits-same, KeepsLimits-trans}
+use Rattle.resolver_encoding.proofs.EncodingLemmas.{IsStep-same, IsStep-trans}
 use Rattle.resolver_encoding.proofs.NoteLemmas.{All-grown}
 use Rattle.resolver_encoding.proofs.TurnLemmas.{AddsPlainly-same, AddsPlainly-trans}
 use Rattle.resolver_encoding.proofs.LedLemmas.{AddsOnly-equal, AddsOnly-trans}
+use Rattle.resolver_encoding.proofs.RoomLemmas.{KeepsRoom-same, KeepsRoom-trans}
 use Rattle.resolver_encoding.proofs.encoding.Encoding.restore_exclusions.Goals as goal
 
 pub loop-other-init : goal.loop-other-init
 loop-other-init g c = record {
   adds = AddsOnly-equal _ _ _ refl refl;
-  bounded = c.requires.bounded;
-  limits = KeepsLimits-same _;
+  room = KeepsRoom-same _ c.requires.bounded;
   step = IsStep-same (g.D.Interner.universe c.args.provider.now) (owing_for c.args.solvable) (λ root. ⊤) (notes_in c.args.self.now);
   plain = AddsPlainly-same (g.D.Interner.universe c.args.provider.now) (notes_in c.args.self.now);
   restored = All-nil (λ e. e.0 ≡ c.args.solvable → (Contains (notes_in c.args.self.now).exempt c.args.solvable → ⊥) →
@@ -51,8 +51,7 @@ loop-other-preserved g c =
     Contains (notes_in c.restore_exclusion.new.self).kinds (Excluded c.loop-other-item.result.0 c.loop-other-item.result.1) in
     record {
       adds = AddsOnly-trans _ _ _ _ before.adds c.restore_exclusion.ensures.adds;
-      bounded = c.restore_exclusion.ensures.bounded;
-      limits = KeepsLimits-trans _ _ _ before.limits c.restore_exclusion.ensures.limits;
+      room = KeepsRoom-trans _ _ _ before.room c.restore_exclusion.ensures.room;
       step = IsStep-trans u (owing_for s) (λ root. ⊤) _ _ _ before.step step;
       plain = AddsPlainly-trans u _ _ _ before.plain c.in_ok-restore_exclusion.ensures.plain;
       restored = All-grown (λ e. e.0 ≡ s → (Contains (notes_in c.args.self.now).exempt s → ⊥) →
@@ -69,7 +68,7 @@ returns-clause-restored g c = All-done (λ e.
     Contains (notes_in c.loop-other.self).kinds (Excluded e.0 e.1)) c.args.excluded.now c.loop-other.other-index (omega arith) c.loop-other.invariant.restored
 
 pub restore_exclusion-requires-clause-bounded : goal.restore_exclusion-requires-clause-bounded
-restore_exclusion-requires-clause-bounded g c = c.loop-other.invariant.bounded
+restore_exclusion-requires-clause-bounded g c = c.loop-other.invariant.room.bounded
 
 pub returns-in_err-restore_exclusion-clause-adds : goal.returns-in_err-restore_exclusion-clause-adds
 returns-in_err-restore_exclusion-clause-adds g c = AddsOnly-trans _ _ _ _ c.loop-other.invariant.adds c.restore_exclusion.ensures.adds

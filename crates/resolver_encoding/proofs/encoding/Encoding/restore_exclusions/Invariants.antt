@@ -1,8 +1,8 @@
 use Rattle.std.proofs.Common.{◌≡◌, All, Contains, take}
 use Rattle.std.specs.Prelude.{⊤}
 use Rattle.resolver_clause_store.specs.declared.ClauseKind.TheVariants.{Excluded}
-use Rattle.resolver_encoding.specs.Encodings.{IsStepWhile, KeepsLimits, owing_for}
-use Rattle.resolver_encoding.specs.Notes.{IsBounded, notes_in}
+use Rattle.resolver_encoding.specs.Encodings.{IsStepWhile, owing_for}
+use Rattle.resolver_encoding.specs.Notes.{KeepsRoom, notes_in}
 use Rattle.resolver_encoding.specs.Turns.{AddsPlainly}
 use Rattle.resolver_encoding.specs.Called.{IsAsking}
 use Rattle.resolver_encoding.specs.Led.{AddsOnly, IsBarred}
@@ -10,8 +10,7 @@ use Rattle.resolver_encoding.proofs.encoding.Encoding.restore_exclusions.Given a
 
 abbrev pub invariant-loop-other : goal.invariant-loop-other
 invariant-loop-other g l = record {
-  bounded : IsBounded l.self;
-  limits : KeepsLimits (notes_in l.fn.self) (notes_in l.self);
+  room : KeepsRoom l.fn.self l.self;
   step : IsStepWhile (g.D.Interner.universe l.provider) (owing_for l.solvable) (λ root. ⊤) (notes_in l.fn.self) (notes_in l.self);
   plain : AddsPlainly (notes_in l.fn.self) (notes_in l.self);
   restored : All (λ e. e.0 ≡ l.solvable → (Contains (notes_in l.fn.self).exempt l.solvable → ⊥) → Contains (notes_in l.self).kinds (Excluded e.0 e.1))

@@ -4,17 +4,17 @@ use Rattle.std.proofs.lemmas.List.Elements.{All-nil}
 use Rattle.resolver_encoding.specs.Called.{IsSeeing, IsSeeingEach, to_see}
 use Rattle.resolver_encoding.specs.Notes.{notes_in}
 use Rattle.resolver_clause_store.proofs.SetLemmas.{All-done}
-use Rattle.resolver_encoding.proofs.EncodingLemmas.{Extends-within, IsAskStep-same, IsAskStep-trans, IsAskStep-weaker, KeepsLimits-same, KeepsLimits-trans}
+use Rattle.resolver_encoding.proofs.EncodingLemmas.{Extends-within, IsAskStep-same, IsAskStep-trans, IsAskStep-weaker}
 use Rattle.resolver_encoding.proofs.NoteLemmas.{All-grown, seen_here}
 use Rattle.resolver_encoding.proofs.LedLemmas.{Brings-same, Brings-trans, Brings-weaker}
 use Rattle.resolver_encoding.specs.Led.{NoneOwn}
+use Rattle.resolver_encoding.proofs.RoomLemmas.{KeepsRoom-same, KeepsRoom-trans}
 use Rattle.resolver_encoding.proofs.encoding.Encoding.see_all.Goals as goal
 
 pub loop-candidate-init : goal.loop-candidate-init
 loop-candidate-init g c = record {
   brings = λ root before. Brings-same (g.D.Interner.universe c.args.provider.now) (IsSeeingEach c.args.candidates.now) NoneOwn (notes_in c.args.self.now);
-  bounded = c.requires.bounded;
-  limits = KeepsLimits-same _;
+  room = KeepsRoom-same _ c.requires.bounded;
   step = IsAskStep-same (g.D.Interner.universe c.args.provider.now) (IsSeeingEach c.args.candidates.now) (λ root. ⊤) (notes_in c.args.self.now);
   seen = All-nil (Contains (notes_in c.args.self.now).seen);
 }
@@ -29,8 +29,7 @@ loop-candidate-preserved g c =
           (Brings-weaker (g.D.Interner.universe c.args.provider.now) (IsSeeing c.candidate-item.result) (IsSeeingEach c.args.candidates.now)
           (seen_here c.args.candidates.now c.loop-candidate.candidate-index c.candidate-item.result (omega arith) c.candidate-item.is) NoneOwn NoneOwn (λ o h.
           h) _ _ (c.see.ensures.brings root (c.loop-candidate.invariant.step.keeps root tt before)));
-      bounded = c.see.ensures.bounded;
-      limits = KeepsLimits-trans _ _ _ before.limits c.see.ensures.limits;
+      room = KeepsRoom-trans _ _ _ before.room c.see.ensures.room;
       step = IsAskStep-trans u (IsSeeingEach c.args.candidates.now) (λ root. ⊤) _ _ _ before.step
           (IsAskStep-weaker u (IsSeeing c.candidate-item.result) (IsSeeingEach c.args.candidates.now)
           (seen_here c.args.candidates.now c.loop-candidate.candidate-index c.candidate-item.result (omega arith) c.candidate-item.is) (λ root. ⊤) (λ root.

@@ -54,11 +54,11 @@ returns-in-Nothing-clause-round g c =
     IsFinished (notes_of mid).table requirements (trail_of mid.search) = rw c.in-Finished.is at outcome in
     let progress : IsProgress (notes_of mid) (notes_of new) c.in_ok-read-in-Finished.field-0 = c.in_ok-read-in-Finished.ensures.progress in
     let same : notes_of new ≡ notes_of mid = rw c.in-Nothing.is at progress in (
-      answering u mid new mid.encoding.requirements.items
+      answering u mid new mid.encoding.table.requirements.items
           (lawful_solvables u g.S.PartialEq.eq (g.met.D.Interner.lawful_ids c.args.provider.now)
           (g.met.D.Interner.solvables_compare c.args.provider.now) g.met.D.Interner.solvables_are_values)
           (g.met.D.DependencyProvider.lawful_packages c.args.provider.now)
-          up c.in_ok-core.ensures.rounds followed same followed.marked refl (finished mid.encoding.requirements.items refl),
+          up c.in_ok-core.ensures.rounds followed same followed.marked refl (finished mid.encoding.table.requirements.items refl),
       still_all mid new (ap (λ (n : Notes g.row.N.Denot g.row.S.Denot). length n.kinds) same) followed.clauses followed.learnt
           (all_clauses u mid c.in_ok-core.ensures.rounds up),
     )

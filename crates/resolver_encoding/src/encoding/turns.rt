@@ -20,7 +20,7 @@ use resolver_clause_store::{
 use std::hash::Hash;
 
 impl<N: Copy + Eq + Hash + Drop, S: Copy + Eq + Hash + Drop> Encoding<N, S> {
-    ghost use Rattle.resolver_encoding.specs.Notes.{IsBounded, notes_in};
+    ghost use Rattle.resolver_encoding.specs.Notes.{IsBounded, KeepsRoom, notes_in};
 
     /// The solvables that are exempt from locks and exclusions, in the order in which they became so.
     pub fn exempt(&self) -> &[S]
@@ -46,7 +46,7 @@ impl<N: Copy + Eq + Hash + Drop, S: Copy + Eq + Hash + Drop> Encoding<N, S> {
         ensures limits { KeepsLimits (notes_in self.old) (notes_in self.new) }
         ensures refusal { IfErr result (IsShortage (IsFull (notes_in self.new))) }
     {
-        let variable = self.variables.intern(Origin::Solvable(solvable))?;
+        let variable = self.table.variables.intern(Origin::Solvable(solvable))?;
         self.see(provider, solvable)?;
         Ok(variable)
     }
@@ -93,13 +93,12 @@ impl<N: Copy + Eq + Hash + Drop, S: Copy + Eq + Hash + Drop> Encoding<N, S> {
         requires asked { Contains (notes_in self.old).asked name }
         requires listed { listed.now ≡ ((D.universe provider.now).package_named name).listed }
         requires locked { locked ≡ ((D.universe provider.now).package_named name).locked }
-        ensures bounded { IsBounded self.new }
+        ensures room { KeepsRoom self.old self.new }
         ensures step { OnOk result (IsStepWhile (D.universe provider.now) (owing_for solvable) (λ root. ⊤) (notes_in self.old) (notes_in self.new)) }
         ensures plain { OnOk result (AddsPlainly (notes_in self.old) (notes_in self.new)) }
         ensures restored { OnOk result ((t : S) → locked ≡ Some t → Contains listed.now solvable → solvable ≢ t →
             (Contains (notes_in self.old).exempt solvable → ⊥) → Contains (notes_in self.new).kinds (LockKind t solvable)) }
         ensures adds { AddsOnly (IsBarred (D.universe provider.now) (IsAsking name)) (notes_in self.old) (notes_in self.new) }
-        ensures limits { KeepsLimits (notes_in self.old) (notes_in self.new) }
         ensures refusal { IfErr result (IsShortage (IsFull (notes_in self.new))) }
     {
         let Some(locked) = locked else {
@@ -125,13 +124,12 @@ impl<N: Copy + Eq + Hash + Drop, S: Copy + Eq + Hash + Drop> Encoding<N, S> {
         requires named { (D.universe provider.now).name excluded ≡ name }
         requires asked { Contains (notes_in self.old).asked name }
         requires excluded { Contains ((D.universe provider.now).package_named name).excluded (excluded, reason) }
-        ensures bounded { IsBounded self.new }
+        ensures room { KeepsRoom self.old self.new }
         ensures step { OnOk result (IsStepWhile (D.universe provider.now) (owing_for solvable) (λ root. ⊤) (notes_in self.old) (notes_in self.new)) }
         ensures plain { OnOk result (AddsPlainly (notes_in self.old) (notes_in self.new)) }
         ensures restored { OnOk result (excluded ≡ solvable → (Contains (notes_in self.old).exempt solvable → ⊥) →
             Contains (notes_in self.new).kinds (ExcludedKind excluded reason)) }
         ensures adds { AddsOnly (IsBarred (D.universe provider.now) (IsAsking name)) (notes_in self.old) (notes_in self.new) }
-        ensures limits { KeepsLimits (notes_in self.old) (notes_in self.new) }
         ensures refusal { IfErr result (IsShortage (IsFull (notes_in self.new))) }
     {
         if excluded != solvable {
@@ -152,13 +150,12 @@ impl<N: Copy + Eq + Hash + Drop, S: Copy + Eq + Hash + Drop> Encoding<N, S> {
         requires bounded { IsBounded self.old }
         requires asked { Contains (notes_in self.old).asked name }
         requires excluded { excluded.now ≡ ((D.universe provider.now).package_named name).excluded }
-        ensures bounded { IsBounded self.new }
+        ensures room { KeepsRoom self.old self.new }
         ensures step { OnOk result (IsStepWhile (D.universe provider.now) (owing_for solvable) (λ root. ⊤) (notes_in self.old) (notes_in self.new)) }
         ensures plain { OnOk result (AddsPlainly (notes_in self.old) (notes_in self.new)) }
         ensures restored { OnOk result (All (λ e.
             e.0 ≡ solvable → (Contains (notes_in self.old).exempt solvable → ⊥) → Contains (notes_in self.new).kinds (ExcludedKind e.0 e.1)) excluded.now) }
         ensures adds { AddsOnly (IsBarred (D.universe provider.now) (IsAsking name)) (notes_in self.old) (notes_in self.new) }
-        ensures limits { KeepsLimits (notes_in self.old) (notes_in self.new) }
         ensures refusal { IfErr result (IsShortage (IsFull (notes_in self.new))) }
     {
         for (other, reason) in excluded {
@@ -176,13 +173,12 @@ impl<N: Copy + Eq + Hash + Drop, S: Copy + Eq + Hash + Drop> Encoding<N, S> {
     ) -> Result<(), Interrupted<D::Cancel>>
         requires bounded { IsBounded self.old }
         requires is_true { IsTrueCache (D.universe provider.now) cache.old }
-        ensures bounded { IsBounded self.new }
+        ensures room { KeepsRoom self.old self.new }
         ensures is_true { IsTrueCache (D.universe provider.now) cache.new }
         ensures step { OnOk result (IsStepWhile (D.universe provider.now) (owing_for solvable) (λ root. ⊤) (notes_in self.old) (notes_in self.new)) }
         ensures plain { OnOk result (AddsPlainly (notes_in self.old) (notes_in self.new)) }
         ensures restored { OnOk result (IsRestored (D.universe provider.now) solvable (notes_in self.new)) }
         ensures adds { AddsOnly (IsBarred (D.universe provider.now) (IsFollowed (notes_in self.old))) (notes_in self.old) (notes_in self.new) }
-        ensures limits { KeepsLimits (notes_in self.old) (notes_in self.new) }
         ensures refusal { IfErr result (IsStop (D.may_cancel provider.now) (IsFull (notes_in self.new))) }
     {
         let name = provider.solvable_name(solvable);

@@ -12,13 +12,13 @@ ghost use Rattle.resolver_encoding.specs.Turns.{AddsPlainly, AsksOnly};
 
 use super::Encoding;
 use resolver_clause_store::{
-    Cache, ClauseKind, DependencyProvider, Exhausted, Interner, Interrupted, Origin, Requirement,
-    StringId, VersionSetId, append, is_among,
+    Cache, ClauseKind, DependencyProvider, Exhausted, Interner, Interrupted, Requirement, StringId,
+    VersionSetId, append, is_among,
 };
 use std::hash::Hash;
 
 impl<N: Copy + Eq + Hash + Drop, S: Copy + Eq + Hash + Drop> Encoding<N, S> {
-    ghost use Rattle.resolver_encoding.specs.Notes.{IsBounded, notes_in};
+    ghost use Rattle.resolver_encoding.specs.Notes.{IsBounded, KeepsRoom, notes_in};
 
     /// Forbids a listed candidate of a package where another one is locked, unless it is exempt.
     pub(super) fn lock_out<D: DependencyProvider<NameId = N, SolvableId = S>>(
@@ -32,7 +32,7 @@ impl<N: Copy + Eq + Hash + Drop, S: Copy + Eq + Hash + Drop> Encoding<N, S> {
         requires named { (D.universe provider.now).name candidate ≡ name }
         requires lock { ((D.universe provider.now).package_named name).locked ≡ Some locked }
         requires listed { Contains ((D.universe provider.now).package_named name).listed candidate }
-        ensures bounded { IsBounded self.new }
+        ensures room { KeepsRoom self.old self.new }
         ensures step { OnOk result ((doing : Doing N S) → Contains (doing.asking ++ (notes_in self.old).asked) name →
             IsStepWhile (D.universe provider.now) doing (λ root. ⊤) (notes_in self.old) (notes_in self.new)) }
         ensures plain { OnOk result (AddsPlainly (notes_in self.old) (notes_in self.new)) }
@@ -40,7 +40,6 @@ impl<N: Copy + Eq + Hash + Drop, S: Copy + Eq + Hash + Drop> Encoding<N, S> {
             (candidate ≢ locked → (Contains (notes_in self.old).exempt candidate → ⊥) → Contains (notes_in self.new).kinds (LockKind locked candidate)) }
         ensures asked { OnOk result ((notes_in self.new).asked ≡ (notes_in self.old).asked) }
         ensures adds { AddsOnly (IsBarred (D.universe provider.now) (IsAsking name)) (notes_in self.old) (notes_in self.new) }
-        ensures limits { KeepsLimits (notes_in self.old) (notes_in self.new) }
         ensures refusal { IfErr result (IsShortage (IsFull (notes_in self.new))) }
     {
         if candidate == locked {
@@ -49,12 +48,10 @@ impl<N: Copy + Eq + Hash + Drop, S: Copy + Eq + Hash + Drop> Encoding<N, S> {
         if is_among(&self.exempt, &candidate) {
             return Ok(());
         }
-        let kind = ClauseKind::Lock {
+        self.add(ClauseKind::Lock {
             locked,
             forbidden: candidate,
-        };
-        let second = (Origin::Solvable(candidate), false);
-        self.add_pair(kind, (Origin::Root, false), second)?;
+        })?;
         Ok(())
     }
 
@@ -69,13 +66,12 @@ impl<N: Copy + Eq + Hash + Drop, S: Copy + Eq + Hash + Drop> Encoding<N, S> {
         requires bounded { IsBounded self.old }
         requires listed { listed.now ≡ ((D.universe provider.now).package_named name).listed }
         requires locked { locked ≡ ((D.universe provider.now).package_named name).locked }
-        ensures bounded { IsBounded self.new }
+        ensures room { KeepsRoom self.old self.new }
         ensures step { OnOk result (IsStepWhile (D.universe provider.now) (asking_for name) (λ root. ⊤) (notes_in self.old) (notes_in self.new)) }
         ensures plain { OnOk result (AddsPlainly (notes_in self.old) (notes_in self.new)) }
         ensures read { OnOk result (IsLockRead (notes_in self.new).kinds (notes_in self.old).exempt locked listed.now) }
         ensures asked { OnOk result ((notes_in self.new).asked ≡ (notes_in self.old).asked) }
         ensures adds { AddsOnly (IsBarred (D.universe provider.now) (IsAsking name)) (notes_in self.old) (notes_in self.new) }
-        ensures limits { KeepsLimits (notes_in self.old) (notes_in self.new) }
         ensures refusal { IfErr result (IsShortage (IsFull (notes_in self.new))) }
     {
         let Some(locked) = locked else {
@@ -98,7 +94,7 @@ impl<N: Copy + Eq + Hash + Drop, S: Copy + Eq + Hash + Drop> Encoding<N, S> {
         requires bounded { IsBounded self.old }
         requires named { (D.universe provider.now).name solvable ≡ name }
         requires excluded { Contains ((D.universe provider.now).package_named name).excluded (solvable, reason) }
-        ensures bounded { IsBounded self.new }
+        ensures room { KeepsRoom self.old self.new }
         ensures step { OnOk result ((doing : Doing N S) → Contains (doing.asking ++ (notes_in self.old).asked) name →
             IsStepWhile (D.universe provider.now) doing (λ root. ⊤) (notes_in self.old) (notes_in self.new)) }
         ensures plain { OnOk result (AddsPlainly (notes_in self.old) (notes_in self.new)) }
@@ -106,14 +102,12 @@ impl<N: Copy + Eq + Hash + Drop, S: Copy + Eq + Hash + Drop> Encoding<N, S> {
             ((Contains (notes_in self.old).exempt solvable → ⊥) → Contains (notes_in self.new).kinds (ExcludedKind solvable reason)) }
         ensures asked { OnOk result ((notes_in self.new).asked ≡ (notes_in self.old).asked) }
         ensures adds { AddsOnly (IsBarred (D.universe provider.now) (IsAsking name)) (notes_in self.old) (notes_in self.new) }
-        ensures limits { KeepsLimits (notes_in self.old) (notes_in self.new) }
         ensures refusal { IfErr result (IsShortage (IsFull (notes_in self.new))) }
     {
         if is_among(&self.exempt, &solvable) {
             return Ok(());
         }
-        let kind = ClauseKind::Excluded { solvable, reason };
-        self.add_unit(kind, Origin::Solvable(solvable), false)?;
+        self.add(ClauseKind::Excluded { solvable, reason })?;
         Ok(())
     }
 
@@ -126,14 +120,13 @@ impl<N: Copy + Eq + Hash + Drop, S: Copy + Eq + Hash + Drop> Encoding<N, S> {
     ) -> Result<(), Exhausted>
         requires bounded { IsBounded self.old }
         requires excluded { excluded.now ≡ ((D.universe provider.now).package_named name).excluded }
-        ensures bounded { IsBounded self.new }
+        ensures room { KeepsRoom self.old self.new }
         ensures step { OnOk result (IsStepWhile (D.universe provider.now) (asking_for name) (λ root. ⊤) (notes_in self.old) (notes_in self.new)) }
         ensures plain { OnOk result (AddsPlainly (notes_in self.old) (notes_in self.new)) }
         ensures read { OnOk result (All (λ e.
             (Contains (notes_in self.old).exempt e.0 → ⊥) → Contains (notes_in self.new).kinds (ExcludedKind e.0 e.1)) excluded.now) }
         ensures asked { OnOk result ((notes_in self.new).asked ≡ (notes_in self.old).asked) }
         ensures adds { AddsOnly (IsBarred (D.universe provider.now) (IsAsking name)) (notes_in self.old) (notes_in self.new) }
-        ensures limits { KeepsLimits (notes_in self.old) (notes_in self.new) }
         ensures refusal { IfErr result (IsShortage (IsFull (notes_in self.new))) }
     {
         for (solvable, reason) in excluded {
@@ -184,13 +177,12 @@ impl<N: Copy + Eq + Hash + Drop, S: Copy + Eq + Hash + Drop> Encoding<N, S> {
     ) -> Result<(), Interrupted<D::Cancel>>
         requires bounded { IsBounded self.old }
         requires is_true { IsTrueCache (D.universe provider.now) cache.old }
-        ensures bounded { IsBounded self.new }
+        ensures room { KeepsRoom self.old self.new }
         ensures is_true { IsTrueCache (D.universe provider.now) cache.new }
         ensures step { OnOk result (IsAskStep (D.universe provider.now) (IsNamedBy (D.universe provider.now) named.now) (λ root. ⊤) (notes_in self.old)
             (notes_in self.new)) }
         ensures asked { OnOk result (All (λ v. Contains (notes_in self.new).asked ((D.universe provider.now).version_set_name v)) named.now) }
         ensures adds { AddsOnly (IsBarred (D.universe provider.now) (IsNamedBy (D.universe provider.now) named.now)) (notes_in self.old) (notes_in self.new) }
-        ensures limits { KeepsLimits (notes_in self.old) (notes_in self.new) }
         ensures refusal { IfErr result (IsStop (D.may_cancel provider.now) (IsFull (notes_in self.new))) }
     {
         for version_set in named {
@@ -208,7 +200,7 @@ impl<N: Copy + Eq + Hash + Drop, S: Copy + Eq + Hash + Drop> Encoding<N, S> {
     ) -> Result<(), Interrupted<D::Cancel>>
         requires bounded { IsBounded self.old }
         requires is_true { IsTrueCache (D.universe provider.now) cache.old }
-        ensures bounded { IsBounded self.new }
+        ensures room { KeepsRoom self.old self.new }
         ensures is_true { IsTrueCache (D.universe provider.now) cache.new }
         ensures step { OnOk result (IsAskStep (D.universe provider.now)
             (IsNamedBy (D.universe provider.now) (version_sets (D.universe provider.now) requirement)) (λ root. ⊤) (notes_in self.old) (notes_in self.new)) }
@@ -217,7 +209,6 @@ impl<N: Copy + Eq + Hash + Drop, S: Copy + Eq + Hash + Drop> Encoding<N, S> {
         ensures adds { AddsOnly
             (IsBarred (D.universe provider.now) (IsNamedBy (D.universe provider.now) (version_sets (D.universe provider.now) requirement)))
             (notes_in self.old) (notes_in self.new) }
-        ensures limits { KeepsLimits (notes_in self.old) (notes_in self.new) }
         ensures refusal { IfErr result (IsStop (D.may_cancel provider.now) (IsFull (notes_in self.new))) }
     {
         match requirement {

@@ -5,7 +5,7 @@ ghost use Rattle.resolver_clause_store.specs.Caches.{IsTrueCache};
 ghost use Rattle.resolver_clause_store.specs.Candidates.{matching};
 ghost use Rattle.resolver_clause_store.specs.declared.ClauseKind.TheVariants.{AnyOf as AnyOfKind};
 ghost use Rattle.resolver_clause_store.specs.declared.Origin.TheVariants.{ConditionHelper as Helper};
-ghost use Rattle.resolver_encoding.specs.Encodings.{IsFull, IsStep, KeepsLimits};
+ghost use Rattle.resolver_encoding.specs.Encodings.{IsFull, IsStep};
 ghost use Rattle.resolver_clause_store.specs.declared.VersionSetId.{VersionSetId as Id};
 ghost use Rattle.resolver_encoding.specs.Led.{AddsOnly, IsOfHelper};
 ghost use Rattle.resolver_encoding.specs.Refusals.{IsShortage, IsStop};
@@ -18,7 +18,7 @@ use resolver_clause_store::{
 use std::hash::Hash;
 
 impl<N: Copy + Eq + Hash + Drop, S: Copy + Eq + Hash + Drop> Encoding<N, S> {
-    ghost use Rattle.resolver_encoding.specs.Notes.{IsBounded, notes_in};
+    ghost use Rattle.resolver_encoding.specs.Notes.{IsBounded, KeepsRoom, notes_in};
 
     /// The helper of a version set follows from each of these.
     fn imply_each<D: DependencyProvider<NameId = N, SolvableId = S>>(
@@ -29,22 +29,18 @@ impl<N: Copy + Eq + Hash + Drop, S: Copy + Eq + Hash + Drop> Encoding<N, S> {
     ) -> Result<(), Exhausted>
         requires bounded { IsBounded self.old }
         requires candidates { candidates.now ≡ matching (D.universe provider.now) version_set }
-        ensures bounded { IsBounded self.new }
+        ensures room { KeepsRoom self.old self.new }
         ensures step { OnOk result (IsStep (D.universe provider.now) (λ root. ⊤) (notes_in self.old) (notes_in self.new)) }
         ensures follow { OnOk result (All (λ s. Contains (notes_in self.new).kinds (AnyOfKind (Helper version_set) s)) candidates.now) }
         ensures helped { OnOk result ((notes_in self.new).helped ≡ (notes_in self.old).helped) }
         ensures adds { AddsOnly (IsOfHelper (D.universe provider.now) version_set) (notes_in self.old) (notes_in self.new) }
-        ensures limits { KeepsLimits (notes_in self.old) (notes_in self.new) }
         ensures refusal { IfErr result (IsShortage (IsFull (notes_in self.new))) }
     {
         for candidate in candidates {
-            let helper = Origin::ConditionHelper(version_set);
-            let kind = ClauseKind::AnyOf {
-                helper,
+            self.add(ClauseKind::AnyOf {
+                helper: Origin::ConditionHelper(version_set),
                 candidate: *candidate,
-            };
-            let second = (Origin::Solvable(*candidate), false);
-            self.add_pair(kind, (helper, true), second)?;
+            })?;
         }
         Ok(())
     }
@@ -58,12 +54,11 @@ impl<N: Copy + Eq + Hash + Drop, S: Copy + Eq + Hash + Drop> Encoding<N, S> {
     ) -> Result<(), Interrupted<D::Cancel>>
         requires bounded { IsBounded self.old }
         requires is_true { IsTrueCache (D.universe provider.now) cache.old }
-        ensures bounded { IsBounded self.new }
+        ensures room { KeepsRoom self.old self.new }
         ensures is_true { IsTrueCache (D.universe provider.now) cache.new }
         ensures step { OnOk result (IsStep (D.universe provider.now) (λ root. ⊤) (notes_in self.old) (notes_in self.new)) }
         ensures helped { OnOk result (Contains (notes_in self.new).helped version_set) }
         ensures adds { AddsOnly (IsOfHelper (D.universe provider.now) version_set) (notes_in self.old) (notes_in self.new) }
-        ensures limits { KeepsLimits (notes_in self.old) (notes_in self.new) }
         ensures refusal { IfErr result (IsStop (D.may_cancel provider.now) (IsFull (notes_in self.new))) }
     {
         if is_among(&self.helped, &version_set) {
@@ -84,13 +79,12 @@ impl<N: Copy + Eq + Hash + Drop, S: Copy + Eq + Hash + Drop> Encoding<N, S> {
     ) -> Result<(), Interrupted<D::Cancel>>
         requires bounded { IsBounded self.old }
         requires is_true { IsTrueCache (D.universe provider.now) cache.old }
-        ensures bounded { IsBounded self.new }
+        ensures room { KeepsRoom self.old self.new }
         ensures is_true { IsTrueCache (D.universe provider.now) cache.new }
         ensures step { OnOk result (IsStep (D.universe provider.now) (λ root. ⊤) (notes_in self.old) (notes_in self.new)) }
         ensures helped { OnOk result (All (Contains (notes_in self.new).helped) disjunct.now) }
         ensures adds { AddsOnly (λ o. (v : Id) × Contains disjunct.now v × IsOfHelper (D.universe provider.now) v o)
             (notes_in self.old) (notes_in self.new) }
-        ensures limits { KeepsLimits (notes_in self.old) (notes_in self.new) }
         ensures refusal { IfErr result (IsStop (D.may_cancel provider.now) (IsFull (notes_in self.new))) }
     {
         for version_set in disjunct {

@@ -2,7 +2,7 @@
 
 ghost use Rattle.std.specs.Prelude.{◌≡◌, IfErr, IfSome, IfNone, OnErr, OnOk, Some, slice_get, ◌≤◌, All, IfOk, MatchBool, drop, length, true, ⊤};
 ghost use Rattle.resolver_clause_store.specs.Variables.{AreDistinct};
-ghost use Rattle.resolver_encoding.specs.Encodings.{KeepsLimits, IsEncodingOf, IsFull};
+ghost use Rattle.resolver_encoding.specs.Encodings.{IsEncodingOf, IsFull};
 ghost use Rattle.resolver_encoding.specs.ReadState.{Deferred};
 ghost use Rattle.resolver_encoding.specs.SoFar.{IsDeferral, IsIndexing, IsTakenOut, left_count, HasFired, HasMet, IsFiring, IsQuietAt, IsQuietUnder};
 ghost use Rattle.resolver_clause_store.specs.Caches.{IsTrueCache};
@@ -19,7 +19,7 @@ use resolver_clause_store::{
 use std::hash::Hash;
 
 impl<N: Copy + Eq + Hash + Drop, S: Copy + Eq + Hash + Drop> Encoding<N, S> {
-    ghost use Rattle.resolver_encoding.specs.Notes.{IsBounded, entry_of, notes_in};
+    ghost use Rattle.resolver_encoding.specs.Notes.{IsBounded, KeepsRoom, entry_of, notes_in};
 
     /// Notes under the packages of these version sets that the disjunct with this number waits for them.
     fn index_each<D: DependencyProvider<NameId = N, SolvableId = S>>(
@@ -29,11 +29,10 @@ impl<N: Copy + Eq + Hash + Drop, S: Copy + Eq + Hash + Drop> Encoding<N, S> {
         number: usize,
     ) -> Result<(), Exhausted>
         requires bounded { IsBounded self.old }
-        ensures bounded { IsBounded self.new }
+        ensures room { KeepsRoom self.old self.new }
         ensures indexed { OnOk result (IsIndexing (D.universe provider.now) number disjunct.now (notes_in self.old) (notes_in self.new)) }
         ensures origins { (notes_in self.new).origins ≡ (notes_in self.old).origins }
         ensures still { (notes_in self.new).deferred ≡ (notes_in self.old).deferred }
-        ensures limits { KeepsLimits (notes_in self.old) (notes_in self.new) }
         ensures memory { IfErr result (λ e. e ≡ Exhausted.Memory) }
     {
         for version_set in disjunct {
@@ -53,13 +52,12 @@ impl<N: Copy + Eq + Hash + Drop, S: Copy + Eq + Hash + Drop> Encoding<N, S> {
     ) -> Result<(), Exhausted>
         requires bounded { IsBounded self.old }
         requires once { AreDistinct disjunct.items }
-        ensures bounded { IsBounded self.new }
+        ensures room { KeepsRoom self.old self.new }
         ensures deferred { OnOk result
             (IsDeferral (D.universe provider.now) (record { by = by; disjunct = disjunct.items; requirement = requirement }) (notes_in self.old)
             (notes_in self.new)) }
         ensures origins { (notes_in self.new).origins ≡ (notes_in self.old).origins }
         ensures still { OnErr result ((notes_in self.new).deferred ≡ (notes_in self.old).deferred) }
-        ensures limits { KeepsLimits (notes_in self.old) (notes_in self.new) }
         ensures memory { IfErr result (λ e. e ≡ Exhausted.Memory) }
     {
         let number = self.deferred.len();
@@ -75,11 +73,10 @@ impl<N: Copy + Eq + Hash + Drop, S: Copy + Eq + Hash + Drop> Encoding<N, S> {
     /// Takes a disjunct out, if it is still put off.
     pub(super) fn take_out(&mut self, number: usize) -> Option<Entry<S>>
         requires bounded { IsBounded self.old }
-        ensures bounded { IsBounded self.new }
+        ensures room { KeepsRoom self.old self.new }
         ensures some { IfSome result (λ entry. IsTakenOut number (entry_of entry) (notes_in self.old) (notes_in self.new)) }
         ensures none { IfNone result (notes_in self.new ≡ notes_in self.old) }
         ensures absent { IfNone result ((e : Deferred S) → slice_get (notes_in self.old).deferred number ≡ Some (Some e) → ⊥) }
-        ensures limits { KeepsLimits (notes_in self.old) (notes_in self.new) }
     {
         if number >= self.deferred.len() {
             return None;
@@ -102,7 +99,7 @@ impl<N: Copy + Eq + Hash + Drop, S: Copy + Eq + Hash + Drop> Encoding<N, S> {
 }
 
 impl<N: Copy + Eq + Hash + Drop, S: Copy + Eq + Hash + Drop> Encoding<N, S> {
-    ghost use Rattle.resolver_encoding.specs.Notes.{IsBounded, notes_in};
+    ghost use Rattle.resolver_encoding.specs.Notes.{IsBounded, KeepsRoom, notes_in};
 
     /// Whether a disjunct is put off and is met in the set.
     fn is_due<D: DependencyProvider<NameId = N, SolvableId = S>>(
@@ -141,14 +138,13 @@ impl<N: Copy + Eq + Hash + Drop, S: Copy + Eq + Hash + Drop> Encoding<N, S> {
         requires is_true { IsTrueCache (D.universe provider.now) cache.old }
         requires encoding { IsEncodingOf (D.universe provider.now) (λ root. ⊤) (notes_in self.old) }
         requires met { HasMet (D.universe provider.now) chosen.now.keys (notes_in self.old) number }
-        ensures bounded { IsBounded self.new }
+        ensures room { KeepsRoom self.old self.new }
         ensures is_true { IsTrueCache (D.universe provider.now) cache.new }
         ensures firing { OnOk result (IsFiring (D.universe provider.now) chosen.now.keys (notes_in self.old) (notes_in self.new)) }
         ensures quiet { OnOk result (IsQuietAt (D.universe provider.now) chosen.now.keys (notes_in self.new) number) }
         ensures fired { OnOk result (HasFired (notes_in self.old) (notes_in self.new) true) }
         ensures brings { Brings (D.universe provider.now) (IsFired (D.universe provider.now) chosen.now.keys (notes_in self.old)) NoneOwn
             (notes_in self.old) (notes_in self.new) }
-        ensures limits { KeepsLimits (notes_in self.old) (notes_in self.new) }
         ensures refusal { IfErr result (IsStop (D.may_cancel provider.now) (IsFull (notes_in self.new))) }
     {
         match self.take_out(number) {
@@ -176,14 +172,13 @@ impl<N: Copy + Eq + Hash + Drop, S: Copy + Eq + Hash + Drop> Encoding<N, S> {
         requires bounded { IsBounded self.old }
         requires is_true { IsTrueCache (D.universe provider.now) cache.old }
         requires encoding { IsEncodingOf (D.universe provider.now) (λ root. ⊤) (notes_in self.old) }
-        ensures bounded { IsBounded self.new }
+        ensures room { KeepsRoom self.old self.new }
         ensures is_true { IsTrueCache (D.universe provider.now) cache.new }
         ensures firing { OnOk result (IsFiring (D.universe provider.now) chosen.now.keys (notes_in self.old) (notes_in self.new)) }
         ensures quiet { OnOk result (IsQuietAt (D.universe provider.now) chosen.now.keys (notes_in self.new) number) }
         ensures fired { IfOk result (HasFired (notes_in self.old) (notes_in self.new)) }
         ensures brings { Brings (D.universe provider.now) (IsFired (D.universe provider.now) chosen.now.keys (notes_in self.old)) NoneOwn
             (notes_in self.old) (notes_in self.new) }
-        ensures limits { KeepsLimits (notes_in self.old) (notes_in self.new) }
         ensures refusal { IfErr result (IsStop (D.may_cancel provider.now) (IsFull (notes_in self.new))) }
     {
         if !self.is_due(provider, cache, chosen, number)? {
@@ -204,14 +199,13 @@ impl<N: Copy + Eq + Hash + Drop, S: Copy + Eq + Hash + Drop> Encoding<N, S> {
         requires bounded { IsBounded self.old }
         requires is_true { IsTrueCache (D.universe provider.now) cache.old }
         requires encoding { IsEncodingOf (D.universe provider.now) (λ root. ⊤) (notes_in self.old) }
-        ensures bounded { IsBounded self.new }
+        ensures room { KeepsRoom self.old self.new }
         ensures is_true { IsTrueCache (D.universe provider.now) cache.new }
         ensures firing { OnOk result (IsFiring (D.universe provider.now) chosen.now.keys (notes_in self.old) (notes_in self.new)) }
         ensures quiet { OnOk result (All (IsQuietAt (D.universe provider.now) chosen.now.keys (notes_in self.new)) numbers.now) }
         ensures fired { IfOk result (HasFired (notes_in self.old) (notes_in self.new)) }
         ensures brings { Brings (D.universe provider.now) (IsFired (D.universe provider.now) chosen.now.keys (notes_in self.old)) NoneOwn
             (notes_in self.old) (notes_in self.new) }
-        ensures limits { KeepsLimits (notes_in self.old) (notes_in self.new) }
         ensures refusal { IfErr result (IsStop (D.may_cancel provider.now) (IsFull (notes_in self.new))) }
     {
         let mut any = false;
@@ -232,7 +226,7 @@ impl<N: Copy + Eq + Hash + Drop, S: Copy + Eq + Hash + Drop> Encoding<N, S> {
         requires bounded { IsBounded self.old }
         requires is_true { IsTrueCache (D.universe provider.now) cache.old }
         requires encoding { IsEncodingOf (D.universe provider.now) (λ root. ⊤) (notes_in self.old) }
-        ensures bounded { IsBounded self.new }
+        ensures room { KeepsRoom self.old self.new }
         ensures is_true { IsTrueCache (D.universe provider.now) cache.new }
         ensures firing { OnOk result (IsFiring (D.universe provider.now) chosen.now.keys (notes_in self.old) (notes_in self.new)) }
         ensures quiet { OnOk result (AreGroups (notes_in self.old).waiting →
@@ -240,7 +234,6 @@ impl<N: Copy + Eq + Hash + Drop, S: Copy + Eq + Hash + Drop> Encoding<N, S> {
         ensures fired { IfOk result (HasFired (notes_in self.old) (notes_in self.new)) }
         ensures brings { Brings (D.universe provider.now) (IsFired (D.universe provider.now) chosen.now.keys (notes_in self.old)) NoneOwn
             (notes_in self.old) (notes_in self.new) }
-        ensures limits { KeepsLimits (notes_in self.old) (notes_in self.new) }
         ensures refusal { IfErr result (IsStop (D.may_cancel provider.now) (IsFull (notes_in self.new))) }
     {
         let name = provider.solvable_name(solvable);
@@ -261,7 +254,7 @@ impl<N: Copy + Eq + Hash + Drop, S: Copy + Eq + Hash + Drop> Encoding<N, S> {
         requires is_true { IsTrueCache (D.universe provider.now) cache.old }
         requires encoding { IsEncodingOf (D.universe provider.now) (λ root. ⊤) (notes_in self.old) }
         requires within { from ≤ length chosen.now.keys }
-        ensures bounded { IsBounded self.new }
+        ensures room { KeepsRoom self.old self.new }
         ensures is_true { IsTrueCache (D.universe provider.now) cache.new }
         ensures firing { OnOk result (IsFiring (D.universe provider.now) chosen.now.keys (notes_in self.old) (notes_in self.new)) }
         ensures quiet { OnOk result (AreGroups (notes_in self.old).waiting →
@@ -270,7 +263,6 @@ impl<N: Copy + Eq + Hash + Drop, S: Copy + Eq + Hash + Drop> Encoding<N, S> {
         ensures fired { IfOk result (HasFired (notes_in self.old) (notes_in self.new)) }
         ensures brings { Brings (D.universe provider.now) (IsFired (D.universe provider.now) chosen.now.keys (notes_in self.old)) NoneOwn
             (notes_in self.old) (notes_in self.new) }
-        ensures limits { KeepsLimits (notes_in self.old) (notes_in self.new) }
         ensures refusal { IfErr result (IsStop (D.may_cancel provider.now) (IsFull (notes_in self.new))) }
     {
         let mut any = false;

@@ -4,7 +4,7 @@ ghost use Rattle.std.specs.Prelude.{◌≡◌, ◌⊎◌, ◌<◌, ◌≤◌, �
 ghost use Rattle.resolver_clause_store.specs.declared.ClauseKind.TheVariants.{HasBit as HasBitKind};
 ghost use Rattle.resolver_encoding.specs.Called.{IsSeeing, IsSeeingEach};
 ghost use Rattle.resolver_encoding.specs.Codes.{bit};
-ghost use Rattle.resolver_encoding.specs.Encodings.{IsAskStep, IsEncoding, IsFull, IsStepWhile, KeepsLimits, coding_for};
+ghost use Rattle.resolver_encoding.specs.Encodings.{IsAskStep, IsEncoding, IsFull, IsStepWhile, coding_for};
 ghost use Rattle.resolver_encoding.specs.Groups.{AreGroups, IsAt};
 ghost use Rattle.resolver_clause_store.specs.Universe.{Demands};
 ghost use Rattle.resolver_encoding.specs.Led.{AddsOnly, Brings, IsCoded, IsDigitOf, NoneOwn};
@@ -18,7 +18,7 @@ use resolver_clause_store::{
 use std::hash::Hash;
 
 impl<N: Copy + Eq + Hash + Drop, S: Copy + Eq + Hash + Drop> Encoding<N, S> {
-    ghost use Rattle.resolver_encoding.specs.Notes.{IsBounded, notes_in};
+    ghost use Rattle.resolver_encoding.specs.Notes.{IsBounded, KeepsRoom, notes_in};
 
     /// Gives each of these a digit that is not set.
     fn open_digit<D: DependencyProvider<NameId = N, SolvableId = S>>(
@@ -34,7 +34,7 @@ impl<N: Copy + Eq + Hash + Drop, S: Copy + Eq + Hash + Drop> Encoding<N, S> {
         requires number { number ≡ 2 ^ index }
         requires below { AreGroups (notes_in self.old).groups → (k : ℕ) (t : S) → IsAt (notes_in self.old).groups name k t → k < number }
         requires earlier { (k : ℕ) (t : S) → slice_get earlier.now k ≡ Some t → IsAt (notes_in self.old).groups name k t }
-        ensures bounded { IsBounded self.new }
+        ensures room { KeepsRoom self.old self.new }
         ensures step { OnOk result (IsStepWhile (D.universe provider.now) (coding_for name number solvable) (λ root. ⊤) (notes_in self.old)
             (notes_in self.new)) }
         ensures begun { OnOk result (All (λ t. Contains (notes_in self.new).kinds (HasBitKind name t index false)) earlier.now) }
@@ -42,19 +42,15 @@ impl<N: Copy + Eq + Hash + Drop, S: Copy + Eq + Hash + Drop> Encoding<N, S> {
         ensures seen { OnOk result ((notes_in self.new).seen ≡ (notes_in self.old).seen) }
         ensures requirements { OnOk result ((notes_in self.new).requirements ≡ (notes_in self.old).requirements) }
         ensures adds { AddsOnly (IsCoded (notes_in self.old).groups name number solvable) (notes_in self.old) (notes_in self.new) }
-        ensures limits { KeepsLimits (notes_in self.old) (notes_in self.new) }
         ensures refusal { IfErr result (IsShortage (IsFull (notes_in self.new))) }
     {
         for other in earlier {
-            let kind = ClauseKind::HasBit {
+            self.add(ClauseKind::HasBit {
                 name,
                 instance: *other,
                 index,
                 value: false,
-            };
-            let first = (Origin::Solvable(*other), false);
-            let second = (Origin::Bit { name, index }, false);
-            self.add_pair(kind, first, second)?;
+            })?;
         }
         Ok(())
     }
@@ -69,7 +65,7 @@ impl<N: Copy + Eq + Hash + Drop, S: Copy + Eq + Hash + Drop> Encoding<N, S> {
     ) -> Result<(), Exhausted>
         requires bounded { IsBounded self.old }
         requires below { AreGroups (notes_in self.old).groups → (k : ℕ) (t : S) → IsAt (notes_in self.old).groups name k t → k < number }
-        ensures bounded { IsBounded self.new }
+        ensures room { KeepsRoom self.old self.new }
         ensures step { OnOk result (IsStepWhile (D.universe provider.now) (coding_for name number solvable) (λ root. ⊤) (notes_in self.old)
             (notes_in self.new)) }
         ensures begun { OnOk result ((i : ℕ) → number ≡ 2 ^ i → AreGroups (notes_in self.old).groups → (k : ℕ) (t : S) →
@@ -78,7 +74,6 @@ impl<N: Copy + Eq + Hash + Drop, S: Copy + Eq + Hash + Drop> Encoding<N, S> {
         ensures seen { OnOk result ((notes_in self.new).seen ≡ (notes_in self.old).seen) }
         ensures requirements { OnOk result ((notes_in self.new).requirements ≡ (notes_in self.old).requirements) }
         ensures adds { AddsOnly (IsCoded (notes_in self.old).groups name number solvable) (notes_in self.old) (notes_in self.new) }
-        ensures limits { KeepsLimits (notes_in self.old) (notes_in self.new) }
         ensures refusal { IfErr result (IsShortage (IsFull (notes_in self.new))) }
     {
         match new_digit(number) {
@@ -101,7 +96,7 @@ impl<N: Copy + Eq + Hash + Drop, S: Copy + Eq + Hash + Drop> Encoding<N, S> {
     ) -> Result<(), Exhausted>
         requires bounded { IsBounded self.old }
         requires name { name ≡ (D.universe provider.now).name solvable }
-        ensures bounded { IsBounded self.new }
+        ensures room { KeepsRoom self.old self.new }
         ensures step { OnOk result (IsStepWhile (D.universe provider.now) (coding_for name number solvable) (λ root. ⊤) (notes_in self.old)
             (notes_in self.new)) }
         ensures code { OnOk result ((i : ℕ) → 2 ^ i ≤ number → Contains (notes_in self.new).kinds (HasBitKind name solvable i (bit number i))) }
@@ -109,20 +104,16 @@ impl<N: Copy + Eq + Hash + Drop, S: Copy + Eq + Hash + Drop> Encoding<N, S> {
         ensures seen { OnOk result ((notes_in self.new).seen ≡ (notes_in self.old).seen) }
         ensures requirements { OnOk result ((notes_in self.new).requirements ≡ (notes_in self.old).requirements) }
         ensures adds { AddsOnly (IsDigitOf name number solvable) (notes_in self.old) (notes_in self.new) }
-        ensures limits { KeepsLimits (notes_in self.old) (notes_in self.new) }
         ensures refusal { IfErr result (IsShortage (IsFull (notes_in self.new))) }
     {
         for index in 0..digit_count(number) {
             let value = has_digit(number, index);
-            let kind = ClauseKind::HasBit {
+            self.add(ClauseKind::HasBit {
                 name,
                 instance: solvable,
                 index,
                 value,
-            };
-            let first = (Origin::Solvable(solvable), false);
-            let second = (Origin::Bit { name, index }, value);
-            self.add_pair(kind, first, second)?;
+            })?;
         }
         Ok(())
     }
@@ -134,7 +125,7 @@ impl<N: Copy + Eq + Hash + Drop, S: Copy + Eq + Hash + Drop> Encoding<N, S> {
         solvable: S,
     ) -> Result<(), Exhausted>
         requires bounded { IsBounded self.old }
-        ensures bounded { IsBounded self.new }
+        ensures room { KeepsRoom self.old self.new }
         ensures step { OnOk result (IsAskStep (D.universe provider.now) (IsSeeing solvable) (λ root. ⊤) (notes_in self.old) (notes_in self.new)) }
         ensures seen { OnOk result (Contains (notes_in self.new).seen solvable) }
         ensures asked { OnOk result ((notes_in self.new).asked ≡ (notes_in self.old).asked) }
@@ -142,14 +133,13 @@ impl<N: Copy + Eq + Hash + Drop, S: Copy + Eq + Hash + Drop> Encoding<N, S> {
         ensures requirements { OnOk result ((notes_in self.new).requirements ≡ (notes_in self.old).requirements) }
         ensures brings { (root : Demands) → IsEncoding (D.universe provider.now) root (notes_in self.old) → Brings (D.universe provider.now)
             (IsSeeing solvable) NoneOwn (notes_in self.old) (notes_in self.new) }
-        ensures limits { KeepsLimits (notes_in self.old) (notes_in self.new) }
         ensures refusal { IfErr result (IsShortage (IsFull (notes_in self.new))) }
     {
         if is_among(&self.seen, &solvable) {
             return Ok(());
         }
         let name = provider.solvable_name(solvable);
-        self.variables.intern(Origin::Solvable(solvable))?;
+        self.table.variables.intern(Origin::Solvable(solvable))?;
         let number = self.groups.named(name).len();
         self.begin_digit(provider, name, number, solvable)?;
         self.add_code(provider, name, number, solvable)?;
@@ -165,12 +155,11 @@ impl<N: Copy + Eq + Hash + Drop, S: Copy + Eq + Hash + Drop> Encoding<N, S> {
         candidates: &[S],
     ) -> Result<(), Exhausted>
         requires bounded { IsBounded self.old }
-        ensures bounded { IsBounded self.new }
+        ensures room { KeepsRoom self.old self.new }
         ensures step { OnOk result (IsAskStep (D.universe provider.now) (IsSeeingEach candidates.now) (λ root. ⊤) (notes_in self.old) (notes_in self.new)) }
         ensures seen { OnOk result (All (Contains (notes_in self.new).seen) candidates.now) }
         ensures brings { (root : Demands) → IsEncoding (D.universe provider.now) root (notes_in self.old) → Brings (D.universe provider.now)
             (IsSeeingEach candidates.now) NoneOwn (notes_in self.old) (notes_in self.new) }
-        ensures limits { KeepsLimits (notes_in self.old) (notes_in self.new) }
         ensures refusal { IfErr result (IsShortage (IsFull (notes_in self.new))) }
     {
         for candidate in candidates {

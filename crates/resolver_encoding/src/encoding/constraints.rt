@@ -8,15 +8,14 @@ ghost use Rattle.resolver_clause_store.specs.declared.By.TheVariants.{Solvable a
 ghost use Rattle.resolver_clause_store.specs.declared.ClauseKind.TheVariants.{Constrains as ConstrainsKind, ConstrainsExcluded as ExcludedKind};
 ghost use Rattle.resolver_clause_store.specs.declared.ClauseKind.TheVariants.{ConstrainsParent as ParentKind};
 ghost use Rattle.resolver_encoding.specs.Called.{IsAsking};
-ghost use Rattle.resolver_encoding.specs.Encodings.{AsksWithin, IsAskStep, IsConstraintRead, IsEncodingOf, IsFull, IsStep, KeepsLimits};
+ghost use Rattle.resolver_encoding.specs.Encodings.{AsksWithin, IsAskStep, IsConstraintRead, IsEncodingOf, IsFull, IsStep};
 ghost use Rattle.resolver_encoding.specs.Led.{AddsOnly, Brings, IsOfConstraint, IsOwn, with_constraints};
 ghost use Rattle.resolver_encoding.specs.Refusals.{IsShortage, IsStop};
 
 use super::Encoding;
-use crate::literals::{is_by, origin_of};
 use resolver_clause_store::{
-    By, Cache, ClauseKind, DependencyProvider, Exhausted, Interner, Interrupted, Origin,
-    VersionSetId, append, is_among,
+    By, Cache, ClauseKind, DependencyProvider, Exhausted, Interner, Interrupted, VersionSetId,
+    append, is_among,
 };
 use std::hash::Hash;
 
@@ -53,7 +52,7 @@ fn own_parent<D: DependencyProvider>(
 }
 
 impl<N: Copy + Eq + Hash + Drop, S: Copy + Eq + Hash + Drop> Encoding<N, S> {
-    ghost use Rattle.resolver_encoding.specs.Notes.{IsBounded, notes_in};
+    ghost use Rattle.resolver_encoding.specs.Notes.{IsBounded, KeepsRoom, notes_in};
 
     /// Forbids a solvable beside the root or the solvable that constrains it; by itself where they are one.
     fn constrain<D: DependencyProvider<NameId = N, SolvableId = S>>(
@@ -65,25 +64,18 @@ impl<N: Copy + Eq + Hash + Drop, S: Copy + Eq + Hash + Drop> Encoding<N, S> {
     ) -> Result<(), Exhausted>
         requires bounded { IsBounded self.old }
         requires other { Contains (others (D.universe provider.now) version_set) candidate }
-        ensures bounded { IsBounded self.new }
+        ensures room { KeepsRoom self.old self.new }
         ensures step { OnOk result (IsStep (D.universe provider.now) (AsksWithin (D.universe provider.now) by version_set) (notes_in self.old)
             (notes_in self.new)) }
         ensures forbidden { OnOk result (Contains (notes_in self.new).kinds (ConstrainsKind by version_set candidate)) }
         ensures adds { AddsOnly (IsOwn (D.universe provider.now) by (with_constraints (version_set ∷ []))) (notes_in self.old) (notes_in self.new) }
-        ensures limits { KeepsLimits (notes_in self.old) (notes_in self.new) }
         ensures refusal { IfErr result (IsShortage (IsFull (notes_in self.new))) }
     {
-        let kind = ClauseKind::Constrains {
+        self.add(ClauseKind::Constrains {
             parent: by,
             version_set,
             candidate,
-        };
-        let second = Origin::Solvable(candidate);
-        if is_by(by, candidate) {
-            self.add_unit(kind, second, false)?;
-            return Ok(());
-        }
-        self.add_pair(kind, (origin_of(by), false), (second, false))?;
+        })?;
         Ok(())
     }
 
@@ -97,12 +89,11 @@ impl<N: Copy + Eq + Hash + Drop, S: Copy + Eq + Hash + Drop> Encoding<N, S> {
     ) -> Result<(), Exhausted>
         requires bounded { IsBounded self.old }
         requires forbidden { forbidden.now ≡ others (D.universe provider.now) version_set }
-        ensures bounded { IsBounded self.new }
+        ensures room { KeepsRoom self.old self.new }
         ensures step { OnOk result (IsStep (D.universe provider.now) (AsksWithin (D.universe provider.now) by version_set) (notes_in self.old)
             (notes_in self.new)) }
         ensures read { OnOk result (IsConstraintRead (D.universe provider.now) (notes_in self.new).kinds by version_set) }
         ensures adds { AddsOnly (IsOwn (D.universe provider.now) by (with_constraints (version_set ∷ []))) (notes_in self.old) (notes_in self.new) }
-        ensures limits { KeepsLimits (notes_in self.old) (notes_in self.new) }
         ensures refusal { IfErr result (IsShortage (IsFull (notes_in self.new))) }
     {
         for candidate in forbidden {
@@ -120,22 +111,18 @@ impl<N: Copy + Eq + Hash + Drop, S: Copy + Eq + Hash + Drop> Encoding<N, S> {
     ) -> Result<(), Exhausted>
         requires bounded { IsBounded self.old }
         requires forbidden { forbidden.now ≡ others (D.universe provider.now) version_set }
-        ensures bounded { IsBounded self.new }
+        ensures room { KeepsRoom self.old self.new }
         ensures step { OnOk result (IsStep (D.universe provider.now) (λ root. ⊤) (notes_in self.old) (notes_in self.new)) }
         ensures excluded { OnOk result (All (λ s. Contains (notes_in self.new).kinds (ExcludedKind s version_set)) forbidden.now) }
         ensures constrained { OnOk result ((notes_in self.new).constrained ≡ (notes_in self.old).constrained) }
         ensures adds { AddsOnly (IsOfConstraint (D.universe provider.now) version_set) (notes_in self.old) (notes_in self.new) }
-        ensures limits { KeepsLimits (notes_in self.old) (notes_in self.new) }
         ensures refusal { IfErr result (IsShortage (IsFull (notes_in self.new))) }
     {
         for candidate in forbidden {
-            let kind = ClauseKind::ConstrainsExcluded {
+            self.add(ClauseKind::ConstrainsExcluded {
                 candidate: *candidate,
                 version_set,
-            };
-            let first = (Origin::Solvable(*candidate), false);
-            let helper = Origin::ConstraintHelper(version_set);
-            self.add_pair(kind, first, (helper, true))?;
+            })?;
         }
         Ok(())
     }
@@ -149,11 +136,10 @@ impl<N: Copy + Eq + Hash + Drop, S: Copy + Eq + Hash + Drop> Encoding<N, S> {
     ) -> Result<(), Exhausted>
         requires bounded { IsBounded self.old }
         requires forbidden { forbidden.now ≡ others (D.universe provider.now) version_set }
-        ensures bounded { IsBounded self.new }
+        ensures room { KeepsRoom self.old self.new }
         ensures step { OnOk result (IsStep (D.universe provider.now) (λ root. ⊤) (notes_in self.old) (notes_in self.new)) }
         ensures constrained { OnOk result (Contains (notes_in self.new).constrained version_set) }
         ensures adds { AddsOnly (IsOfConstraint (D.universe provider.now) version_set) (notes_in self.old) (notes_in self.new) }
-        ensures limits { KeepsLimits (notes_in self.old) (notes_in self.new) }
         ensures refusal { IfErr result (IsShortage (IsFull (notes_in self.new))) }
     {
         if is_among(&self.constrained, &version_set) {
@@ -172,21 +158,17 @@ impl<N: Copy + Eq + Hash + Drop, S: Copy + Eq + Hash + Drop> Encoding<N, S> {
         version_set: VersionSetId,
     ) -> Result<(), Exhausted>
         requires bounded { IsBounded self.old }
-        ensures bounded { IsBounded self.new }
+        ensures room { KeepsRoom self.old self.new }
         ensures step { OnOk result (IsStep (D.universe provider.now) (AsksWithin (D.universe provider.now) by version_set) (notes_in self.old)
             (notes_in self.new)) }
         ensures forbidden { OnOk result (Contains (notes_in self.new).kinds (ParentKind by version_set)) }
         ensures adds { AddsOnly (IsOwn (D.universe provider.now) by (with_constraints (version_set ∷ []))) (notes_in self.old) (notes_in self.new) }
-        ensures limits { KeepsLimits (notes_in self.old) (notes_in self.new) }
         ensures refusal { IfErr result (IsShortage (IsFull (notes_in self.new))) }
     {
-        let kind = ClauseKind::ConstrainsParent {
+        self.add(ClauseKind::ConstrainsParent {
             parent: by,
             version_set,
-        };
-        let helper = Origin::ConstraintHelper(version_set);
-        let parent: Origin<N, S> = origin_of(by);
-        self.add_pair(kind, (parent, false), (helper, false))?;
+        })?;
         Ok(())
     }
 
@@ -200,13 +182,12 @@ impl<N: Copy + Eq + Hash + Drop, S: Copy + Eq + Hash + Drop> Encoding<N, S> {
     ) -> Result<(), Exhausted>
         requires bounded { IsBounded self.old }
         requires forbidden { forbidden.now ≡ others (D.universe provider.now) version_set }
-        ensures bounded { IsBounded self.new }
+        ensures room { KeepsRoom self.old self.new }
         ensures step { OnOk result (IsStep (D.universe provider.now) (AsksWithin (D.universe provider.now) by version_set) (notes_in self.old)
             (notes_in self.new)) }
         ensures itself { OnOk result ((s : S) → by ≡ BySolvable s → Contains forbidden.now s →
             Contains (notes_in self.new).kinds (ConstrainsKind by version_set s)) }
         ensures adds { AddsOnly (IsOwn (D.universe provider.now) by (with_constraints (version_set ∷ []))) (notes_in self.old) (notes_in self.new) }
-        ensures limits { KeepsLimits (notes_in self.old) (notes_in self.new) }
         ensures refusal { IfErr result (IsShortage (IsFull (notes_in self.new))) }
     {
         match own_parent(provider, by, version_set) {
@@ -232,12 +213,11 @@ impl<N: Copy + Eq + Hash + Drop, S: Copy + Eq + Hash + Drop> Encoding<N, S> {
         requires bounded { IsBounded self.old }
         requires forbidden { forbidden.now ≡ others (D.universe provider.now) version_set }
         requires encoding { IsEncodingOf (D.universe provider.now) (AsksWithin (D.universe provider.now) by version_set) (notes_in self.old) }
-        ensures bounded { IsBounded self.new }
+        ensures room { KeepsRoom self.old self.new }
         ensures step { OnOk result (IsStep (D.universe provider.now) (AsksWithin (D.universe provider.now) by version_set) (notes_in self.old)
             (notes_in self.new)) }
         ensures read { OnOk result (IsConstraintRead (D.universe provider.now) (notes_in self.new).kinds by version_set) }
         ensures adds { AddsOnly (IsOwn (D.universe provider.now) by (with_constraints (version_set ∷ []))) (notes_in self.old) (notes_in self.new) }
-        ensures limits { KeepsLimits (notes_in self.old) (notes_in self.new) }
         ensures refusal { IfErr result (IsShortage (IsFull (notes_in self.new))) }
     {
         self.make_helper(provider, version_set, forbidden)?;
@@ -257,7 +237,7 @@ impl<N: Copy + Eq + Hash + Drop, S: Copy + Eq + Hash + Drop> Encoding<N, S> {
         requires bounded { IsBounded self.old }
         requires is_true { IsTrueCache (D.universe provider.now) cache.old }
         requires encoding { IsEncodingOf (D.universe provider.now) (AsksWithin (D.universe provider.now) by version_set) (notes_in self.old) }
-        ensures bounded { IsBounded self.new }
+        ensures room { KeepsRoom self.old self.new }
         ensures is_true { IsTrueCache (D.universe provider.now) cache.new }
         ensures step { OnOk result (IsAskStep (D.universe provider.now) (IsAsking ((D.universe provider.now).version_set_name version_set))
             (AsksWithin (D.universe provider.now) by version_set) (notes_in self.old) (notes_in self.new)) }
@@ -265,7 +245,6 @@ impl<N: Copy + Eq + Hash + Drop, S: Copy + Eq + Hash + Drop> Encoding<N, S> {
         ensures asked { OnOk result (Contains (notes_in self.new).asked ((D.universe provider.now).version_set_name version_set)) }
         ensures brings { Brings (D.universe provider.now) (IsAsking ((D.universe provider.now).version_set_name version_set))
             (IsOwn (D.universe provider.now) by (with_constraints (version_set ∷ []))) (notes_in self.old) (notes_in self.new) }
-        ensures limits { KeepsLimits (notes_in self.old) (notes_in self.new) }
         ensures refusal { IfErr result (IsStop (D.may_cancel provider.now) (IsFull (notes_in self.new))) }
     {
         self.ask(provider, cache, provider.version_set_name(version_set))?;

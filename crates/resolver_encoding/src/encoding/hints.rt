@@ -4,7 +4,7 @@ ghost use Rattle.std.specs.Prelude.{◌≡◌, ◌<◌, ◌≤◌, ◌++◌, Con
 ghost use Rattle.std.specs.Option.{option_to_list};
 ghost use Rattle.resolver_clause_store.specs.Caches.{IsAvailable, IsTrueCache};
 ghost use Rattle.resolver_clause_store.specs.Formula.{clause_at};
-ghost use Rattle.resolver_encoding.specs.Encodings.{IsFull, KeepsLimits};
+ghost use Rattle.resolver_encoding.specs.Encodings.{IsFull};
 ghost use Rattle.resolver_encoding.specs.Hints.{AreHintsRead, AreHintsReadTo, AreReadIfHinted, IsHinted, candidates_at, literals_at, stated_by};
 ghost use Rattle.resolver_clause_store.specs.Valid.{demands_of};
 ghost use Rattle.resolver_clause_store.specs.declared.By.TheVariants.{Solvable as BySolvable};
@@ -34,7 +34,7 @@ fn push_found<T: Drop>(list: &mut Vec<T>, found: Option<T>) -> Result<(), Exhaus
 }
 
 impl<N: Copy + Eq + Hash + Drop, S: Copy + Eq + Hash + Drop> Encoding<N, S> {
-    ghost use Rattle.resolver_encoding.specs.Notes.{IsBounded, notes_in};
+    ghost use Rattle.resolver_encoding.specs.Notes.{IsBounded, KeepsRoom, notes_in};
 
     /// The solvable that a literal says is there, if it says so of one.
     fn stated(&self, literal: Literal) -> Option<S>
@@ -43,14 +43,14 @@ impl<N: Copy + Eq + Hash + Drop, S: Copy + Eq + Hash + Drop> Encoding<N, S> {
         if !literal.positive {
             return None;
         }
-        as_solvable(self.variables.origin(literal.variable))
+        as_solvable(self.table.variables.origin(literal.variable))
     }
 
     /// The literals of a clause, and none where there is no such clause.
     fn clause(&self, number: usize) -> &[Literal]
         ensures { result.now ≡ clause_at (notes_in self.now).table number }
     {
-        match self.literals.get(number) {
+        match self.table.literals().get(number) {
             Some(literals) => literals.as_slice(),
             None => &[],
         }
@@ -60,7 +60,7 @@ impl<N: Copy + Eq + Hash + Drop, S: Copy + Eq + Hash + Drop> Encoding<N, S> {
     fn asking_literals(&self, place: usize) -> &[Literal]
         ensures { result.now ≡ literals_at (notes_in self.now) place }
     {
-        match self.requirements.get(place) {
+        match self.table.requirements().get(place) {
             Some(asking) => self.clause(asking.number),
             None => &[],
         }
@@ -82,7 +82,7 @@ impl<N: Copy + Eq + Hash + Drop, S: Copy + Eq + Hash + Drop> Encoding<N, S> {
     pub(super) fn asking_count(&self) -> usize
         ensures { result ≡ length (notes_in self.now).requirements }
     {
-        self.requirements.len()
+        self.table.requirements().len()
     }
 
     /// Reads a registered candidate if its dependencies are at hand, unless it was read before.
@@ -97,7 +97,7 @@ impl<N: Copy + Eq + Hash + Drop, S: Copy + Eq + Hash + Drop> Encoding<N, S> {
         requires is_true { IsTrueCache (D.universe provider.now) cache.old }
         requires half { IsHalfReading (D.universe provider.now) (notes_in self.old) }
         requires seen { Contains (notes_in self.old).seen candidate }
-        ensures bounded { IsBounded self.new }
+        ensures room { KeepsRoom self.old self.new }
         ensures is_true { IsTrueCache (D.universe provider.now) cache.new }
         ensures reading { OnOk result (IsReadingOf (D.universe provider.now) chosen.now.keys (λ s. candidate ≡ s) (notes_in self.old) (notes_in self.new)) }
         ensures here { OnOk result (IsAvailable (D.universe provider.now) cache.old candidate → Contains (notes_in self.new).read candidate) }
@@ -107,7 +107,6 @@ impl<N: Copy + Eq + Hash + Drop, S: Copy + Eq + Hash + Drop> Encoding<N, S> {
             (IsDemanded (D.universe provider.now) chosen.now.keys (demands_of ((D.universe provider.now).needs candidate)))
             (IsOwn (D.universe provider.now) (BySolvable candidate) (demands_of ((D.universe provider.now).needs candidate))) (notes_in self.old)
             (notes_in self.new) }
-        ensures limits { KeepsLimits (notes_in self.old) (notes_in self.new) }
         ensures refusal { IfErr result (IsStop (D.may_cancel provider.now) (IsFull (notes_in self.new))) }
     {
         if !cache.are_dependencies_available_for(provider, candidate) {
@@ -131,7 +130,7 @@ impl<N: Copy + Eq + Hash + Drop, S: Copy + Eq + Hash + Drop> Encoding<N, S> {
         requires is_true { IsTrueCache (D.universe provider.now) cache.old }
         requires half { IsHalfReading (D.universe provider.now) (notes_in self.old) }
         requires seen { Contains (notes_in self.old).seen candidate }
-        ensures bounded { IsBounded self.new }
+        ensures room { KeepsRoom self.old self.new }
         ensures is_true { IsTrueCache (D.universe provider.now) cache.new }
         ensures reading { OnOk result (IsReadingOf (D.universe provider.now) chosen.now.keys (λ s. candidate ≡ s) (notes_in self.old) (notes_in self.new)) }
         ensures here { OnOk result (IsHinted (D.universe provider.now) candidate → Contains (notes_in self.new).read candidate) }
@@ -140,7 +139,6 @@ impl<N: Copy + Eq + Hash + Drop, S: Copy + Eq + Hash + Drop> Encoding<N, S> {
             (IsDemanded (D.universe provider.now) chosen.now.keys (demands_of ((D.universe provider.now).needs candidate)))
             (IsOwn (D.universe provider.now) (BySolvable candidate) (demands_of ((D.universe provider.now).needs candidate))) (notes_in self.old)
             (notes_in self.new) }
-        ensures limits { KeepsLimits (notes_in self.old) (notes_in self.new) }
         ensures refusal { IfErr result (IsStop (D.may_cancel provider.now) (IsFull (notes_in self.new))) }
     {
         cache.fetch_candidates(provider, provider.solvable_name(candidate))?;
@@ -162,13 +160,12 @@ impl<N: Copy + Eq + Hash + Drop, S: Copy + Eq + Hash + Drop> Encoding<N, S> {
         requires half { IsHalfReading (D.universe provider.now) (notes_in self.old) }
         requires listed { candidates.now ≡ candidates_at (notes_in self.old) place }
         requires within { place < length (notes_in self.old).requirements }
-        ensures bounded { IsBounded self.new }
+        ensures room { KeepsRoom self.old self.new }
         ensures is_true { IsTrueCache (D.universe provider.now) cache.new }
         ensures reading { OnOk result (IsHintedReading (D.universe provider.now) chosen.now.keys place (notes_in self.old) (notes_in self.new)) }
         ensures here { OnOk result (AreReadIfHinted (D.universe provider.now) (notes_in self.new) (candidates_at (notes_in self.new) place)) }
         ensures more { OnOk result (IsMoreOrSame (notes_in self.old) (notes_in self.new)) }
         ensures led { KeepsLed (D.universe provider.now) chosen.now.keys (notes_in self.old) (notes_in self.new) }
-        ensures limits { KeepsLimits (notes_in self.old) (notes_in self.new) }
         ensures refusal { IfErr result (IsStop (D.may_cancel provider.now) (IsFull (notes_in self.new))) }
     {
         for candidate in candidates {
@@ -189,13 +186,12 @@ impl<N: Copy + Eq + Hash + Drop, S: Copy + Eq + Hash + Drop> Encoding<N, S> {
         requires is_true { IsTrueCache (D.universe provider.now) cache.old }
         requires half { IsHalfReading (D.universe provider.now) (notes_in self.old) }
         requires within { place < length (notes_in self.old).requirements }
-        ensures bounded { IsBounded self.new }
+        ensures room { KeepsRoom self.old self.new }
         ensures is_true { IsTrueCache (D.universe provider.now) cache.new }
         ensures reading { OnOk result (IsHintedReading (D.universe provider.now) chosen.now.keys place (notes_in self.old) (notes_in self.new)) }
         ensures here { OnOk result (AreReadIfHinted (D.universe provider.now) (notes_in self.new) (candidates_at (notes_in self.new) place)) }
         ensures more { OnOk result (IsMoreOrSame (notes_in self.old) (notes_in self.new)) }
         ensures led { KeepsLed (D.universe provider.now) chosen.now.keys (notes_in self.old) (notes_in self.new) }
-        ensures limits { KeepsLimits (notes_in self.old) (notes_in self.new) }
         ensures refusal { IfErr result (IsStop (D.may_cancel provider.now) (IsFull (notes_in self.new))) }
     {
         let candidates = self.listed_candidates(place)?;
@@ -217,14 +213,13 @@ impl<N: Copy + Eq + Hash + Drop, S: Copy + Eq + Hash + Drop> Encoding<N, S> {
         requires is_true { IsTrueCache (D.universe provider.now) cache.old }
         requires half { IsHalfReading (D.universe provider.now) (notes_in self.old) }
         requires within { until ≤ length (notes_in self.old).requirements }
-        ensures bounded { IsBounded self.new }
+        ensures room { KeepsRoom self.old self.new }
         ensures is_true { IsTrueCache (D.universe provider.now) cache.new }
         ensures reading { OnOk result (IsHintedReading (D.universe provider.now) chosen.now.keys from (notes_in self.old) (notes_in self.new)) }
         ensures here { OnOk result (AreHintsReadTo (D.universe provider.now) from until (notes_in self.new)) }
         ensures any_new { IfOk result (HasRead (notes_in self.old) (notes_in self.new)) }
         ensures fit { OnOk result (length (notes_in self.new).read ≤ (notes_in self.new).variable_limit) }
         ensures led { KeepsLed (D.universe provider.now) chosen.now.keys (notes_in self.old) (notes_in self.new) }
-        ensures limits { KeepsLimits (notes_in self.old) (notes_in self.new) }
         ensures refusal { IfErr result (IsStop (D.may_cancel provider.now) (IsFull (notes_in self.new))) }
     {
         let before = self.read.len();
@@ -252,14 +247,13 @@ impl<N: Copy + Eq + Hash + Drop, S: Copy + Eq + Hash + Drop> Encoding<N, S> {
         requires is_true { IsTrueCache (D.universe provider.now) cache.old }
         requires half { IsHalfReading (D.universe provider.now) (notes_in self.old) }
         requires within { from ≤ length (notes_in self.old).requirements }
-        ensures bounded { IsBounded self.new }
+        ensures room { KeepsRoom self.old self.new }
         ensures is_true { IsTrueCache (D.universe provider.now) cache.new }
         ensures reading { OnOk result (IsHintedReading (D.universe provider.now) chosen.now.keys from (notes_in self.old) (notes_in self.new)) }
         ensures here { OnOk result (AreHintsRead (D.universe provider.now) from (notes_in self.new)) }
         ensures any_new { IfOk result (HasRead (notes_in self.old) (notes_in self.new)) }
         ensures fit { OnOk result (length (notes_in self.new).read ≤ (notes_in self.new).variable_limit) }
         ensures led { KeepsLed (D.universe provider.now) chosen.now.keys (notes_in self.old) (notes_in self.new) }
-        ensures limits { KeepsLimits (notes_in self.old) (notes_in self.new) }
         ensures refusal { IfErr result (IsStop (D.may_cancel provider.now) (IsFull (notes_in self.new))) }
     {
         let mut place = from;

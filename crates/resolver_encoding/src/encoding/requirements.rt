@@ -6,23 +6,21 @@ ghost use Rattle.resolver_clause_store.specs.Candidates.{requirement_candidates 
 ghost use Rattle.resolver_clause_store.specs.Variables.{AreDistinct};
 ghost use Rattle.resolver_clause_store.specs.declared.By.TheVariants.{Solvable as BySolvable};
 ghost use Rattle.resolver_clause_store.specs.declared.ClauseKind.TheVariants.{Requires as RequiresKind};
-ghost use Rattle.resolver_encoding.specs.Atoms.{atoms_of};
 ghost use Rattle.resolver_encoding.specs.Called.{IsCalledBy, IsWantedBy};
-ghost use Rattle.resolver_encoding.specs.Encodings.{AddsRequirement, AreDisjuncts, AsksFor, IsAskStep, IsDisjunctOf, IsDisjunctRead, IsEncoding, IsEncodingOf};
-ghost use Rattle.resolver_encoding.specs.Encodings.{IsFull, IsLeft, IsReadStep, IsStep, IsTrueUnder, IsUnmet, KeepsLimits};
+ghost use Rattle.resolver_encoding.specs.Encodings.{AreDisjuncts, AsksFor, IsAskStep, IsDisjunctOf, IsDisjunctRead, IsEncoding, IsEncodingOf};
+ghost use Rattle.resolver_encoding.specs.Encodings.{IsFull, IsLeft, IsReadStep, IsStep, IsTrueUnder, IsUnmet};
 ghost use Rattle.resolver_clause_store.specs.Universe.{Demands};
 ghost use Rattle.resolver_encoding.specs.Led.{AddsOnly, Brings, IsCandidate, IsHelped, IsOwn, NoneOwn, with_requirements};
 ghost use Rattle.resolver_encoding.specs.ReadState.{HasClause, IsReadRequirement};
 ghost use Rattle.resolver_encoding.specs.Refusals.{IsShortage, IsStop};
 
 use super::Encoding;
-use crate::choices::{Choices, choices_of, places_behind};
+use crate::choices::{Choices, choices_of};
 use crate::disjuncts::{disjuncts_of, is_met, without_repeats};
-use crate::literals::{origin_of, push_candidates, push_helpers, push_literal};
 use indexmap::IndexSet;
 use resolver_clause_store::{
     By, Cache, ClauseKind, ConditionId, ConditionalRequirement, DependencyProvider, Exhausted,
-    Interner, Interrupted, Literal, Requirement, RequirementClause, VersionSetId, is_among,
+    Interner, Interrupted, Requirement, VersionSetId, is_among,
 };
 use std::hash::Hash;
 
@@ -43,72 +41,7 @@ fn plain_requirer<S: Copy>(by: By<S>, condition: Option<ConditionId>) -> Option<
 }
 
 impl<N: Copy + Eq + Hash + Drop, S: Copy + Eq + Hash + Drop> Encoding<N, S> {
-    ghost use Rattle.resolver_encoding.specs.Notes.{IsBounded, notes_in};
-
-    /// Adds a clause that asks for candidates.
-    pub(super) fn add_asking(
-        &mut self,
-        kind: ClauseKind<N, S>,
-        literals: Vec<Literal>,
-        of_root: bool,
-        ends: Vec<usize>,
-    ) -> Result<(), Exhausted>
-        requires bounded { IsBounded self.old }
-        ensures bounded { IsBounded self.new }
-        ensures added { OnOk result (notes_in self.new ≡ record (notes_in self.old) {
-          table = (notes_in self.old).table ++ literals ∷ [];
-          kinds = (notes_in self.old).kinds ++ kind ∷ [];
-          requirements = (notes_in self.old).requirements ++ length (notes_in self.old).kinds ∷ [];
-        }) }
-        ensures origins { (notes_in self.new).origins ≡ (notes_in self.old).origins }
-        ensures still { (notes_in self.new).deferred ≡ (notes_in self.old).deferred }
-        ensures limits { KeepsLimits (notes_in self.old) (notes_in self.new) }
-        ensures refusal { IfErr result (IsShortage (IsFull (notes_in self.new))) }
-    {
-        let number = self.kinds.len();
-        self.add_clause(kind, literals)?;
-        self.requirements.push(RequirementClause {
-            number,
-            of_root,
-            ends,
-        })?;
-        Ok(())
-    }
-
-    /// Adds the clause of a requirement and a disjunct of its condition.
-    fn add_requirement<D: DependencyProvider<NameId = N, SolvableId = S>>(
-        &mut self,
-        provider: &D,
-        by: By<S>,
-        disjunct: Vec<VersionSetId>,
-        requirement: Requirement,
-        choices: &Choices<S>,
-    ) -> Result<(), Exhausted>
-        requires bounded { IsBounded self.old }
-        requires candidates { choices.now.candidates.items ≡ candidates_of (D.universe provider.now) requirement }
-        requires small { All (λ n. n < 2 ^ 63) choices.now.counts.items }
-        ensures bounded { IsBounded self.new }
-        ensures added { OnOk result (AddsRequirement (notes_in self.old) (notes_in self.new) (RequiresKind by disjunct requirement)
-            (atoms_of (D.universe provider.now) (RequiresKind by disjunct requirement))) }
-        ensures adds { AddsOnly (λ o. IsHelped (D.universe provider.now) by disjunct.items o ⊎ IsCandidate (D.universe provider.now) requirement o)
-            (notes_in self.old) (notes_in self.new) }
-        ensures limits { KeepsLimits (notes_in self.old) (notes_in self.new) }
-        ensures refusal { IfErr result (IsShortage (IsFull (notes_in self.new))) }
-    {
-        let mut literals = Vec::new(self.alloc);
-        push_literal(&mut self.variables, &mut literals, origin_of(by), false)?;
-        push_helpers(&mut self.variables, &mut literals, &disjunct)?;
-        let ends = places_behind(self.alloc, literals.len(), &choices.counts)?;
-        push_candidates(&mut self.variables, &mut literals, &choices.candidates)?;
-        let of_root = matches!(by, By::Root);
-        let kind = ClauseKind::Requires {
-            parent: by,
-            disjunct,
-            requirement,
-        };
-        self.add_asking(kind, literals, of_root, ends)?;
-        Ok(())
-    }
+    ghost use Rattle.resolver_encoding.specs.Notes.{IsBounded, KeepsRoom, notes_in};
 
     /// Encodes a requirement under a disjunct of its condition, with the candidates at hand.
     fn encode_choices<D: DependencyProvider<NameId = N, SolvableId = S>>(
@@ -128,18 +61,22 @@ impl<N: Copy + Eq + Hash + Drop, S: Copy + Eq + Hash + Drop> Encoding<N, S> {
             (version_sets (D.universe provider.now) requirement) }
         requires seen { All (Contains (notes_in self.old).seen) choices.now.candidates.items }
         requires once { AreDistinct disjunct.items }
-        ensures bounded { IsBounded self.new }
+        ensures room { KeepsRoom self.old self.new }
         ensures is_true { IsTrueCache (D.universe provider.now) cache.new }
         ensures step { OnOk result (IsStep (D.universe provider.now) (IsTrueUnder (D.universe provider.now) by disjunct.items requirement) (notes_in self.old)
             (notes_in self.new)) }
         ensures read { OnOk result (Contains (notes_in self.new).kinds (RequiresKind by disjunct requirement)) }
         ensures adds { AddsOnly (λ o. IsHelped (D.universe provider.now) by disjunct.items o ⊎ IsCandidate (D.universe provider.now) requirement o)
             (notes_in self.old) (notes_in self.new) }
-        ensures limits { KeepsLimits (notes_in self.old) (notes_in self.new) }
         ensures refusal { IfErr result (IsStop (D.may_cancel provider.now) (IsFull (notes_in self.new))) }
     {
         self.help_each(provider, cache, &disjunct)?;
-        self.add_requirement(provider, by, disjunct, requirement, choices)?;
+        let kind = ClauseKind::Requires {
+            parent: by,
+            disjunct,
+            requirement,
+        };
+        self.add_with(kind, choices)?;
         Ok(())
     }
 
@@ -152,7 +89,7 @@ impl<N: Copy + Eq + Hash + Drop, S: Copy + Eq + Hash + Drop> Encoding<N, S> {
     ) -> Result<Choices<S>, Interrupted<D::Cancel>>
         requires bounded { IsBounded self.old }
         requires is_true { IsTrueCache (D.universe provider.now) cache.old }
-        ensures bounded { IsBounded self.new }
+        ensures room { KeepsRoom self.old self.new }
         ensures is_true { IsTrueCache (D.universe provider.now) cache.new }
         ensures candidates { IfOk result (λ choices. choices.candidates.items ≡ candidates_of (D.universe provider.now) requirement) }
         ensures small { IfOk result (λ choices. All (λ n. n < 2 ^ 63) choices.counts.items) }
@@ -163,7 +100,6 @@ impl<N: Copy + Eq + Hash + Drop, S: Copy + Eq + Hash + Drop> Encoding<N, S> {
         ensures seen { IfOk result (λ choices. All (Contains (notes_in self.new).seen) choices.candidates.items) }
         ensures brings { (root : Demands) → IsEncoding (D.universe provider.now) root (notes_in self.old) → Brings (D.universe provider.now)
             (IsWantedBy (D.universe provider.now) requirement) NoneOwn (notes_in self.old) (notes_in self.new) }
-        ensures limits { KeepsLimits (notes_in self.old) (notes_in self.new) }
         ensures refusal { IfErr result (IsStop (D.may_cancel provider.now) (IsFull (notes_in self.new))) }
     {
         self.ask_named(provider, cache, requirement)?;
@@ -184,7 +120,7 @@ impl<N: Copy + Eq + Hash + Drop, S: Copy + Eq + Hash + Drop> Encoding<N, S> {
         requires bounded { IsBounded self.old }
         requires is_true { IsTrueCache (D.universe provider.now) cache.old }
         requires once { AreDistinct disjunct.items }
-        ensures bounded { IsBounded self.new }
+        ensures room { KeepsRoom self.old self.new }
         ensures is_true { IsTrueCache (D.universe provider.now) cache.new }
         ensures step { OnOk result (IsAskStep (D.universe provider.now) (IsWantedBy (D.universe provider.now) requirement)
             (IsTrueUnder (D.universe provider.now) by disjunct.items requirement) (notes_in self.old) (notes_in self.new)) }
@@ -192,7 +128,6 @@ impl<N: Copy + Eq + Hash + Drop, S: Copy + Eq + Hash + Drop> Encoding<N, S> {
         ensures brings { (root : Demands) → IsEncoding (D.universe provider.now) root (notes_in self.old) → Brings (D.universe provider.now)
             (IsWantedBy (D.universe provider.now) requirement) (IsHelped (D.universe provider.now) by disjunct.items) (notes_in self.old)
             (notes_in self.new) }
-        ensures limits { KeepsLimits (notes_in self.old) (notes_in self.new) }
         ensures refusal { IfErr result (IsStop (D.may_cancel provider.now) (IsFull (notes_in self.new))) }
     {
         let choices = self.choose(provider, cache, requirement)?;
@@ -213,7 +148,7 @@ impl<N: Copy + Eq + Hash + Drop, S: Copy + Eq + Hash + Drop> Encoding<N, S> {
         requires bounded { IsBounded self.old }
         requires is_true { IsTrueCache (D.universe provider.now) cache.old }
         requires disjunct { IsDisjunctOf (D.universe provider.now) requirement.condition disjunct.now }
-        ensures bounded { IsBounded self.new }
+        ensures room { KeepsRoom self.old self.new }
         ensures is_true { IsTrueCache (D.universe provider.now) cache.new }
         ensures step { OnOk result (IsReadStep (D.universe provider.now) (IsUnmet (D.universe provider.now) chosen.now.keys by)
             (IsCalledBy (D.universe provider.now) chosen.now.keys requirement) (AsksFor (D.universe provider.now) by requirement) (notes_in self.old)
@@ -222,7 +157,6 @@ impl<N: Copy + Eq + Hash + Drop, S: Copy + Eq + Hash + Drop> Encoding<N, S> {
         ensures brings { (root : Demands) → IsEncoding (D.universe provider.now) root (notes_in self.old) → Brings (D.universe provider.now)
             (IsCalledBy (D.universe provider.now) chosen.now.keys requirement)
             (IsOwn (D.universe provider.now) by (with_requirements (requirement ∷ []))) (notes_in self.old) (notes_in self.new) }
-        ensures limits { KeepsLimits (notes_in self.old) (notes_in self.new) }
         ensures refusal { IfErr result (IsStop (D.may_cancel provider.now) (IsFull (notes_in self.new))) }
     {
         let each_once = without_repeats(self.alloc, disjunct)?;
@@ -248,7 +182,7 @@ impl<N: Copy + Eq + Hash + Drop, S: Copy + Eq + Hash + Drop> Encoding<N, S> {
         requires bounded { IsBounded self.old }
         requires is_true { IsTrueCache (D.universe provider.now) cache.old }
         requires disjuncts { AreDisjuncts (D.universe provider.now) requirement.condition (map (λ list. list.items) disjuncts.now) }
-        ensures bounded { IsBounded self.new }
+        ensures room { KeepsRoom self.old self.new }
         ensures is_true { IsTrueCache (D.universe provider.now) cache.new }
         ensures step { OnOk result (IsReadStep (D.universe provider.now) (IsUnmet (D.universe provider.now) chosen.now.keys by)
             (IsCalledBy (D.universe provider.now) chosen.now.keys requirement) (AsksFor (D.universe provider.now) by requirement) (notes_in self.old)
@@ -257,7 +191,6 @@ impl<N: Copy + Eq + Hash + Drop, S: Copy + Eq + Hash + Drop> Encoding<N, S> {
         ensures brings { (root : Demands) → AsksFor (D.universe provider.now) by requirement root → IsEncoding (D.universe provider.now) root
             (notes_in self.old) → Brings (D.universe provider.now) (IsCalledBy (D.universe provider.now) chosen.now.keys requirement)
             (IsOwn (D.universe provider.now) by (with_requirements (requirement ∷ []))) (notes_in self.old) (notes_in self.new) }
-        ensures limits { KeepsLimits (notes_in self.old) (notes_in self.new) }
         ensures refusal { IfErr result (IsStop (D.may_cancel provider.now) (IsFull (notes_in self.new))) }
     {
         for disjunct in disjuncts {
@@ -277,7 +210,7 @@ impl<N: Copy + Eq + Hash + Drop, S: Copy + Eq + Hash + Drop> Encoding<N, S> {
     ) -> Result<(), Interrupted<D::Cancel>>
         requires bounded { IsBounded self.old }
         requires is_true { IsTrueCache (D.universe provider.now) cache.old }
-        ensures bounded { IsBounded self.new }
+        ensures room { KeepsRoom self.old self.new }
         ensures is_true { IsTrueCache (D.universe provider.now) cache.new }
         ensures step { OnOk result (IsReadStep (D.universe provider.now) (IsUnmet (D.universe provider.now) chosen.now.keys by)
             (IsCalledBy (D.universe provider.now) chosen.now.keys requirement) (AsksFor (D.universe provider.now) by requirement) (notes_in self.old)
@@ -286,7 +219,6 @@ impl<N: Copy + Eq + Hash + Drop, S: Copy + Eq + Hash + Drop> Encoding<N, S> {
         ensures brings { (root : Demands) → AsksFor (D.universe provider.now) by requirement root → IsEncoding (D.universe provider.now) root
             (notes_in self.old) → Brings (D.universe provider.now) (IsCalledBy (D.universe provider.now) chosen.now.keys requirement)
             (IsOwn (D.universe provider.now) by (with_requirements (requirement ∷ []))) (notes_in self.old) (notes_in self.new) }
-        ensures limits { KeepsLimits (notes_in self.old) (notes_in self.new) }
         ensures refusal { IfErr result (IsStop (D.may_cancel provider.now) (IsFull (notes_in self.new))) }
     {
         let disjuncts = disjuncts_of(self.alloc, provider, requirement.condition)?;
@@ -306,7 +238,7 @@ impl<N: Copy + Eq + Hash + Drop, S: Copy + Eq + Hash + Drop> Encoding<N, S> {
         requires is_true { IsTrueCache (D.universe provider.now) cache.old }
         requires encoding { IsEncodingOf (D.universe provider.now)
             (AsksFor (D.universe provider.now) (BySolvable requirer) (record { condition = None; requirement = requirement })) (notes_in self.old) }
-        ensures bounded { IsBounded self.new }
+        ensures room { KeepsRoom self.old self.new }
         ensures is_true { IsTrueCache (D.universe provider.now) cache.new }
         ensures step { OnOk result (IsAskStep (D.universe provider.now) (IsWantedBy (D.universe provider.now) requirement)
             (AsksFor (D.universe provider.now) (BySolvable requirer) (record { condition = None; requirement = requirement })) (notes_in self.old)
@@ -315,7 +247,6 @@ impl<N: Copy + Eq + Hash + Drop, S: Copy + Eq + Hash + Drop> Encoding<N, S> {
         ensures brings { Brings (D.universe provider.now) (IsWantedBy (D.universe provider.now) requirement)
             (IsOwn (D.universe provider.now) (BySolvable requirer) (with_requirements (record { condition = None; requirement = requirement } ∷ [])))
             (notes_in self.old) (notes_in self.new) }
-        ensures limits { KeepsLimits (notes_in self.old) (notes_in self.new) }
         ensures refusal { IfErr result (IsStop (D.may_cancel provider.now) (IsFull (notes_in self.new))) }
     {
         if is_among(&self.gates, &requirement) {
@@ -346,7 +277,7 @@ impl<N: Copy + Eq + Hash + Drop, S: Copy + Eq + Hash + Drop> Encoding<N, S> {
         requires bounded { IsBounded self.old }
         requires is_true { IsTrueCache (D.universe provider.now) cache.old }
         requires encoding { IsEncodingOf (D.universe provider.now) (AsksFor (D.universe provider.now) by requirement) (notes_in self.old) }
-        ensures bounded { IsBounded self.new }
+        ensures room { KeepsRoom self.old self.new }
         ensures is_true { IsTrueCache (D.universe provider.now) cache.new }
         ensures step { OnOk result (IsReadStep (D.universe provider.now) (IsUnmet (D.universe provider.now) chosen.now.keys by)
             (IsCalledBy (D.universe provider.now) chosen.now.keys requirement) (AsksFor (D.universe provider.now) by requirement) (notes_in self.old)
@@ -354,7 +285,6 @@ impl<N: Copy + Eq + Hash + Drop, S: Copy + Eq + Hash + Drop> Encoding<N, S> {
         ensures read { OnOk result (IsReadRequirement (D.universe provider.now) (notes_in self.new).kinds (IsLeft (notes_in self.new)) by requirement) }
         ensures brings { Brings (D.universe provider.now) (IsCalledBy (D.universe provider.now) chosen.now.keys requirement)
             (IsOwn (D.universe provider.now) by (with_requirements (requirement ∷ []))) (notes_in self.old) (notes_in self.new) }
-        ensures limits { KeepsLimits (notes_in self.old) (notes_in self.new) }
         ensures refusal { IfErr result (IsStop (D.may_cancel provider.now) (IsFull (notes_in self.new))) }
     {
         match plain_requirer(by, requirement.condition) {

@@ -3,52 +3,22 @@
 ghost use Rattle.std.specs.Prelude.{◌≡◌, ◌⊎◌, ◌<◌, ◌^◌, All, Contains, IfErr, None, OnOk, ⊤};
 ghost use Rattle.resolver_clause_store.specs.Candidates.{requirement_candidates as candidates_of, version_sets};
 ghost use Rattle.resolver_clause_store.specs.declared.By.TheVariants.{Solvable as BySolvable};
-ghost use Rattle.resolver_clause_store.specs.declared.ClauseKind.TheVariants.{AnyOf as AnyOfKind, GateRequires as GateKind};
+ghost use Rattle.resolver_clause_store.specs.declared.ClauseKind.TheVariants.{AnyOf as AnyOfKind};
 ghost use Rattle.resolver_clause_store.specs.declared.Origin.TheVariants.{Gate as GateOrigin};
-ghost use Rattle.resolver_encoding.specs.Atoms.{atoms_of};
-ghost use Rattle.resolver_encoding.specs.Encodings.{AddsRequirement, AsksFor, IsFull, IsStep, KeepsLimits};
+ghost use Rattle.resolver_encoding.specs.Encodings.{AsksFor, IsFull, IsStep};
 ghost use Rattle.resolver_clause_store.specs.declared.Origin.TheVariants.{Solvable as SolvableOrigin};
 ghost use Rattle.resolver_encoding.specs.Led.{AddsOnly, IsCandidate};
 ghost use Rattle.resolver_encoding.specs.Refusals.{IsShortage};
 
 use super::Encoding;
-use crate::choices::{Choices, places_behind};
-use crate::literals::{push_candidates, push_literal};
+use crate::choices::Choices;
 use resolver_clause_store::{
     ClauseKind, DependencyProvider, Exhausted, Origin, Requirement, append, is_among,
 };
 use std::hash::Hash;
 
 impl<N: Copy + Eq + Hash + Drop, S: Copy + Eq + Hash + Drop> Encoding<N, S> {
-    ghost use Rattle.resolver_encoding.specs.Notes.{IsBounded, notes_in};
-
-    /// Adds the clause of the gate of a requirement.
-    fn add_gate<D: DependencyProvider<NameId = N, SolvableId = S>>(
-        &mut self,
-        provider: &D,
-        requirement: Requirement,
-        choices: &Choices<S>,
-    ) -> Result<(), Exhausted>
-        requires bounded { IsBounded self.old }
-        requires candidates { choices.now.candidates.items ≡ candidates_of (D.universe provider.now) requirement }
-        requires small { All (λ n. n < 2 ^ 63) choices.now.counts.items }
-        ensures bounded { IsBounded self.new }
-        ensures added { OnOk result (AddsRequirement (notes_in self.old) (notes_in self.new) (GateKind requirement)
-            (atoms_of (D.universe provider.now) (GateKind requirement))) }
-        ensures adds { AddsOnly (λ o. (o ≡ GateOrigin requirement) ⊎ IsCandidate (D.universe provider.now) requirement o) (notes_in self.old)
-            (notes_in self.new) }
-        ensures limits { KeepsLimits (notes_in self.old) (notes_in self.new) }
-        ensures refusal { IfErr result (IsShortage (IsFull (notes_in self.new))) }
-    {
-        let mut literals = Vec::new(self.alloc);
-        let gate = Origin::Gate(requirement);
-        push_literal(&mut self.variables, &mut literals, gate, false)?;
-        let ends = places_behind(self.alloc, literals.len(), &choices.counts)?;
-        push_candidates(&mut self.variables, &mut literals, &choices.candidates)?;
-        let kind = ClauseKind::GateRequires { requirement };
-        self.add_asking(kind, literals, false, ends)?;
-        Ok(())
-    }
+    ghost use Rattle.resolver_encoding.specs.Notes.{IsBounded, KeepsRoom, notes_in};
 
     /// Makes the gate of a requirement, if it has none yet.
     pub(super) fn make_gate<D: DependencyProvider<NameId = N, SolvableId = S>>(
@@ -63,18 +33,17 @@ impl<N: Copy + Eq + Hash + Drop, S: Copy + Eq + Hash + Drop> Encoding<N, S> {
         requires asked { All (λ v. Contains (notes_in self.old).asked ((D.universe provider.now).version_set_name v))
             (version_sets (D.universe provider.now) requirement) }
         requires seen { All (Contains (notes_in self.old).seen) choices.now.candidates.items }
-        ensures bounded { IsBounded self.new }
+        ensures room { KeepsRoom self.old self.new }
         ensures step { OnOk result (IsStep (D.universe provider.now) (λ root. ⊤) (notes_in self.old) (notes_in self.new)) }
         ensures gate { OnOk result (Contains (notes_in self.new).gates requirement) }
         ensures adds { AddsOnly (λ o. (o ≡ GateOrigin requirement) ⊎ IsCandidate (D.universe provider.now) requirement o) (notes_in self.old)
             (notes_in self.new) }
-        ensures limits { KeepsLimits (notes_in self.old) (notes_in self.new) }
         ensures refusal { IfErr result (IsShortage (IsFull (notes_in self.new))) }
     {
         if is_among(&self.gates, &requirement) {
             return Ok(());
         }
-        self.add_gate(provider, requirement, choices)?;
+        self.add_with(ClauseKind::GateRequires { requirement }, choices)?;
         append(&mut self.gates, requirement)?;
         Ok(())
     }
@@ -87,22 +56,18 @@ impl<N: Copy + Eq + Hash + Drop, S: Copy + Eq + Hash + Drop> Encoding<N, S> {
         requirement: Requirement,
     ) -> Result<(), Exhausted>
         requires bounded { IsBounded self.old }
-        ensures bounded { IsBounded self.new }
+        ensures room { KeepsRoom self.old self.new }
         ensures step { OnOk result (IsStep (D.universe provider.now)
             (AsksFor (D.universe provider.now) (BySolvable requirer) (record { condition = None; requirement = requirement })) (notes_in self.old)
             (notes_in self.new)) }
         ensures implied { OnOk result (Contains (notes_in self.new).kinds (AnyOfKind (GateOrigin requirement) requirer)) }
         ensures adds { AddsOnly (λ o. (o ≡ GateOrigin requirement) ⊎ (o ≡ SolvableOrigin requirer)) (notes_in self.old) (notes_in self.new) }
-        ensures limits { KeepsLimits (notes_in self.old) (notes_in self.new) }
         ensures refusal { IfErr result (IsShortage (IsFull (notes_in self.new))) }
     {
-        let helper = Origin::Gate(requirement);
-        let kind = ClauseKind::AnyOf {
-            helper,
+        self.add(ClauseKind::AnyOf {
+            helper: Origin::Gate(requirement),
             candidate: requirer,
-        };
-        let second = (Origin::Solvable(requirer), false);
-        self.add_pair(kind, (helper, true), second)?;
+        })?;
         Ok(())
     }
 }

@@ -1,0 +1,58 @@
+-- A table of clauses, and what one more clause does to it.
+use Rattle.std.specs.Prelude.{ℕ, ◌≡◌, ◌⊎◌, Bool, false, List, [], ◌∷◌, ◌++◌, Option, Some, None, Vec, length}
+use Rattle.std.specs.declared.alloc.Global.{Global}
+use Rattle.resolver_clause_store.specs.Universe.{Universe}
+use Rattle.resolver_clause_store.specs.Variables.{AreDistinct}
+use Rattle.resolver_clause_store.specs.declared.By.{By}
+use Rattle.resolver_clause_store.specs.declared.By.TheVariants.{Solvable as BySolvable}
+use Rattle.resolver_clause_store.specs.declared.ClauseKind.{ClauseKind}
+use Rattle.resolver_clause_store.specs.declared.ClauseKind.TheVariants.{Constrains}
+use Rattle.resolver_clause_store.specs.declared.Literal.{Literal}
+use Rattle.resolver_clause_store.specs.declared.Origin.{Origin}
+use Rattle.resolver_clause_store.specs.declared.Origin.TheVariants.{Solvable}
+use Rattle.resolver_clause_store.specs.declared.RequirementClause.{RequirementClause}
+use Rattle.resolver_clause_store.specs.declared.VersionSetId.{VersionSetId}
+use Rattle.resolver_encoding.specs.Atoms.{second_atom}
+use Rattle.resolver_encoding.specs.Encodings.{Grows, asking_with}
+use Rattle.resolver_encoding.specs.Values.{IsClauseOf}
+
+-- what each variable stands for, the literals and the kind of each clause, the numbers of those that ask for candidates, and how
+-- many variables and clauses there may be
+pub record Table (N S : Type 0) : Type 0 where
+  pub origins : List (Origin N S)
+  pub literals : List (Vec Literal Global)
+  pub kinds : List (ClauseKind N S)
+  pub requirements : List ℕ
+  pub variable_limit : ℕ
+  pub clause_limit : ℕ
+
+-- the candidate, or nothing where it is the parent
+pub data IsBeside {N S : Type 0} (by : By S) (s : S) (second : Option (Origin N S × Bool)) : Type 0 where
+  beside_it : second ≡ Some (Solvable s, false) → IsBeside by s second
+  is_itself : by ≡ BySolvable s → second ≡ None → IsBeside by s second
+
+-- the second atom, which is left out where a solvable forbids itself: it would be the first one again
+pub data IsSecond {N S : Type 0} (kind : ClauseKind N S) (second : Option (Origin N S × Bool)) : Type 0 where
+  second_is : second ≡ second_atom kind → IsSecond kind second
+  second_again : (by : By S) (v : VersionSetId) (s : S) → kind ≡ Constrains by v s → by ≡ BySolvable s → second ≡ None → IsSecond kind second
+
+-- the numbers of the clauses that ask for candidates, with one more where there is one
+abbrev pub with_number : List ℕ → Option RequirementClause → List ℕ
+with_number numbers None = numbers
+with_number numbers (Some clause) = numbers ++ clause.number ∷ []
+
+-- there are as many variables, no two alike, or as many clauses, as there may be
+abbrev pub IsTableFull : {N S : Type 0} → Table N S → Type 0
+IsTableFull t = ((length t.origins ≡ t.variable_limit) × AreDistinct t.origins) ⊎ (length t.kinds ≡ t.clause_limit)
+
+-- one more clause, with the literals of its kind
+pub record HasAdded {N S : Type 0} (u : Universe N S) (kind : ClauseKind N S) (old new : Table N S) : Type 0 where
+  pub origins : Grows old.origins new.origins
+  pub literals : Vec Literal Global
+  pub clause : IsClauseOf u new.origins literals.items kind
+  pub is : new ≡ record old {
+    origins = new.origins;
+    literals = old.literals ++ literals ∷ [];
+    kinds = old.kinds ++ kind ∷ [];
+    requirements = asking_with kind (length old.kinds) old.requirements;
+  }

@@ -1,0 +1,219 @@
+//! Clauses, each given by its kind.
+
+ghost use Rattle.std.specs.Prelude.{◌≡◌, ◌<◌, ◌≤◌, ◌^◌, [], ◌∷◌, ◌++◌, ℕ, All, IfErr, List, OnErr, OnOk, length, map};
+ghost use Rattle.resolver_clause_store.specs.Laws.{IsIdentity};
+ghost use Rattle.resolver_clause_store.specs.Universe.{Universe};
+ghost use Rattle.resolver_clause_store.specs.Variables.{IsBounded, limit_in, origins_in};
+ghost use Rattle.resolver_encoding.specs.Atoms.{IsMentioned, atoms_of, wanted};
+ghost use Rattle.resolver_encoding.specs.Encodings.{Grows, asking_with};
+ghost use Rattle.resolver_encoding.specs.Led.{AddsSuch};
+ghost use Rattle.resolver_encoding.specs.Refusals.{IsShortage};
+ghost use Rattle.resolver_encoding.specs.Tables.{HasAdded, IsTableFull, with_number};
+ghost use Rattle.resolver_encoding.specs.Values.{IsClauseOf};
+
+use crate::choices::{Choices, places_behind};
+use crate::literals::{depends_on, first_of, push_candidates, push_front, push_helpers, second_of};
+use resolver_clause_store::{By, ClauseKind, Exhausted, Literal, RequirementClause, Variables};
+use std::alloc::Global;
+use std::hash::Hash;
+
+/// The clauses, and what each variable stands for.
+///
+/// A clause is added by its kind alone: its literals follow from that.
+#[derive(Drop)]
+pub(crate) struct ClauseTable<N: Copy + Eq + Hash + Drop, S: Copy + Eq + Hash + Drop> {
+    alloc: Global,
+    pub(crate) variables: Variables<N, S>,
+    kinds: Vec<ClauseKind<N, S>>,
+    literals: Vec<Vec<Literal>>,
+    requirements: Vec<RequirementClause>,
+    clause_limit: usize,
+}
+
+/// How a clause with this number is listed among those that ask for candidates, where it asks for any.
+fn listing_of<N, S>(
+    kind: &ClauseKind<N, S>,
+    number: usize,
+    ends: Vec<usize>,
+) -> Option<RequirementClause>
+    ensures { (numbers : List ℕ) → asking_with kind.now number numbers ≡ with_number numbers result }
+{
+    match kind {
+        ClauseKind::Requires { parent, .. } => Some(RequirementClause {
+            number,
+            of_root: matches!(parent, By::Root),
+            ends,
+        }),
+        ClauseKind::GateRequires { .. } => Some(RequirementClause {
+            number,
+            of_root: false,
+            ends,
+        }),
+        _ => None,
+    }
+}
+
+impl<N: Copy + Eq + Hash + Drop, S: Copy + Eq + Hash + Drop> ClauseTable<N, S> {
+    ghost use Rattle.resolver_encoding.specs.Notes.{table_in};
+
+    /// No clauses. There may be as many variables and as many clauses as the limits say.
+    pub(crate) fn new(alloc: Global, variable_limit: usize, clause_limit: usize) -> Self
+        requires { variable_limit ≤ 2 ^ 31 }
+        ensures bounded { IsBounded result.variables }
+        ensures no_origins { (table_in result).origins ≡ [] }
+        ensures no_literals { (table_in result).literals ≡ [] }
+        ensures no_kinds { (table_in result).kinds ≡ [] }
+        ensures no_requirements { (table_in result).requirements ≡ [] }
+        ensures variables { (table_in result).variable_limit ≡ variable_limit }
+        ensures clauses { (table_in result).clause_limit ≡ clause_limit }
+    {
+        ClauseTable {
+            alloc,
+            variables: Variables::new(alloc, variable_limit),
+            kinds: Vec::new(alloc),
+            literals: Vec::new(alloc),
+            requirements: Vec::new(alloc),
+            clause_limit,
+        }
+    }
+
+    /// Adds a clause. Its literals follow from its kind, and from the candidates where it wants one of these.
+    ///
+    /// Where it is refused, there is no other clause than before; variables may be there that no clause has.
+    pub(crate) fn add(
+        &mut self,
+        kind: ClauseKind<N, S>,
+        choices: &Choices<S>,
+    ) -> Result<(), Exhausted>
+        requires names { IsIdentity N.eq }
+        requires solvables { IsIdentity S.eq }
+        requires bounded { IsBounded self.old.variables }
+        requires small { All (λ n. n < 2 ^ 63) choices.now.counts.items }
+        ensures bounded { IsBounded self.new.variables }
+        ensures added { OnOk result ((u : Universe N S) → choices.now.candidates.items ≡ wanted u kind →
+            HasAdded u kind (table_in self.old) (table_in self.new)) }
+        ensures unchanged { OnErr result (table_in self.new ≡ record (table_in self.old) { origins = (table_in self.new).origins }) }
+        ensures variables { (table_in self.new).variable_limit ≡ (table_in self.old).variable_limit }
+        ensures clauses { (table_in self.new).clause_limit ≡ (table_in self.old).clause_limit }
+        ensures adds { (u : Universe N S) → choices.now.candidates.items ≡ wanted u kind →
+            AddsSuch (IsMentioned (atoms_of u kind)) (table_in self.old).origins (table_in self.new).origins }
+        ensures refusal { IfErr result (IsShortage (IsTableFull (table_in self.new))) }
+    {
+        if self.kinds.len() == self.clause_limit {
+            return Err(Exhausted::Ids);
+        }
+        let mut literals = Vec::new(self.alloc);
+        let ends = self.push_literals(&kind, choices, &mut literals)?;
+        self.put(kind, literals, ends)?;
+        Ok(())
+    }
+
+    /// Puts the literals of a clause into an empty list. Answers the places behind the candidates of each version set.
+    fn push_literals(
+        &mut self,
+        kind: &ClauseKind<N, S>,
+        choices: &Choices<S>,
+        literals: &mut Vec<Literal>,
+    ) -> Result<Vec<usize>, Exhausted>
+        requires names { IsIdentity N.eq }
+        requires solvables { IsIdentity S.eq }
+        requires bounded { IsBounded self.old.variables }
+        requires small { All (λ n. n < 2 ^ 63) choices.now.counts.items }
+        requires empty { literals.old.items ≡ [] }
+        ensures bounded { IsBounded self.new.variables }
+        ensures grows { OnOk result (Grows (table_in self.old).origins (table_in self.new).origins) }
+        ensures table { table_in self.new ≡ record (table_in self.old) { origins = (table_in self.new).origins } }
+        ensures clause { OnOk result ((u : Universe N S) → choices.now.candidates.items ≡ wanted u kind.now →
+            IsClauseOf u (table_in self.new).origins literals.new.items kind.now) }
+        ensures adds { (u : Universe N S) → choices.now.candidates.items ≡ wanted u kind.now →
+            AddsSuch (IsMentioned (atoms_of u kind.now)) (table_in self.old).origins (table_in self.new).origins }
+        ensures refusal { IfErr result (IsShortage (IsTableFull (table_in self.new))) }
+    {
+        push_front(
+            &mut self.variables,
+            literals,
+            first_of(kind),
+            second_of(kind),
+        )?;
+        push_helpers(&mut self.variables, literals, depends_on(kind))?;
+        let ends = places_behind(self.alloc, literals.len(), &choices.counts)?;
+        push_candidates(&mut self.variables, literals, &choices.candidates)?;
+        Ok(ends)
+    }
+
+    /// Puts a clause with its literals behind the others. Where it is refused, nothing changes.
+    fn put(
+        &mut self,
+        kind: ClauseKind<N, S>,
+        literals: Vec<Literal>,
+        ends: Vec<usize>,
+    ) -> Result<(), Exhausted>
+        ensures added { OnOk result (table_in self.new ≡ record (table_in self.old) {
+          literals = (table_in self.old).literals ++ literals ∷ [];
+          kinds = (table_in self.old).kinds ++ kind ∷ [];
+          requirements = asking_with kind (length (table_in self.old).kinds) (table_in self.old).requirements;
+        }) }
+        ensures unchanged { OnErr result (table_in self.new ≡ table_in self.old) }
+        ensures variables { self.new.variables ≡ self.old.variables }
+        ensures memory { IfErr result (λ e. e ≡ Exhausted.Memory) }
+    {
+        let asking = listing_of(&kind, self.kinds.len(), ends);
+        self.put_literals(kind, literals)?;
+        match asking {
+            None => Ok(()),
+            Some(asking) => match self.requirements.push(asking) {
+                Ok(()) => Ok(()),
+                Err(_) => {
+                    self.kinds.pop();
+                    self.literals.pop();
+                    Err(Exhausted::Memory)
+                }
+            },
+        }
+    }
+
+    /// Puts a kind and its literals behind the others. Where it is refused, nothing changes.
+    fn put_literals(
+        &mut self,
+        kind: ClauseKind<N, S>,
+        literals: Vec<Literal>,
+    ) -> Result<(), Exhausted>
+        ensures kinds { OnOk result (self.new.kinds.items ≡ self.old.kinds.items ++ kind ∷ []) }
+        ensures literals { OnOk result (self.new.literals.items ≡ self.old.literals.items ++ literals ∷ []) }
+        ensures unchanged { OnErr result (table_in self.new ≡ table_in self.old) }
+        ensures variables { self.new.variables ≡ self.old.variables }
+        ensures requirements { self.new.requirements ≡ self.old.requirements }
+        ensures clauses { self.new.clause_limit ≡ self.old.clause_limit }
+        ensures memory { IfErr result (λ e. e ≡ Exhausted.Memory) }
+    {
+        self.kinds.push(kind)?;
+        match self.literals.push(literals) {
+            Ok(()) => Ok(()),
+            Err(_) => {
+                self.kinds.pop();
+                Err(Exhausted::Memory)
+            }
+        }
+    }
+
+    /// What the clauses say, by their numbers.
+    pub(crate) fn kinds(&self) -> &[ClauseKind<N, S>]
+        ensures { result.now ≡ (table_in self.now).kinds }
+    {
+        &self.kinds
+    }
+
+    /// The literals of the clauses, by their numbers.
+    pub(crate) fn literals(&self) -> &[Vec<Literal>]
+        ensures { result.now ≡ (table_in self.now).literals }
+    {
+        &self.literals
+    }
+
+    /// The clauses that ask for candidates, in the order of their numbers.
+    pub(crate) fn requirements(&self) -> &[RequirementClause]
+        ensures { map (λ r. r.number) result.now ≡ (table_in self.now).requirements }
+    {
+        &self.requirements
+    }
+}
