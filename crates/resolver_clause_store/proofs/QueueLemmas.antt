@@ -23,7 +23,7 @@ use Rattle.resolver_clause_store.proofs.KeptLemmas.{slot_at}
 use Rattle.resolver_clause_store.proofs.TrailLemmas.{value-true}
 use Rattle.resolver_clause_store.specs.declared.lists.Lists.{Lists}
 use Rattle.resolver_clause_store.specs.declared.queue.DecideQueue.{DecideQueue}
-use Rattle.resolver_clause_store.specs.Queues.{IsFollowed, IsHeld, IsMetBy, IsQueued, IsWaiting, list_of}
+use Rattle.resolver_clause_store.specs.Queues.{IsFollowed, IsHeld, IsMetBy, IsQueued, IsInactive, list_of}
 
 -- a slot at a place that is kept was there
 pub slot-back : (old new : Trail) (count variable : ℕ) (slot : Slot) → KeepsPlaces old new count → slot_of new variable ≡ Some slot → slot.place < count →
@@ -40,9 +40,9 @@ parked-same : (old new : Lists) (variable index : ℕ) → list_of new variable 
     Contains (list_of new variable) index
 parked-same old new variable index same inside = let Inside : List ℕ → Type 0 = λ list. Contains list index in subst Inside (sym same) inside
 
-waiting-cut : (waiting : Lists) (old new : Trail) (kept left : ℕ) (clause : List Literal) (index : ℕ) → left ≤ kept → KeepsPlaces old new left →
-    IsWaiting waiting old kept clause index → IsWaiting waiting new left clause index
-waiting-cut waiting old new kept left clause index less keeps w = record {
+inactive-cut : (inactive : Lists) (old new : Trail) (kept left : ℕ) (clause : List Literal) (index : ℕ) → left ≤ kept → KeepsPlaces old new left →
+    IsInactive inactive old kept clause index → IsInactive inactive new left clause index
+inactive-cut inactive old new kept left clause index less keeps w = record {
   variable = w.variable;
   parked = w.parked;
   asks = w.asks;
@@ -71,30 +71,30 @@ met-cut met followed old new kept left clause index less reached same keeps w = 
       ap (option_map (λ (slot : Slot). beq slot.value true)) (now ∙ sym was) ∙ w.true_there (omega (arith, below, less));
 }
 
-held-cut : (active : List ℕ) (waiting met : Lists) (followed : List ℕ) (old new : Trail) (kept left : ℕ) (clause : List Literal) (index : ℕ) → left ≤ kept →
+held-cut : (active : List ℕ) (inactive met : Lists) (followed : List ℕ) (old new : Trail) (kept left : ℕ) (clause : List Literal) (index : ℕ) → left ≤ kept →
     kept ≤ length_of old → ((place : ℕ) → place < kept → slice_index followed place ≡ variable_at old place) → KeepsPlaces old new left →
-    IsHeld active waiting met followed kept old clause index → IsHeld active waiting met followed left new clause index
-held-cut active waiting met followed old new kept left clause index less reached same keeps held = ⊎_elim
+    IsHeld active inactive met followed kept old clause index → IsHeld active inactive met followed left new clause index
+held-cut active inactive met followed old new kept left clause index less reached same keeps held = ⊎_elim
     (λ (here : Contains active index). inl here)
     (λ rest. ⊎_elim
-    (λ (w : IsWaiting waiting old kept clause index). inr (inl (waiting-cut waiting old new kept left clause index less keeps w)))
+    (λ (w : IsInactive inactive old kept clause index). inr (inl (inactive-cut inactive old new kept left clause index less keeps w)))
     (λ (w : IsMetBy met old followed kept clause index). inr (inr (met-cut met followed old new kept left clause index less reached same keeps w)))
     rest)
     held
 
 -- where the first places of the trail stay
 pub queued-cut : (old new : DecideQueue) (before after : Trail) (table : List (Vec Literal Global)) (requirements : List StoredRequirement) →
-    new.active.items ≡ old.active.items → new.waiting ≡ old.waiting → new.met ≡ old.met → new.followed.items ≡ old.followed.items → new.kept ≤ old.kept →
+    new.active.items ≡ old.active.items → new.inactive ≡ old.inactive → new.met ≡ old.met → new.followed.items ≡ old.followed.items → new.kept ≤ old.kept →
     KeepsPlaces before after new.kept → IsQueued old before table requirements → IsQueued new after table requirements
-queued-cut old new before after table requirements active waiting met followed less keeps it = record {
+queued-cut old new before after table requirements active inactive met followed less keeps it = record {
   following = record {
     followed = omega (arith, less, it.following.followed, ap length followed);
     reached = keeps.are;
     same = λ place below. ap (λ list. slice_index list place) followed ∙ it.following.same place (omega (arith, below, less)) ∙
         sym (keeps.variables place below);
   };
-  each = λ index d below. rw (active, waiting, met, followed)
-      (held-cut old.active.items old.waiting old.met old.followed.items before after old.kept new.kept _ index less it.following.reached it.following.same keeps
+  each = λ index d below. rw (active, inactive, met, followed)
+      (held-cut old.active.items old.inactive old.met old.followed.items before after old.kept new.kept _ index less it.following.reached it.following.same keeps
       (it.each index d below));
 }
 
@@ -105,15 +105,15 @@ queued-kept it before after table requirements keeps queued = queued-cut it it b
 
 -- where other parts of a queue change
 pub queued-same : (old new : DecideQueue) (trail : Trail) (table : List (Vec Literal Global)) (requirements : List StoredRequirement) →
-    new.active.items ≡ old.active.items → new.waiting ≡ old.waiting → new.met ≡ old.met → new.followed.items ≡ old.followed.items → new.kept ≡ old.kept →
+    new.active.items ≡ old.active.items → new.inactive ≡ old.inactive → new.met ≡ old.met → new.followed.items ≡ old.followed.items → new.kept ≡ old.kept →
     IsQueued old trail table requirements → IsQueued new trail table requirements
-queued-same old new trail table requirements active waiting met followed kept it = record {
+queued-same old new trail table requirements active inactive met followed kept it = record {
   following = record {
     followed = omega (arith, kept, it.following.followed, ap length followed);
     reached = omega (arith, kept, it.following.reached);
     same = λ place below. ap (λ list. slice_index list place) followed ∙ it.following.same place (omega (arith, below, kept));
   };
-  each = λ index d below. rw (active, waiting, met, followed, kept) (it.each index d below);
+  each = λ index d below. rw (active, inactive, met, followed, kept) (it.each index d below);
 }
 
 -- where clauses stay what they were
@@ -124,33 +124,33 @@ pub queued-grown : (it : DecideQueue) (trail : Trail) (table more : List (Vec Li
 queued-grown it trail table more requirements inside same queued = record {
   following = queued.following;
   each = λ index d below.
-      let Held : List Literal → Type 0 = λ clause. IsHeld it.active.items it.waiting it.met it.followed.items it.kept trail clause index in
+      let Held : List Literal → Type 0 = λ clause. IsHeld it.active.items it.inactive it.met it.followed.items it.kept trail clause index in
       subst Held (sym (same (get_or requirements index d).number (inside index d below))) (queued.each index d below);
 }
 
 -- more are to be looked at
-held-more : (active more : List ℕ) (waiting met : Lists) (followed : List ℕ) (kept : ℕ) (trail : Trail) (clause : List Literal) (index : ℕ) →
-    IsHeld active waiting met followed kept trail clause index → IsHeld (active ++ more) waiting met followed kept trail clause index
-held-more active more waiting met followed kept trail clause index held =
+held-more : (active more : List ℕ) (inactive met : Lists) (followed : List ℕ) (kept : ℕ) (trail : Trail) (clause : List Literal) (index : ℕ) →
+    IsHeld active inactive met followed kept trail clause index → IsHeld (active ++ more) inactive met followed kept trail clause index
+held-more active more inactive met followed kept trail clause index held =
     ⊎_elim (λ (here : Contains active index). inl (Contains-append_left active more index here)) (λ rest. inr rest) held
 
 -- a requirement behind the others
 pub queued-add : (old new : DecideQueue) (trail : Trail) (table : List (Vec Literal Global)) (requirements : List StoredRequirement)
-    (requirement : StoredRequirement) (last : ℕ) → last ≡ length requirements → new.active.items ≡ old.active.items ++ last ∷ [] → new.waiting ≡ old.waiting →
+    (requirement : StoredRequirement) (last : ℕ) → last ≡ length requirements → new.active.items ≡ old.active.items ++ last ∷ [] → new.inactive ≡ old.inactive →
     new.met ≡ old.met → new.followed.items ≡ old.followed.items → new.kept ≡ old.kept → IsQueued old trail table requirements →
     IsQueued new trail table (requirements ++ requirement ∷ [])
-queued-add old new trail table requirements requirement last end active waiting met followed kept it = record {
+queued-add old new trail table requirements requirement last end active inactive met followed kept it = record {
   following = record {
     followed = omega (arith, kept, it.following.followed, ap length followed);
     reached = omega (arith, kept, it.following.reached);
     same = λ place below. ap (λ list. slice_index list place) followed ∙ it.following.same place (omega (arith, below, kept));
   };
-  each = λ index d below. rw (active, waiting, met, followed, kept) (⊎_elim
+  each = λ index d below. rw (active, inactive, met, followed, kept) (⊎_elim
       (λ (early : index < length requirements).
       let Held : StoredRequirement → Type 0 =
-      λ r. IsHeld (old.active.items ++ last ∷ []) old.waiting old.met old.followed.items old.kept trail (clause_at table r.number) index in
+      λ r. IsHeld (old.active.items ++ last ∷ []) old.inactive old.met old.followed.items old.kept trail (clause_at table r.number) index in
       subst Held (sym (get_or-append requirements (requirement ∷ []) d index early))
-      (held-more old.active.items (last ∷ []) old.waiting old.met old.followed.items old.kept trail _ index (it.each index d early)))
+      (held-more old.active.items (last ∷ []) old.inactive old.met old.followed.items old.kept trail _ index (it.each index d early)))
       (λ (late : length requirements ≤ index).
       let same : last ≡ index = omega (arith, end, late, below, length-append requirements (requirement ∷ [])) in
       let Inside : ℕ → Type 0 = λ i. Contains (old.active.items ++ last ∷ []) i in
@@ -161,9 +161,9 @@ queued-add old new trail table requirements requirement last end active waiting 
 -- the last place that was followed is taken back
 pub queued-forget : (old new : DecideQueue) (trail : Trail) (table : List (Vec Literal Global)) (requirements : List StoredRequirement) (variable : ℕ) →
     old.kept < length old.followed.items → old.followed.items ≡ new.followed.items ++ variable ∷ [] → new.active.items ≡ old.active.items ++
-    list_of old.met variable → ((v : ℕ) → v ≢ variable → list_of new.met v ≡ list_of old.met v) → new.waiting ≡ old.waiting → new.kept ≡ old.kept →
+    list_of old.met variable → ((v : ℕ) → v ≢ variable → list_of new.met v ≡ list_of old.met v) → new.inactive ≡ old.inactive → new.kept ≡ old.kept →
     IsQueued old trail table requirements → IsQueued new trail table requirements
-queued-forget old new trail table requirements variable more followed active others waiting kept it =
+queued-forget old new trail table requirements variable more followed active others inactive kept it =
     let longer : length old.followed.items ≡ length new.followed.items + 1 = ap length followed ∙ length-append new.followed.items (variable ∷ []) in
     let read : (place : ℕ) → place < length new.followed.items → slice_index new.followed.items place ≡ slice_index old.followed.items place = λ place below.
     sym (ap (λ list. slice_index list place) followed ∙ get_or-append new.followed.items (variable ∷ []) 0 place below) in
@@ -175,10 +175,10 @@ queued-forget old new trail table requirements variable more followed active oth
         reached = omega (arith, kept, it.following.reached);
         same = λ place below. read place (omega (arith, below, kept, more, longer)) ∙ it.following.same place (omega (arith, below, kept));
       };
-      each = λ index d below. rw (active, waiting, kept) (⊎_elim
+      each = λ index d below. rw (active, inactive, kept) (⊎_elim
           (λ (here : Contains old.active.items index). inl (Contains-append_left old.active.items (list_of old.met variable) index here))
           (λ rest. ⊎_elim
-          (λ (w : IsWaiting old.waiting trail old.kept (clause_at table (get_or requirements index d).number) index). inr (inl w))
+          (λ (w : IsInactive old.inactive trail old.kept (clause_at table (get_or requirements index d).number) index). inr (inl w))
           (λ (w : IsMetBy old.met trail old.followed.items old.kept (clause_at table (get_or requirements index d).number) index). ⊎_elim
           (λ (is : w.variable ≡ variable).
           let Inside : ℕ → Type 0 = λ v. Contains (list_of old.met v) index in
@@ -209,9 +209,9 @@ pub queued-follow : (old new : DecideQueue) (trail : Trail) (table : List (Vec L
     length old.followed.items ≡ old.kept → old.kept < length_of trail → variable ≡ variable_at trail old.kept → new.followed.items ≡ old.followed.items ++
     variable ∷ [] → new.kept ≡ old.kept + 1 → new.met ≡ old.met →
     ((index : ℕ) → Contains old.active.items index → Contains new.active.items index) →
-    ((v : ℕ) → v ≢ variable → list_of new.waiting v ≡ list_of old.waiting v) →
-    ((index : ℕ) → Contains (list_of old.waiting variable) index → Contains new.active.items index ⊎
-    (Contains (list_of new.waiting variable) index × ((slot : Slot) → slot_of trail variable ≡ Some slot → slot.value ≡ true → ⊥))) →
+    ((v : ℕ) → v ≢ variable → list_of new.inactive v ≡ list_of old.inactive v) →
+    ((index : ℕ) → Contains (list_of old.inactive variable) index → Contains new.active.items index ⊎
+    (Contains (list_of new.inactive variable) index × ((slot : Slot) → slot_of trail variable ≡ Some slot → slot.value ≡ true → ⊥))) →
     IsQueued old trail table requirements → IsQueued new trail table requirements
 queued-follow old new trail table requirements variable all inside next followed kept met active others here it =
     let longer : length new.followed.items ≡ length old.followed.items + 1 = ap length followed ∙ length-append old.followed.items (variable ∷ []) in
@@ -240,19 +240,19 @@ queued-follow old new trail table requirements variable all inside next followed
       each = λ index d below. ⊎_elim
           (λ (there : Contains old.active.items index). inl (active index there))
           (λ rest. ⊎_elim
-          (λ (w : IsWaiting old.waiting trail old.kept (clause_at table (get_or requirements index d).number) index). ⊎_elim
+          (λ (w : IsInactive old.inactive trail old.kept (clause_at table (get_or requirements index d).number) index). ⊎_elim
           (λ (is : w.variable ≡ variable).
-          let Inside : ℕ → Type 0 = λ v. Contains (list_of old.waiting v) index in
+          let Inside : ℕ → Type 0 = λ v. Contains (list_of old.inactive v) index in
           let Asks : ℕ → Type 0 = λ v. Contains (clause_at table (get_or requirements index d).number) (record { variable = v; positive = false }) in
           ⊎_elim
           (λ (woken : Contains new.active.items index). inl woken)
-          (λ (left : Contains (list_of new.waiting variable) index × ((slot : Slot) → slot_of trail variable ≡ Some slot → slot.value ≡ true → ⊥)).
+          (λ (left : Contains (list_of new.inactive variable) index × ((slot : Slot) → slot_of trail variable ≡ Some slot → slot.value ≡ true → ⊥)).
           inr (inl (record { variable = variable; parked = left.0; asks = subst Asks is w.asks; not_true = λ slot at is_so. absurd (left.1 slot at is_so) })))
           (here index (subst Inside is w.parked)))
           (λ (differs : w.variable ≢ variable).
           inr (inl (record {
             variable = w.variable;
-            parked = parked-same old.waiting new.waiting w.variable index (others w.variable differs) w.parked;
+            parked = parked-same old.inactive new.inactive w.variable index (others w.variable differs) w.parked;
             asks = w.asks;
             not_true = early w.variable differs w.not_true;
           })))
@@ -287,12 +287,12 @@ left-or xs place x inside is y there = ⊎_elim
 pub queued-settled : (old new : DecideQueue) (trail : Trail) (table : List (Vec Literal Global)) (requirements : List StoredRequirement) (settled : ℕ) →
     new.followed.items ≡ old.followed.items → new.kept ≡ old.kept →
     ((index : ℕ) → Contains old.active.items index → (settled ≡ index) ⊎ Contains new.active.items index) →
-    ((v index : ℕ) → Contains (list_of old.waiting v) index → Contains (list_of new.waiting v) index) →
+    ((v index : ℕ) → Contains (list_of old.inactive v) index → Contains (list_of new.inactive v) index) →
     ((v index : ℕ) → Contains (list_of old.met v) index → Contains (list_of new.met v) index) →
     ((d : StoredRequirement) → settled < length requirements →
-    IsHeld new.active.items new.waiting new.met new.followed.items new.kept trail (clause_at table (get_or requirements settled d).number) settled) →
+    IsHeld new.active.items new.inactive new.met new.followed.items new.kept trail (clause_at table (get_or requirements settled d).number) settled) →
     IsQueued old trail table requirements → IsQueued new trail table requirements
-queued-settled old new trail table requirements settled followed kept active waiting met here it = record {
+queued-settled old new trail table requirements settled followed kept active inactive met here it = record {
   following = record {
     followed = omega (arith, kept, it.following.followed, ap length followed);
     reached = omega (arith, kept, it.following.reached);
@@ -301,16 +301,16 @@ queued-settled old new trail table requirements settled followed kept active wai
   each = λ index d below. ⊎_elim
       (λ (there : Contains old.active.items index). ⊎_elim
       (λ (is : settled ≡ index).
-      let Held : ℕ → Type 0 = λ i. IsHeld new.active.items new.waiting new.met new.followed.items new.kept trail
+      let Held : ℕ → Type 0 = λ i. IsHeld new.active.items new.inactive new.met new.followed.items new.kept trail
       (clause_at table (get_or requirements i d).number) i in
       subst Held is (here d (omega (arith, below, is))))
       (λ (left : Contains new.active.items index). inl left)
       (active index there))
       (λ rest. ⊎_elim
-      (λ (w : IsWaiting old.waiting trail old.kept (clause_at table (get_or requirements index d).number) index).
+      (λ (w : IsInactive old.inactive trail old.kept (clause_at table (get_or requirements index d).number) index).
       inr (inl (record {
         variable = w.variable;
-        parked = waiting w.variable index w.parked;
+        parked = inactive w.variable index w.parked;
         asks = w.asks;
         not_true = λ slot at is_so. let late = w.not_true slot at is_so in omega (arith, late, kept);
       })))
@@ -382,29 +382,29 @@ left-read xs new place x taken inside read is same y there = ⊎_elim
     (left-or xs place taken inside is y there)
 
 -- a requirement that was put aside
-pub held-waiting : (active : List ℕ) (old waiting met : Lists) (followed : List ℕ) (kept : ℕ) (trail : Trail) (table : List (Vec Literal Global))
+pub held-inactive : (active : List ℕ) (old inactive met : Lists) (followed : List ℕ) (kept : ℕ) (trail : Trail) (table : List (Vec Literal Global))
     (requirements : List StoredRequirement) (r : StoredRequirement) (literals : List Literal) (index variable : ℕ) →
-    list_of waiting variable ≡ list_of old variable ++ index ∷ [] → r ≡ get_or requirements index r → literals ≡ clause_at table r.number →
+    list_of inactive variable ≡ list_of old variable ++ index ∷ [] → r ≡ get_or requirements index r → literals ≡ clause_at table r.number →
     Contains literals (record { variable = variable; positive = false }) ×
     (literal_value trail (record { variable = variable; positive = false }) ≢ Some false) → (d : StoredRequirement) → index < length requirements →
-    IsHeld active waiting met followed kept trail (clause_at table (get_or requirements index d).number) index
-held-waiting active old waiting met followed kept trail table requirements r literals index variable here is at standing d inside =
+    IsHeld active inactive met followed kept trail (clause_at table (get_or requirements index d).number) index
+held-inactive active old inactive met followed kept trail table requirements r literals index variable here is at standing d inside =
     let Asks : List Literal → Type 0 = λ clause. Contains clause (record { variable = variable; positive = false }) in
     inr (inl (record {
       variable = variable;
-      parked = parked-last old waiting variable index here;
+      parked = parked-last old inactive variable index here;
       asks = subst Asks (clause-read table requirements index d r literals inside is at) standing.0;
       not_true = not-true trail variable kept standing.1;
     }))
 
-pub held-by_candidate : (active : List ℕ) (waiting old met : Lists) (followed : List ℕ) (kept : ℕ) (trail : Trail) (table : List (Vec Literal Global))
+pub held-by_candidate : (active : List ℕ) (inactive old met : Lists) (followed : List ℕ) (kept : ℕ) (trail : Trail) (table : List (Vec Literal Global))
     (requirements : List StoredRequirement) (r : StoredRequirement) (literals : List Literal) (index variable : ℕ) →
     ((place : ℕ) → place < kept → slice_index followed place ≡ variable_at trail place) → kept ≡ length_of trail → length followed ≡ kept →
     list_of met variable ≡ list_of old variable ++ index ∷ [] → r ≡ get_or requirements index r → literals ≡ clause_at table r.number →
     Contains literals (record { variable = variable; positive = true }) × (literal_value trail (record { variable = variable; positive = true }) ≡ Some true) →
     (d : StoredRequirement) → index < length requirements →
-    IsHeld active waiting met followed kept trail (clause_at table (get_or requirements index d).number) index
-held-by_candidate active waiting old met followed kept trail table requirements r literals index variable same all exact here is at standing d inside =
+    IsHeld active inactive met followed kept trail (clause_at table (get_or requirements index d).number) index
+held-by_candidate active inactive old met followed kept trail table requirements r literals index variable same all exact here is at standing d inside =
     let Has : List Literal → Type 0 = λ clause. Contains clause (record { variable = variable; positive = true }) in
     inr (inr (met-here met trail followed kept _ index variable same all exact (parked-last old met variable index here)
     (subst Has (clause-read table requirements index d r literals inside is at) standing.0) standing.1))
@@ -429,12 +429,12 @@ unmet-not trail clause variable (Some slot) at asks never =
     not-yes true never = absurd (never refl)
     not-yes false never = refl
 
-pub held-met : (active : List ℕ) (waiting met : Lists) (followed : List ℕ) (kept : ℕ) (trail : Trail) (clause : List Literal) (index : ℕ) → length active ≡ 0 →
-    kept ≡ length_of trail → length followed ≡ kept → IsHeld active waiting met followed kept trail clause index → IsMet trail clause
-held-met active waiting met followed kept trail clause index none all exact held = ⊎_elim
+pub held-met : (active : List ℕ) (inactive met : Lists) (followed : List ℕ) (kept : ℕ) (trail : Trail) (clause : List Literal) (index : ℕ) → length active ≡ 0 →
+    kept ≡ length_of trail → length followed ≡ kept → IsHeld active inactive met followed kept trail clause index → IsMet trail clause
+held-met active inactive met followed kept trail clause index none all exact held = ⊎_elim
     (λ (here : Contains active index). absurd (omega (arith, here.1, none)))
     (λ rest. ⊎_elim
-    (λ (w : IsWaiting waiting trail kept clause index).
+    (λ (w : IsInactive inactive trail kept clause index).
     unmet-not trail clause w.variable (slot_of trail w.variable) refl w.asks (λ slot at is_so.
     let late = w.not_true slot at is_so in omega (arith, late, all, (trail.listed w.variable slot at).0)))
     (λ (w : IsMetBy met trail followed kept clause index).
@@ -447,7 +447,7 @@ pub all-met : (queue : DecideQueue) (trail : Trail) (table : List (Vec Literal G
     length queue.active.items ≡ 0 → IsFollowed queue trail → IsQueued queue trail table requirements →
     All (λ (r : StoredRequirement). IsMet trail (clause_at table r.number)) requirements
 all-met queue trail table requirements none followed it = λ index d below.
-    held-met queue.active.items queue.waiting queue.met queue.followed.items queue.kept trail _ index none followed.all followed.none_else
+    held-met queue.active.items queue.inactive queue.met queue.followed.items queue.kept trail _ index none followed.all followed.none_else
     (it.each index d below)
 
 -- a variable that was found not to be true

@@ -9,7 +9,7 @@ use Rattle.resolver_clause_store.specs.TrailView.{literal_value}
 use Rattle.resolver_clause_store.specs.Outcomes.{IsMet}
 use Rattle.resolver_clause_store.specs.declared.decisions.Choice.{Choice}
 use Rattle.resolver_clause_store.specs.declared.standing.Standing.{Standing}
-use Rattle.resolver_clause_store.specs.declared.standing.Standing.TheVariants.{Waiting, Met, Open}
+use Rattle.resolver_clause_store.specs.declared.standing.Standing.TheVariants.{Inactive, Met, Open}
 
 -- the literal at this place of the clause is positive and has no value, and those before it are false
 pub record IsFirst (trail : Trail) (clause : List Literal) (place : ℕ) : Type 0 where
@@ -40,7 +40,7 @@ pub record IsChoice (trail : Trail) (table : List (Vec Literal Global)) (require
 
 -- how a requirement stands under a trail
 abbrev pub StandingIs : Trail → List Literal → Standing → Type 0
-StandingIs trail clause (Waiting variable) = Contains clause (record { variable = variable; positive = false }) ×
+StandingIs trail clause (Inactive variable) = Contains clause (record { variable = variable; positive = false }) ×
     (literal_value trail (record { variable = variable; positive = false }) ≢ Some false)
 StandingIs trail clause (Met variable) = Contains clause (record { variable = variable; positive = true }) ×
     (literal_value trail (record { variable = variable; positive = true }) ≡ Some true)

@@ -19,10 +19,10 @@ list_at lists number = option_map_or (λ (list : Vec ℕ Global). list.items) (s
 abbrev pub list_of : Lists → ℕ → List ℕ
 list_of it number = list_at it.lists.items number
 
--- The requirement with this index waits for a variable that its clause negates, and that is not true at a followed place.
-pub record IsWaiting (waiting : Lists) (trail : Trail) (kept : ℕ) (clause : List Literal) (index : ℕ) : Type 0 where
+-- The requirement with this index is put aside for a variable that its clause negates, and that is not true at a followed place.
+pub record IsInactive (inactive : Lists) (trail : Trail) (kept : ℕ) (clause : List Literal) (index : ℕ) : Type 0 where
   pub variable : ℕ
-  pub parked : Contains (list_of waiting variable) index
+  pub parked : Contains (list_of inactive variable) index
   pub asks : Contains clause (record { variable = variable; positive = false })
   pub not_true : (slot : Slot) → slot_of trail variable ≡ Some slot → slot.value ≡ true → kept ≤ slot.place
 
@@ -36,10 +36,10 @@ pub record IsMetBy (met : Lists) (trail : Trail) (followed : List ℕ) (kept : �
   pub is : slice_index followed place ≡ variable
   pub true_there : place < kept → literal_value trail (record { variable = variable; positive = true }) ≡ Some true
 
--- The requirement with this index is to be looked at, or waits, or is met.
+-- The requirement with this index is to be looked at, or inactive, or met.
 abbrev pub IsHeld : List ℕ → Lists → Lists → List ℕ → ℕ → Trail → List Literal → ℕ → Type 0
-IsHeld active waiting met followed kept trail clause index =
-    Contains active index ⊎ (IsWaiting waiting trail kept clause index ⊎ IsMetBy met trail followed kept clause index)
+IsHeld active inactive met followed kept trail clause index =
+    Contains active index ⊎ (IsInactive inactive trail kept clause index ⊎ IsMetBy met trail followed kept clause index)
 
 -- the first places of the trail were followed, and stayed
 pub record IsFollowing (queue : DecideQueue) (trail : Trail) : Type 0 where
@@ -51,7 +51,7 @@ pub record IsFollowing (queue : DecideQueue) (trail : Trail) : Type 0 where
 pub record IsQueued (queue : DecideQueue) (trail : Trail) (table : List (Vec Literal Global)) (requirements : List StoredRequirement) : Type 0 where
   pub following : IsFollowing queue trail
   pub each : (index : ℕ) (d : StoredRequirement) → index < length requirements →
-      IsHeld queue.active.items queue.waiting queue.met queue.followed.items queue.kept trail
+      IsHeld queue.active.items queue.inactive queue.met queue.followed.items queue.kept trail
       (clause_at table (slice_index_or requirements index d).number) index
 
 -- whatever the trail and the requirements, the queue still follows the one and has places for the others

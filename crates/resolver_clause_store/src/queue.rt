@@ -46,7 +46,7 @@ pub struct DecideQueue {
     /// The requirements that are not put aside.
     active: Vec<u32>,
     /// Those put aside for a variable that is not true.
-    waiting: Lists,
+    inactive: Lists,
     /// Those put aside for a candidate that is true.
     met: Lists,
     /// The variables at the places of the trail that were followed.
@@ -66,7 +66,7 @@ impl DecideQueue {
     {
         DecideQueue {
             active: Vec::new(alloc),
-            waiting: Lists::new(alloc),
+            inactive: Lists::new(alloc),
             met: Lists::new(alloc),
             followed: Vec::new(alloc),
             kept: 0,
@@ -160,7 +160,7 @@ impl DecideQueue {
         self.kept += 1;
         self.ranks.touch(variable)?;
         if is_true(trail, variable) {
-            self.waiting.take(variable.index(), &mut self.active)?;
+            self.inactive.take(variable.index(), &mut self.active)?;
             return Ok(());
         }
         Ok(())
@@ -212,8 +212,8 @@ impl DecideQueue {
         let requirement = &requirements[index];
         let literals = clause(table, requirement.number as usize);
         match standing_of(trail, literals) {
-            Standing::Waiting(variable) => {
-                self.waiting.add(variable.index(), number)?;
+            Standing::Inactive(variable) => {
+                self.inactive.add(variable.index(), number)?;
                 self.active.swap_remove(place);
                 self.ranks.leave(self.active.as_slice(), place);
                 Ok(None)

@@ -418,7 +418,7 @@ impl Ranks {
                         })?;
                         Ok(None)
                     }
-                    Standing::Waiting(_) => Ok(Some(place)),
+                    Standing::Inactive(_) => Ok(Some(place)),
                     Standing::Met(_) => Ok(Some(place)),
                 }
             }

@@ -12,7 +12,7 @@ use crate::trail::Trail;
 #[derive(Clone, Copy)]
 pub enum Standing {
     /// The requirement is inactive: it depends on this variable, which is not true.
-    Waiting(Variable),
+    Inactive(Variable),
     /// The requirement is met: this candidate is true.
     Met(Variable),
     /// The requirement is active and no candidate is true. The candidate at this place of the clause is the first
@@ -34,12 +34,12 @@ pub fn standing_of(trail: &Trail, clause: &[Literal]) -> Standing
                 if positive {
                     return Standing::Met(variable);
                 }
-                return Standing::Waiting(variable);
+                return Standing::Inactive(variable);
             }
             Some(false) => (),
             None => {
                 if !positive {
-                    return Standing::Waiting(variable);
+                    return Standing::Inactive(variable);
                 }
                 if first.is_none() {
                     first = Some(place);

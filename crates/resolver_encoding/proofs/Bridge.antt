@@ -32,7 +32,7 @@ use Rattle.resolver_clause_store.specs.declared.Trail.{Trail}
 use Rattle.resolver_clause_store.specs.declared.VersionSetId.{VersionSetId}
 use Rattle.resolver_clause_store.proofs.SlotLemmas.{slot-within}
 use Rattle.resolver_encoding.specs.Atoms.{Atom, atom, origin_by, atoms_of}
-use Rattle.resolver_encoding.specs.Encodings.{AreDemandsRead, AreNeedsRead, AsksForCandidates, IsConstraintRead, IsEncoding, IsLeft, Notes}
+use Rattle.resolver_encoding.specs.Encodings.{AreDemandsRead, AreNeedsRead, IsRequirementKind, IsConstraintRead, IsEncoding, IsLeft, Notes}
 use Rattle.resolver_encoding.specs.Read.{IsForbidden, IsSettled}
 use Rattle.resolver_encoding.specs.ReadState.{AreSeeds, HasClause, has_direct, has_gate, IsRead, IsReadRequirement}
 use Rattle.resolver_encoding.specs.SoFar.{IsHalfRead, IsReadSoFar}
@@ -344,7 +344,7 @@ module _ {N S : Type 0} (u : Universe N S) (root : Demands) (notes : Notes N S) 
       subst WithOrigin (sym left.is_solvable) (subst WithValue (sym left.is_true) it)
 
   because_chosen : (x : ℕ) (slot : Slot) → slot_of trail x ≡ Some slot → (chosen : IsChosen notes.table requirements trail x slot) → (kind : ClauseKind N S) →
-      slice_get notes.kinds chosen.requirement.number ≡ Some kind → AsksForCandidates kind → Because x slot (atom (origin_at notes.origins x) slot.value)
+      slice_get notes.kinds chosen.requirement.number ≡ Some kind → IsRequirementKind kind → Because x slot (atom (origin_at notes.origins x) slot.value)
   because_chosen x slot at chosen kind is asks =
       let In_order : ClauseKind N S → Type 0 = λ k. AreInOrder u notes.origins (clause_at notes.table chosen.requirement.number) k in
       let Has : ClauseKind N S → Type 0 = λ k. Contains notes.kinds k in
@@ -498,7 +498,7 @@ module _ {N S : Type 0} (u : Universe N S) (root : Demands) (notes : Notes N S) 
       (cons_cases (atom parent false) (map (λ v. atom (ConditionHelper v) false) vs ++ map (λ s. atom (Solvable s) true) (requirement_candidates u r)) a among)
 
   decided_kind : (kind : ClauseKind N S) (parent : Origin N S) (vs : List VersionSetId) (r : Requirement) → atoms_of u kind ≡ asking_atoms parent vs r →
-      AsksForCandidates kind → Contains notes.kinds kind → Contains all (atom parent true) →
+      IsRequirementKind kind → Contains notes.kinds kind → Contains all (atom parent true) →
       All (λ v. Contains all (atom (ConditionHelper v) true)) vs → (s : S) × Contains (requirement_candidates u r) s × Contains all (atom (Solvable s) true)
   decided_kind kind parent vs r same asks inside on helpers =
       let Among_atoms : Atom N S → List (Atom N S) → Type 0 = λ q list. Contains list q in

@@ -24,8 +24,8 @@ use Rattle.resolver_clause_store.specs.declared.VersionSetId.{VersionSetId}
 use Rattle.resolver_clause_store.proofs.PlaceLemmas.{Keeps-same, Keeps-trans, place_cases, place_left, place_of_member}
 use Rattle.resolver_encoding.specs.Atoms.{Atom, atom, atoms_of, first_atom, front, helpers_of, second_atom, wanted}
 use Rattle.resolver_encoding.specs.Called.{Call, to_ask, to_see}
-use Rattle.resolver_encoding.specs.Encodings.{AddsKind, AsksForCandidates, Coding, Doing, Extends, Grows, HasProperHelper, IsAskStep}
-use Rattle.resolver_encoding.specs.Encodings.{IsEncodingOf, IsEncodingWhile, IsFollowed, IsLeft, IsReadStep, IsStep, IsStepWhile, Notes, asking_with, idle}
+use Rattle.resolver_encoding.specs.Encodings.{AddsKind, IsRequirementKind, Coding, Doing, Extends, Grows, HasProperHelper, IsAskStep}
+use Rattle.resolver_encoding.specs.Encodings.{IsEncodingOf, IsEncodingWhile, IsFollowed, IsLeft, IsReadStep, IsStep, IsStepWhile, Notes, numbers_with, idle}
 use Rattle.resolver_encoding.specs.Codes.{bit}
 use Rattle.resolver_encoding.specs.Groups.{IsAt}
 use Rattle.resolver_encoding.specs.Read.{IsForbidden, forbidden_direct, forbidden_helped}
@@ -75,15 +75,15 @@ IsPlain (HasBit n s i b) = ⊤
 IsPlain (Lock s t) = ⊤
 IsPlain (Excluded s reason) = ⊤
 
-pub asks_not : {N S : Type 0} (kind : ClauseKind N S) → IsPlain kind → AsksForCandidates kind → ⊥
+pub asks_not : {N S : Type 0} (kind : ClauseKind N S) → IsPlain kind → IsRequirementKind kind → ⊥
 asks_not {N} {S} kind plain asks =
     let Plain : ClauseKind N S → Type 0 = λ k. IsPlain k in
     ⊎_elim (λ w. subst Plain w.3 plain) (λ w. subst Plain w.1 plain) asks
 
 -- a clause asks for candidates and its number is noted, or neither
 abbrev AsksOrNot : {N S : Type 0} → ClauseKind N S → Type 0
-AsksOrNot kind = (AsksForCandidates kind × ((number : ℕ) (numbers : List ℕ) → asking_with kind number numbers ≡ numbers ++ number ∷ [])) ⊎
-    ((AsksForCandidates kind → ⊥) × ((number : ℕ) (numbers : List ℕ) → asking_with kind number numbers ≡ numbers))
+AsksOrNot kind = (IsRequirementKind kind × ((number : ℕ) (numbers : List ℕ) → numbers_with kind number numbers ≡ numbers ++ number ∷ [])) ⊎
+    ((IsRequirementKind kind → ⊥) × ((number : ℕ) (numbers : List ℕ) → numbers_with kind number numbers ≡ numbers))
 
 asks_or_not : {N S : Type 0} (kind : ClauseKind N S) → AsksOrNot kind
 asks_or_not (Requires by disjunct r) = inl (inl (by, disjunct, r, refl), λ number numbers. refl)
@@ -254,20 +254,20 @@ module _ {N S : Type 0} (u : Universe N S) where
 
   -- the numbers of the clauses that ask for candidates, after a clause
   pub record AreListed (kinds : List (ClauseKind N S)) (requirements : List ℕ) : Type 0 where
-    pub listed : (n : ℕ) (kind : ClauseKind N S) → slice_get kinds n ≡ Some kind → AsksForCandidates kind → Contains requirements n
-    pub ask : (n : ℕ) → Contains requirements n → (kind : ClauseKind N S) × (slice_get kinds n ≡ Some kind) × AsksForCandidates kind
+    pub listed : (n : ℕ) (kind : ClauseKind N S) → slice_get kinds n ≡ Some kind → IsRequirementKind kind → Contains requirements n
+    pub ask : (n : ℕ) → Contains requirements n → (kind : ClauseKind N S) × (slice_get kinds n ≡ Some kind) × IsRequirementKind kind
 
-  AreListed-plain : (kinds : List (ClauseKind N S)) (requirements : List ℕ) (kind : ClauseKind N S) → (AsksForCandidates kind → ⊥) →
+  AreListed-plain : (kinds : List (ClauseKind N S)) (requirements : List ℕ) (kind : ClauseKind N S) → (IsRequirementKind kind → ⊥) →
       AreListed kinds requirements → AreListed (kinds ++ kind ∷ []) requirements
   AreListed-plain kinds requirements kind plain before =
-      let Asks : ClauseKind N S → Type 0 = λ k. AsksForCandidates k in
+      let Asks : ClauseKind N S → Type 0 = λ k. IsRequirementKind k in
       record {
         listed = λ n k at asks. ⊎_elim (λ earlier. before.listed n k earlier asks) (λ last. absurd (plain (subst Asks (sym last.1) asks)))
             (place_cases kinds kind n k at);
         ask = λ n h. let w = before.ask n h in (w.0, place_left kinds (kind ∷ []) n w.0 w.1, w.2);
       }
 
-  AreListed-asking : (kinds : List (ClauseKind N S)) (requirements : List ℕ) (kind : ClauseKind N S) → AsksForCandidates kind →
+  AreListed-asking : (kinds : List (ClauseKind N S)) (requirements : List ℕ) (kind : ClauseKind N S) → IsRequirementKind kind →
       AreListed kinds requirements → AreListed (kinds ++ kind ∷ []) (requirements ++ length kinds ∷ [])
   AreListed-asking kinds requirements kind asking before =
       let Has : ℕ → Type 0 = λ n. Contains (requirements ++ length kinds ∷ []) n in
@@ -283,14 +283,14 @@ module _ {N S : Type 0} (u : Universe N S) where
 
   -- with the number of the clause, where it asks for candidates
   AreListed-kind : (kinds : List (ClauseKind N S)) (requirements : List ℕ) (kind : ClauseKind N S) → AreListed kinds requirements →
-      AreListed (kinds ++ kind ∷ []) (asking_with kind (length kinds) requirements)
+      AreListed (kinds ++ kind ∷ []) (numbers_with kind (length kinds) requirements)
   AreListed-kind kinds requirements kind before =
       let Listed : List ℕ → Type 0 = λ numbers. AreListed (kinds ++ kind ∷ []) numbers in
       ⊎_elim (λ asks. subst Listed (sym (asks.1 (length kinds) requirements)) (AreListed-asking kinds requirements kind asks.0 before))
       (λ plain. subst Listed (sym (plain.1 (length kinds) requirements)) (AreListed-plain kinds requirements kind plain.0 before))
       (asks_or_not kind)
 
-  Extends-asking : (kind : ClauseKind N S) (number : ℕ) (numbers : List ℕ) → Extends numbers (asking_with kind number numbers)
+  Extends-asking : (kind : ClauseKind N S) (number : ℕ) (numbers : List ℕ) → Extends numbers (numbers_with kind number numbers)
   Extends-asking kind number numbers =
       let Longer : List ℕ → Type 0 = λ list. Extends numbers list in
       ⊎_elim (λ asks. subst Longer (sym (asks.1 number numbers)) (Extends-push numbers number))
@@ -352,7 +352,7 @@ module _ {N S : Type 0} (u : Universe N S) where
         members = before.members;
         left_true = before.left_true;
         indexed = before.indexed;
-        sound_waiting = before.sound_waiting;
+        sound_deferred_by_name = before.sound_deferred_by_name;
       }
 
   -- the notes stay right where the premise holds
@@ -366,7 +366,7 @@ module _ {N S : Type 0} (u : Universe N S) where
   pub IsStep-clause : (doing : Doing N S) (Premise : Demands → Type 0) (old new : Notes N S) (kind : ClauseKind N S) → AddsKind u kind old new →
       ((root : Demands) → Premise root → IsEncodingWhile u doing root old → IsNext doing root old kind) → IsStepWhile u doing Premise old new
   IsStep-clause doing Premise old new kind adds next =
-      let numbers = asking_with kind (length old.kinds) old.requirements in
+      let numbers = numbers_with kind (length old.kinds) old.requirements in
       let Step : Notes N S → Type 0 = λ n. IsStepWhile u doing Premise old n in
       let keeps : StaysRight doing Premise old (with_clause old new.origins numbers adds.literals kind) =
       λ root premise before. IsEncoding-clause doing root old new.origins numbers adds.literals kind adds.origins adds.clause

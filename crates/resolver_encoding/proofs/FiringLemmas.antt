@@ -149,30 +149,30 @@ module _ {N S : Type 0} (u : Universe N S) where
   pub IsIndexing-same : (number : ℕ) (notes : Notes N S) → IsIndexing u number [] notes notes
   IsIndexing-same number notes =
       record {
-        waiting = notes.waiting;
+        deferred_by_name = notes.deferred_by_name;
         is = refl;
         sound = λ h. h;
         earlier = λ h n i m. m;
-        here = λ h. All-nil (λ v. IsNamed notes.waiting (u.version_set_name v) number);
+        here = λ h. All-nil (λ v. IsNamed notes.deferred_by_name (u.version_set_name v) number);
       }
 
   -- the package of one more version set
   pub IsIndexing-more : (number : ℕ) (list : List VersionSetId) (i : ℕ) (d : VersionSetId) (old mid new : Notes N S) (n : N) →
       n ≡ u.version_set_name (get_or list i d) → i < length list → IsIndexing u number (take i list) old mid →
-      (AreGroups mid.waiting → AddsNamed mid.waiting new.waiting n number) → new ≡ record mid { waiting = new.waiting } →
+      (AreGroups mid.deferred_by_name → AddsNamed mid.deferred_by_name new.deferred_by_name n number) → new ≡ record mid { deferred_by_name = new.deferred_by_name } →
       IsIndexing u number (take (i + 1) list) old new
   IsIndexing-more number list i d old mid new n named below before adds is =
-      let same : mid.waiting ≡ before.waiting = ap (λ (m : Notes N S). m.waiting) before.is in
+      let same : mid.deferred_by_name ≡ before.deferred_by_name = ap (λ (m : Notes N S). m.deferred_by_name) before.is in
       let Sound : Groups N ℕ → Type 0 = λ g. AreGroups g in
-      let ready : AreGroups old.waiting → AreGroups mid.waiting = λ h. subst Sound (sym same) (before.sound h) in
+      let ready : AreGroups old.deferred_by_name → AreGroups mid.deferred_by_name = λ h. subst Sound (sym same) (before.sound h) in
       let Here : Groups N ℕ → Type 0 = λ g. All (λ v. IsNamed g (u.version_set_name v) number) (take i list) in
-      let Named : N → Type 0 = λ m. IsNamed new.waiting m number in
+      let Named : N → Type 0 = λ m. IsNamed new.deferred_by_name m number in
       record {
-        waiting = new.waiting;
-        is = is ∙ ap (λ (m : Notes N S). record m { waiting = new.waiting }) before.is;
+        deferred_by_name = new.deferred_by_name;
+        is = is ∙ ap (λ (m : Notes N S). record m { deferred_by_name = new.deferred_by_name }) before.is;
         sound = λ h. (adds (ready h)).sound;
         earlier = λ h m k at. let Is : Groups N ℕ → Type 0 = λ g. IsNamed g m k in (adds (ready h)).earlier m k (subst Is (sym same) (before.earlier h m k at));
-        here = λ h. All-grown_at (λ v. IsNamed mid.waiting (u.version_set_name v) number) (λ v. IsNamed new.waiting (u.version_set_name v) number) list i d
+        here = λ h. All-grown_at (λ v. IsNamed mid.deferred_by_name (u.version_set_name v) number) (λ v. IsNamed new.deferred_by_name (u.version_set_name v) number) list i d
             (λ v at. (adds (ready h)).earlier (u.version_set_name v) number at) below (subst Here (sym same) (before.here h))
             (subst Named named (adds (ready h)).here);
       }
@@ -180,9 +180,9 @@ module _ {N S : Type 0} (u : Universe N S) where
   pub IsDeferral-from : (number : ℕ) (e : Deferred S) (old mid new : Notes N S) → number ≡ length old.deferred → IsIndexing u number e.disjunct old mid →
       new ≡ record mid { deferred = mid.deferred ++ Some e ∷ [] } → IsDeferral u e old new
   IsDeferral-from number e old mid new last before is =
-      let Here : ℕ → Type 0 = λ k. All (λ v. IsNamed before.waiting (u.version_set_name v) k) e.disjunct in
+      let Here : ℕ → Type 0 = λ k. All (λ v. IsNamed before.deferred_by_name (u.version_set_name v) k) e.disjunct in
       record {
-        waiting = before.waiting;
+        deferred_by_name = before.deferred_by_name;
         is = is ∙ ap (λ (m : Notes N S). record m { deferred = m.deferred ++ Some e ∷ [] }) before.is;
         sound = before.sound;
         earlier = before.earlier;
@@ -190,12 +190,12 @@ module _ {N S : Type 0} (u : Universe N S) where
       }
 
   -- an encoding with other disjuncts that are put off
-  encoding_deferred : (root : Demands) (old : Notes N S) (deferred : List (Option (Deferred S))) (waiting : Groups N ℕ) → IsEncoding u root old →
+  encoding_deferred : (root : Demands) (old : Notes N S) (deferred : List (Option (Deferred S))) (deferred_by_name : Groups N ℕ) → IsEncoding u root old →
       ((e : Deferred S) → Contains deferred (Some e) → IsTrueEntry u root e) →
       ((i : ℕ) (e : Deferred S) → slice_get deferred i ≡ Some (Some e) → (v : VersionSetId) → Contains e.disjunct v →
-      IsNamed waiting (u.version_set_name v) i) → AreGroups waiting →
-      IsEncoding u root (record old { deferred = deferred; waiting = waiting })
-  encoding_deferred root old deferred waiting before left_true indexed sound = search
+      IsNamed deferred_by_name (u.version_set_name v) i) → AreGroups deferred_by_name →
+      IsEncoding u root (record old { deferred = deferred; deferred_by_name = deferred_by_name })
+  encoding_deferred root old deferred deferred_by_name before left_true indexed sound = search
 
   -- it is put off from then on
   pub deferral_left : (e : Deferred S) (old new : Notes N S) → IsDeferral u e old new → IsLeft new e
@@ -215,34 +215,34 @@ module _ {N S : Type 0} (u : Universe N S) where
       subst Step (sym deferral.is) (search (IsReadStep-same u Defers Called Premise old, Extends-push old.deferred (Some e), keeps))
     where
       keeps : (root : Demands) → Premise root → IsEncoding u root old →
-          IsEncoding u root (record old { deferred = old.deferred ++ Some e ∷ []; waiting = deferral.waiting })
-      keeps root premise before = encoding_deferred root old (old.deferred ++ Some e ∷ []) deferral.waiting before
+          IsEncoding u root (record old { deferred = old.deferred ++ Some e ∷ []; deferred_by_name = deferral.deferred_by_name })
+      keeps root premise before = encoding_deferred root old (old.deferred ++ Some e ∷ []) deferral.deferred_by_name before
           (λ x h.
           let True : Deferred S → Type 0 = λ y. IsTrueEntry u root y in
           ⊎_elim (λ (earlier : IsLeft old x). before.left_true x earlier) (λ (is : Some e ≡ Some x). subst True (same_Some e x is) (is_true root premise))
           (Contains-push_cases old.deferred (Some e) (Some x) h))
           (λ i x at v h.
           let Has : Deferred S → Type 0 = λ y. Contains y.disjunct v in
-          let Named : ℕ → Type 0 = λ k. IsNamed deferral.waiting (u.version_set_name v) k in
+          let Named : ℕ → Type 0 = λ k. IsNamed deferral.deferred_by_name (u.version_set_name v) k in
           ⊎_elim
-          (λ (earlier : slice_get old.deferred i ≡ Some (Some x)). deferral.earlier before.sound_waiting (u.version_set_name v) i
+          (λ (earlier : slice_get old.deferred i ≡ Some (Some x)). deferral.earlier before.sound_deferred_by_name (u.version_set_name v) i
           (before.indexed i x earlier v h))
           (λ (last : (i ≡ length old.deferred) × (Some e ≡ Some x)).
-          subst Named (sym last.0) (All-contains (λ w. IsNamed deferral.waiting (u.version_set_name w) (length old.deferred)) e.disjunct v
-          (deferral.here before.sound_waiting) (subst Has (sym (same_Some e x last.1)) h)))
+          subst Named (sym last.0) (All-contains (λ w. IsNamed deferral.deferred_by_name (u.version_set_name w) (length old.deferred)) e.disjunct v
+          (deferral.here before.sound_deferred_by_name) (subst Has (sym (same_Some e x last.1)) h)))
           (place_cases old.deferred (Some e) i (Some x) at))
-          (deferral.sound before.sound_waiting)
+          (deferral.sound before.sound_deferred_by_name)
 
   -- fewer disjuncts are left
   pub IsEncoding-taken : (root : Demands) (number : ℕ) (e : Deferred S) (old mid : Notes N S) → IsTakenOut number e old mid → IsEncoding u root old →
       IsEncoding u root mid
   IsEncoding-taken root number e old mid out before =
       let Right : Notes N S → Type 0 = λ n. IsEncoding u root n in
-      subst Right (sym out.is) (encoding_deferred root old (slice_set old.deferred number None) old.waiting before
+      subst Right (sym out.is) (encoding_deferred root old (slice_set old.deferred number None) old.deferred_by_name before
       (λ x h. let at = place_of_member (slice_set old.deferred number None) (Some x) h in
       before.left_true x (place_in old.deferred at.0 (Some x) (kept old.deferred number at.0 x at.1)))
       (λ i x at. before.indexed i x (kept old.deferred number i x at))
-      before.sound_waiting)
+      before.sound_deferred_by_name)
 
   module _ (set : List S) where
     pub IsFiring-trans : (one two three : Notes N S) → IsFiring u set one two → IsFiring u set two three → IsFiring u set one three
@@ -320,20 +320,20 @@ module _ {N S : Type 0} (u : Universe N S) where
       pub IsQuietUnder-kept : (n : N) → IsQuietUnder u set old n → IsQuietUnder u set new n
       IsQuietUnder-kept n before = record {
         quiet = λ i named. let Named : Groups N ℕ → Type 0 = λ g. IsNamed g n i in
-            IsQuietAt-kept i (before.quiet i (subst Named firing.waiting named));
+            IsQuietAt-kept i (before.quiet i (subst Named firing.deferred_by_name named));
       }
 
       -- all of a group are
-      pub IsQuietUnder-all : (n : N) (numbers : List ℕ) → ((i : ℕ) → IsNamed old.waiting n i → Contains numbers i) → All (IsQuietAt u set new) numbers →
+      pub IsQuietUnder-all : (n : N) (numbers : List ℕ) → ((i : ℕ) → IsNamed old.deferred_by_name n i → Contains numbers i) → All (IsQuietAt u set new) numbers →
           IsQuietUnder u set new n
       IsQuietUnder-all n numbers every quiet =
           record {
             quiet = λ i named. let Named : Groups N ℕ → Type 0 = λ g. IsNamed g n i in
-                All-contains (IsQuietAt u set new) numbers i quiet (every i (subst Named firing.waiting named));
+                All-contains (IsQuietAt u set new) numbers i quiet (every i (subst Named firing.deferred_by_name named));
           }
 
-      pub groups_kept : AreGroups old.waiting → AreGroups new.waiting
-      groups_kept sound = let Sound : Groups N ℕ → Type 0 = λ g. AreGroups g in subst Sound (sym firing.waiting) sound
+      pub groups_kept : AreGroups old.deferred_by_name → AreGroups new.deferred_by_name
+      groups_kept sound = let Sound : Groups N ℕ → Type 0 = λ g. AreGroups g in subst Sound (sym firing.deferred_by_name) sound
 
       pub IsEncodingOf-fired : IsEncodingOf u (λ root. ⊤) old → IsEncodingOf u (λ root. ⊤) new
       IsEncodingOf-fired before = record { root = before.root; premise = tt; encoding = firing.keeps before.root before.encoding }

@@ -21,7 +21,7 @@ use Rattle.resolver_clause_store.specs.declared.Origin.TheVariants.{ConditionHel
 use Rattle.resolver_clause_store.specs.declared.Requirement.{Requirement}
 use Rattle.resolver_clause_store.specs.declared.VersionSetId.{VersionSetId}
 use Rattle.resolver_encoding.specs.Atoms.{Atom, atom, atoms_of, is_on, origin_by}
-use Rattle.resolver_encoding.specs.Encodings.{AsksForCandidates, Extends, IsEncoding, Notes}
+use Rattle.resolver_encoding.specs.Encodings.{IsRequirementKind, Extends, IsEncoding, Notes}
 use Rattle.resolver_encoding.specs.LeftOut.{IsLeftOut}
 use Rattle.resolver_encoding.specs.Truth.{AreDue, HasLawfulSolvables, Spares, follows}
 use Rattle.resolver_encoding.specs.Values.{extension}
@@ -55,7 +55,7 @@ module _ {N S : Type 0} (u : Universe N S) where
   negative : (a b : Atom N S) → b.positive ≡ false → b ≡ a → a.positive ≡ true → ⊥
   negative a b off same on = false≢true (sym off ∙ ap (λ (c : Atom N S). c.positive) same ∙ on)
 
-  candidate_of : (kind : ClauseKind N S) → AsksForCandidates kind → (a : Atom N S) → Contains (atoms_of u kind) a → a.positive ≡ true → (s : S) ×
+  candidate_of : (kind : ClauseKind N S) → IsRequirementKind kind → (a : Atom N S) → Contains (atoms_of u kind) a → a.positive ≡ true → (s : S) ×
       (a.origin ≡ Solvable s)
   candidate_of kind asks a inside on =
       let Found : Type 0 = (s : S) × (a.origin ≡ Solvable s) in

@@ -27,7 +27,7 @@ use Rattle.resolver_clause_store.specs.declared.VersionSetId.{VersionSetId}
 use Rattle.resolver_clause_store.specs.Statements.{IsPresent}
 use Rattle.resolver_clause_store.specs.TrueRules.{demands_by}
 use Rattle.resolver_encoding.specs.Atoms.{atom}
-use Rattle.resolver_encoding.specs.Encodings.{AddsKind, AsksForCandidates, AreDemandsRead, AreNeedsRead, HasProperHelper, IsConstraintRead, IsEncoding, IsLeft}
+use Rattle.resolver_encoding.specs.Encodings.{AddsKind, IsRequirementKind, AreDemandsRead, AreNeedsRead, HasProperHelper, IsConstraintRead, IsEncoding, IsLeft}
 use Rattle.resolver_encoding.specs.Encodings.{IsUnread, Notes}
 use Rattle.resolver_encoding.specs.Led.{AddsOnly}
 use Rattle.resolver_encoding.specs.Read.{IsForbidden}
@@ -206,7 +206,7 @@ module _ {N S : Type 0} (u : Universe N S) where
           exclusions = λ s reason h. absurd (not_there (Excluded s reason) (λ q. cc) h);
         };
         installs = here InstallRoot [];
-        listed = λ n kind at asks. let Asks : ClauseKind N S → Type 0 = λ k. AsksForCandidates k in
+        listed = λ n kind at asks. let Asks : ClauseKind N S → Type 0 = λ k. IsRequirementKind k in
             absurd (asks_not {N = N} {S = S} InstallRoot tt (subst Asks (sym (is_install n kind at).1) asks));
         ask = λ n h. absurd (none old.requirements n unread.no_requirements h);
         helpers = λ by disjunct r h. absurd (not_there (Requires by disjunct r) (λ q. cc) h);
@@ -230,7 +230,7 @@ module _ {N S : Type 0} (u : Universe N S) where
         members = λ n s h. absurd (unread.no_groups n s h);
         left_true = λ e h. absurd (none old.deferred (Some e) unread.none_deferred h);
         indexed = λ i e at. absurd (none_at old.deferred i (Some e) unread.none_deferred at);
-        sound_waiting = unread.sound_waiting;
+        sound_deferred_by_name = unread.sound_deferred_by_name;
       })
     where
       -- some variable stands for the root, and none for anything else

@@ -20,7 +20,7 @@ use Rattle.resolver_clause_store.specs.declared.Origin.TheVariants.{Gate}
 use Rattle.resolver_clause_store.specs.declared.Requirement.{Requirement}
 use Rattle.resolver_clause_store.specs.declared.VersionSetId.{VersionSetId}
 use Rattle.resolver_encoding.specs.Called.{Call, IsCalledBy, IsCalledByEach, IsNamedBy, IsPlainlyNamed, IsSeeingEach, IsWantedBy, to_ask, to_see}
-use Rattle.resolver_encoding.specs.Encodings.{AreDisjuncts, AsksFor, AsksWithin, IsAskStep, IsConstraintRead, IsDisjunctRead, IsEncodingOf, IsLeft, IsReadStep}
+use Rattle.resolver_encoding.specs.Encodings.{AreDisjuncts, HasRequirement, HasConstraint, IsAskStep, IsConstraintRead, IsDisjunctRead, IsEncodingOf, IsLeft, IsReadStep}
 use Rattle.resolver_encoding.specs.Encodings.{IsStep, Notes}
 use Rattle.resolver_encoding.specs.Read.{IsForbidden, forbidden_helped}
 use Rattle.resolver_encoding.specs.ReadState.{Deferred, HasClause, has_gate, IsReadRequirement}
@@ -198,15 +198,15 @@ module _ {N S : Type 0} (u : Universe N S) where
 
   pub plain_step : (Defers : Deferred S → Type 0) (set : List S) (by : By S) (requirer : S) (r : ConditionalRequirement) (old new : Notes N S) →
       by ≡ BySolvable requirer → r.condition ≡ None →
-      IsAskStep u (IsWantedBy u r.requirement) (AsksFor u (BySolvable requirer) (record { condition = None; requirement = r.requirement })) old new →
-      IsReadStep u Defers (IsCalledBy u set r) (AsksFor u by r) old new
+      IsAskStep u (IsWantedBy u r.requirement) (HasRequirement u (BySolvable requirer) (record { condition = None; requirement = r.requirement })) old new →
+      IsReadStep u Defers (IsCalledBy u set r) (HasRequirement u by r) old new
   plain_step Defers set by requirer r old new same none step =
       let Holds : Option ConditionId → Type 0 = λ c. OptionalConditionHolds u (Contains set) c in
       let plain : r ≡ record { condition = None; requirement = r.requirement } = λ i. record { condition = none i; requirement = r.requirement } in
-      let Asks : By S → ConditionalRequirement → Demands → Type 0 = λ b q root. AsksFor u b q root in
-      IsReadStep-of u Defers (IsCalledBy u set r) (AsksFor u by r) old new
+      let Asks : By S → ConditionalRequirement → Demands → Type 0 = λ b q root. HasRequirement u b q root in
+      IsReadStep-of u Defers (IsCalledBy u set r) (HasRequirement u by r) old new
       (IsAskStep-weaker u (IsWantedBy u r.requirement) (IsCalledBy u set r) (λ call wanted. (subst Holds (sym none) tt, wanted))
-      (AsksFor u (BySolvable requirer) (record { condition = None; requirement = r.requirement })) (AsksFor u by r) (λ root asks.
+      (HasRequirement u (BySolvable requirer) (record { condition = None; requirement = r.requirement })) (HasRequirement u by r) (λ root asks.
       subst (λ q. Asks (BySolvable requirer) q root) plain (subst (λ b. Asks b r root) same asks)) old new step)
 
   -- a condition holds where a disjunct of it is met
@@ -230,10 +230,10 @@ module _ {N S : Type 0} (u : Universe N S) where
       has_gate s refl refl implied (now.encoding.gated r gate)
 
   -- a constraint of the root or of a solvable that is apart from its helper
-  pub constraint_read : (old new : Notes N S) (by : By S) (v : VersionSetId) → IsEncodingOf u (AsksWithin u by v) old → IsStep u (AsksWithin u by v) old new →
+  pub constraint_read : (old new : Notes N S) (by : By S) (v : VersionSetId) → IsEncodingOf u (HasConstraint u by v) old → IsStep u (HasConstraint u by v) old new →
       Contains new.constrained v → Contains new.kinds (ConstrainsParent by v) → IsConstraintRead u new.kinds by v
   constraint_read old new by v before step helped parent =
-      let now = IsEncodingOf-step u (AsksWithin u by v) old new before step in
+      let now = IsEncodingOf-step u (HasConstraint u by v) old new before step in
       All-weaker (Contains (others u v)) (IsForbidden new.kinds by v) (λ s h. forbidden_helped parent (now.encoding.excluded v helped s h)) (others u v)
       (All-contains_itself (others u v))
 

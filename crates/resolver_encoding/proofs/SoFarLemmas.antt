@@ -196,8 +196,8 @@ module _ {N S : Type 0} (u : Universe N S) (set : List S) where
       quiet_behind : (i : ℕ) (e : Deferred S) → slice_get new.deferred i ≡ Some (Some e) → AllMeet set (map (matching u) e.disjunct) → (v : VersionSetId) →
           Contains e.disjunct v → (s : S) → Contains (drop from set) s → Contains (matching u v) s → ⊥
       quiet_behind i e at met v inside s behind matches =
-          let Named : N → Type 0 = λ n. IsNamed new.waiting n i in
-          let named : IsNamed new.waiting (u.name s) i =
+          let Named : N → Type 0 = λ n. IsNamed new.deferred_by_name n i in
+          let named : IsNamed new.deferred_by_name (u.name s) i =
           subst Named (sym (name_matching u ids packages v s matches)) (half_after.encoding.indexed i e at v inside) in
           let here_quiet : IsQuietUnder u set new (u.name s) = All-contains (λ t. IsQuietUnder u set new (u.name t)) (drop from set) s quiet behind in
           (here_quiet.quiet i named).quiet e at met

@@ -17,7 +17,7 @@ use Rattle.resolver_clause_store.specs.declared.VersionSetId.{VersionSetId}
 use Rattle.resolver_clause_store.proofs.ListLemmas.{Contains-cons_cases as cons_cases, Contains-here as here, Contains-map, Contains-map_back}
 use Rattle.resolver_clause_store.proofs.ListLemmas.{Contains-none as none_in, Contains-there as there}
 use Rattle.resolver_encoding.specs.Atoms.{Atom, IsMentioned, atom, atoms_of, first_atom, front, helpers_of, origin_by, second_atom, wanted}
-use Rattle.resolver_encoding.specs.Encodings.{Grows, Notes, asking_with}
+use Rattle.resolver_encoding.specs.Encodings.{Grows, Notes, numbers_with}
 use Rattle.resolver_encoding.specs.Led.{AddsSuch, IsCandidate, IsHelped, helped_by, helped_itself}
 use Rattle.resolver_encoding.specs.Tables.{HasAdded, IsBeside, IsSecond, Table, beside_it, is_itself, second_again, second_is}
 use Rattle.resolver_encoding.specs.Values.{IsAtom, IsClauseOf}
@@ -55,13 +55,13 @@ pub kind_added : {N S : Type 0} (u : Universe N S) (kind : ClauseKind N S) (old 
     new ≡ record mid {
       literals = mid.literals ++ literals ∷ [];
       kinds = mid.kinds ++ kind ∷ [];
-      requirements = asking_with kind (length mid.kinds) mid.requirements;
+      requirements = numbers_with kind (length mid.kinds) mid.requirements;
     } → HasAdded u kind old new
 kind_added {N} {S} u kind old mid new literals grows same clause is =
     let with_clause : Table N S → Table N S = λ t. record t {
       literals = t.literals ++ literals ∷ [];
       kinds = t.kinds ++ kind ∷ [];
-      requirements = asking_with kind (length t.kinds) t.requirements;
+      requirements = numbers_with kind (length t.kinds) t.requirements;
     } in
     let Added : Table N S → Type 0 = λ t. HasAdded u kind old t in
     subst Added (sym (is ∙ ap with_clause same)) (record { origins = grows; literals = literals; clause = clause; is = refl })

@@ -14,7 +14,7 @@ use Rattle.resolver_clause_store.specs.declared.Origin.TheVariants.{Solvable}
 use Rattle.resolver_clause_store.specs.declared.StringId.{StringId}
 use Rattle.resolver_clause_store.proofs.PlaceLemmas.{Keeps-same}
 use Rattle.resolver_encoding.specs.Called.{AreAsked, IsAsking, IsSeeing, to_ask}
-use Rattle.resolver_encoding.specs.Encodings.{AddsKind, IsEncoding, IsEncodingWhile, IsLeft, IsStepWhile, Notes, asking_with, idle, owing_for, IsAskStep}
+use Rattle.resolver_encoding.specs.Encodings.{AddsKind, IsEncoding, IsEncodingWhile, IsLeft, IsStepWhile, Notes, numbers_with, idle, owing_for, IsAskStep}
 use Rattle.resolver_encoding.specs.ReadState.{Deferred}
 use Rattle.resolver_encoding.specs.SoFar.{IsHalfRead}
 use Rattle.resolver_encoding.specs.Truth.{AreDue}
@@ -183,7 +183,7 @@ module _ {N S : Type 0} (u : Universe N S) where
   pub AddsPlainly-trans : (one two three : Notes N S) → AddsPlainly one two → AddsPlainly two three → AddsPlainly one three
   AddsPlainly-trans one two three first second = record { requirements = second.requirements ∙ first.requirements; seen = second.seen ∙ first.seen }
 
-  pub AddsPlainly-clause : (old new : Notes N S) (kind : ClauseKind N S) → ((numbers : List ℕ) → asking_with kind (length old.kinds) numbers ≡ numbers) →
+  pub AddsPlainly-clause : (old new : Notes N S) (kind : ClauseKind N S) → ((numbers : List ℕ) → numbers_with kind (length old.kinds) numbers ≡ numbers) →
       AddsKind u kind old new → AddsPlainly old new
   AddsPlainly-clause old new kind plain adds = record {
     requirements = ap (λ (n : Notes N S). n.requirements) adds.is ∙ plain old.requirements;

@@ -51,7 +51,7 @@ pub record Notes (N S : Type 0) : Type 0 where
   pub constrained : List VersionSetId
   pub read : List S
   pub deferred : List (Option (Deferred S))
-  pub waiting : Groups N ℕ
+  pub deferred_by_name : Groups N ℕ
   pub exempt : List S
   pub variable_limit : ℕ
   pub clause_limit : ℕ
@@ -72,8 +72,8 @@ pub record IsTrueEntry {N S : Type 0} (u : Universe N S) (root : Demands) (e : D
   pub once : AreDistinct e.disjunct
 
 -- the clause asks for candidates
-abbrev pub AsksForCandidates : {N S : Type 0} → ClauseKind N S → Type 0
-AsksForCandidates {N} {S} kind = ((by : By S) × (disjunct : Vec VersionSetId Global) × (r : Requirement) × (kind ≡ Requires by disjunct r)) ⊎
+abbrev pub IsRequirementKind : {N S : Type 0} → ClauseKind N S → Type 0
+IsRequirementKind {N} {S} kind = ((by : By S) × (disjunct : Vec VersionSetId Global) × (r : Requirement) × (kind ≡ Requires by disjunct r)) ⊎
     ((r : Requirement) × (kind ≡ GateRequires r))
 
 -- what follows from a solvable here is a gate or the helper of a condition
@@ -132,8 +132,8 @@ pub record IsEncodingWhile {N S : Type 0} (u : Universe N S) (doing : Doing N S)
   pub due : AreDue u (doing.asking ++ notes.asked) notes.exempt notes.kinds
   pub installs : Contains notes.kinds InstallRoot
   -- the numbers are just those of the clauses that ask for candidates
-  pub listed : (n : ℕ) (kind : ClauseKind N S) → slice_get notes.kinds n ≡ Some kind → AsksForCandidates kind → Contains notes.requirements n
-  pub ask : (n : ℕ) → Contains notes.requirements n → (kind : ClauseKind N S) × (slice_get notes.kinds n ≡ Some kind) × AsksForCandidates kind
+  pub listed : (n : ℕ) (kind : ClauseKind N S) → slice_get notes.kinds n ≡ Some kind → IsRequirementKind kind → Contains notes.requirements n
+  pub ask : (n : ℕ) → Contains notes.requirements n → (kind : ClauseKind N S) × (slice_get notes.kinds n ≡ Some kind) × IsRequirementKind kind
   -- of each requirement that has its clause
   pub helpers : (by : By S) (disjunct : Vec VersionSetId Global) (r : Requirement) → Contains notes.kinds (Requires by disjunct r) → (v : VersionSetId) →
       Contains disjunct.items v → Contains notes.helped v
@@ -172,8 +172,8 @@ pub record IsEncodingWhile {N S : Type 0} (u : Universe N S) (doing : Doing N S)
   -- of each disjunct that is put off
   pub left_true : (e : Deferred S) → IsLeft notes e → IsTrueEntry u root e
   pub indexed : (i : ℕ) (e : Deferred S) → slice_get notes.deferred i ≡ Some (Some e) → (v : VersionSetId) → Contains e.disjunct v →
-      IsNamed notes.waiting (u.version_set_name v) i
-  pub sound_waiting : AreGroups notes.waiting
+      IsNamed notes.deferred_by_name (u.version_set_name v) i
+  pub sound_deferred_by_name : AreGroups notes.deferred_by_name
 
 -- nothing is in progress
 abbrev pub IsEncoding : {N S : Type 0} → Universe N S → Demands → Notes N S → Type 0
@@ -204,7 +204,7 @@ pub record IsStepWhile {N S : Type 0} (u : Universe N S) (doing : Doing N S) (Pr
   pub constrained : IsWithin old.constrained new.constrained
   pub read : new.read ≡ old.read
   pub deferred : new.deferred ≡ old.deferred
-  pub waiting : new.waiting ≡ old.waiting
+  pub deferred_by_name : new.deferred_by_name ≡ old.deferred_by_name
   pub exempt : new.exempt ≡ old.exempt
   pub keeps : (root : Demands) → Premise root → IsEncodingWhile u doing root old → IsEncodingWhile u doing root new
 
@@ -227,7 +227,7 @@ pub record IsAskStep {N S : Type 0} (u : Universe N S) (Called : Call N S → Ty
   pub called : (call : Call N S) → IsFollowed new call → IsFollowed old call ⊎ Called call
   pub read : new.read ≡ old.read
   pub deferred : new.deferred ≡ old.deferred
-  pub waiting : new.waiting ≡ old.waiting
+  pub deferred_by_name : new.deferred_by_name ≡ old.deferred_by_name
   pub exempt : new.exempt ≡ old.exempt
   pub keeps : (root : Demands) → Premise root → IsEncoding u root old → IsEncoding u root new
 
@@ -276,7 +276,7 @@ pub record IsUnread {N S : Type 0} (notes : Notes N S) : Type 0 where
   pub none_constrained : notes.constrained ≡ []
   pub none_read : notes.read ≡ []
   pub none_deferred : notes.deferred ≡ []
-  pub sound_waiting : AreGroups notes.waiting
+  pub sound_deferred_by_name : AreGroups notes.deferred_by_name
 
 -- literals that are these atoms stand behind the old ones
 pub record Adds {N S : Type 0} (origins : List (Origin N S)) (old new : List Literal) (atoms : List (Atom N S)) : Type 0 where
@@ -290,10 +290,10 @@ pub record Grows {N S : Type 0} (old new : List (Origin N S)) : Type 0 where
   pub distinct : AreDistinct old → AreDistinct new
 
 -- the numbers of the clauses that ask for candidates, with that of one more clause where it does
-abbrev pub asking_with : {N S : Type 0} → ClauseKind N S → ℕ → List ℕ → List ℕ
-asking_with (Requires by disjunct r) number numbers = numbers ++ number ∷ []
-asking_with (GateRequires r) number numbers = numbers ++ number ∷ []
-asking_with kind number numbers = numbers
+abbrev pub numbers_with : {N S : Type 0} → ClauseKind N S → ℕ → List ℕ → List ℕ
+numbers_with (Requires by disjunct r) number numbers = numbers ++ number ∷ []
+numbers_with (GateRequires r) number numbers = numbers ++ number ∷ []
+numbers_with kind number numbers = numbers
 
 -- one more clause, with the literals of its kind
 pub record AddsKind {N S : Type 0} (u : Universe N S) (kind : ClauseKind N S) (old new : Notes N S) : Type 0 where
@@ -304,7 +304,7 @@ pub record AddsKind {N S : Type 0} (u : Universe N S) (kind : ClauseKind N S) (o
     origins = new.origins;
     table = old.table ++ literals ∷ [];
     kinds = old.kinds ++ kind ∷ [];
-    requirements = asking_with kind (length old.kinds) old.requirements;
+    requirements = numbers_with kind (length old.kinds) old.requirements;
   }
 
 -- what is read of a requirement, of a constraint, of the root or a solvable
@@ -347,8 +347,8 @@ pub record IsDisjunctOf {N S : Type 0} (u : Universe N S) (c : Option ConditionI
   pub listed : Contains lists disjunct
 
 -- the root, or the solvable, asks for the requirement; for the constraint
-abbrev pub AsksFor : {N S : Type 0} → Universe N S → By S → ConditionalRequirement → Demands → Type 0
-AsksFor u by r root = Contains (demands_by u root by).requirements r
+abbrev pub HasRequirement : {N S : Type 0} → Universe N S → By S → ConditionalRequirement → Demands → Type 0
+HasRequirement u by r root = Contains (demands_by u root by).requirements r
 
-abbrev pub AsksWithin : {N S : Type 0} → Universe N S → By S → VersionSetId → Demands → Type 0
-AsksWithin u by v root = Contains (demands_by u root by).constraints v
+abbrev pub HasConstraint : {N S : Type 0} → Universe N S → By S → VersionSetId → Demands → Type 0
+HasConstraint u by v root = Contains (demands_by u root by).constraints v

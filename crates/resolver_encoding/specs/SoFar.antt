@@ -85,21 +85,21 @@ IsProgress old new Nothing = new ≡ old
 IsProgress old new Fired = (new.read ≡ old.read) × (left_count new < left_count old)
 IsProgress old new Read = length old.read < length new.read
 
--- the disjunct with this number waits for the packages of these version sets, too
+-- the deferred disjunct with this number is noted under the packages of these version sets, too
 pub record IsIndexing {N S : Type 0} (u : Universe N S) (number : ℕ) (list : List VersionSetId) (old new : Notes N S) : Type 0 where
-  pub waiting : Groups N ℕ
-  pub is : new ≡ record old { waiting = waiting }
-  pub sound : AreGroups old.waiting → AreGroups waiting
-  pub earlier : AreGroups old.waiting → (n : N) (i : ℕ) → IsNamed old.waiting n i → IsNamed waiting n i
-  pub here : AreGroups old.waiting → All (λ v. IsNamed waiting (u.version_set_name v) number) list
+  pub deferred_by_name : Groups N ℕ
+  pub is : new ≡ record old { deferred_by_name = deferred_by_name }
+  pub sound : AreGroups old.deferred_by_name → AreGroups deferred_by_name
+  pub earlier : AreGroups old.deferred_by_name → (n : N) (i : ℕ) → IsNamed old.deferred_by_name n i → IsNamed deferred_by_name n i
+  pub here : AreGroups old.deferred_by_name → All (λ v. IsNamed deferred_by_name (u.version_set_name v) number) list
 
 -- one more disjunct is put off
 pub record IsDeferral {N S : Type 0} (u : Universe N S) (e : Deferred S) (old new : Notes N S) : Type 0 where
-  pub waiting : Groups N ℕ
-  pub is : new ≡ record old { waiting = waiting; deferred = old.deferred ++ Some e ∷ [] }
-  pub sound : AreGroups old.waiting → AreGroups waiting
-  pub earlier : AreGroups old.waiting → (n : N) (i : ℕ) → IsNamed old.waiting n i → IsNamed waiting n i
-  pub here : AreGroups old.waiting → All (λ v. IsNamed waiting (u.version_set_name v) (length old.deferred)) e.disjunct
+  pub deferred_by_name : Groups N ℕ
+  pub is : new ≡ record old { deferred_by_name = deferred_by_name; deferred = old.deferred ++ Some e ∷ [] }
+  pub sound : AreGroups old.deferred_by_name → AreGroups deferred_by_name
+  pub earlier : AreGroups old.deferred_by_name → (n : N) (i : ℕ) → IsNamed old.deferred_by_name n i → IsNamed deferred_by_name n i
+  pub here : AreGroups old.deferred_by_name → All (λ v. IsNamed deferred_by_name (u.version_set_name v) (length old.deferred)) e.disjunct
 
 -- the disjunct with this number is taken out
 pub record IsTakenOut {N S : Type 0} (number : ℕ) (e : Deferred S) (old new : Notes N S) : Type 0 where
@@ -116,9 +116,9 @@ pub record HasMet {N S : Type 0} (u : Universe N S) (set : List S) (notes : Note
 pub record IsQuietAt {N S : Type 0} (u : Universe N S) (set : List S) (notes : Notes N S) (number : ℕ) : Type 0 where
   pub quiet : (e : Deferred S) → slice_get notes.deferred number ≡ Some (Some e) → AllMeet set (map (matching u) e.disjunct) → ⊥
 
--- so are all that wait for the package
+-- so are all disjuncts that are noted under the package
 pub record IsQuietUnder {N S : Type 0} (u : Universe N S) (set : List S) (notes : Notes N S) (n : N) : Type 0 where
-  pub quiet : (i : ℕ) → IsNamed notes.waiting n i → IsQuietAt u set notes i
+  pub quiet : (i : ℕ) → IsNamed notes.deferred_by_name n i → IsQuietAt u set notes i
 
 -- Disjuncts were taken out that are met in the set, and each has its clause. Only packages of their requirements were asked,
 -- and only their candidates registered.
@@ -132,7 +132,7 @@ pub record IsFiring {N S : Type 0} (u : Universe N S) (set : List S) (old new : 
   pub called : (call : Call N S) → IsFollowed new call → IsFollowed old call ⊎
       ((e : Deferred S) × IsLeft old e × AllMeet set (map (matching u) e.disjunct) × IsWantedBy u e.requirement call)
   pub read : new.read ≡ old.read
-  pub waiting : new.waiting ≡ old.waiting
+  pub deferred_by_name : new.deferred_by_name ≡ old.deferred_by_name
   pub stays : (i : ℕ) (e : Deferred S) → slice_get new.deferred i ≡ Some (Some e) → slice_get old.deferred i ≡ Some (Some e)
   pub taken : (i : ℕ) (e : Deferred S) → slice_get old.deferred i ≡ Some (Some e) → (slice_get new.deferred i ≡ Some (Some e)) ⊎
       (AllMeet set (map (matching u) e.disjunct) × HasClause new.kinds e.by e.disjunct e.requirement)

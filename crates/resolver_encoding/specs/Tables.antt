@@ -13,7 +13,7 @@ use Rattle.resolver_clause_store.specs.declared.Origin.TheVariants.{Solvable}
 use Rattle.resolver_clause_store.specs.declared.RequirementClause.{RequirementClause}
 use Rattle.resolver_clause_store.specs.declared.VersionSetId.{VersionSetId}
 use Rattle.resolver_encoding.specs.Atoms.{second_atom}
-use Rattle.resolver_encoding.specs.Encodings.{Grows, asking_with}
+use Rattle.resolver_encoding.specs.Encodings.{Grows, numbers_with}
 use Rattle.resolver_encoding.specs.Values.{IsClauseOf}
 
 -- what each variable stands for, the literals and the kind of each clause, the numbers of those that ask for candidates, and how
@@ -54,5 +54,5 @@ pub record HasAdded {N S : Type 0} (u : Universe N S) (kind : ClauseKind N S) (o
     origins = new.origins;
     literals = old.literals ++ literals ∷ [];
     kinds = old.kinds ++ kind ∷ [];
-    requirements = asking_with kind (length old.kinds) old.requirements;
+    requirements = numbers_with kind (length old.kinds) old.requirements;
   }

@@ -26,7 +26,7 @@ pub record IsRegistered {N S : Type 0} (u : Universe N S) (s : S) (old new : Not
   pub asked : new.asked ≡ old.asked
   pub read : new.read ≡ old.read
   pub deferred : new.deferred ≡ old.deferred
-  pub waiting : new.waiting ≡ old.waiting
+  pub deferred_by_name : new.deferred_by_name ≡ old.deferred_by_name
   pub exempt : new.exempt ≡ old.exempt
   pub stays : StaysRead u old new
 
@@ -52,7 +52,7 @@ pub record IsTurnEnd {N S : Type 0} (u : Universe N S) (old new : Notes N S) : T
   pub asked : new.asked ≡ old.asked
   pub read : new.read ≡ old.read
   pub deferred : new.deferred ≡ old.deferred
-  pub waiting : new.waiting ≡ old.waiting
+  pub deferred_by_name : new.deferred_by_name ≡ old.deferred_by_name
   pub stays : StaysRead u old new
 
 -- The package was asked and no other, and nothing was read, registered or put off.
@@ -65,6 +65,6 @@ pub record AsksOnly {N S : Type 0} (u : Universe N S) (n : N) (old new : Notes N
   pub seen : new.seen ≡ old.seen
   pub read : new.read ≡ old.read
   pub deferred : new.deferred ≡ old.deferred
-  pub waiting : new.waiting ≡ old.waiting
+  pub deferred_by_name : new.deferred_by_name ≡ old.deferred_by_name
   pub exempt : new.exempt ≡ old.exempt
   pub stays : StaysRead u old new

@@ -44,7 +44,7 @@ pub struct Encoding<N: Copy + Eq + Hash + Drop, S: Copy + Eq + Hash + Drop> {
     constrained: IndexSet<VersionSetId>,
     read: IndexSet<S>,
     deferred: Vec<Option<Entry<S>>>,
-    waiting: Groups<N, usize>,
+    deferred_by_name: Groups<N, usize>,
     exempt: IndexSet<S>,
 }
 
@@ -71,7 +71,7 @@ impl<N: Copy + Eq + Hash + Drop, S: Copy + Eq + Hash + Drop> Encoding<N, S> {
             constrained: IndexSet::new(alloc),
             read: IndexSet::new(alloc),
             deferred: Vec::new(alloc),
-            waiting: Groups::new(alloc),
+            deferred_by_name: Groups::new(alloc),
             exempt: IndexSet::new(alloc),
         }
     }

@@ -5,7 +5,7 @@ ghost use Rattle.resolver_clause_store.specs.Laws.{IsIdentity};
 ghost use Rattle.resolver_clause_store.specs.Universe.{Universe};
 ghost use Rattle.resolver_clause_store.specs.Variables.{IsBounded, limit_in, origins_in};
 ghost use Rattle.resolver_encoding.specs.Atoms.{IsMentioned, atoms_of, wanted};
-ghost use Rattle.resolver_encoding.specs.Encodings.{Grows, asking_with};
+ghost use Rattle.resolver_encoding.specs.Encodings.{Grows, numbers_with};
 ghost use Rattle.resolver_encoding.specs.Led.{AddsSuch};
 ghost use Rattle.resolver_encoding.specs.Refusals.{IsShortage};
 ghost use Rattle.resolver_encoding.specs.Tables.{HasAdded, IsTableFull, with_number};
@@ -36,7 +36,7 @@ fn listing_of<N, S>(
     number: usize,
     ends: Vec<usize>,
 ) -> Option<RequirementClause>
-    ensures { (numbers : List ℕ) → asking_with kind.now number numbers ≡ with_number numbers result }
+    ensures { (numbers : List ℕ) → numbers_with kind.now number numbers ≡ with_number numbers result }
 {
     match kind {
         ClauseKind::Requires { parent, .. } => Some(RequirementClause {
@@ -151,7 +151,7 @@ impl<N: Copy + Eq + Hash + Drop, S: Copy + Eq + Hash + Drop> ClauseTable<N, S> {
         ensures added { OnOk result (table_in self.new ≡ record (table_in self.old) {
           literals = (table_in self.old).literals ++ literals ∷ [];
           kinds = (table_in self.old).kinds ++ kind ∷ [];
-          requirements = asking_with kind (length (table_in self.old).kinds) (table_in self.old).requirements;
+          requirements = numbers_with kind (length (table_in self.old).kinds) (table_in self.old).requirements;
         }) }
         ensures unchanged { OnErr result (table_in self.new ≡ table_in self.old) }
         ensures variables { self.new.variables ≡ self.old.variables }

@@ -37,7 +37,7 @@ use Rattle.resolver_encoding.specs.Truth.{HasLawfulSolvables}
 use Rattle.resolver_encoding.proofs.Bridge.{before-back, chosen_once, finished_is_valid, true_before}
 use Rattle.resolver_encoding.proofs.PromiseLemmas.{finished_is_first}
 use Rattle.resolver_encoding.proofs.TrailLemmas.{same_before, same_origin}
-use Rattle.resolvo.specs.ClauseSearches.{IsConsistent, IsLoaded, KeepsTurn, SetsNone, StaysMarked, clause_count_of, held_of, kept_of, learnt_count_of, trail_of}
+use Rattle.resolvo.specs.ClauseSearches.{IsConsistent, IsLoaded, KeepsTurn, SetsNone, StaysBookmarked, clause_count_of, held_of, kept_of, learnt_count_of, trail_of}
 use Rattle.resolvo.specs.RoundStates.{AreRounds, GoesOn, HasAllClauses, HasFollowed, IsAnswering, IsFollowing, IsSearchOf, IsStill, IsUpToDate, KeepsNear}
 use Rattle.resolvo.specs.RoundStates.{chosen_of, notes_of}
 use Rattle.resolvo.specs.declared.clause_search.ClauseSearch.{ClauseSearch}
@@ -72,9 +72,9 @@ drawn_or_assumed it given numbers consistent loaded variable slot at = ⊎_elim
 module _ {N S : Type 0} where
   -- what is loaded undoes nothing that is held
   pub still_loaded : (u : Universe N S) (old : Rounds N S) (new : ClauseSearch) → AreRounds u old → IsConsistent new →
-      SetsNone (trail_of old.search) (trail_of new) → StaysMarked old.search new → KeepsTurn old.search new → IsStill old →
+      SetsNone (trail_of old.search) (trail_of new) → StaysBookmarked old.search new → KeepsTurn old.search new → IsStill old →
       IsStill (record old { search = new })
-  still_loaded u old new rounds consistent set marked turn still =
+  still_loaded u old new rounds consistent set bookmarked turn still =
       let trail : Trail = trail_of old.search in
       let origins : List (Origin N S) = (notes_of old).origins in
       let size : length_of (trail_of new) ≡ length_of trail =
@@ -86,7 +86,7 @@ module _ {N S : Type 0} where
       same_before origins origins trail (trail_of new) (length_of trail) (Keeps-same origins) rounds.variables kept (length_of trail) (omega arith) in
       record {
         held = turn.held ∙ still.held ∙ sym size;
-        marked = marked still.marked;
+        bookmarked = bookmarked still.bookmarked;
         chosen = still.chosen ∙ sym same ∙ ap (solvables_before origins (trail_of new)) (sym size);
       }
 
@@ -219,7 +219,7 @@ module _ {N S : Type 0} where
       IsUpToDate old → AreRounds u old → HasFollowed old new → notes_of new ≡ notes_of old → kept_of new.search ≡ length_of (trail_of new.search) →
       map (λ (r : RequirementClause). r.number) requirements ≡ (notes_of old).requirements →
       IsFinished (notes_of old).table requirements (trail_of old.search) → IsAnswering u new
-  answering u old new requirements lawful packages up rounds followed same marked numbers finished =
+  answering u old new requirements lawful packages up rounds followed same bookmarked numbers finished =
       let With : Notes N S → Trail → List S → Type 0 = λ notes trail chosen. (root : Demands) (seeds refused : List S) → IsReadSoFar u root chosen notes →
       AreAssumed notes.origins seeds refused trail → AreSeeds u seeds chosen notes.asked notes.seen notes.exempt →
       IsAnswerBy u root chosen seeds notes.exempt in
@@ -240,7 +240,7 @@ module _ {N S : Type 0} where
       let PromisesOn : Trail → Type 0 = λ t. Promises (notes_of new) t here in
       let PromisesFor : List S → Type 0 = λ list. Promises (notes_of new) (trail_of new.search) list in
       record {
-        marked = marked;
+        bookmarked = bookmarked;
         chosen = followed.chosen ∙ ap (λ (n : Notes N S). solvables_before n.origins (trail_of old.search) (length_of (trail_of old.search))) (sym same) ∙
             ap (λ (t : Trail). solvables_before (notes_of new).origins t (length_of t)) (sym followed.trail);
         variables = ap variable_count followed.trail ∙ up.variables ∙ ap (λ (n : Notes N S). length n.origins) (sym same);

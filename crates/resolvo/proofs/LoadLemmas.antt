@@ -251,7 +251,7 @@ pub same-undone : (old new : ClauseSearch) (level : ℕ) → IsConsistent old �
     new.kept ≡ min old.kept (length_of new.trail) → new.base ≡ old.base → new.held ≡ old.held → IsSameSearch old new
 same-undone old new level it undone high learnt kept base held = record {
   set = record { was = λ v s at. (undone.stays v s at).0 };
-  marked = λ all. let fewer : length_of new.trail ≤ length_of old.trail = (keeps_undone old.trail new.trail level undone).were in
+  bookmarked = λ all. let fewer : length_of new.trail ≤ length_of old.trail = (keeps_undone old.trail new.trail level undone).were in
       omega (arith, all, kept, fewer);
   variables = undone.size;
   learnt = learnt;
@@ -331,13 +331,13 @@ consistent-requirement old wanted queue in_lists requirement it inside is queued
     assumption
 
 pub same-none : (it : ClauseSearch) → IsSameSearch it it
-same-none it = record { set = record { was = λ v s at. at }; marked = λ all. all; variables = refl; learnt = refl; kept = λ base k. k; turn = keeps-none it }
+same-none it = record { set = record { was = λ v s at. at }; bookmarked = λ all. all; variables = refl; learnt = refl; kept = λ base k. k; turn = keeps-none it }
 
 pub same-trans : (a b c : ClauseSearch) → IsSameSearch a b → IsSameSearch b c → IsSameSearch a c
 same-trans a b c first second =
     record {
       set = record { was = λ v s at. first.set.was v s (second.set.was v s at) };
-      marked = λ all. second.marked (first.marked all);
+      bookmarked = λ all. second.bookmarked (first.bookmarked all);
       variables = second.variables ∙ first.variables;
       learnt = second.learnt ∙ first.learnt;
       kept = λ base k. second.kept base (first.kept base k);
@@ -428,7 +428,7 @@ consistent-grown it trail propagator queue variables in_lists holds room grown p
     let kept : it.kept ≤ length_of trail = omega (arith, holds.kept, ap length grown.order) in
     let places = keeps_grown it.trail trail variables grown in
     let turn = turn-kept it.trail trail it.base it.held it.kept it.kept holds.turn
-    (keeps-fewer it.trail trail (length_of it.trail) it.held places holds.turn.inside) holds.turn.marked in
+    (keeps-fewer it.trail trail (length_of it.trail) it.held places holds.turn.inside) holds.turn.bookmarked in
     let queued = stays trail it.table.items it.requirements.items
     (queued-longer it.queue it.trail trail it.table.items it.requirements.items places holds.queued) in
     assumption

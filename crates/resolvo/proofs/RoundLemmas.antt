@@ -34,10 +34,10 @@ use Rattle.resolver_encoding.proofs.EncodedLemmas.{encoded_below, requirements_i
 use Rattle.resolver_encoding.proofs.EncodingLemmas.{Extends-within}
 use Rattle.resolver_encoding.proofs.Lists.{Contains-slice}
 use Rattle.resolver_encoding.proofs.TrailLemmas.{before_extends, follows_still}
-use Rattle.resolvo.specs.ClauseSearches.{IsConsistent, IsLoaded, KeepsLoaded, KeepsMark, KeepsTurn, clause_count_of, kept_of, learnt_count_of, numbers_of}
+use Rattle.resolvo.specs.ClauseSearches.{IsConsistent, IsLoaded, KeepsLoaded, KeepsBookmark, KeepsTurn, clause_count_of, kept_of, learnt_count_of, numbers_of}
 use Rattle.resolvo.specs.ClauseSearches.{trail_of}
 use Rattle.resolvo.specs.declared.owners.Owners.{Owners}
-use Rattle.resolvo.specs.RoundStates.{AreRounds, HasFollowed, HasLoaded, HasMark, IsFollowing, IsFresh, IsSearchOf, IsStill, IsUpToDate, KeepsRead, KeepsRoom}
+use Rattle.resolvo.specs.RoundStates.{AreRounds, HasFollowed, HasLoaded, HasBookmark, IsFollowing, IsFresh, IsSearchOf, IsStill, IsUpToDate, KeepsRead, KeepsRoom}
 use Rattle.resolvo.specs.RoundStates.{chosen_of, notes_of}
 use Rattle.resolvo.specs.declared.clause_search.ClauseSearch.{ClauseSearch}
 use Rattle.resolvo.specs.declared.rounds.Rounds.{Rounds}
@@ -129,7 +129,7 @@ module _ {N S : Type 0} where
           requiring = record { more = (notes_in encoding).requirements; is = refl };
         };
         variables = omega (arith, fresh.variables);
-        mark = record {
+        bookmark = record {
           base = base;
           follows = subst FollowsTo (sym empty) (fresh.follows (notes_in encoding).origins base);
           kept = keeps_itself base (kept_of old.search) fresh.consistent.kept;
@@ -162,7 +162,7 @@ module _ {N S : Type 0} where
   -- the search has run over all that was read
   pub searched : (u : Universe N S) (old : Rounds N S) (new : ClauseSearch) → AreRounds u old → IsConsistent new →
       IsLoaded (notes_of old).table (notes_of old).requirements new → variable_count (trail_of new) ≡ length (notes_of old).origins →
-      KeepsMark old.search new → AreRounds u (record old { search = new })
+      KeepsBookmark old.search new → AreRounds u (record old { search = new })
   searched u old new rounds consistent loaded size kept = record {
     bounded = rounds.bounded;
     reading = rounds.reading;
@@ -176,7 +176,7 @@ module _ {N S : Type 0} where
           record { more = []; is = sym (append-nil (notes_of old).requirements) };
     };
     variables = omega (arith, size);
-    mark = record { base = rounds.mark.base; follows = rounds.mark.follows; kept = kept rounds.mark.base rounds.mark.kept; known = rounds.mark.known };
+    bookmark = record { base = rounds.bookmark.base; follows = rounds.bookmark.follows; kept = kept rounds.bookmark.base rounds.bookmark.kept; known = rounds.bookmark.known };
   }
 
   -- the list of chosen solvables that was cut and follows the trail again
@@ -185,29 +185,29 @@ module _ {N S : Type 0} where
     inside : IsWithin (chosen_in cut) (chosen_of old)
     follows : Follows new (notes_of old).origins (trail_of old.search) (length_of (trail_of old.search))
 
-  cut_again : (old : Rounds N S) (kept : ℕ) (cut new : Chosen S) → IsUpToDate old → HasMark old → kept ≡ kept_of old.search →
+  cut_again : (old : Rounds N S) (kept : ℕ) (cut new : Chosen S) → IsUpToDate old → HasBookmark old → kept ≡ kept_of old.search →
       ((origins : List (Origin N S)) (trail : Trail) (count : ℕ) → Follows old.chosen origins trail count → kept ≤ count → Follows cut origins trail kept) →
       ((count : ℕ) → Follows cut (notes_of old).origins (trail_of old.search) count →
       Follows new (notes_of old).origins (trail_of old.search) (length_of (trail_of old.search))) →
       IsCutAgain old kept cut new
-  cut_again old kept cut new up mark is cuts follows =
+  cut_again old kept cut new up bookmark is cuts follows =
       let origins : List (Origin N S) = (notes_of old).origins in
       let trail : Trail = trail_of old.search in
-      let places : KeepsPlaces mark.base trail kept = let Places : ℕ → Type 0 = λ n. KeepsPlaces mark.base trail n in subst Places (sym is) mark.kept in
-      let first : Follows cut origins mark.base kept = cuts origins mark.base (length_of mark.base) mark.follows places.were in
-      let now : Follows cut origins trail kept = follows_still origins origins mark.base trail kept (Keeps-same origins) mark.known places cut first in
+      let places : KeepsPlaces bookmark.base trail kept = let Places : ℕ → Type 0 = λ n. KeepsPlaces bookmark.base trail n in subst Places (sym is) bookmark.kept in
+      let first : Follows cut origins bookmark.base kept = cuts origins bookmark.base (length_of bookmark.base) bookmark.follows places.were in
+      let now : Follows cut origins trail kept = follows_still origins origins bookmark.base trail kept (Keeps-same origins) bookmark.known places cut first in
       let Within : List S → Type 0 = λ list. IsWithin list (chosen_of old) in
-      let WithinAll : List S → Type 0 = λ list. IsWithin (solvables_before origins mark.base kept) list in
+      let WithinAll : List S → Type 0 = λ list. IsWithin (solvables_before origins bookmark.base kept) list in
       record {
         at_base = now;
         inside = subst Within (sym first.is)
-            (subst WithinAll (sym mark.follows.is)
-            (Extends-within (solvables_before origins mark.base kept) (solvables_before origins mark.base (length_of mark.base))
-            (before_extends origins mark.base kept (length_of mark.base) places.were)));
+            (subst WithinAll (sym bookmark.follows.is)
+            (Extends-within (solvables_before origins bookmark.base kept) (solvables_before origins bookmark.base (length_of bookmark.base))
+            (before_extends origins bookmark.base kept (length_of bookmark.base) places.were)));
         follows = follows kept now;
       }
 
-  pub following : (old : Rounds N S) (kept from : ℕ) (cut new : Chosen S) (search : ClauseSearch) → IsConsistent search → IsUpToDate old → HasMark old →
+  pub following : (old : Rounds N S) (kept from : ℕ) (cut new : Chosen S) (search : ClauseSearch) → IsConsistent search → IsUpToDate old → HasBookmark old →
       kept ≡ kept_of old.search →
       ((origins : List (Origin N S)) (trail : Trail) (count : ℕ) → Follows old.chosen origins trail count → kept ≤ count → Follows cut origins trail kept) →
       ((count : ℕ) → Follows cut (notes_of old).origins (trail_of old.search) count →
@@ -215,9 +215,9 @@ module _ {N S : Type 0} where
       Extends (chosen_in cut) (chosen_in new) → from ≡ length (chosen_in cut) → KeepsLoaded old.search search → trail_of search ≡ trail_of old.search →
       KeepsPlaces (trail_of search) (trail_of search) (kept_of search) →
       IsFollowing old (record old { chosen = new; search = search }) from
-  following old kept from cut new search consistent up mark is cuts follows more count loaded same places =
+  following old kept from cut new search consistent up bookmark is cuts follows more count loaded same places =
       let origins : List (Origin N S) = (notes_of old).origins in
-      let again = cut_again old kept cut new up mark is cuts follows in
+      let again = cut_again old kept cut new up bookmark is cuts follows in
       let FollowsOn : Trail → Type 0 = λ t. Follows new origins t (length_of t) in
       let taken : take from (chosen_in new) ≡ chosen_in cut = ap (λ n. take n (chosen_in new)) count ∙ ap (take (length (chosen_in cut))) more.is ∙
       take-append_seam (chosen_in cut) more.more in
@@ -228,25 +228,25 @@ module _ {N S : Type 0} where
         encoding = refl;
         consistent = consistent;
         loaded = record { loaded = loaded (notes_of old).table (notes_of old).requirements up.loaded; variables = size };
-        mark = record { base = trail_of search; follows = subst FollowsOn (sym same) again.follows; kept = places; known = omega (arith, size) };
+        bookmark = record { base = trail_of search; follows = subst FollowsOn (sym same) again.follows; kept = places; known = omega (arith, size) };
         within = omega (arith, count, longer);
         earlier = subst Within (sym taken) again.inside;
       }
 
-  pub followed : (old : Rounds N S) (kept : ℕ) (cut new : Chosen S) (search : ClauseSearch) → IsUpToDate old → HasMark old → kept ≡ kept_of old.search →
+  pub followed : (old : Rounds N S) (kept : ℕ) (cut new : Chosen S) (search : ClauseSearch) → IsUpToDate old → HasBookmark old → kept ≡ kept_of old.search →
       ((origins : List (Origin N S)) (trail : Trail) (count : ℕ) → Follows old.chosen origins trail count → kept ≤ count → Follows cut origins trail kept) →
       ((count : ℕ) → Follows cut (notes_of old).origins (trail_of old.search) count →
       Follows new (notes_of old).origins (trail_of old.search) (length_of (trail_of old.search))) →
       trail_of search ≡ trail_of old.search → clause_count_of search ≡ clause_count_of old.search → learnt_count_of search ≡ learnt_count_of old.search →
       KeepsTurn old.search search → kept_of search ≡ length_of (trail_of search) →
       HasFollowed old (record old { chosen = new; search = search })
-  followed old kept cut new search up mark is cuts follows trail clauses learnt turn count = record {
+  followed old kept cut new search up bookmark is cuts follows trail clauses learnt turn count = record {
     trail = trail;
     clauses = clauses;
     learnt = learnt;
     turn = turn;
-    marked = count;
-    chosen = (cut_again old kept cut new up mark is cuts follows).follows.is;
+    bookmarked = count;
+    chosen = (cut_again old kept cut new up bookmark is cuts follows).follows.is;
   }
 
   -- what was read for the old list was read for the first ones of the new list
@@ -270,7 +270,7 @@ module _ {N S : Type 0} where
       let ReadFor : List S → Type 0 = λ set. IsReadSoFar u rounds.reading.root set (notes_in encoding) in
       let longer : length (notes_of mid).origins ≤ length (notes_in encoding).origins =
       Keeps-longer (notes_of mid).origins (notes_in encoding).origins Root more.origins in
-      let mark : HasMark mid = following.mark in
+      let bookmark : HasBookmark mid = following.bookmark in
       record {
         bounded = bounded;
         reading = record {
@@ -286,12 +286,12 @@ module _ {N S : Type 0} where
           requiring = more.requirements;
         };
         variables = omega (arith, longer, following.loaded.variables);
-        mark = record {
-          base = mark.base;
-          follows = follows_still (notes_of mid).origins (notes_in encoding).origins mark.base mark.base (length_of mark.base) more.origins mark.known
-              (keeps_itself mark.base (length_of mark.base) (omega arith)) mid.chosen mark.follows;
-          kept = mark.kept;
-          known = omega (arith, mark.known, longer);
+        bookmark = record {
+          base = bookmark.base;
+          follows = follows_still (notes_of mid).origins (notes_in encoding).origins bookmark.base bookmark.base (length_of bookmark.base) more.origins bookmark.known
+              (keeps_itself bookmark.base (length_of bookmark.base) (omega arith)) mid.chosen bookmark.follows;
+          kept = bookmark.kept;
+          known = omega (arith, bookmark.known, longer);
         };
       }
 

@@ -45,8 +45,8 @@ use Rattle.resolver_encoding.proofs.Bridge.{before-back, has_value, is_chosen, s
 use Rattle.resolver_encoding.proofs.EncodingLemmas.{Extends-same, Extends-trans, Extends-within}
 use Rattle.resolver_encoding.proofs.LeftOutLemmas.{left_out_more, left_out_nowhere, spares_exempting, spares_present}
 use Rattle.resolver_encoding.proofs.TrailLemmas.{before_extends, follows_still, none_at, same_before, same_origin}
-use Rattle.resolvo.specs.ClauseSearches.{IsConsistent, IsRootTurn, KeepsLoaded, KeepsMark, KeepsTurn, base_of, held_of, kept_of, trail_of}
-use Rattle.resolvo.specs.RoundStates.{AreRounds, GoesOn, HasAssumed, HasMark, HasTurned, IsAnswering, IsFollowing, IsBetween, IsRefusing, IsSearchOf}
+use Rattle.resolvo.specs.ClauseSearches.{IsConsistent, IsRootTurn, KeepsLoaded, KeepsBookmark, KeepsTurn, base_of, held_of, kept_of, trail_of}
+use Rattle.resolvo.specs.RoundStates.{AreRounds, GoesOn, HasAssumed, HasBookmark, HasTurned, IsAnswering, IsFollowing, IsBetween, IsRefusing, IsSearchOf}
 use Rattle.resolvo.specs.RoundStates.{IsStanding, IsStill, IsTurned, IsUnanswered, LeadsOn, StaysLed, is_accepted, is_refused, was_chosen, chosen_of}
 use Rattle.resolvo.specs.RoundStates.{notes_of}
 use Rattle.resolvo.specs.declared.clause_search.ClauseSearch.{ClauseSearch}
@@ -174,7 +174,7 @@ module _ {N S : Type 0} where
       let longer : length (notes_of old).origins ≤ length (notes_in encoding).origins =
       Keeps-longer (notes_of old).origins (notes_in encoding).origins Root adds.origins in
       let Requiring : List ℕ → Type 0 = λ list. Extends rounds.loaded.numbers list in
-      let mark : HasMark old = rounds.mark in
+      let bookmark : HasBookmark old = rounds.bookmark in
       record {
         bounded = bounded;
         reading = record { root = rounds.reading.root; so_far = adds.keeps rounds.reading.root (chosen_of old) rounds.reading.so_far };
@@ -187,12 +187,12 @@ module _ {N S : Type 0} where
           requiring = subst Requiring (sym adds.requirements) rounds.loaded.requiring;
         };
         variables = omega (arith, rounds.variables, longer);
-        mark = record {
-          base = mark.base;
-          follows = follows_still (notes_of old).origins (notes_in encoding).origins mark.base mark.base (length_of mark.base) adds.origins mark.known
-              (keeps_itself mark.base (length_of mark.base) (omega arith)) old.chosen mark.follows;
-          kept = mark.kept;
-          known = omega (arith, mark.known, longer);
+        bookmark = record {
+          base = bookmark.base;
+          follows = follows_still (notes_of old).origins (notes_in encoding).origins bookmark.base bookmark.base (length_of bookmark.base) adds.origins bookmark.known
+              (keeps_itself bookmark.base (length_of bookmark.base) (omega arith)) old.chosen bookmark.follows;
+          kept = bookmark.kept;
+          known = omega (arith, bookmark.known, longer);
         };
       }
 
@@ -332,8 +332,8 @@ module _ {N S : Type 0} where
       let origins : List (Origin N S) = (notes_of old).origins in
       let n : ℕ = held_of old.search - 1 in
       let some : 0 < held_of old.search = rounds.consistent.turn.some base in
-      let mark : HasMark old = rounds.mark in
-      let marked : n ≤ kept_of old.search = omega (arith, rounds.consistent.turn.marked, some) in
+      let bookmark : HasBookmark old = rounds.bookmark in
+      let bookmarked : n ≤ kept_of old.search = omega (arith, rounds.consistent.turn.bookmarked, some) in
       let made : Slot = record { value = false; level = level_of cut + 1; place = length_of cut; reason = Assumed } in
       let stands_last : variable_at new n ≡ v = ap (variable_at new) (sym is_cut.length) ∙ (new.listed v made gains.here).1 in
       let off : value_of new v ≡ false = ap (λ o. option_map_or (λ (q : Slot). q.value) o false) gains.here in
@@ -348,15 +348,15 @@ module _ {N S : Type 0} where
       (omega (arith, is_cut.length)) in
       let first : solvables_before origins new n ≡ solvables_before origins (trail_of old.search) n =
       same_before origins origins (trail_of old.search) new n (Keeps-same origins) rounds.variables all_kept n (omega arith) in
-      let again : solvables_before origins (trail_of old.search) n ≡ solvables_before origins mark.base n =
-      same_before origins origins mark.base (trail_of old.search) (kept_of old.search) (Keeps-same origins) mark.known mark.kept n marked in
+      let again : solvables_before origins (trail_of old.search) n ≡ solvables_before origins bookmark.base n =
+      same_before origins origins bookmark.base (trail_of old.search) (kept_of old.search) (Keeps-same origins) bookmark.known bookmark.kept n bookmarked in
       let Has : List S → Type 0 = λ list. Contains list t in
-      let there_before : Contains (solvables_before origins mark.base n) t =
+      let there_before : Contains (solvables_before origins bookmark.base n) t =
       subst Has (is ∙ ap (solvables_before origins new) size ∙ ap (λ list. solvables_before origins new n ++ list) (sym nothing) ∙
       append-nil (solvables_before origins new n) ∙ first ∙ again) h in
-      subst Has (sym mark.follows.is)
-      (Extends-within (solvables_before origins mark.base n) (solvables_before origins mark.base (length_of mark.base))
-      (before_extends origins mark.base n (length_of mark.base) (omega (arith, marked, mark.kept.were))) t there_before)
+      subst Has (sym bookmark.follows.is)
+      (Extends-within (solvables_before origins bookmark.base n) (solvables_before origins bookmark.base (length_of bookmark.base))
+      (before_extends origins bookmark.base n (length_of bookmark.base) (omega (arith, bookmarked, bookmark.kept.were))) t there_before)
 
   -- a list that follows the trail again, and has no more than before
   pub rounds_followed : (u : Universe N S) (before old new : Rounds N S) (from : ℕ) → AreRounds u before → old.encoding ≡ before.encoding →
@@ -381,7 +381,7 @@ module _ {N S : Type 0} where
           requiring = Extends-same (notes_of new).requirements;
         };
         variables = omega (arith, following.loaded.variables);
-        mark = following.mark;
+        bookmark = following.bookmark;
       }
 
   -- the turn of a soft requirement that is not decided: it may be exempt, and is assumed
@@ -644,14 +644,14 @@ module _ {N S : Type 0} where
 
         old_within : IsWithin (chosen_of old) (chosen_of rest)
         old_within t h =
-            let mark : HasMark rest = rounds.mark in
-            let marked : n0 ≤ kept_of rest.search = omega (arith, rounds.consistent.turn.marked, held_rest) in
+            let bookmark : HasBookmark rest = rounds.bookmark in
+            let bookmarked : n0 ≤ kept_of rest.search = omega (arith, rounds.consistent.turn.bookmarked, held_rest) in
             let Has : List S → Type 0 = λ list. Contains list t in
-            let same : solvables_before o2 t2 n0 ≡ solvables_before o2 mark.base n0 =
-            same_before o2 o2 mark.base t2 (kept_of rest.search) (Keeps-same o2) mark.known mark.kept n0 marked in
-            subst Has (sym mark.follows.is)
-            (Extends-within (solvables_before o2 mark.base n0) (solvables_before o2 mark.base (length_of mark.base))
-            (before_extends o2 mark.base n0 (length_of mark.base) (omega (arith, marked, mark.kept.were))) t (subst Has (sym prefix ∙ same) h))
+            let same : solvables_before o2 t2 n0 ≡ solvables_before o2 bookmark.base n0 =
+            same_before o2 o2 bookmark.base t2 (kept_of rest.search) (Keeps-same o2) bookmark.known bookmark.kept n0 bookmarked in
+            subst Has (sym bookmark.follows.is)
+            (Extends-within (solvables_before o2 bookmark.base n0) (solvables_before o2 bookmark.base (length_of bookmark.base))
+            (before_extends o2 bookmark.base n0 (length_of bookmark.base) (omega (arith, bookmarked, bookmark.kept.were))) t (subst Has (sym prefix ∙ same) h))
 
         after_assumed : AreAssumed o3 taken (refused ++ s ∷ []) t3
         after_assumed =
@@ -813,11 +813,11 @@ module _ {N S : Type 0} where
   pub rounds_assumed : (u : Universe N S) (old : Rounds N S) (encoding : Encoding N S) (search : ClauseSearch) (v : ℕ) → AreRounds u old → IsBounded encoding →
       notes_in encoding ≡ record (notes_of old) { exempt = (notes_in encoding).exempt } →
       ((d : Demands) (set : List S) → IsReadSoFar u d set (notes_of old) → IsReadSoFar u d set (notes_in encoding)) → IsConsistent search →
-      KeepsLoaded old.search search → variable_count (trail_of search) ≡ variable_count (trail_of old.search) → KeepsMark old.search search →
+      KeepsLoaded old.search search → variable_count (trail_of search) ≡ variable_count (trail_of old.search) → KeepsBookmark old.search search →
       AreRounds u (record old { encoding = encoding; search = search })
-  rounds_assumed u old encoding search v rounds bounded only stays consistent loads size mark =
+  rounds_assumed u old encoding search v rounds bounded only stays consistent loads size bookmark =
       let origins : (notes_of old).origins ≡ (notes_in encoding).origins = sym (ap (λ (n : Notes N S). n.origins) only) in
-      let Follow : List (Origin N S) → Type 0 = λ os. Follows old.chosen os rounds.mark.base (length_of rounds.mark.base) in
+      let Follow : List (Origin N S) → Type 0 = λ os. Follows old.chosen os rounds.bookmark.base (length_of rounds.bookmark.base) in
       let Table : List (Vec Literal Global) → Type 0 = λ table. Extends rounds.loaded.given table in
       let Requiring : List ℕ → Type 0 = λ list. Extends rounds.loaded.numbers list in
       record {
@@ -832,11 +832,11 @@ module _ {N S : Type 0} where
           requiring = subst Requiring (sym (ap (λ (n : Notes N S). n.requirements) only)) rounds.loaded.requiring;
         };
         variables = omega (arith, size, rounds.variables, ap length origins);
-        mark = record {
-          base = rounds.mark.base;
-          follows = subst Follow origins rounds.mark.follows;
-          kept = mark rounds.mark.base rounds.mark.kept;
-          known = omega (arith, rounds.mark.known, ap length origins);
+        bookmark = record {
+          base = rounds.bookmark.base;
+          follows = subst Follow origins rounds.bookmark.follows;
+          kept = bookmark rounds.bookmark.base rounds.bookmark.kept;
+          known = omega (arith, rounds.bookmark.known, ap length origins);
         };
       }
 
@@ -845,19 +845,19 @@ module _ {N S : Type 0} where
       (count : kept_of search ≡ kept_of old.search) where
     pub rounds_held : AreRounds u old → IsConsistent search → KeepsLoaded old.search search → AreRounds u (record old { search = search })
     rounds_held rounds consistent loads =
-        let Kept : Trail → ℕ → Type 0 = λ t n. KeepsPlaces rounds.mark.base t n in
+        let Kept : Trail → ℕ → Type 0 = λ t n. KeepsPlaces rounds.bookmark.base t n in
         let KeptIn : Trail → Type 0 = λ t. Kept t (kept_of search) in
         let loaded = loads rounds.loaded.given rounds.loaded.numbers rounds.loaded.loaded in
         let variables : variable_count (trail_of search) ≤ length (notes_of old).origins = omega (arith, ap variable_count trail, rounds.variables) in
-        let kept = subst KeptIn (sym trail) (subst (Kept (trail_of old.search)) (sym count) rounds.mark.kept) in
-        Prim.search rounds.mark.follows
+        let kept = subst KeptIn (sym trail) (subst (Kept (trail_of old.search)) (sym count) rounds.bookmark.kept) in
+        Prim.search rounds.bookmark.follows
 
     pub still_held : held_of search ≡ length_of (trail_of search) → kept_of old.search ≡ length_of (trail_of old.search) →
         chosen_of old ≡ solvables_before (notes_of old).origins (trail_of old.search) (length_of (trail_of old.search)) →
         IsStill (record old { search = search })
-    still_held held marked chosen = record {
+    still_held held bookmarked chosen = record {
       held = held;
-      marked = count ∙ marked ∙ ap length_of (sym trail);
+      bookmarked = count ∙ bookmarked ∙ ap length_of (sym trail);
       chosen = chosen ∙ ap (λ (t : Trail). solvables_before (notes_of old).origins t (length_of t)) (sym trail);
     }
 

@@ -42,11 +42,11 @@ pub first-held : (old new : Trail) (held : ℕ) → KeepsPlaces old new held →
 first-held old new held keeps = λ base k. keeps_through base old new held held k keeps (omega arith)
 
 pub turn-kept : (old new : Trail) (base held kept left : ℕ) → IsTurn old base held kept → KeepsPlaces old new held → held ≤ left + 1 → IsTurn new base held left
-turn-kept old new base held kept left turn keeps marked = record {
+turn-kept old new base held kept left turn keeps bookmarked = record {
   inside = keeps.are;
   low = λ v s at below. turn.low v s (keeps-back old new held v s keeps at below) below;
   some = turn.some;
-  marked = marked;
+  bookmarked = bookmarked;
 }
 
 -- what is held stays where the levels above the base are undone
@@ -58,7 +58,7 @@ pub turn-undone : (old new : Trail) (base held kept level left : ℕ) → IsTurn
     left ≡ min kept (length_of new) → IsTurn new base held left
 turn-undone old new base held kept level left turn undone high is =
     let keeps = held-undone old new base held kept level turn undone high in
-    turn-kept old new base held kept left turn keeps (omega (arith, turn.marked, keeps.are, is))
+    turn-kept old new base held kept left turn keeps (omega (arith, turn.bookmarked, keeps.are, is))
 
 -- and where a literal is set then
 pub held-backtracked : (old middle new : Trail) (base held kept level : ℕ) → IsTurn old base held kept → IsUndone old middle level → base ≤ level →
@@ -72,7 +72,7 @@ pub turn-backtracked : (old middle new : Trail) (base held kept level left : ℕ
 turn-backtracked old middle new base held kept level left turn undone high keeps is =
     let first = held-undone old middle base held kept level turn undone high in
     turn-kept old new base held kept left turn (held-backtracked old middle new base held kept level turn undone high keeps)
-    (omega (arith, turn.marked, first.are, is))
+    (omega (arith, turn.bookmarked, first.are, is))
 
 -- no step but the beginning of a turn assumes a variable
 pub none-undone : (old new : Trail) (level : ℕ) → IsUndone old new level → AssumesNone old new
@@ -139,11 +139,11 @@ root-kept old new keeps root = record {
 -- where the whole trail is held
 pub turn-whole : (trail : Trail) (base held kept : ℕ) → IsTop trail base → base ≤ length_of trail → held ≡ length_of trail → held ≤ kept + 1 →
     IsTurn trail base held kept
-turn-whole trail base held kept top bound whole marked = record {
+turn-whole trail base held kept top bound whole bookmarked = record {
   inside = omega (arith, whole);
   low = λ v s at below. top v s at;
   some = λ above. omega (arith, above, bound, whole);
-  marked = marked;
+  bookmarked = bookmarked;
 }
 
 pub level-gained : (old new : Trail) (literal : Literal) (level : ℕ) (reason : Reason) → Gains old new literal level reason → level_of new ≡ level
@@ -163,29 +163,29 @@ pub consistent-assumed : (it : ClauseSearch) (trail : Trail) (literal : Literal)
     (in_lists : ∥ AreInLists it.table.items it.propagator.watches ∥₁) → IsConsistent it → Gains it.trail trail literal level Assumed →
     slot_of it.trail literal.variable ≡ None → it.kept ≡ length_of it.trail → IsTop trail base → base ≤ length_of trail → held ≡ length_of trail →
     IsConsistent (record it { trail = trail; base = base; held = held; in_lists = in_lists })
-consistent-assumed it trail literal level base held in_lists holds gains free marked top bound whole =
+consistent-assumed it trail literal level base held in_lists holds gains free bookmarked top bound whole =
     let below : AreBelow (variable_count trail) it.table.items = λ n k d b. omega (arith, holds.below n k d b, gains.size) in
     let justified = justified-decides it.table.items it.trail trail literal level Assumed assumed-forced holds.justified gains free in
     let chosen = chosen-assumes it.table.items it.requirements.items it.trail trail literal level holds.chosen gains free in
     let kept : it.kept ≤ length_of trail = omega (arith, holds.kept, gains.count) in
     let propagator = propagator-gains it.table.items it.trail trail it.propagator literal level Assumed gains free holds.propagator in
-    let turn = turn-whole trail base held it.kept top bound whole (omega (arith, whole, marked, gains.count)) in
+    let turn = turn-whole trail base held it.kept top bound whole (omega (arith, whole, bookmarked, gains.count)) in
     let queued = queued-longer it.queue it.trail trail it.table.items it.requirements.items
     (keeps_all it.trail trail (keeps-gains it.trail trail literal level _ gains free)) holds.queued in
     assumption
 
-pub consistent-marked : (it : ClauseSearch) (kept : ℕ) (in_lists : ∥ AreInLists it.table.items it.propagator.watches ∥₁) → kept ≡ length_of it.trail →
+pub consistent-bookmarked : (it : ClauseSearch) (kept : ℕ) (in_lists : ∥ AreInLists it.table.items it.propagator.watches ∥₁) → kept ≡ length_of it.trail →
     IsConsistent it → IsConsistent (record it { kept = kept; in_lists = in_lists })
-consistent-marked it kept in_lists whole holds =
+consistent-bookmarked it kept in_lists whole holds =
     let now : kept ≤ length_of it.trail = omega (arith, whole) in
-    let marked : it.held ≤ kept + 1 = omega (arith, holds.turn.inside, whole) in
+    let bookmarked : it.held ≤ kept + 1 = omega (arith, holds.turn.inside, whole) in
     assumption
 
 pub consistent-held : (it : ClauseSearch) (base held : ℕ) (in_lists : ∥ AreInLists it.table.items it.propagator.watches ∥₁) → it.kept ≡ length_of it.trail →
     IsTop it.trail base → base ≤ length_of it.trail → held ≡ length_of it.trail → IsConsistent it →
     IsConsistent (record it { base = base; held = held; in_lists = in_lists })
-consistent-held it base held in_lists marked top bound whole holds =
-    assumption (turn-whole it.trail base held it.kept top bound whole (omega (arith, whole, marked)))
+consistent-held it base held in_lists bookmarked top bound whole holds =
+    assumption (turn-whole it.trail base held it.kept top bound whole (omega (arith, whole, bookmarked)))
 
 -- a trail of which the first places are left
 false_before-cut : (old new : Trail) (count variable : ℕ) (slot : Slot) (literal : Literal) → IsCut old new count → slot_of new variable ≡ Some slot →
@@ -220,8 +220,8 @@ consistent-cut it trail propagator queue count kept base in_lists holds cut last
     let below : AreBelow (variable_count trail) it.table.items = λ n k d b. omega (arith, holds.below n k d b, cut.size) in
     let justified = justified-cut it.table.items it.trail trail count holds.justified cut in
     let chosen = chosen-cut it.table.items it.requirements.items it.trail trail count holds.chosen cut in
-    let marked : kept ≤ length_of trail = omega (arith, is, cut.length) in
-    let turn = turn-whole trail base count kept top bound (sym cut.length) (omega (arith, is, last, holds.turn.marked)) in
+    let bookmarked : kept ≤ length_of trail = omega (arith, is, cut.length) in
+    let turn = turn-whole trail base count kept top bound (sym cut.length) (omega (arith, is, last, holds.turn.bookmarked)) in
     let queued = queued-left it.queue queue it.trail trail it.table.items it.requirements.items count count noted
     (keeps_places it.trail trail count (omega (arith, last, holds.turn.inside)) (λ v s at below. cut.kept v s at below)) refl holds.queued in
     assumption
@@ -268,7 +268,7 @@ consistent-descended it trail propagator queue in_lists holds size justified cho
     let below : AreBelow (variable_count trail) it.table.items = λ n k d b. omega (arith, holds.below n k d b, size) in
     let kept : it.kept ≤ length_of trail = omega (arith, holds.kept, keeps.are) in
     let turn = turn-kept it.trail trail it.base it.held it.kept it.kept holds.turn
-    (keeps-fewer it.trail trail (length_of it.trail) it.held keeps holds.turn.inside) holds.turn.marked in
+    (keeps-fewer it.trail trail (length_of it.trail) it.held keeps holds.turn.inside) holds.turn.bookmarked in
     assumption
 
 -- a learnt clause is implied by the given ones

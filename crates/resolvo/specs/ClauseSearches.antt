@@ -32,7 +32,7 @@ learnt_count_of it = it.learnt
 abbrev pub clause_count_of : ClauseSearch → ℕ
 clause_count_of it = length it.table.items
 
--- how many first places of the trail are as they were when it was last marked
+-- how many first places of the trail are as they were when it was last bookmarked
 abbrev pub kept_of : ClauseSearch → ℕ
 kept_of it = it.kept
 
@@ -70,12 +70,12 @@ pub record IsLoaded (given : List (Vec Literal Global)) (numbers : List ℕ) (it
   pub inside : All (λ number. number < length given) numbers
 
 -- The first places of the trail are held: their levels are not above the base, so they stay where the levels above it are
--- undone. All of them but the last one stood when the trail was last marked.
+-- undone. All of them but the last one stood when the trail was last bookmarked.
 pub record IsTurn (trail : Trail) (base held kept : ℕ) : Type 0 where
   pub inside : held ≤ length_of trail
   pub low : (variable : ℕ) (slot : Slot) → slot_of trail variable ≡ Some slot → slot.place < held → slot.level ≤ base
   pub some : 0 < base → 0 < held
-  pub marked : held ≤ kept + 1
+  pub bookmarked : held ≤ kept + 1
 
 -- what each step of a search keeps
 pub record IsConsistent (it : ClauseSearch) : Type 0 where
@@ -100,9 +100,9 @@ pub record Grows (old new : List (Vec Literal Global)) : Type 0 where
 abbrev pub KeepsFirst : Trail → ℕ → Trail → ℕ → Type 0
 KeepsFirst old count new left = (base : Trail) → KeepsPlaces base old count → KeepsPlaces base new left
 
--- so many first places of the trail are still as they were when it was last marked
-abbrev pub KeepsMark : ClauseSearch → ClauseSearch → Type 0
-KeepsMark old new = KeepsFirst (trail_of old) (kept_of old) (trail_of new) (kept_of new)
+-- so many first places of the trail are still as they were when it was last bookmarked
+abbrev pub KeepsBookmark : ClauseSearch → ClauseSearch → Type 0
+KeepsBookmark old new = KeepsFirst (trail_of old) (kept_of old) (trail_of new) (kept_of new)
 
 -- the turn is the same, and what is held of the trail stays
 pub record KeepsTurn (old new : ClauseSearch) : Type 0 where
@@ -124,24 +124,24 @@ KeepsLoaded old new = (given : List (Vec Literal Global)) (numbers : List ℕ) �
 pub record IsSameProblem (old new : ClauseSearch) : Type 0 where
   pub loaded : KeepsLoaded old new
   pub variables : variable_count (trail_of new) ≡ variable_count (trail_of old)
-  pub kept : KeepsMark old new
+  pub kept : KeepsBookmark old new
   pub turn : KeepsTurn old new
 
 -- no variable got a value since
 pub record SetsNone (old new : Trail) : Type 0 where
   pub was : (variable : ℕ) (slot : Slot) → slot_of new variable ≡ Some slot → slot_of old variable ≡ Some slot
 
--- a trail that was marked as it is still is so
-abbrev pub StaysMarked : ClauseSearch → ClauseSearch → Type 0
-StaysMarked old new = kept_of old ≡ length_of (trail_of old) → kept_of new ≡ length_of (trail_of new)
+-- a trail that was bookmarked as it is still is so
+abbrev pub StaysBookmarked : ClauseSearch → ClauseSearch → Type 0
+StaysBookmarked old new = kept_of old ≡ length_of (trail_of old) → kept_of new ≡ length_of (trail_of new)
 
 -- more may be loaded, and nothing was learnt
 pub record IsSameSearch (old new : ClauseSearch) : Type 0 where
   pub set : SetsNone (trail_of old) (trail_of new)
-  pub marked : StaysMarked old new
+  pub bookmarked : StaysBookmarked old new
   pub variables : variable_count (trail_of new) ≡ variable_count (trail_of old)
   pub learnt : learnt_count_of new ≡ learnt_count_of old
-  pub kept : KeepsMark old new
+  pub kept : KeepsBookmark old new
   pub turn : KeepsTurn old new
 
 -- the levels above this one are undone, and then the clause with this number forces the literal

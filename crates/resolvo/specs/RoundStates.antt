@@ -102,8 +102,8 @@ module _ {N S : Type 0} where
     pub learnt : new.learnt_limit ≡ old.learnt_limit
 
   -- the chosen solvables follow the trail as it was when its length was last noted
-  abbrev pub HasMark : Rounds N S → Type 0
-  HasMark r = FollowsMark (notes_of r).origins r.chosen r.search
+  abbrev pub HasBookmark : Rounds N S → Type 0
+  HasBookmark r = FollowsMark (notes_of r).origins r.chosen r.search
 
   -- nothing is read yet
   pub record IsFresh (r : Rounds N S) : Type 0 where
@@ -124,7 +124,7 @@ module _ {N S : Type 0} where
     pub consistent : IsConsistent r.search
     pub loaded : HasLoaded (notes_of r).table (notes_of r).requirements r.search
     pub variables : variable_count (trail_of r.search) ≤ length (notes_of r).origins
-    pub mark : HasMark r
+    pub bookmark : HasBookmark r
 
   -- all clauses are loaded
   pub record IsUpToDate (r : Rounds N S) : Type 0 where
@@ -162,7 +162,7 @@ module _ {N S : Type 0} where
   -- the whole trail is held and followed
   pub record IsStill (r : Rounds N S) : Type 0 where
     pub held : held_of r.search ≡ length_of (trail_of r.search)
-    pub marked : kept_of r.search ≡ length_of (trail_of r.search)
+    pub bookmarked : kept_of r.search ≡ length_of (trail_of r.search)
     pub chosen : chosen_of r ≡ solvables_before (notes_of r).origins (trail_of r.search) (length_of (trail_of r.search))
 
   -- The taken and the refused solvables are those of the turns so far. Everything registered, read and asked is near the seeds, or one of the
@@ -251,7 +251,7 @@ module _ {N S : Type 0} where
     pub clauses : clause_count_of new.search ≡ clause_count_of old.search
     pub learnt : learnt_count_of new.search ≡ learnt_count_of old.search
     pub turn : KeepsTurn old.search new.search
-    pub marked : kept_of new.search ≡ length_of (trail_of new.search)
+    pub bookmarked : kept_of new.search ≡ length_of (trail_of new.search)
     pub chosen : chosen_of new ≡ solvables_before (notes_of old).origins (trail_of old.search) (length_of (trail_of old.search))
 
   -- nothing is read
@@ -263,7 +263,7 @@ module _ {N S : Type 0} where
     pub encoding : new.encoding ≡ old.encoding
     pub consistent : IsConsistent new.search
     pub loaded : IsUpToDate new
-    pub mark : HasMark new
+    pub bookmark : HasBookmark new
     pub within : from ≤ length (chosen_of new)
     pub earlier : IsWithin (take from (chosen_of new)) (chosen_of old)
 
@@ -274,7 +274,7 @@ module _ {N S : Type 0} where
   -- What is chosen is an answer for which the seeds need no requirer, if only they are assumed and the refused solvables. Without assumptions it
   -- takes the first choices.
   pub record IsAnswering (u : Universe N S) (r : Rounds N S) : Type 0 where
-    pub marked : kept_of r.search ≡ length_of (trail_of r.search)
+    pub bookmarked : kept_of r.search ≡ length_of (trail_of r.search)
     pub chosen : chosen_of r ≡ solvables_before (notes_of r).origins (trail_of r.search) (length_of (trail_of r.search))
     pub variables : variable_count (trail_of r.search) ≡ length (notes_of r).origins
     pub once : HasNoRepeats (chosen_of r)

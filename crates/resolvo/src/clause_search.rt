@@ -61,7 +61,7 @@ pub struct ClauseSearch {
     /// The place of each given clause, by its number.
     places: Vec<u32>,
     learnt: usize,
-    /// How many first places of the trail are as they were when it was last marked.
+    /// How many first places of the trail are as they were when it was last bookmarked.
     kept: usize,
     /// The level of the present assumption, and 0 where there is none.
     base: usize,
@@ -155,8 +155,8 @@ fn level_for(trail: &Trail, literals: &[Literal], base: usize) -> usize
 
 impl ClauseSearch {
     ghost use Rattle.resolvo.specs.ClauseSearches.{IsConsistent, IsBacktrack, IsLoaded, IsRootTurn};
-    ghost use Rattle.resolvo.specs.ClauseSearches.{IsSameProblem, IsSameSearch, SetsNone, StaysMarked, KeepsLoaded};
-    ghost use Rattle.resolvo.specs.ClauseSearches.{KeepsMark, KeepsTurn, OutcomeIs, base_of, clause_count_of, held_of, kept_of, learnt_count_of, numbers_of};
+    ghost use Rattle.resolvo.specs.ClauseSearches.{IsSameProblem, IsSameSearch, SetsNone, StaysBookmarked, KeepsLoaded};
+    ghost use Rattle.resolvo.specs.ClauseSearches.{KeepsBookmark, KeepsTurn, OutcomeIs, base_of, clause_count_of, held_of, kept_of, learnt_count_of, numbers_of};
     ghost use Rattle.resolvo.specs.ClauseSearches.{trail_of};
 
     /// A search without variables and clauses. Its scores grow and fade as the activity says.
@@ -204,7 +204,7 @@ impl ClauseSearch {
         self.table.len()
     }
 
-    /// How many first places of the trail are as they were when it was last marked.
+    /// How many first places of the trail are as they were when it was last bookmarked.
     pub fn kept(&self) -> usize
         ensures value { result ≡ kept_of self.now }
         ensures inside { IsConsistent self.now → result ≤ length_of (trail_of self.now) }
@@ -213,7 +213,7 @@ impl ClauseSearch {
     }
 
     /// Marks the trail as it is.
-    pub fn mark(&mut self)
+    pub fn bookmark(&mut self)
         ensures consistent { IsConsistent self.old → IsConsistent self.new }
         ensures loaded { KeepsLoaded self.old self.new }
         ensures trail { trail_of self.new ≡ trail_of self.old }
@@ -231,7 +231,7 @@ impl ClauseSearch {
         requires consistent { IsConsistent self.old }
         requires inside { literal.variable < variable_count (trail_of self.old) }
         requires free { slot_of (trail_of self.old) literal.variable ≡ None }
-        requires marked { kept_of self.old ≡ length_of (trail_of self.old) }
+        requires bookmarked { kept_of self.old ≡ length_of (trail_of self.old) }
         ensures consistent { OnOk result (IsConsistent self.new) }
         ensures loaded { OnOk result (KeepsLoaded self.old self.new) }
         ensures gains { OnOk result (Gains (trail_of self.old) (trail_of self.new) literal (level_of (trail_of self.old) + 1) Assumed) }
@@ -240,7 +240,7 @@ impl ClauseSearch {
         ensures clauses { OnOk result (clause_count_of self.new ≡ clause_count_of self.old) }
         ensures learnt { OnOk result (learnt_count_of self.new ≡ learnt_count_of self.old) }
         ensures count { OnOk result (kept_of self.new ≡ kept_of self.old) }
-        ensures kept { OnOk result (KeepsMark self.old self.new) }
+        ensures kept { OnOk result (KeepsBookmark self.old self.new) }
     {
         self.trail.assume(literal)?;
         self.base = self.trail.level();
@@ -261,7 +261,7 @@ impl ClauseSearch {
         ensures clauses { OnOk result (clause_count_of self.new ≡ clause_count_of self.old) }
         ensures learnt { OnOk result (learnt_count_of self.new ≡ learnt_count_of self.old) }
         ensures count { OnOk result (kept_of self.new ≡ length_of (trail_of self.new)) }
-        ensures kept { OnOk result (KeepsMark self.old self.new) }
+        ensures kept { OnOk result (KeepsBookmark self.old self.new) }
     {
         let count = self.held - 1;
         let began = begins_level(&self.trail, count);
@@ -277,7 +277,7 @@ impl ClauseSearch {
     /// Holds the whole trail: nothing of it is undone from now on.
     pub fn hold(&mut self)
         requires consistent { IsConsistent self.old }
-        requires marked { kept_of self.old ≡ length_of (trail_of self.old) }
+        requires bookmarked { kept_of self.old ≡ length_of (trail_of self.old) }
         ensures consistent { IsConsistent self.new }
         ensures loaded { KeepsLoaded self.old self.new }
         ensures trail { trail_of self.new ≡ trail_of self.old }
@@ -286,7 +286,7 @@ impl ClauseSearch {
         ensures clauses { clause_count_of self.new ≡ clause_count_of self.old }
         ensures learnt { learnt_count_of self.new ≡ learnt_count_of self.old }
         ensures count { kept_of self.new ≡ kept_of self.old }
-        ensures kept { KeepsMark self.old self.new }
+        ensures kept { KeepsBookmark self.old self.new }
     {
         self.base = self.trail.level();
         self.held = self.trail.len();
@@ -396,10 +396,10 @@ impl ClauseSearch {
             IsLoaded clauses.now (numbers_of requirements.now) self.new) }
         ensures variables { OnOk result (variable_count (trail_of self.new) ≡ variables) }
         ensures learnt { OnOk result (learnt_count_of self.new ≡ learnt_count_of self.old) }
-        ensures kept { OnOk result (KeepsMark self.old self.new) }
+        ensures kept { OnOk result (KeepsBookmark self.old self.new) }
         ensures turn { OnOk result (KeepsTurn self.old self.new) }
         ensures set { OnOk result (SetsNone (trail_of self.old) (trail_of self.new)) }
-        ensures marked { OnOk result (StaysMarked self.old self.new) }
+        ensures bookmarked { OnOk result (StaysBookmarked self.old self.new) }
         ensures memory { IfErr result (λ e. e ≡ Memory) }
     {
         self.trail.grow(variables)?;
@@ -536,7 +536,7 @@ impl ClauseSearch {
         ensures consistent { OnOk result (IsConsistent self.new) }
         ensures loaded { OnOk result (KeepsLoaded self.old self.new) }
         ensures variables { OnOk result (variable_count (trail_of self.new) ≡ variable_count (trail_of self.old)) }
-        ensures kept { OnOk result (KeepsMark self.old self.new) }
+        ensures kept { OnOk result (KeepsBookmark self.old self.new) }
         ensures turn { OnOk result (KeepsTurn self.old self.new) }
         ensures refusal { IfErr result
             (IsStop (D.may_cancel provider.now) ((learnt_limit ≤ learnt_count_of self.new) ⊎ (clause_limit ≤ clause_count_of self.new))) }

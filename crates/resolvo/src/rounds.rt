@@ -66,7 +66,7 @@ pub struct Rounds<N: Copy + Eq + Hash + Drop, S: Copy + Eq + Hash + Drop> {
 }
 
 impl<N: Copy + Eq + Hash + Drop, S: Copy + Eq + Hash + Drop> Rounds<N, S> {
-    ghost use Rattle.resolvo.specs.RoundStates.{AreRounds, GoesOn, HasAllClauses, HasFollowed, HasMark, HasAssumed, HasTurned, IsAnswering, IsDone, IsStanding};
+    ghost use Rattle.resolvo.specs.RoundStates.{AreRounds, GoesOn, HasAllClauses, HasFollowed, HasBookmark, HasAssumed, HasTurned, IsAnswering, IsDone, IsStanding};
     ghost use Rattle.resolvo.specs.RoundStates.{IsFollowing, IsRefusing, IsFound, IsFresh, IsStill, IsRound, IsSearchOf, IsStuck, IsUnanswered, IsUpToDate};
     ghost use Rattle.resolvo.specs.RoundStates.{IsLedBy, KeepsEncoding, KeepsRead, KeepsRoom, LeadsOn, LeadsTurns, StaysLed};
     ghost use Rattle.resolvo.specs.RoundStates.{chosen_of, clause_limit_of, learnt_limit_of, notes_of, search_of};
@@ -199,7 +199,7 @@ impl<N: Copy + Eq + Hash + Drop, S: Copy + Eq + Hash + Drop> Rounds<N, S> {
         requires distinct { AreDistinct (notes_of self.old).origins }
         requires consistent { IsConsistent (search_of self.old) }
         requires loaded { IsUpToDate self.old }
-        requires mark { HasMark self.old }
+        requires bookmark { HasBookmark self.old }
         ensures following { IfOk result (IsFollowing self.old self.new) }
         ensures followed { OnOk result (HasFollowed self.old self.new) }
         ensures same { KeepsEncoding self.old self.new }
@@ -210,7 +210,7 @@ impl<N: Copy + Eq + Hash + Drop, S: Copy + Eq + Hash + Drop> Rounds<N, S> {
         let from = self.chosen.len();
         self.chosen
             .follow(self.encoding.variables(), self.search.trail())?;
-        self.search.mark();
+        self.search.bookmark();
         Ok(from)
     }
 

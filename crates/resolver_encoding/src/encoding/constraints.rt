@@ -8,7 +8,7 @@ ghost use Rattle.resolver_clause_store.specs.declared.By.TheVariants.{Solvable a
 ghost use Rattle.resolver_clause_store.specs.declared.ClauseKind.TheVariants.{Constrains as ConstrainsKind, ConstrainsExcluded as ExcludedKind};
 ghost use Rattle.resolver_clause_store.specs.declared.ClauseKind.TheVariants.{ConstrainsParent as ParentKind};
 ghost use Rattle.resolver_encoding.specs.Called.{IsAsking};
-ghost use Rattle.resolver_encoding.specs.Encodings.{AsksWithin, IsAskStep, IsConstraintRead, IsEncodingOf, IsFull, IsStep};
+ghost use Rattle.resolver_encoding.specs.Encodings.{HasConstraint, IsAskStep, IsConstraintRead, IsEncodingOf, IsFull, IsStep};
 ghost use Rattle.resolver_encoding.specs.Led.{AddsOnly, Brings, IsOfConstraint, IsOwn, with_constraints};
 ghost use Rattle.resolver_encoding.specs.Refusals.{IsShortage, IsStop};
 
@@ -65,7 +65,7 @@ impl<N: Copy + Eq + Hash + Drop, S: Copy + Eq + Hash + Drop> Encoding<N, S> {
         requires bounded { IsBounded self.old }
         requires other { Contains (others (D.universe provider.now) version_set) candidate }
         ensures room { KeepsRoom self.old self.new }
-        ensures step { OnOk result (IsStep (D.universe provider.now) (AsksWithin (D.universe provider.now) by version_set) (notes_in self.old)
+        ensures step { OnOk result (IsStep (D.universe provider.now) (HasConstraint (D.universe provider.now) by version_set) (notes_in self.old)
             (notes_in self.new)) }
         ensures forbidden { OnOk result (Contains (notes_in self.new).kinds (ConstrainsKind by version_set candidate)) }
         ensures adds { AddsOnly (IsOwn (D.universe provider.now) by (with_constraints (version_set ∷ []))) (notes_in self.old) (notes_in self.new) }
@@ -90,7 +90,7 @@ impl<N: Copy + Eq + Hash + Drop, S: Copy + Eq + Hash + Drop> Encoding<N, S> {
         requires bounded { IsBounded self.old }
         requires forbidden { forbidden.now ≡ others (D.universe provider.now) version_set }
         ensures room { KeepsRoom self.old self.new }
-        ensures step { OnOk result (IsStep (D.universe provider.now) (AsksWithin (D.universe provider.now) by version_set) (notes_in self.old)
+        ensures step { OnOk result (IsStep (D.universe provider.now) (HasConstraint (D.universe provider.now) by version_set) (notes_in self.old)
             (notes_in self.new)) }
         ensures read { OnOk result (IsConstraintRead (D.universe provider.now) (notes_in self.new).kinds by version_set) }
         ensures adds { AddsOnly (IsOwn (D.universe provider.now) by (with_constraints (version_set ∷ []))) (notes_in self.old) (notes_in self.new) }
@@ -159,7 +159,7 @@ impl<N: Copy + Eq + Hash + Drop, S: Copy + Eq + Hash + Drop> Encoding<N, S> {
     ) -> Result<(), Exhausted>
         requires bounded { IsBounded self.old }
         ensures room { KeepsRoom self.old self.new }
-        ensures step { OnOk result (IsStep (D.universe provider.now) (AsksWithin (D.universe provider.now) by version_set) (notes_in self.old)
+        ensures step { OnOk result (IsStep (D.universe provider.now) (HasConstraint (D.universe provider.now) by version_set) (notes_in self.old)
             (notes_in self.new)) }
         ensures forbidden { OnOk result (Contains (notes_in self.new).kinds (ParentKind by version_set)) }
         ensures adds { AddsOnly (IsOwn (D.universe provider.now) by (with_constraints (version_set ∷ []))) (notes_in self.old) (notes_in self.new) }
@@ -183,7 +183,7 @@ impl<N: Copy + Eq + Hash + Drop, S: Copy + Eq + Hash + Drop> Encoding<N, S> {
         requires bounded { IsBounded self.old }
         requires forbidden { forbidden.now ≡ others (D.universe provider.now) version_set }
         ensures room { KeepsRoom self.old self.new }
-        ensures step { OnOk result (IsStep (D.universe provider.now) (AsksWithin (D.universe provider.now) by version_set) (notes_in self.old)
+        ensures step { OnOk result (IsStep (D.universe provider.now) (HasConstraint (D.universe provider.now) by version_set) (notes_in self.old)
             (notes_in self.new)) }
         ensures itself { OnOk result ((s : S) → by ≡ BySolvable s → Contains forbidden.now s →
             Contains (notes_in self.new).kinds (ConstrainsKind by version_set s)) }
@@ -212,9 +212,9 @@ impl<N: Copy + Eq + Hash + Drop, S: Copy + Eq + Hash + Drop> Encoding<N, S> {
     ) -> Result<(), Exhausted>
         requires bounded { IsBounded self.old }
         requires forbidden { forbidden.now ≡ others (D.universe provider.now) version_set }
-        requires encoding { IsEncodingOf (D.universe provider.now) (AsksWithin (D.universe provider.now) by version_set) (notes_in self.old) }
+        requires encoding { IsEncodingOf (D.universe provider.now) (HasConstraint (D.universe provider.now) by version_set) (notes_in self.old) }
         ensures room { KeepsRoom self.old self.new }
-        ensures step { OnOk result (IsStep (D.universe provider.now) (AsksWithin (D.universe provider.now) by version_set) (notes_in self.old)
+        ensures step { OnOk result (IsStep (D.universe provider.now) (HasConstraint (D.universe provider.now) by version_set) (notes_in self.old)
             (notes_in self.new)) }
         ensures read { OnOk result (IsConstraintRead (D.universe provider.now) (notes_in self.new).kinds by version_set) }
         ensures adds { AddsOnly (IsOwn (D.universe provider.now) by (with_constraints (version_set ∷ []))) (notes_in self.old) (notes_in self.new) }
@@ -236,11 +236,11 @@ impl<N: Copy + Eq + Hash + Drop, S: Copy + Eq + Hash + Drop> Encoding<N, S> {
     ) -> Result<(), Interrupted<D::Cancel>>
         requires bounded { IsBounded self.old }
         requires is_true { IsTrueCache (D.universe provider.now) cache.old }
-        requires encoding { IsEncodingOf (D.universe provider.now) (AsksWithin (D.universe provider.now) by version_set) (notes_in self.old) }
+        requires encoding { IsEncodingOf (D.universe provider.now) (HasConstraint (D.universe provider.now) by version_set) (notes_in self.old) }
         ensures room { KeepsRoom self.old self.new }
         ensures is_true { IsTrueCache (D.universe provider.now) cache.new }
         ensures step { OnOk result (IsAskStep (D.universe provider.now) (IsAsking ((D.universe provider.now).version_set_name version_set))
-            (AsksWithin (D.universe provider.now) by version_set) (notes_in self.old) (notes_in self.new)) }
+            (HasConstraint (D.universe provider.now) by version_set) (notes_in self.old) (notes_in self.new)) }
         ensures read { OnOk result (IsConstraintRead (D.universe provider.now) (notes_in self.new).kinds by version_set) }
         ensures asked { OnOk result (Contains (notes_in self.new).asked ((D.universe provider.now).version_set_name version_set)) }
         ensures brings { Brings (D.universe provider.now) (IsAsking ((D.universe provider.now).version_set_name version_set))

@@ -21,7 +21,7 @@ use std::hash::Hash;
 impl<N: Copy + Eq + Hash + Drop, S: Copy + Eq + Hash + Drop> Encoding<N, S> {
     ghost use Rattle.resolver_encoding.specs.Notes.{IsBounded, KeepsRoom, entry_of, notes_in};
 
-    /// Notes under the packages of these version sets that the disjunct with this number waits for them.
+    /// Notes the deferred disjunct with this number under the packages of these version sets.
     fn index_each<D: DependencyProvider<NameId = N, SolvableId = S>>(
         &mut self,
         provider: &D,
@@ -37,7 +37,7 @@ impl<N: Copy + Eq + Hash + Drop, S: Copy + Eq + Hash + Drop> Encoding<N, S> {
     {
         for version_set in disjunct {
             let name = provider.version_set_name(*version_set);
-            self.waiting.add(name, number)?;
+            self.deferred_by_name.add(name, number)?;
         }
         Ok(())
     }
@@ -215,8 +215,8 @@ impl<N: Copy + Eq + Hash + Drop, S: Copy + Eq + Hash + Drop> Encoding<N, S> {
         Ok(any)
     }
 
-    /// Fires each disjunct that waits for the package of a solvable and is due. Answers whether there was one.
-    fn fire_waiting<D: DependencyProvider<NameId = N, SolvableId = S>>(
+    /// Fires each deferred disjunct that is noted under the package of a solvable and is due. Answers whether there was one.
+    fn fire_named<D: DependencyProvider<NameId = N, SolvableId = S>>(
         &mut self,
         provider: &D,
         cache: &mut Cache<N, S>,
@@ -229,7 +229,7 @@ impl<N: Copy + Eq + Hash + Drop, S: Copy + Eq + Hash + Drop> Encoding<N, S> {
         ensures room { KeepsRoom self.old self.new }
         ensures is_true { IsTrueCache (D.universe provider.now) cache.new }
         ensures firing { OnOk result (IsFiring (D.universe provider.now) chosen.now.keys (notes_in self.old) (notes_in self.new)) }
-        ensures quiet { OnOk result (AreGroups (notes_in self.old).waiting →
+        ensures quiet { OnOk result (AreGroups (notes_in self.old).deferred_by_name →
             IsQuietUnder (D.universe provider.now) chosen.now.keys (notes_in self.new) ((D.universe provider.now).name solvable)) }
         ensures fired { IfOk result (HasFired (notes_in self.old) (notes_in self.new)) }
         ensures brings { Brings (D.universe provider.now) (IsFired (D.universe provider.now) chosen.now.keys (notes_in self.old)) NoneOwn
@@ -237,7 +237,7 @@ impl<N: Copy + Eq + Hash + Drop, S: Copy + Eq + Hash + Drop> Encoding<N, S> {
         ensures refusal { IfErr result (IsStop (D.may_cancel provider.now) (IsFull (notes_in self.new))) }
     {
         let name = provider.solvable_name(solvable);
-        let numbers = Vec::from_slice(self.alloc, self.waiting.named(name))?;
+        let numbers = Vec::from_slice(self.alloc, self.deferred_by_name.named(name))?;
         let any = self.fire_each(provider, cache, chosen, &numbers)?;
         Ok(any)
     }
@@ -257,7 +257,7 @@ impl<N: Copy + Eq + Hash + Drop, S: Copy + Eq + Hash + Drop> Encoding<N, S> {
         ensures room { KeepsRoom self.old self.new }
         ensures is_true { IsTrueCache (D.universe provider.now) cache.new }
         ensures firing { OnOk result (IsFiring (D.universe provider.now) chosen.now.keys (notes_in self.old) (notes_in self.new)) }
-        ensures quiet { OnOk result (AreGroups (notes_in self.old).waiting →
+        ensures quiet { OnOk result (AreGroups (notes_in self.old).deferred_by_name →
             All (λ s. IsQuietUnder (D.universe provider.now) chosen.now.keys (notes_in self.new) ((D.universe provider.now).name s))
             (drop from chosen.now.keys)) }
         ensures fired { IfOk result (HasFired (notes_in self.old) (notes_in self.new)) }
@@ -268,7 +268,7 @@ impl<N: Copy + Eq + Hash + Drop, S: Copy + Eq + Hash + Drop> Encoding<N, S> {
         let mut any = false;
         for place in from..chosen.len() {
             let solvable = chosen.as_slice()[place];
-            any |= self.fire_waiting(provider, cache, chosen, solvable)?;
+            any |= self.fire_named(provider, cache, chosen, solvable)?;
         }
         Ok(any)
     }

@@ -5,7 +5,7 @@ ghost use Rattle.resolver_clause_store.specs.Candidates.{requirement_candidates 
 ghost use Rattle.resolver_clause_store.specs.declared.By.TheVariants.{Solvable as BySolvable};
 ghost use Rattle.resolver_clause_store.specs.declared.ClauseKind.TheVariants.{AnyOf as AnyOfKind};
 ghost use Rattle.resolver_clause_store.specs.declared.Origin.TheVariants.{Gate as GateOrigin};
-ghost use Rattle.resolver_encoding.specs.Encodings.{AsksFor, IsFull, IsStep};
+ghost use Rattle.resolver_encoding.specs.Encodings.{HasRequirement, IsFull, IsStep};
 ghost use Rattle.resolver_clause_store.specs.declared.Origin.TheVariants.{Solvable as SolvableOrigin};
 ghost use Rattle.resolver_encoding.specs.Led.{AddsOnly, IsCandidate};
 ghost use Rattle.resolver_encoding.specs.Refusals.{IsShortage};
@@ -58,7 +58,7 @@ impl<N: Copy + Eq + Hash + Drop, S: Copy + Eq + Hash + Drop> Encoding<N, S> {
         requires bounded { IsBounded self.old }
         ensures room { KeepsRoom self.old self.new }
         ensures step { OnOk result (IsStep (D.universe provider.now)
-            (AsksFor (D.universe provider.now) (BySolvable requirer) (record { condition = None; requirement = requirement })) (notes_in self.old)
+            (HasRequirement (D.universe provider.now) (BySolvable requirer) (record { condition = None; requirement = requirement })) (notes_in self.old)
             (notes_in self.new)) }
         ensures implied { OnOk result (Contains (notes_in self.new).kinds (AnyOfKind (GateOrigin requirement) requirer)) }
         ensures adds { AddsOnly (λ o. (o ≡ GateOrigin requirement) ⊎ (o ≡ SolvableOrigin requirer)) (notes_in self.old) (notes_in self.new) }

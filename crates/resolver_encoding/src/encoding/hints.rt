@@ -79,7 +79,7 @@ impl<N: Copy + Eq + Hash + Drop, S: Copy + Eq + Hash + Drop> Encoding<N, S> {
     }
 
     /// How many clauses ask for candidates.
-    pub(super) fn asking_count(&self) -> usize
+    pub(super) fn requirement_count(&self) -> usize
         ensures { result ≡ length (notes_in self.now).requirements }
     {
         self.table.requirements().len()
@@ -259,7 +259,7 @@ impl<N: Copy + Eq + Hash + Drop, S: Copy + Eq + Hash + Drop> Encoding<N, S> {
         let mut place = from;
         let mut any = false;
         'waves: loop {
-            let until = self.asking_count();
+            let until = self.requirement_count();
             if !self.read_hinted_each(provider, cache, chosen, place, until)? {
                 return Ok(any);
             }

@@ -11,7 +11,7 @@ ghost use Rattle.resolver_clause_store.specs.declared.ConditionalRequirement.{Co
 ghost use Rattle.resolver_clause_store.specs.declared.Origin.TheVariants.{Root as RootOrigin, Solvable as SolvableOrigin};
 ghost use Rattle.resolver_clause_store.specs.TrueRules.{demands_by};
 ghost use Rattle.resolver_encoding.specs.Called.{AreAsked, IsCalledByEach, IsCalledFor, IsDemanded, IsNamedBy, IsPlainlyNamed};
-ghost use Rattle.resolver_encoding.specs.Encodings.{AreDemandsRead, AreNeedsRead, AsksFor, AsksWithin, IsAskStep, IsConstraintRead, IsEncoding, IsEncodingOf};
+ghost use Rattle.resolver_encoding.specs.Encodings.{AreDemandsRead, AreNeedsRead, HasRequirement, HasConstraint, IsAskStep, IsConstraintRead, IsEncoding, IsEncodingOf};
 ghost use Rattle.resolver_encoding.specs.Encodings.{IsFull, IsLeft, IsReadStep, IsStep, IsUnmet, IsUnread, KeepsLimits};
 ghost use Rattle.resolver_encoding.specs.Hints.{AreHintsRead, IsListedFrom};
 ghost use Rattle.resolver_encoding.specs.Led.{AddsOnly, AreLed, Brings, IsBarred, IsOwn, KeepsLed, with_constraints, with_requirements};
@@ -128,13 +128,13 @@ impl<N: Copy + Eq + Hash + Drop, S: Copy + Eq + Hash + Drop> Encoding<N, S> {
     ) -> Result<(), Interrupted<D::Cancel>>
         requires bounded { IsBounded self.old }
         requires is_true { IsTrueCache (D.universe provider.now) cache.old }
-        requires encoding { IsEncodingOf (D.universe provider.now) (λ root. All (λ r. AsksFor (D.universe provider.now) by r root) requirements.now)
+        requires encoding { IsEncodingOf (D.universe provider.now) (λ root. All (λ r. HasRequirement (D.universe provider.now) by r root) requirements.now)
             (notes_in self.old) }
         ensures room { KeepsRoom self.old self.new }
         ensures is_true { IsTrueCache (D.universe provider.now) cache.new }
         ensures step { OnOk result (IsReadStep (D.universe provider.now) (IsUnmet (D.universe provider.now) chosen.now.keys by)
             (IsCalledByEach (D.universe provider.now) chosen.now.keys requirements.now) (λ root.
-            All (λ r. AsksFor (D.universe provider.now) by r root) requirements.now) (notes_in self.old) (notes_in self.new)) }
+            All (λ r. HasRequirement (D.universe provider.now) by r root) requirements.now) (notes_in self.old) (notes_in self.new)) }
         ensures read { OnOk result (All
             (IsReadRequirement (D.universe provider.now) (notes_in self.new).kinds (IsLeft (notes_in self.new)) by) requirements.now) }
         ensures brings { Brings (D.universe provider.now) (IsCalledByEach (D.universe provider.now) chosen.now.keys requirements.now)
@@ -157,12 +157,12 @@ impl<N: Copy + Eq + Hash + Drop, S: Copy + Eq + Hash + Drop> Encoding<N, S> {
     ) -> Result<(), Interrupted<D::Cancel>>
         requires bounded { IsBounded self.old }
         requires is_true { IsTrueCache (D.universe provider.now) cache.old }
-        requires encoding { IsEncodingOf (D.universe provider.now) (λ root. All (λ v. AsksWithin (D.universe provider.now) by v root) constraints.now)
+        requires encoding { IsEncodingOf (D.universe provider.now) (λ root. All (λ v. HasConstraint (D.universe provider.now) by v root) constraints.now)
             (notes_in self.old) }
         ensures room { KeepsRoom self.old self.new }
         ensures is_true { IsTrueCache (D.universe provider.now) cache.new }
         ensures step { OnOk result (IsAskStep (D.universe provider.now) (IsNamedBy (D.universe provider.now) constraints.now) (λ root.
-            All (λ v. AsksWithin (D.universe provider.now) by v root) constraints.now) (notes_in self.old) (notes_in self.new)) }
+            All (λ v. HasConstraint (D.universe provider.now) by v root) constraints.now) (notes_in self.old) (notes_in self.new)) }
         ensures read { OnOk result (All (IsConstraintRead (D.universe provider.now) (notes_in self.new).kinds by) constraints.now) }
         ensures asked { OnOk result (All (λ v. Contains (notes_in self.new).asked ((D.universe provider.now).version_set_name v)) constraints.now) }
         ensures brings { Brings (D.universe provider.now) (IsNamedBy (D.universe provider.now) constraints.now)
@@ -411,7 +411,7 @@ impl<N: Copy + Eq + Hash + Drop, S: Copy + Eq + Hash + Drop> Encoding<N, S> {
         ensures limits { KeepsLimits (notes_in self.old) (notes_in self.new) }
         ensures refusal { IfErr result (IsStop (D.may_cancel provider.now) (IsFull (notes_in self.new))) }
     {
-        let clauses = self.asking_count();
+        let clauses = self.requirement_count();
         let read = self.read_each(provider, cache, chosen, from)?;
         let fired = self.fire_deferred(provider, cache, chosen, from)?;
         let hinted = self.read_hinted(provider, cache, chosen, clauses)?;

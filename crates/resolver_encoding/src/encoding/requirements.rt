@@ -7,7 +7,7 @@ ghost use Rattle.resolver_clause_store.specs.Variables.{AreDistinct};
 ghost use Rattle.resolver_clause_store.specs.declared.By.TheVariants.{Solvable as BySolvable};
 ghost use Rattle.resolver_clause_store.specs.declared.ClauseKind.TheVariants.{Requires as RequiresKind};
 ghost use Rattle.resolver_encoding.specs.Called.{IsCalledBy, IsWantedBy};
-ghost use Rattle.resolver_encoding.specs.Encodings.{AreDisjuncts, AsksFor, IsAskStep, IsDisjunctOf, IsDisjunctRead, IsEncoding, IsEncodingOf};
+ghost use Rattle.resolver_encoding.specs.Encodings.{AreDisjuncts, HasRequirement, IsAskStep, IsDisjunctOf, IsDisjunctRead, IsEncoding, IsEncodingOf};
 ghost use Rattle.resolver_encoding.specs.Encodings.{IsFull, IsLeft, IsReadStep, IsStep, IsTrueUnder, IsUnmet};
 ghost use Rattle.resolver_clause_store.specs.Universe.{Demands};
 ghost use Rattle.resolver_encoding.specs.Led.{AddsOnly, Brings, IsCandidate, IsHelped, IsOwn, NoneOwn, with_requirements};
@@ -151,7 +151,7 @@ impl<N: Copy + Eq + Hash + Drop, S: Copy + Eq + Hash + Drop> Encoding<N, S> {
         ensures room { KeepsRoom self.old self.new }
         ensures is_true { IsTrueCache (D.universe provider.now) cache.new }
         ensures step { OnOk result (IsReadStep (D.universe provider.now) (IsUnmet (D.universe provider.now) chosen.now.keys by)
-            (IsCalledBy (D.universe provider.now) chosen.now.keys requirement) (AsksFor (D.universe provider.now) by requirement) (notes_in self.old)
+            (IsCalledBy (D.universe provider.now) chosen.now.keys requirement) (HasRequirement (D.universe provider.now) by requirement) (notes_in self.old)
             (notes_in self.new)) }
         ensures read { OnOk result (IsDisjunctRead (notes_in self.new) by requirement.requirement disjunct.now) }
         ensures brings { (root : Demands) → IsEncoding (D.universe provider.now) root (notes_in self.old) → Brings (D.universe provider.now)
@@ -185,10 +185,10 @@ impl<N: Copy + Eq + Hash + Drop, S: Copy + Eq + Hash + Drop> Encoding<N, S> {
         ensures room { KeepsRoom self.old self.new }
         ensures is_true { IsTrueCache (D.universe provider.now) cache.new }
         ensures step { OnOk result (IsReadStep (D.universe provider.now) (IsUnmet (D.universe provider.now) chosen.now.keys by)
-            (IsCalledBy (D.universe provider.now) chosen.now.keys requirement) (AsksFor (D.universe provider.now) by requirement) (notes_in self.old)
+            (IsCalledBy (D.universe provider.now) chosen.now.keys requirement) (HasRequirement (D.universe provider.now) by requirement) (notes_in self.old)
             (notes_in self.new)) }
         ensures read { OnOk result (IsReadRequirement (D.universe provider.now) (notes_in self.new).kinds (IsLeft (notes_in self.new)) by requirement) }
-        ensures brings { (root : Demands) → AsksFor (D.universe provider.now) by requirement root → IsEncoding (D.universe provider.now) root
+        ensures brings { (root : Demands) → HasRequirement (D.universe provider.now) by requirement root → IsEncoding (D.universe provider.now) root
             (notes_in self.old) → Brings (D.universe provider.now) (IsCalledBy (D.universe provider.now) chosen.now.keys requirement)
             (IsOwn (D.universe provider.now) by (with_requirements (requirement ∷ []))) (notes_in self.old) (notes_in self.new) }
         ensures refusal { IfErr result (IsStop (D.may_cancel provider.now) (IsFull (notes_in self.new))) }
@@ -213,10 +213,10 @@ impl<N: Copy + Eq + Hash + Drop, S: Copy + Eq + Hash + Drop> Encoding<N, S> {
         ensures room { KeepsRoom self.old self.new }
         ensures is_true { IsTrueCache (D.universe provider.now) cache.new }
         ensures step { OnOk result (IsReadStep (D.universe provider.now) (IsUnmet (D.universe provider.now) chosen.now.keys by)
-            (IsCalledBy (D.universe provider.now) chosen.now.keys requirement) (AsksFor (D.universe provider.now) by requirement) (notes_in self.old)
+            (IsCalledBy (D.universe provider.now) chosen.now.keys requirement) (HasRequirement (D.universe provider.now) by requirement) (notes_in self.old)
             (notes_in self.new)) }
         ensures read { OnOk result (IsReadRequirement (D.universe provider.now) (notes_in self.new).kinds (IsLeft (notes_in self.new)) by requirement) }
-        ensures brings { (root : Demands) → AsksFor (D.universe provider.now) by requirement root → IsEncoding (D.universe provider.now) root
+        ensures brings { (root : Demands) → HasRequirement (D.universe provider.now) by requirement root → IsEncoding (D.universe provider.now) root
             (notes_in self.old) → Brings (D.universe provider.now) (IsCalledBy (D.universe provider.now) chosen.now.keys requirement)
             (IsOwn (D.universe provider.now) by (with_requirements (requirement ∷ []))) (notes_in self.old) (notes_in self.new) }
         ensures refusal { IfErr result (IsStop (D.may_cancel provider.now) (IsFull (notes_in self.new))) }
@@ -237,11 +237,11 @@ impl<N: Copy + Eq + Hash + Drop, S: Copy + Eq + Hash + Drop> Encoding<N, S> {
         requires bounded { IsBounded self.old }
         requires is_true { IsTrueCache (D.universe provider.now) cache.old }
         requires encoding { IsEncodingOf (D.universe provider.now)
-            (AsksFor (D.universe provider.now) (BySolvable requirer) (record { condition = None; requirement = requirement })) (notes_in self.old) }
+            (HasRequirement (D.universe provider.now) (BySolvable requirer) (record { condition = None; requirement = requirement })) (notes_in self.old) }
         ensures room { KeepsRoom self.old self.new }
         ensures is_true { IsTrueCache (D.universe provider.now) cache.new }
         ensures step { OnOk result (IsAskStep (D.universe provider.now) (IsWantedBy (D.universe provider.now) requirement)
-            (AsksFor (D.universe provider.now) (BySolvable requirer) (record { condition = None; requirement = requirement })) (notes_in self.old)
+            (HasRequirement (D.universe provider.now) (BySolvable requirer) (record { condition = None; requirement = requirement })) (notes_in self.old)
             (notes_in self.new)) }
         ensures read { OnOk result (HasClause (notes_in self.new).kinds (BySolvable requirer) [] requirement) }
         ensures brings { Brings (D.universe provider.now) (IsWantedBy (D.universe provider.now) requirement)
@@ -276,11 +276,11 @@ impl<N: Copy + Eq + Hash + Drop, S: Copy + Eq + Hash + Drop> Encoding<N, S> {
     ) -> Result<(), Interrupted<D::Cancel>>
         requires bounded { IsBounded self.old }
         requires is_true { IsTrueCache (D.universe provider.now) cache.old }
-        requires encoding { IsEncodingOf (D.universe provider.now) (AsksFor (D.universe provider.now) by requirement) (notes_in self.old) }
+        requires encoding { IsEncodingOf (D.universe provider.now) (HasRequirement (D.universe provider.now) by requirement) (notes_in self.old) }
         ensures room { KeepsRoom self.old self.new }
         ensures is_true { IsTrueCache (D.universe provider.now) cache.new }
         ensures step { OnOk result (IsReadStep (D.universe provider.now) (IsUnmet (D.universe provider.now) chosen.now.keys by)
-            (IsCalledBy (D.universe provider.now) chosen.now.keys requirement) (AsksFor (D.universe provider.now) by requirement) (notes_in self.old)
+            (IsCalledBy (D.universe provider.now) chosen.now.keys requirement) (HasRequirement (D.universe provider.now) by requirement) (notes_in self.old)
             (notes_in self.new)) }
         ensures read { OnOk result (IsReadRequirement (D.universe provider.now) (notes_in self.new).kinds (IsLeft (notes_in self.new)) by requirement) }
         ensures brings { Brings (D.universe provider.now) (IsCalledBy (D.universe provider.now) chosen.now.keys requirement)

@@ -331,8 +331,8 @@ fn refutes_through_learnt(
     Ok(refutes(alloc, search, provider, wanted))
 }
 
-/// The places of a search's trail: how many were marked, how many of them and how many in all are left when more
-/// clauses have come, and how many of the marked ones after the next run.
+/// The places of a search's trail: how many were bookmarked, how many of them and how many in all are left when more
+/// clauses have come, and how many of the bookmarked ones after the next run.
 type Places = (usize, usize, usize, usize);
 
 /// The places of a search that decides 1 and then 3 by the first two clauses, before the others come.
@@ -350,8 +350,8 @@ fn places_through(
     if !finishes(alloc, search, provider) {
         return Ok(None);
     }
-    search.mark();
-    let marked = search.kept();
+    search.bookmark();
+    let bookmarked = search.kept();
     if !load_all(alloc, search, table, 5)? {
         return Ok(None);
     }
@@ -360,7 +360,7 @@ fn places_through(
     if !finishes(alloc, search, provider) {
         return Ok(None);
     }
-    Ok(Some((marked, kept, length, search.kept())))
+    Ok(Some((bookmarked, kept, length, search.kept())))
 }
 
 /// The place of a variable in the clause with this number.
@@ -418,7 +418,7 @@ fn assumes(search: &mut ClauseSearch, wanted: Literal) -> Result<bool, AllocErro
     if search.trail().slot(wanted.variable).is_some() {
         return Ok(false);
     }
-    search.mark();
+    search.bookmark();
     search.assume(wanted)?;
     Ok(true)
 }

@@ -2,11 +2,11 @@ use Rattle.std.proofs.Common.{arith, false, refl, sym, ap, get_or, length, ◌�
 use Rattle.std.proofs.lemmas.List.{get_or_default}
 use Rattle.resolver_clause_store.specs.declared.clauses.StoredRequirement.{StoredRequirement}
 use Rattle.resolver_clause_store.specs.Formula.{clause_at}
-use Rattle.resolver_clause_store.proofs.QueueLemmas.{held-by_candidate, held-waiting, left-read, parked-more, queued-settled}
+use Rattle.resolver_clause_store.proofs.QueueLemmas.{held-by_candidate, held-inactive, left-read, parked-more, queued-settled}
 use Rattle.resolver_clause_store.proofs.queue.DecideQueue.consider.Goals as goal
 
-pub returns-in_ok-add-in-Waiting-clause-queued : goal.returns-in_ok-add-in-Waiting-clause-queued
-returns-in_ok-add-in-Waiting-clause-queued c =
+pub returns-in_ok-add-in-Inactive-clause-queued : goal.returns-in_ok-add-in-Inactive-clause-queued
+returns-in_ok-add-in-Inactive-clause-queued c =
     let none : StoredRequirement = record { number = 0; of_root = false } in
     let inside : c.index-number.result.now < length c.args.requirements.now = omega (arith, c.if-index-requirements.false) in
     let requirement : StoredRequirement = get_or c.args.requirements.now c.index-number.result.now none in
@@ -14,16 +14,16 @@ returns-in_ok-add-in-Waiting-clause-queued c =
     get_or_default c.args.requirements.now c.index-number.result.now none requirement inside in
     let it = c.args.self.now in
     let index = c.index-number.result.now in
-    let left = c.swap_remove-in-Waiting in
-    let here = rw c.index.ensures at c.in_ok-add-in-Waiting.ensures.here in
-    let others = rw c.index.ensures at c.in_ok-add-in-Waiting.ensures.others in
+    let left = c.swap_remove-in-Inactive in
+    let here = rw c.index.ensures at c.in_ok-add-in-Inactive.ensures.here in
+    let others = rw c.index.ensures at c.in_ok-add-in-Inactive.ensures.others in
     queued-settled it _ c.args.trail.now c.args.table.now c.args.requirements.now index refl refl
     (left-read it.active.items _ c.args.place index left.result c.requires.listed c.index-number.ensures left.ensures.value left.ensures.items)
-    (parked-more it.waiting c.add.new.self c.in-Waiting.variable index here others)
+    (parked-more it.inactive c.add.new.self c.in-Inactive.variable index here others)
     (λ v i there. there)
-    (held-waiting _ it.waiting c.add.new.self it.met it.followed.items it.kept c.args.trail.now c.args.table.now c.args.requirements.now
-    requirement c.clause-literals.result.now index c.in-Waiting.variable here is c.clause-literals.ensures
-    c.in-Waiting.ensures)
+    (held-inactive _ it.inactive c.add.new.self it.met it.followed.items it.kept c.args.trail.now c.args.table.now c.args.requirements.now
+    requirement c.clause-literals.result.now index c.in-Inactive.variable here is c.clause-literals.ensures
+    c.in-Inactive.ensures)
     c.requires.queued
 
 pub returns-in_ok-add-in-Met-clause-queued : goal.returns-in_ok-add-in-Met-clause-queued
@@ -42,7 +42,7 @@ returns-in_ok-add-in-Met-clause-queued c =
     (left-read it.active.items _ c.args.place index left.result c.requires.listed c.index-number.ensures left.ensures.value left.ensures.items)
     (λ v i there. there)
     (parked-more it.met c.add-in-Met.new.self c.in-Met.variable index here others)
-    (held-by_candidate _ it.waiting it.met c.add-in-Met.new.self it.followed.items it.kept c.args.trail.now c.args.table.now c.args.requirements.now
+    (held-by_candidate _ it.inactive it.met c.add-in-Met.new.self it.followed.items it.kept c.args.trail.now c.args.table.now c.args.requirements.now
     requirement c.clause-literals.result.now index c.in-Met.variable c.requires.queued.following.same c.requires.followed.all
     c.requires.followed.none_else here is c.clause-literals.ensures c.in-Met.ensures)
     c.requires.queued

@@ -9,7 +9,7 @@ returns-then-is_true-clause-queued c = λ table requirements it.
     let took = rw c.index.ensures at c.in_ok-take.ensures.items in
     let others = rw c.index.ensures at c.in_ok-take.ensures.others in
     let Inside : ℕ → List ℕ → Type 0 = λ index list. Contains list index in
-    let woken : List ℕ = list_of c.args.self.now.waiting c.variable_at-variable.result in
+    let woken : List ℕ = list_of c.args.self.now.inactive c.variable_at-variable.result in
     queued-follow c.args.self.now _ c.args.trail.now table requirements c.variable_at-variable.result c.requires.all c.requires.inside
     c.variable_at-variable.ensures.value c.in_ok-push.ensures.items refl refl
     (λ index there. subst (Inside index) (sym took) (Contains-append_left c.args.self.now.active.items woken index there))

@@ -1,6 +1,6 @@
 use Rattle.std.proofs.Common.{sym, subst, arith, Contains, List, refl}
 use Rattle.std.proofs.lemmas.List.Elements.{All-nil, All-same}
-use Rattle.resolver_encoding.specs.Encodings.{AsksWithin, idle}
+use Rattle.resolver_encoding.specs.Encodings.{HasConstraint, idle}
 use Rattle.resolver_encoding.specs.Notes.{notes_in}
 use Rattle.resolver_encoding.specs.Read.{IsForbidden, forbidden_direct}
 use Rattle.resolver_clause_store.proofs.SetLemmas.{All-done, Contains-item}
@@ -16,7 +16,7 @@ loop-candidate-init g c =
     record {
       adds = AddsOnly-equal _ _ _ refl refl;
       room = KeepsRoom-same _ c.requires.bounded;
-      step = IsStep-same u idle (AsksWithin u c.args.by c.args.version_set) (notes_in c.args.self.now);
+      step = IsStep-same u idle (HasConstraint u c.args.by c.args.version_set) (notes_in c.args.self.now);
       read = All-nil (IsForbidden (notes_in c.args.self.now).kinds c.args.by c.args.version_set);
     }
 
@@ -34,7 +34,7 @@ loop-candidate-preserved g c =
     record {
       adds = AddsOnly-trans _ _ _ _ before.adds c.constrain.ensures.adds;
       room = KeepsRoom-trans _ _ _ before.room c.constrain.ensures.room;
-      step = IsStep-trans u idle (AsksWithin u c.args.by c.args.version_set) _ _ _ before.step step;
+      step = IsStep-trans u idle (HasConstraint u c.args.by c.args.version_set) _ _ _ before.step step;
       read = All-grown (IsForbidden (notes_in c.loop-candidate.self).kinds c.args.by c.args.version_set)
           (IsForbidden (notes_in c.constrain.new.self).kinds c.args.by c.args.version_set) c.args.forbidden.now c.loop-candidate.candidate-index
           c.candidate-item.result

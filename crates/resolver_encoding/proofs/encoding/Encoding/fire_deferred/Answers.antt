@@ -16,20 +16,20 @@ loop-place-preserved g c =
     let before = c.loop-place.invariant in
     let one = notes_in c.args.self.now in
     let two = notes_in c.loop-place.self in
-    let three = notes_in c.fire_waiting.new.self in
+    let three = notes_in c.fire_named.new.self in
     record {
       brings =
           let u = g.D.Interner.universe c.args.provider.now in
           let set = c.args.chosen.now.keys in
           let one = notes_in c.args.self.now in
           let two = notes_in c.loop-place.self in
-          let three = notes_in c.fire_waiting.new.self in
+          let three = notes_in c.fire_named.new.self in
           let here = c.loop-place.invariant in
           Brings-trans u (IsFired u set one) NoneOwn one two three (λ s h. here.firing.called (to_see s) h) here.brings
           (Brings-weaker u (IsFired u set two) (IsFired u set one) (fired_before u set one two here.firing) NoneOwn NoneOwn (λ o h.
-          h) two three c.fire_waiting.ensures.brings);
-      room = KeepsRoom-trans _ _ _ before.room c.fire_waiting.ensures.room;
-      is_true = c.fire_waiting.ensures.is_true;
+          h) two three c.fire_named.ensures.brings);
+      room = KeepsRoom-trans _ _ _ before.room c.fire_named.ensures.room;
+      is_true = c.fire_named.ensures.is_true;
       firing = IsFiring-trans u set one two three before.firing c.in_ok-any.ensures.firing;
       quiet = λ sound. AreQuiet-more u set two three c.args.from c.loop-place.place _ c.in_ok-any.ensures.firing
           (slice_get_read set _ c.loop-place.place c.index-as_slice-place.result refl (omega (arith, c.len-place-end.ensures.len))
@@ -50,8 +50,8 @@ returns-in_err-any-clause-brings g c =
     let set = c.args.chosen.now.keys in
     let one = notes_in c.args.self.now in
     let two = notes_in c.loop-place.self in
-    let three = notes_in c.fire_waiting.new.self in
+    let three = notes_in c.fire_named.new.self in
     let here = c.loop-place.invariant in
     Brings-trans u (IsFired u set one) NoneOwn one two three (λ s h. here.firing.called (to_see s) h) here.brings
     (Brings-weaker u (IsFired u set two) (IsFired u set one) (fired_before u set one two here.firing) NoneOwn NoneOwn (λ o h.
-    h) two three c.fire_waiting.ensures.brings)
+    h) two three c.fire_named.ensures.brings)

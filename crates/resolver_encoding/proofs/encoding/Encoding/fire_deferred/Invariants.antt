@@ -13,6 +13,6 @@ invariant-loop-place g l = record {
   brings : Brings (g.D.Interner.universe l.provider) (IsFired (g.D.Interner.universe l.provider) l.chosen.keys (notes_in l.fn.self)) NoneOwn
       (notes_in l.fn.self) (notes_in l.self);
   firing : IsFiring (g.D.Interner.universe l.provider) l.chosen.keys (notes_in l.fn.self) (notes_in l.self);
-  quiet : AreGroups (notes_in l.fn.self).waiting → AreQuiet (g.D.Interner.universe l.provider) l.chosen.keys (notes_in l.self) l.from l.place;
+  quiet : AreGroups (notes_in l.fn.self).deferred_by_name → AreQuiet (g.D.Interner.universe l.provider) l.chosen.keys (notes_in l.self) l.from l.place;
   fired : HasFired (notes_in l.fn.self) (notes_in l.self) l.any;
 }

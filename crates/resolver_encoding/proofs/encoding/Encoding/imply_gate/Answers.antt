@@ -3,7 +3,7 @@ use Rattle.std.specs.Prelude.{None}
 use Rattle.resolver_clause_store.specs.declared.By.TheVariants.{Solvable as BySolvable}
 use Rattle.resolver_clause_store.specs.declared.ClauseKind.TheVariants.{AnyOf}
 use Rattle.resolver_clause_store.specs.declared.Origin.TheVariants.{Gate}
-use Rattle.resolver_encoding.specs.Encodings.{AsksFor, idle}
+use Rattle.resolver_encoding.specs.Encodings.{HasRequirement, idle}
 use Rattle.resolver_encoding.specs.Notes.{notes_in}
 use Rattle.resolver_encoding.proofs.EncodingLemmas.{clause_listed}
 use Rattle.resolver_encoding.proofs.NoteLemmas.{IsStep-kind}
@@ -17,7 +17,7 @@ returns-clause-step g c =
     let u = g.D.Interner.universe c.args.provider.now in
     let s = c.args.requirer in
     let r = c.args.requirement in
-    IsStep-kind u idle (AsksFor u (BySolvable s) (record { condition = None; requirement = r })) (notes_in c.args.self.now) (notes_in c.add.new.self)
+    IsStep-kind u idle (HasRequirement u (BySolvable s) (record { condition = None; requirement = r })) (notes_in c.args.self.now) (notes_in c.add.new.self)
     (AnyOf (Gate r) s) (c.in_ok-add.ensures.added u refl)
     (λ root asks _ codes _. (tt, gate_follows u codes s r asks)) tt tt tt
 

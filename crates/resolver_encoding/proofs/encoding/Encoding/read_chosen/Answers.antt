@@ -38,7 +38,7 @@ read_hinted-requires-clause-within g c =
     let fired = notes_in c.fire_deferred.new.self in
     let first : length old.requirements ≤ length mid.requirements = longer old.requirements mid.requirements c.in_ok-read.ensures.reading.requirements in
     let second : length mid.requirements ≤ length fired.requirements = longer mid.requirements fired.requirements c.in_ok-fired.ensures.firing.requirements in
-    let size : c.asking_count-clauses.result ≡ length old.requirements = c.asking_count-clauses.ensures in
+    let size : c.requirement_count-clauses.result ≡ length old.requirements = c.requirement_count-clauses.ensures in
     omega (arith, first, second, size)
 
 pub returns-clause-read : goal.returns-clause-read
@@ -52,10 +52,10 @@ returns-clause-read g c = λ root so.
     let reading = c.in_ok-read.ensures.reading in
     let firing = c.in_ok-fired.ensures.firing in
     let From : ℕ → Type 0 = λ n. IsHintedReading u set n fired new in
-    let hinted = subst From c.asking_count-clauses.ensures c.in_ok-hinted.ensures.reading in
+    let hinted = subst From c.requirement_count-clauses.ensures c.in_ok-hinted.ensures.reading in
     let half = reading.keeps root so.half in
     so_far_on u set root (IsListedFrom new (length old.requirements)) fired new
-    (so_far u set old mid fired reading firing root c.args.from so c.in_ok-read.ensures.here (c.in_ok-fired.ensures.quiet half.encoding.sound_waiting)
+    (so_far u set old mid fired reading firing root c.args.from so c.in_ok-read.ensures.here (c.in_ok-fired.ensures.quiet half.encoding.sound_deferred_by_name)
     (lawful_solvables u g.S.PartialEq.eq (g.met.D.Interner.lawful_ids c.args.provider.now)
     (g.met.D.Interner.solvables_compare c.args.provider.now) g.met.D.Interner.solvables_are_values)
     (g.met.D.DependencyProvider.lawful_packages c.args.provider.now))
@@ -72,9 +72,9 @@ returns-clause-asked g c = λ root so.
     let reading = c.in_ok-read.ensures.reading in
     let firing = c.in_ok-fired.ensures.firing in
     let From : ℕ → Type 0 = λ n. IsHintedReading u set n fired new in
-    let hinted = subst From c.asking_count-clauses.ensures c.in_ok-hinted.ensures.reading in
+    let hinted = subst From c.requirement_count-clauses.ensures c.in_ok-hinted.ensures.reading in
     let half = reading.keeps root so.half in
-    let quiet = c.in_ok-fired.ensures.quiet half.encoding.sound_waiting in
+    let quiet = c.in_ok-fired.ensures.quiet half.encoding.sound_deferred_by_name in
     let lawful = lawful_solvables u g.S.PartialEq.eq (g.met.D.Interner.lawful_ids c.args.provider.now)
     (g.met.D.Interner.solvables_compare c.args.provider.now) g.met.D.Interner.solvables_are_values in
     let packages = g.met.D.DependencyProvider.lawful_packages c.args.provider.now in
@@ -95,7 +95,7 @@ pub returns-clause-hinted : goal.returns-clause-hinted
 returns-clause-hinted g c =
     let u = g.D.Interner.universe c.args.provider.now in
     let From : ℕ → Type 0 = λ n. AreHintsRead u n (notes_in c.read_hinted.new.self) in
-    subst From c.asking_count-clauses.ensures c.in_ok-hinted.ensures.here
+    subst From c.requirement_count-clauses.ensures c.in_ok-hinted.ensures.here
 
 pub returns-clause-more : goal.returns-clause-more
 returns-clause-more g c =
@@ -108,7 +108,7 @@ returns-clause-more g c =
     let reading = c.in_ok-read.ensures.reading in
     let firing = c.in_ok-fired.ensures.firing in
     let From : ℕ → Type 0 = λ n. IsHintedReading u set n fired new in
-    let hinted = subst From c.asking_count-clauses.ensures c.in_ok-hinted.ensures.reading in
+    let hinted = subst From c.requirement_count-clauses.ensures c.in_ok-hinted.ensures.reading in
     let before = c.requires.reading in
     let half = firing_half u set mid fired firing before.root (reading.keeps before.root before.so_far.half) in
     more_on u set before.root old fired new half.encoding (read_more u set old mid fired reading firing) hinted.reading

@@ -1,7 +1,7 @@
 use Rattle.std.proofs.Common.{sym, subst, Contains, List, ◌∷◌, [], inl, ⊎_elim}
 use Rattle.std.specs.Prelude.{⊤}
 use Rattle.resolver_encoding.specs.Called.{IsAsking, to_see}
-use Rattle.resolver_encoding.specs.Encodings.{AsksWithin}
+use Rattle.resolver_encoding.specs.Encodings.{HasConstraint}
 use Rattle.resolver_encoding.specs.Notes.{notes_in}
 use Rattle.resolver_encoding.proofs.EncodingLemmas.{IsAskStep-of, IsAskStep-trans, IsAskStep-weaker, IsEncodingOf-asked}
 use Rattle.resolver_encoding.proofs.NoteLemmas.{asking_same}
@@ -13,7 +13,7 @@ use Rattle.resolver_encoding.proofs.encoding.Encoding.read_constraint.Goals as g
 pub constrain_by_helper-requires-clause-encoding : goal.constrain_by_helper-requires-clause-encoding
 constrain_by_helper-requires-clause-encoding g c =
     let u = g.D.Interner.universe c.args.provider.now in
-    let Premise = AsksWithin u c.args.by c.args.version_set in
+    let Premise = HasConstraint u c.args.by c.args.version_set in
     let Called = IsAsking c.version_set_name.result in
     IsEncodingOf-asked u Called Premise (notes_in c.args.self.now) _ c.requires.encoding
     (IsAskStep-weaker u Called Called (λ n h. h) (λ root. ⊤) Premise (λ root asks. tt) _ _ c.in_ok-ask.ensures.step)
@@ -21,7 +21,7 @@ constrain_by_helper-requires-clause-encoding g c =
 pub returns-then-forbidden-lt-CONSTRAINT_HELPER_THRESHOLD-clause-step : goal.returns-then-forbidden-lt-CONSTRAINT_HELPER_THRESHOLD-clause-step
 returns-then-forbidden-lt-CONSTRAINT_HELPER_THRESHOLD-clause-step g c =
     let u = g.D.Interner.universe c.args.provider.now in
-    let Premise = AsksWithin u c.args.by c.args.version_set in
+    let Premise = HasConstraint u c.args.by c.args.version_set in
     let Named = IsAsking c.version_set_name.result in
     let Called = IsAsking (u.version_set_name c.args.version_set) in
     IsAskStep-trans u Called Premise _ _ _
@@ -31,7 +31,7 @@ returns-then-forbidden-lt-CONSTRAINT_HELPER_THRESHOLD-clause-step g c =
 pub returns-clause-step : goal.returns-clause-step
 returns-clause-step g c =
     let u = g.D.Interner.universe c.args.provider.now in
-    let Premise = AsksWithin u c.args.by c.args.version_set in
+    let Premise = HasConstraint u c.args.by c.args.version_set in
     let Named = IsAsking c.version_set_name.result in
     let Called = IsAsking (u.version_set_name c.args.version_set) in
     IsAskStep-trans u Called Premise _ _ _

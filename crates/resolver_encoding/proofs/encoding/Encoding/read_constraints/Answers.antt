@@ -3,7 +3,7 @@ use Rattle.std.proofs.Common.{◌<◌, length}
 use Rattle.std.proofs.lemmas.List.Elements.{All-get_or, All-nil}
 use Rattle.resolver_clause_store.specs.Universe.{Demands}
 use Rattle.resolver_encoding.specs.Called.{IsAsking, IsNamedBy, to_see}
-use Rattle.resolver_encoding.specs.Encodings.{AsksWithin, IsConstraintRead}
+use Rattle.resolver_encoding.specs.Encodings.{HasConstraint, IsConstraintRead}
 use Rattle.resolver_encoding.specs.Notes.{notes_in}
 use Rattle.resolver_clause_store.proofs.SetLemmas.{All-done}
 use Rattle.resolver_encoding.proofs.EncodingLemmas.{IsAskStep-same, IsAskStep-trans, IsAskStep-weaker, IsEncodingOf-asked, IsEncodingOf-weaker}
@@ -22,7 +22,7 @@ loop-version_set-init g c =
     record {
       brings = Brings-same u (IsNamedBy u c.args.constraints.now) (IsOwn u c.args.by (with_constraints c.args.constraints.now)) (notes_in c.args.self.now);
       room = KeepsRoom-same _ c.requires.bounded;
-      step = IsAskStep-same u (IsNamedBy u c.args.constraints.now) (λ root. All (λ v. AsksWithin u c.args.by v root) c.args.constraints.now)
+      step = IsAskStep-same u (IsNamedBy u c.args.constraints.now) (λ root. All (λ v. HasConstraint u c.args.by v root) c.args.constraints.now)
           (notes_in c.args.self.now);
       read = All-nil (IsConstraintRead u (notes_in c.args.self.now).kinds c.args.by);
       asked = All-nil (λ v. Contains (notes_in c.args.self.now).asked (u.version_set_name v));
@@ -35,8 +35,8 @@ read_constraint-requires-clause-encoding g c =
     let xs = c.args.constraints.now in
     let i = c.loop-version_set.version_set-index in
     let below : i < length xs = omega arith in
-    let AllAsk : Demands → Type 0 = λ root. All (λ v. AsksWithin u c.args.by v root) xs in
-    IsEncodingOf-weaker u AllAsk (AsksWithin u c.args.by _) (λ root all. All-get_or (λ v. AsksWithin u c.args.by v root) xs i _ below all)
+    let AllAsk : Demands → Type 0 = λ root. All (λ v. HasConstraint u c.args.by v root) xs in
+    IsEncodingOf-weaker u AllAsk (HasConstraint u c.args.by _) (λ root all. All-get_or (λ v. HasConstraint u c.args.by v root) xs i _ below all)
     (notes_in c.loop-version_set.self) (IsEncodingOf-asked u (IsNamedBy u xs) AllAsk _ _ c.requires.encoding c.loop-version_set.invariant.step)
 
 pub loop-version_set-preserved : goal.loop-version_set-preserved
@@ -61,10 +61,10 @@ loop-version_set-preserved g c =
           (IsOwn-within u by (with_constraints (_ ∷ [])) (with_constraints xs) (none_within [])
           (one_within _ xs (Contains-get_or xs i _ below))) mid new c.read_constraint.ensures.brings);
       room = KeepsRoom-trans _ _ _ before.room c.read_constraint.ensures.room;
-      step = IsAskStep-trans u (IsNamedBy u xs) (λ root. All (λ v. AsksWithin u c.args.by v root) c.args.constraints.now) _ _ _ before.step
+      step = IsAskStep-trans u (IsNamedBy u xs) (λ root. All (λ v. HasConstraint u c.args.by v root) c.args.constraints.now) _ _ _ before.step
           (IsAskStep-weaker u (IsAsking (u.version_set_name (get_or xs i _))) (IsNamedBy u xs) (λ call is. named_here u xs i _ _ call below refl is)
-          (AsksWithin u c.args.by _) (λ root. All (λ v. AsksWithin u c.args.by v root) c.args.constraints.now) (λ root all.
-          All-get_or (λ v. AsksWithin u c.args.by v root) xs i _ below all) _ _ step);
+          (HasConstraint u c.args.by _) (λ root. All (λ v. HasConstraint u c.args.by v root) c.args.constraints.now) (λ root all.
+          All-get_or (λ v. HasConstraint u c.args.by v root) xs i _ below all) _ _ step);
       read = All-grown_at (IsConstraintRead u (notes_in c.loop-version_set.self).kinds c.args.by)
           (IsConstraintRead u (notes_in c.read_constraint.new.self).kinds c.args.by) xs i _ (λ v h.
           IsConstraintRead-within u _ _ step.kinds c.args.by v h) below before.read c.in_ok-read_constraint.ensures.read;

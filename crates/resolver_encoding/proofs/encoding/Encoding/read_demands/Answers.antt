@@ -5,7 +5,7 @@ use Rattle.resolver_clause_store.specs.Universe.{Demands}
 use Rattle.resolver_clause_store.specs.declared.ConditionalRequirement.{ConditionalRequirement}
 use Rattle.resolver_clause_store.specs.TrueRules.{demands_by}
 use Rattle.resolver_encoding.specs.Called.{Call, IsCalledByEach, IsDemanded, IsNamedBy, IsPlainlyNamed, to_see}
-use Rattle.resolver_encoding.specs.Encodings.{AsksFor, AsksWithin, IsLeft, IsUnmet}
+use Rattle.resolver_encoding.specs.Encodings.{HasRequirement, HasConstraint, IsLeft, IsUnmet}
 use Rattle.resolver_encoding.specs.Notes.{notes_in}
 use Rattle.resolver_encoding.specs.ReadState.{Deferred, IsReadRequirement}
 use Rattle.resolver_encoding.proofs.EncodingLemmas.{IsAskStep-trans, IsAskStep-weaker, IsEncodingOf-asked, IsEncodingOf-read, IsEncodingOf-weaker}
@@ -31,7 +31,7 @@ read_requirements-requires-clause-encoding g c =
     (IsAskStep-weaker u Plainly Plainly (λ n h. h) (λ root. ⊤) Premise (λ root _. tt) _ _ c.in_ok-ask_plain_each.ensures.step) in
     let second = IsEncodingOf-asked u (IsNamedBy u vs) Premise _ _ first
     (IsAskStep-weaker u (IsNamedBy u vs) (IsNamedBy u vs) (λ n h. h) (λ root. ⊤) Premise (λ root _. tt) _ _ c.in_ok-ask_each.ensures.step) in
-    IsEncodingOf-weaker u Premise (λ root. All (λ r. AsksFor u by r root) rs) (λ root same. subst AllAsk (sym same) (All-contains_itself rs))
+    IsEncodingOf-weaker u Premise (λ root. All (λ r. HasRequirement u by r root) rs) (λ root same. subst AllAsk (sym same) (All-contains_itself rs))
     (notes_in c.ask_each.new.self) second
 
 pub read_constraints-requires-clause-encoding : goal.read_constraints-requires-clause-encoding
@@ -51,9 +51,9 @@ read_constraints-requires-clause-encoding g c =
     (IsAskStep-weaker u (IsNamedBy u vs) (IsNamedBy u vs) (λ n h. h) (λ root. ⊤) Premise (λ root _. tt) _ _ c.in_ok-ask_each.ensures.step) in
     let third = IsEncodingOf-read u (IsUnmet u set by) (IsCalledByEach u set rs) Premise _ _ second
     (IsReadStep-weaker u (IsUnmet u set by) (IsCalledByEach u set rs) (IsCalledByEach u set rs) (λ n h. h) (λ root.
-    All (λ r. AsksFor u by r root) rs) Premise (λ root same.
+    All (λ r. HasRequirement u by r root) rs) Premise (λ root same.
     subst AllAsk (sym same) (All-contains_itself rs)) _ _ c.in_ok-read_requirements.ensures.step) in
-    IsEncodingOf-weaker u Premise (λ root. All (λ v. AsksWithin u by v root) vs) (λ root same. subst AllWithin (sym same) (All-contains_itself vs))
+    IsEncodingOf-weaker u Premise (λ root. All (λ v. HasConstraint u by v root) vs) (λ root same. subst AllWithin (sym same) (All-contains_itself vs))
     (notes_in c.read_requirements.new.self) third
 
 pub returns-clause-step : goal.returns-clause-step
@@ -74,11 +74,11 @@ returns-clause-step g c =
     (IsAskStep-weaker u Plainly Demanded (λ n h. inl (plainly_called u set rs n h)) (λ root. ⊤) Premise (λ root _. tt) _ _ c.in_ok-ask_plain_each.ensures.step)
     (IsAskStep-weaker u (IsNamedBy u vs) Demanded (λ n h. inr h) (λ root. ⊤) Premise (λ root _. tt) _ _ c.in_ok-ask_each.ensures.step) in
     let required = IsReadStep-trans u Defers Demanded Premise _ _ _ (IsReadStep-of u Defers Demanded Premise _ _ asked)
-    (IsReadStep-weaker u Defers (IsCalledByEach u set rs) Demanded (λ n h. inl h) (λ root. All (λ r. AsksFor u by r root) rs) Premise (λ root same.
+    (IsReadStep-weaker u Defers (IsCalledByEach u set rs) Demanded (λ n h. inl h) (λ root. All (λ r. HasRequirement u by r root) rs) Premise (λ root same.
     subst AllAsk (sym same) (All-contains_itself rs)) _ _ c.in_ok-read_requirements.ensures.step) in
     IsReadStep-trans u Defers Demanded Premise _ _ _ required
     (IsReadStep-of u Defers Demanded Premise _ _
-    (IsAskStep-weaker u (IsNamedBy u vs) Demanded (λ n h. inr h) (λ root. All (λ v. AsksWithin u by v root) vs) Premise (λ root same.
+    (IsAskStep-weaker u (IsNamedBy u vs) Demanded (λ n h. inr h) (λ root. All (λ v. HasConstraint u by v root) vs) Premise (λ root same.
     subst AllWithin (sym same) (All-contains_itself vs)) _ _ c.in_ok-read_constraints.ensures.step))
 
 pub returns-clause-read : goal.returns-clause-read

@@ -2,7 +2,7 @@ use Rattle.std.proofs.Common.{refl, inl, inr, ◌∷◌, [], ap}
 use Rattle.std.specs.Prelude.{map}
 use Rattle.resolver_clause_store.specs.Candidates.{matching}
 use Rattle.resolver_encoding.specs.Called.{IsCalledBy, IsWantedBy}
-use Rattle.resolver_encoding.specs.Encodings.{AsksFor, IsTrueUnder, IsUnmet}
+use Rattle.resolver_encoding.specs.Encodings.{HasRequirement, IsTrueUnder, IsUnmet}
 use Rattle.resolver_clause_store.specs.TrueRules.{Implies}
 use Rattle.resolver_encoding.proofs.EncodingLemmas.{IsAskStep-weaker, IsReadStep-of}
 use Rattle.resolver_encoding.proofs.FiringLemmas.{IsReadStep-deferral, deferral_left}
@@ -25,10 +25,10 @@ returns-then-met-clause-step g c =
     disjunct_implies u r.condition c.requires.disjunct.lists c.args.disjunct.now list c.requires.disjunct.are c.requires.disjunct.listed
     c.in_ok-each_once.ensures.same in
     let met = holds_if c.in_ok-met.met _ _ c.if-met.true (rw c.deref.ensures.value at c.in_ok-met.ensures.met) in
-    IsReadStep-of u (IsUnmet u set by) (IsCalledBy u set r) (AsksFor u by r) _ _
+    IsReadStep-of u (IsUnmet u set by) (IsCalledBy u set r) (HasRequirement u by r) _ _
     (IsAskStep-weaker u (IsWantedBy u r.requirement) (IsCalledBy u set r) (λ n named.
     (active_where u set (map (matching u) list) r.condition implies met, named))
-    (IsTrueUnder u by list r.requirement) (AsksFor u by r) (λ root asks. (r, asks, refl, implies)) _ _ c.in_ok-encode_disjunct.ensures.step)
+    (IsTrueUnder u by list r.requirement) (HasRequirement u by r) (λ root asks. (r, asks, refl, implies)) _ _ c.in_ok-encode_disjunct.ensures.step)
 
 pub returns-then-met-clause-read : goal.returns-then-met-clause-read
 returns-then-met-clause-read g c =
@@ -45,7 +45,7 @@ returns-clause-step g c =
     disjunct_implies u r.condition c.requires.disjunct.lists c.args.disjunct.now list c.requires.disjunct.are c.requires.disjunct.listed
     c.in_ok-each_once.ensures.same in
     let unmet = fails_if c.in_ok-met.met _ _ c.if-met.false (rw c.deref.ensures.value at c.in_ok-met.ensures.met) in
-    IsReadStep-deferral u (IsUnmet u set by) (IsCalledBy u set r) (AsksFor u by r) _ _ _ c.in_ok-defer.ensures.deferred
+    IsReadStep-deferral u (IsUnmet u set by) (IsCalledBy u set r) (HasRequirement u by r) _ _ _ c.in_ok-defer.ensures.deferred
     (record { of = refl; never = unmet }) (λ root asks. record { is_true = (r, asks, refl, implies); once = c.in_ok-each_once.ensures.once })
 
 pub returns-clause-read : goal.returns-clause-read

@@ -1,7 +1,7 @@
 use Rattle.std.proofs.Common.{sym, subst, arith, Contains, List, map, ◌∷◌, []}
 use Rattle.std.proofs.lemmas.List.Elements.{All-map, All-nil}
 use Rattle.resolver_encoding.specs.Called.{IsCalledBy, to_see}
-use Rattle.resolver_encoding.specs.Encodings.{AsksFor, IsDisjunctRead, IsUnmet}
+use Rattle.resolver_encoding.specs.Encodings.{HasRequirement, IsDisjunctRead, IsUnmet}
 use Rattle.resolver_encoding.specs.Notes.{notes_in}
 use Rattle.resolver_clause_store.proofs.SetLemmas.{All-done, Contains-item}
 use Rattle.resolver_encoding.proofs.EncodingLemmas.{Extends-within, IsReadStep-same, IsReadStep-trans}
@@ -23,7 +23,7 @@ loop-disjunct-init g c =
       brings = λ root asks before. Brings-same u (IsCalledBy u set c.args.requirement) (IsOwn u c.args.by (with_requirements (c.args.requirement ∷ [])))
           (notes_in c.args.self.now);
       room = KeepsRoom-same _ c.requires.bounded;
-      step = IsReadStep-same u (IsUnmet u set c.args.by) (IsCalledBy u set c.args.requirement) (AsksFor u c.args.by c.args.requirement)
+      step = IsReadStep-same u (IsUnmet u set c.args.by) (IsCalledBy u set c.args.requirement) (HasRequirement u c.args.by c.args.requirement)
           (notes_in c.args.self.now);
       read = All-nil (λ list. IsDisjunctRead (notes_in c.args.self.now) c.args.by c.args.requirement.requirement list.items);
       is_true = c.requires.is_true;
@@ -62,7 +62,7 @@ loop-disjunct-preserved g c =
           Brings-trans u Called Own old mid (notes_in c.read_disjunct.new.self) (λ s h. here.step.called (to_see s) h) (here.brings root asks before)
           (c.read_disjunct.ensures.brings root (here.step.keeps root asks before));
       room = KeepsRoom-trans _ _ _ before.room c.read_disjunct.ensures.room;
-      step = IsReadStep-trans u (IsUnmet u set c.args.by) (IsCalledBy u set r) (AsksFor u c.args.by r) _ _ _ before.step step;
+      step = IsReadStep-trans u (IsUnmet u set c.args.by) (IsCalledBy u set r) (HasRequirement u c.args.by r) _ _ _ before.step step;
       read = All-grown (λ list. IsDisjunctRead (notes_in c.loop-disjunct.self) c.args.by r.requirement list.items) (λ list.
           IsDisjunctRead (notes_in c.read_disjunct.new.self) c.args.by r.requirement list.items) c.args.disjuncts.now c.loop-disjunct.disjunct-index
           c.disjunct-item.result

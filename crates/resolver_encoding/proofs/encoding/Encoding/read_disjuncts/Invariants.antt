@@ -1,7 +1,7 @@
 use Rattle.std.proofs.Common.{All, take}
 use Rattle.resolver_clause_store.specs.Caches.{IsTrueCache}
 use Rattle.resolver_encoding.specs.Called.{IsCalledBy}
-use Rattle.resolver_encoding.specs.Encodings.{AsksFor, IsDisjunctRead, IsReadStep, IsUnmet}
+use Rattle.resolver_encoding.specs.Encodings.{HasRequirement, IsDisjunctRead, IsReadStep, IsUnmet}
 use Rattle.resolver_encoding.specs.Notes.{KeepsRoom, notes_in}
 use Rattle.std.proofs.Common.{◌∷◌, []}
 use Rattle.resolver_clause_store.specs.Universe.{Demands}
@@ -13,11 +13,11 @@ abbrev pub invariant-loop-disjunct : goal.invariant-loop-disjunct
 invariant-loop-disjunct g l = record {
   room : KeepsRoom l.fn.self l.self;
   step : IsReadStep (g.D.Interner.universe l.provider) (IsUnmet (g.D.Interner.universe l.provider) l.chosen.keys l.by)
-      (IsCalledBy (g.D.Interner.universe l.provider) l.chosen.keys l.requirement) (AsksFor (g.D.Interner.universe l.provider) l.by l.requirement)
+      (IsCalledBy (g.D.Interner.universe l.provider) l.chosen.keys l.requirement) (HasRequirement (g.D.Interner.universe l.provider) l.by l.requirement)
       (notes_in l.fn.self) (notes_in l.self);
   read : All (λ list. IsDisjunctRead (notes_in l.self) l.by l.requirement.requirement list.items) (take l.disjunct-index l.disjuncts);
   is_true : IsTrueCache (g.D.Interner.universe l.provider) l.cache;
-  brings : (root : Demands) → AsksFor (g.D.Interner.universe l.provider) l.by l.requirement root →
+  brings : (root : Demands) → HasRequirement (g.D.Interner.universe l.provider) l.by l.requirement root →
       IsEncoding (g.D.Interner.universe l.provider) root (notes_in l.fn.self) →
       Brings (g.D.Interner.universe l.provider) (IsCalledBy (g.D.Interner.universe l.provider) l.chosen.keys l.requirement)
       (IsOwn (g.D.Interner.universe l.provider) l.by (with_requirements (l.requirement ∷ []))) (notes_in l.fn.self) (notes_in l.self);

@@ -35,7 +35,7 @@ waves-preserved g c =
     let found = c.in_ok-read_hinted_each.ensures in
     let reading = found.reading.reading in
     let Was : Bool → Type 0 = λ b. HasRead two three b in
-    let size : c.asking_count-until.result ≡ length two.requirements = c.asking_count-until.ensures in
+    let size : c.requirement_count-until.result ≡ length two.requirements = c.requirement_count-until.ensures in
     let now : HasRead two three true = subst Was c.if-not-branch.false found.any_new in
     let more : length two.requirements ≤ length three.requirements = longer two.requirements three.requirements reading.requirements in
     record {
@@ -47,7 +47,7 @@ waves-preserved g c =
           (hinted_later u set c.args.from c.waves.place before.forward two three found.reading);
       forward = omega (arith, before.forward, before.within, size);
       within = omega (arith, size, more);
-      read = hints_joined u c.args.from c.waves.place c.asking_count-until.result three
+      read = hints_joined u c.args.from c.waves.place c.requirement_count-until.result three
           (hints_grown u before.half.root two three before.half.half.encoding reading.origins reading.table reading.requirements reading.read c.args.from
           c.waves.place before.within before.read)
           found.here;
@@ -75,12 +75,12 @@ returns-then-not-branch-clause-here g c =
     let found = c.in_ok-read_hinted_each.ensures in
     let reading = found.reading.reading in
     let Was : Bool → Type 0 = λ b. HasRead two three b in
-    let size : c.asking_count-until.result ≡ length two.requirements = c.asking_count-until.ensures in
+    let size : c.requirement_count-until.result ≡ length two.requirements = c.requirement_count-until.ensures in
     let same : three ≡ two = subst Was c.if-not-branch.true found.any_new in
-    let end : c.asking_count-until.result ≡ length three.requirements = size ∙
+    let end : c.requirement_count-until.result ≡ length three.requirements = size ∙
     ap (λ (n : Notes g.row.N.Denot g.row.S.Denot). length n.requirements) (sym same) in
     let To : ℕ → Type 0 = λ n. AreHintsReadTo u c.args.from n three in
-    subst To end (hints_joined u c.args.from c.waves.place c.asking_count-until.result three
+    subst To end (hints_joined u c.args.from c.waves.place c.requirement_count-until.result three
     (hints_grown u before.half.root two three before.half.half.encoding reading.origins reading.table reading.requirements reading.read c.args.from
     c.waves.place before.within before.read)
     found.here)

@@ -3,7 +3,7 @@ use Rattle.std.proofs.Common.{ap, refl, ◌≡◌, ◌⊎◌, ◌∷◌, [], Lis
 use Rattle.resolver_clause_store.specs.Candidates.{matching}
 use Rattle.resolver_clause_store.specs.declared.By.TheVariants.{Solvable as BySolvable}
 use Rattle.resolver_encoding.specs.Called.{IsWantedBy, to_see}
-use Rattle.resolver_encoding.specs.Encodings.{AsksFor, IsTrueUnder, idle}
+use Rattle.resolver_encoding.specs.Encodings.{HasRequirement, IsTrueUnder, idle}
 use Rattle.resolver_encoding.specs.Notes.{notes_in}
 use Rattle.resolver_encoding.specs.ReadState.{has_direct}
 use Rattle.resolver_encoding.proofs.EncodingLemmas.{IsAskStep-of, IsAskStep-trans, IsAskStep-weaker, IsEncodingOf-asked, IsEncodingOf-step, IsStep-weaker}
@@ -19,13 +19,13 @@ use Rattle.resolver_encoding.proofs.encoding.Encoding.read_plain.Goals as goal
 pub returns-then-is_among-clause-step : goal.returns-then-is_among-clause-step
 returns-then-is_among-clause-step g c =
     let u = g.D.Interner.universe c.args.provider.now in
-    let Premise = AsksFor u (BySolvable c.args.requirer) (record { condition = None; requirement = c.args.requirement }) in
+    let Premise = HasRequirement u (BySolvable c.args.requirer) (record { condition = None; requirement = c.args.requirement }) in
     IsAskStep-of u (IsWantedBy u c.args.requirement) Premise _ _ c.in_ok-imply_gate.ensures.step
 
 pub returns-then-is_among-clause-read : goal.returns-then-is_among-clause-read
 returns-then-is_among-clause-read g c =
     let u = g.D.Interner.universe c.args.provider.now in
-    let Premise = AsksFor u (BySolvable c.args.requirer) (record { condition = None; requirement = c.args.requirement }) in
+    let Premise = HasRequirement u (BySolvable c.args.requirer) (record { condition = None; requirement = c.args.requirement }) in
     let step = c.in_ok-imply_gate.ensures.step in
     gate_read u Premise (notes_in c.args.self.now) (notes_in c.imply_gate.new.self) c.args.requirer c.args.requirement c.requires.encoding step
     (step.gates _ c.if-is_among.ensures) c.in_ok-imply_gate.ensures.implied
@@ -36,7 +36,7 @@ returns-then-len-lt-GATE_THRESHOLD-clause-step g c =
     let r = c.args.requirement in
     let by = BySolvable c.args.requirer in
     let Called = IsWantedBy u r in
-    let Premise = AsksFor u by (record { condition = None; requirement = r }) in
+    let Premise = HasRequirement u by (record { condition = None; requirement = r }) in
     IsAskStep-trans u Called Premise _ _ _ (IsAskStep-weaker u Called Called (λ n h. h) (λ root. ⊤) Premise (λ root asks. tt) _ _ c.in_ok-choices.ensures.step)
     (IsAskStep-of u Called Premise _ _
     (IsStep-weaker u idle (IsTrueUnder u by _ r) Premise (λ root asks.
@@ -50,7 +50,7 @@ returns-clause-step g c =
     let u = g.D.Interner.universe c.args.provider.now in
     let r = c.args.requirement in
     let Called = IsWantedBy u r in
-    let Premise = AsksFor u (BySolvable c.args.requirer) (record { condition = None; requirement = r }) in
+    let Premise = HasRequirement u (BySolvable c.args.requirer) (record { condition = None; requirement = r }) in
     let made = IsAskStep-trans u Called (λ root. ⊤) _ _ _ c.in_ok-choices.ensures.step (IsAskStep-of u Called (λ root. ⊤) _ _ c.in_ok-make_gate.ensures.step) in
     IsAskStep-trans u Called Premise _ _ _ (IsAskStep-weaker u Called Called (λ n h. h) (λ root. ⊤) Premise (λ root asks. tt) _ _ made)
     (IsAskStep-of u Called Premise _ _ c.in_ok-imply_gate-2.ensures.step)
@@ -60,7 +60,7 @@ returns-clause-read g c =
     let u = g.D.Interner.universe c.args.provider.now in
     let r = c.args.requirement in
     let Called = IsWantedBy u r in
-    let Premise = AsksFor u (BySolvable c.args.requirer) (record { condition = None; requirement = r }) in
+    let Premise = HasRequirement u (BySolvable c.args.requirer) (record { condition = None; requirement = r }) in
     let chosen = IsEncodingOf-asked u Called Premise _ _ c.requires.encoding
     (IsAskStep-weaker u Called Called (λ n h. h) (λ root. ⊤) Premise (λ root asks. tt) _ _ c.in_ok-choices.ensures.step) in
     let before = IsEncodingOf-step u Premise _ _ chosen (IsStep-weaker u idle (λ root. ⊤) Premise (λ root asks. tt) _ _ c.in_ok-make_gate.ensures.step) in

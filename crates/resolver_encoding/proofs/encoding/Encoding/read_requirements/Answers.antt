@@ -2,7 +2,7 @@ use Rattle.std.proofs.Common.{arith, All, ◌<◌, length, ◌∷◌, []}
 use Rattle.std.proofs.lemmas.List.Elements.{All-get_or, All-nil}
 use Rattle.resolver_clause_store.specs.Universe.{Demands}
 use Rattle.resolver_encoding.specs.Called.{IsCalledBy, IsCalledByEach, to_see}
-use Rattle.resolver_encoding.specs.Encodings.{AsksFor, IsLeft, IsUnmet}
+use Rattle.resolver_encoding.specs.Encodings.{HasRequirement, IsLeft, IsUnmet}
 use Rattle.resolver_encoding.specs.Notes.{notes_in}
 use Rattle.resolver_encoding.specs.ReadState.{IsReadRequirement}
 use Rattle.resolver_clause_store.proofs.SetLemmas.{All-done}
@@ -27,7 +27,7 @@ loop-requirement-init g c =
       brings = Brings-same u (IsCalledByEach u set c.args.requirements.now) (IsOwn u c.args.by (with_requirements c.args.requirements.now)) old;
       room = KeepsRoom-same _ c.requires.bounded;
       step = IsReadStep-same u (IsUnmet u set c.args.by) (IsCalledByEach u set c.args.requirements.now) (λ root.
-          All (λ r. AsksFor u c.args.by r root) c.args.requirements.now) old;
+          All (λ r. HasRequirement u c.args.by r root) c.args.requirements.now) old;
       read = All-nil (IsReadRequirement u old.kinds (IsLeft old) c.args.by);
       is_true = c.requires.is_true;
     }
@@ -39,8 +39,8 @@ read_requirement-requires-clause-encoding g c =
     let xs = c.args.requirements.now in
     let i = c.loop-requirement.requirement-index in
     let below : i < length xs = omega arith in
-    let AllAsk : Demands → Type 0 = λ root. All (λ r. AsksFor u c.args.by r root) xs in
-    IsEncodingOf-weaker u AllAsk (AsksFor u c.args.by _) (λ root all. All-get_or (λ r. AsksFor u c.args.by r root) xs i _ below all)
+    let AllAsk : Demands → Type 0 = λ root. All (λ r. HasRequirement u c.args.by r root) xs in
+    IsEncodingOf-weaker u AllAsk (HasRequirement u c.args.by _) (λ root all. All-get_or (λ r. HasRequirement u c.args.by r root) xs i _ below all)
     (notes_in c.loop-requirement.self)
     (IsEncodingOf-read u (IsUnmet u set c.args.by) (IsCalledByEach u set xs) AllAsk _ _ c.requires.encoding c.loop-requirement.invariant.step)
 
@@ -56,7 +56,7 @@ loop-requirement-preserved g c =
     let step = c.in_ok-read_requirement.ensures.step in
     let mid = notes_in c.loop-requirement.self in
     let new = notes_in c.read_requirement.new.self in
-    let Premise : Demands → Type 0 = λ root. All (λ r. AsksFor u by r root) xs in
+    let Premise : Demands → Type 0 = λ root. All (λ r. HasRequirement u by r root) xs in
     record {
       brings =
           let Called = IsCalledByEach u set xs in
@@ -69,7 +69,7 @@ loop-requirement-preserved g c =
       room = KeepsRoom-trans _ _ _ before.room c.read_requirement.ensures.room;
       step = IsReadStep-trans u (IsUnmet u set by) (IsCalledByEach u set xs) Premise _ _ _ before.step
           (IsReadStep-weaker u (IsUnmet u set by) (IsCalledBy u set _) (IsCalledByEach u set xs) (λ n called. called_here u set xs i _ n below called)
-          (AsksFor u by _) Premise (λ root all. All-get_or (λ v. AsksFor u by v root) xs i _ below all) _ _ step);
+          (HasRequirement u by _) Premise (λ root all. All-get_or (λ v. HasRequirement u by v root) xs i _ below all) _ _ step);
       read = All-grown_at (IsReadRequirement u mid.kinds (IsLeft mid) by) (IsReadRequirement u new.kinds (IsLeft new) by) xs i _ (λ v h.
           IsReadRequirement-within u _ _ step.kinds (IsLeft mid) (IsLeft new) (λ e k.
           Extends-within _ _ step.deferred _ k) by v h) below before.read c.in_ok-read_requirement.ensures.read;

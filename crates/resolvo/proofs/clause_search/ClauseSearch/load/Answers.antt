@@ -40,9 +40,9 @@ returns-clause-set c = record {
       c.in_ok-load_clauses.ensures.same.set.was v slot (c.in_ok-load_requirements.ensures.same.set.was v slot at);
 }
 
-pub returns-clause-marked : goal.returns-clause-marked
-returns-clause-marked c = λ all. c.in_ok-load_requirements.ensures.same.marked
-    (c.in_ok-load_clauses.ensures.same.marked (all ∙ sym (ap length c.in_ok-grow.ensures.ok.order)))
+pub returns-clause-bookmarked : goal.returns-clause-bookmarked
+returns-clause-bookmarked c = λ all. c.in_ok-load_requirements.ensures.same.bookmarked
+    (c.in_ok-load_clauses.ensures.same.bookmarked (all ∙ sym (ap length c.in_ok-grow.ensures.ok.order)))
 
 pub invariant_of-self-in-Break-branch-2 : goal.invariant_of-self-in-Break-branch-2
 invariant_of-self-in-Break-branch-2 c = record { in_lists = in_lists-same _ _ _ _ c.requires.consistent.propagator c.grow-2.ensures.pairs }

@@ -24,7 +24,7 @@ returns-clause-free c =
 pub returns-clause-count : goal.returns-clause-count
 returns-clause-count c =
     let turn = c.requires.consistent.turn in
-    omega (arith, c.min-self.ensures, turn.some c.requires.turn, turn.marked, c.cut.ensures.length)
+    omega (arith, c.min-self.ensures, turn.some c.requires.turn, turn.bookmarked, c.cut.ensures.length)
 
 pub returns-clause-kept : goal.returns-clause-kept
 returns-clause-kept c =

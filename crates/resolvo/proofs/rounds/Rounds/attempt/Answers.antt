@@ -115,7 +115,7 @@ pub returns-then-answered-clause-still : goal.returns-then-answered-clause-still
 returns-then-answered-clause-still g c =
     let answering = c.in_ok-answered.ensures.answer c.if-answered.true in
     still_held (g.D.Interner.universe c.args.provider.now) c.is_answered.new.self c.hold.new.self c.hold.ensures.trail c.hold.ensures.count
-    c.hold.ensures.held answering.marked answering.chosen
+    c.hold.ensures.held answering.bookmarked answering.chosen
 
 pub returns-in_err-begin_turn-clause-limits : goal.returns-in_err-begin_turn-clause-limits
 returns-in_err-begin_turn-clause-limits g c = record { notes = limits_begun _ _ _ c.begin_turn.ensures.only; clauses = refl; learnt = refl }
@@ -177,8 +177,8 @@ assume-requires-clause-inside g c =
     slice_get_within (notes_of c.args.self.now).origins c.args.variable (SolvableOrigin c.args.solvable) c.requires.stands in
     omega (arith, inside, c.requires.loaded.variables)
 
-pub assume-requires-clause-marked : goal.assume-requires-clause-marked
-assume-requires-clause-marked g c = c.requires.still.marked
+pub assume-requires-clause-bookmarked : goal.assume-requires-clause-bookmarked
+assume-requires-clause-bookmarked g c = c.requires.still.bookmarked
 
-pub hold-requires-clause-marked : goal.hold-requires-clause-marked
-hold-requires-clause-marked g c = (c.in_ok-answered.ensures.answer c.if-answered.true).marked
+pub hold-requires-clause-bookmarked : goal.hold-requires-clause-bookmarked
+hold-requires-clause-bookmarked g c = (c.in_ok-answered.ensures.answer c.if-answered.true).bookmarked

@@ -20,7 +20,7 @@ soft_turns-requires-clause-still g c =
     let rest = c.all_rounds.new.self in
     let found : IsFound u rest c.in_ok-all_rounds.field-0 = c.in_ok-all_rounds.ensures.found in
     let answering : IsAnswering u rest = rw c.in-Answer.is at found in
-    still_held u rest c.hold.new.self c.hold.ensures.trail c.hold.ensures.count c.hold.ensures.held answering.marked answering.chosen
+    still_held u rest c.hold.new.self c.hold.ensures.trail c.hold.ensures.count c.hold.ensures.held answering.bookmarked answering.chosen
 
 pub returns-in_ok-soft_turns-in-Answer-clause-done : goal.returns-in_ok-soft_turns-in-Answer-clause-done
 returns-in_ok-soft_turns-in-Answer-clause-done g c =
@@ -166,10 +166,10 @@ returns-in-Contradiction-clause-table g c = c.in_ok-all_rounds.ensures.rounds.re
 pub returns-in-Refused-clause-table : goal.returns-in-Refused-clause-table
 returns-in-Refused-clause-table g c = c.in_ok-all_rounds.ensures.rounds.reading.so_far.half.encoding.encoded.count
 
-pub hold-requires-clause-marked : goal.hold-requires-clause-marked
-hold-requires-clause-marked g c =
+pub hold-requires-clause-bookmarked : goal.hold-requires-clause-bookmarked
+hold-requires-clause-bookmarked g c =
     let u = g.D.Interner.universe c.args.provider.now in
     let rest = c.all_rounds.new.self in
     let found : IsFound u rest c.in_ok-all_rounds.field-0 = c.in_ok-all_rounds.ensures.found in
     let answering : IsAnswering u rest = rw c.in-Answer.is at found in
-    answering.marked
+    answering.bookmarked

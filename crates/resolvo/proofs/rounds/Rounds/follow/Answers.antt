@@ -15,10 +15,10 @@ returns-clause-following g c =
     Follows c.follow.new.self origins trail (length_of trail) in
     let For : Trail → Type 0 = λ trail. Followed (origins_in c.variables.result.now) trail in
     let With : List (Origin g.row.N.Denot g.row.S.Denot) → Type 0 = λ origins. Followed origins (trail_of old.search) in
-    following old c.kept.result c.len-from.result c.cut.new.self c.follow.new.self c.mark.new.self
-    (c.mark.ensures.consistent c.requires.consistent) c.requires.loaded c.requires.mark c.kept.ensures.value c.cut.ensures
+    following old c.kept.result c.len-from.result c.cut.new.self c.follow.new.self c.bookmark.new.self
+    (c.bookmark.ensures.consistent c.requires.consistent) c.requires.loaded c.requires.bookmark c.kept.ensures.value c.cut.ensures
     (subst With c.variables.ensures (subst For c.trail.ensures c.in_ok-follow.ensures.follows))
-    c.in_ok-follow.ensures.more c.len-from.ensures c.mark.ensures.loaded c.mark.ensures.trail c.mark.ensures.kept
+    c.in_ok-follow.ensures.more c.len-from.ensures c.bookmark.ensures.loaded c.bookmark.ensures.trail c.bookmark.ensures.kept
 
 pub returns-clause-followed : goal.returns-clause-followed
 returns-clause-followed g c =
@@ -27,6 +27,6 @@ returns-clause-followed g c =
     Follows c.follow.new.self origins trail (length_of trail) in
     let For : Trail → Type 0 = λ trail. Followed (origins_in c.variables.result.now) trail in
     let With : List (Origin g.row.N.Denot g.row.S.Denot) → Type 0 = λ origins. Followed origins (trail_of old.search) in
-    followed old c.kept.result c.cut.new.self c.follow.new.self c.mark.new.self c.requires.loaded c.requires.mark c.kept.ensures.value c.cut.ensures
+    followed old c.kept.result c.cut.new.self c.follow.new.self c.bookmark.new.self c.requires.loaded c.requires.bookmark c.kept.ensures.value c.cut.ensures
     (subst With c.variables.ensures (subst For c.trail.ensures c.in_ok-follow.ensures.follows))
-    c.mark.ensures.trail c.mark.ensures.clauses c.mark.ensures.learnt c.mark.ensures.turn c.mark.ensures.count
+    c.bookmark.ensures.trail c.bookmark.ensures.clauses c.bookmark.ensures.learnt c.bookmark.ensures.turn c.bookmark.ensures.count

@@ -44,7 +44,7 @@ returns-clause-still g c = λ still.
     let it = record c.args.self.now { owners = c.follow.new.self } in
     still_loaded (g.D.Interner.universe c.args.provider.now) it c.load.new.self
     (rounds_owned (g.D.Interner.universe c.args.provider.now) c.args.self.now c.follow.new.self c.requires.rounds) c.in_ok-load.ensures.consistent
-    c.in_ok-load.ensures.set c.in_ok-load.ensures.marked c.in_ok-load.ensures.turn (still_owned c.args.self.now c.follow.new.self still)
+    c.in_ok-load.ensures.set c.in_ok-load.ensures.bookmarked c.in_ok-load.ensures.turn (still_owned c.args.self.now c.follow.new.self still)
 
 pub returns-clause-counted : goal.returns-clause-counted
 returns-clause-counted g c =

@@ -68,7 +68,7 @@ returns-clause-fit g c = c.in_ok-progress.ensures.fit
 pub returns-clause-followed : goal.returns-clause-followed
 returns-clause-followed g c =
     let it = c.in_ok-from.ensures.followed in
-    record { trail = it.trail; clauses = it.clauses; learnt = it.learnt; turn = it.turn; marked = it.marked; chosen = it.chosen }
+    record { trail = it.trail; clauses = it.clauses; learnt = it.learnt; turn = it.turn; bookmarked = it.bookmarked; chosen = it.chosen }
 
 pub returns-clause-is_true : goal.returns-clause-is_true
 returns-clause-is_true g c = c.read_chosen.ensures.is_true

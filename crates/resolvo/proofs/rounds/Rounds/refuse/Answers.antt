@@ -49,14 +49,14 @@ follow-requires-clause-loaded g c =
       variables = c.in_ok-assume.ensures.gains.size ∙ c.in_ok-retract.ensures.cut.size ∙ up.variables;
     }
 
-pub follow-requires-clause-mark : goal.follow-requires-clause-mark
-follow-requires-clause-mark g c =
-    let mark = c.in_ok-load.ensures.rounds.mark in
+pub follow-requires-clause-bookmark : goal.follow-requires-clause-bookmark
+follow-requires-clause-bookmark g c =
+    let bookmark = c.in_ok-load.ensures.rounds.bookmark in
     record {
-      base = mark.base;
-      follows = mark.follows;
-      kept = c.in_ok-assume.ensures.kept mark.base (c.in_ok-retract.ensures.kept mark.base mark.kept);
-      known = mark.known;
+      base = bookmark.base;
+      follows = bookmark.follows;
+      kept = c.in_ok-assume.ensures.kept bookmark.base (c.in_ok-retract.ensures.kept bookmark.base bookmark.kept);
+      known = bookmark.known;
     }
 
 pub returns-clause-rounds : goal.returns-clause-rounds
@@ -174,8 +174,8 @@ returns-clause-is_true g c = c.end_turn.ensures.is_true
 pub returns-clause-refusal : goal.returns-clause-refusal
 returns-clause-refusal g c = tt
 
-pub assume-requires-clause-marked : goal.assume-requires-clause-marked
-assume-requires-clause-marked g c = c.in_ok-retract.ensures.count
+pub assume-requires-clause-bookmarked : goal.assume-requires-clause-bookmarked
+assume-requires-clause-bookmarked g c = c.in_ok-retract.ensures.count
 
 pub follow-requires-clause-distinct : goal.follow-requires-clause-distinct
 follow-requires-clause-distinct g c = c.in_ok-load.ensures.rounds.reading.so_far.half.encoding.distinct

@@ -58,7 +58,7 @@ returns-in-Nothing-clause-round g c =
           (lawful_solvables u g.S.PartialEq.eq (g.met.D.Interner.lawful_ids c.args.provider.now)
           (g.met.D.Interner.solvables_compare c.args.provider.now) g.met.D.Interner.solvables_are_values)
           (g.met.D.DependencyProvider.lawful_packages c.args.provider.now)
-          up c.in_ok-core.ensures.rounds followed same followed.marked refl (finished mid.encoding.table.requirements.items refl),
+          up c.in_ok-core.ensures.rounds followed same followed.bookmarked refl (finished mid.encoding.table.requirements.items refl),
       still_all mid new (ap (λ (n : Notes g.row.N.Denot g.row.S.Denot). length n.kinds) same) followed.clauses followed.learnt
           (all_clauses u mid c.in_ok-core.ensures.rounds up),
     )
