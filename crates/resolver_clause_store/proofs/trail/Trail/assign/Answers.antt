@@ -26,5 +26,5 @@ invariant_of-self-2-clause-rising c =
 
 pub invariant_of-self-2-clause-counted : goal.invariant_of-self-2-clause-counted
 invariant_of-self-2-clause-counted c =
-    rw c.index.ensures (counted-push _ c.args.self.now.order.items _ _ c.args.self.now.counted c.requires.inside (search rules) (omega (arith, c.requires.bound, c.in_ok-level.ensures)) (λ d.
-    omega (arith, (c.requires.begins d).1, c.in_ok-level.ensures)))
+    rw c.index.ensures (counted-push _ c.args.self.now.order.items _ _ c.args.self.now.counted c.requires.inside (search rules)
+    (omega (arith, c.requires.bound, c.in_ok-level.ensures)) (λ d. omega (arith, (c.requires.begins d).1, c.in_ok-level.ensures)))

@@ -22,4 +22,5 @@ returns-clause-propagator c = λ table satisfied it.
     let ends : pending_of c.args.self.now ≡ c.truncate.new.self.items ++ c.args.number ∷ [] =
     let size : c.len.result ≡ length (pending_of c.args.self.now) = search rules in
     rw c.truncate.ensures.items (ends-with (pending_of c.args.self.now) c.args.number c.len.result c.requires.last size) in
-    passed-late table c.args.trail.now c.args.self.now _ _ c.args.number ends (rw (c.in_ok-number.ensures, c.in_ok-length.ensures, c.len-2.ensures) at c.in_ok-push.ensures.items) satisfied it
+    passed-late table c.args.trail.now c.args.self.now _ _ c.args.number ends
+    (rw (c.in_ok-number.ensures, c.in_ok-length.ensures, c.len-2.ensures) at c.in_ok-push.ensures.items) satisfied it
