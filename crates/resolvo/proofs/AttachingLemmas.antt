@@ -553,26 +553,6 @@ attached-added table clause trail p watches pending pair pairs lists blockers is
           (covers-push before pair more trail (late_of p) (pending_of p) (head_of p) covers));
     }
 
--- a clause whose literals are all one
-pub constant-none : (clause : List Literal) → AreAlike clause None (length clause) → IsConstant clause
-constant-none clause none = λ one other has_one has_other. absurd (none has_one.0 has_one.1)
-
-pub constant-alike : (clause : List Literal) (place : ℕ) → AreAlike clause (Some place) (length clause) → IsConstant clause
-constant-alike clause place alike = λ one other has_one has_other.
-    let first : get_or clause has_one.0 one ≡ get_or clause place one = alike has_one.0 has_one.1 one in
-    let second : get_or clause has_other.0 one ≡ get_or clause place one = alike has_other.0 has_other.1 one in
-    let same : get_or clause has_other.0 one ≡ other = get_or_default clause has_other.0 one other has_other.1 ∙ has_other.2 in
-    sym has_one.2 ∙ first ∙ sym second ∙ same
-
--- two of its literals that are not one
-pub apart-of : (clause : List Literal) (first second : ℕ) (one other : Literal) → first < length clause → IsOther clause (Some first) second →
-    one ≡ get_or clause first one → other ≡ get_or clause second other → AreApart clause one other
-apart-of clause first second one other inside is_other is_one is_second = record {
-  has_first = (first, inside, sym is_one);
-  has_second = (second, is_other.0, sym is_second);
-  differ = λ e. is_other.1 one (get_or_default clause second one other is_other.0 ∙ sym is_second ∙ sym e ∙ is_one);
-}
-
 -- the last one of the clauses that have to be looked at again
 pub last-inside : (table : List (Vec Literal Global)) (trail : Trail) (p : Propagator) (number : ℕ) → EndsWith (pending_of p) number →
     IsPropagator table trail p → number < attached_of p
@@ -597,18 +577,6 @@ gained-satisfied old new literal level reason clause gains has =
     let holds : literal_value new literal ≡ Some true = ap (λ o. option_map (λ (slot : Slot). beq slot.value literal.positive) o) gains.here ∙
     ap Some (beq-same literal.positive) in
     (has.0, literal, has.1, has.2, holds)
-
--- what clauses force, step by step
-pub forces-none : (table : List (Vec Literal Global)) (trail : Trail) → IsJustified table trail → Forces table trail trail
-forces-none table trail justified = record { justified = justified; extends = extends-none trail; size = refl; open_less = omega arith }
-
-pub forces-trans : (table : List (Vec Literal Global)) (old middle new : Trail) → Forces table old middle → Forces table middle new → Forces table old new
-forces-trans table old middle new first second = record {
-  justified = second.justified;
-  extends = extends-trans old middle new first.extends second.extends;
-  size = second.size ∙ first.size;
-  open_less = omega (arith, first.open_less, second.open_less);
-}
 
 pub forces-gains : (table : List (Vec Literal Global)) (old new : Trail) (literal : Literal) (level number : ℕ) → IsJustified table old →
     Gains old new literal level (Forced number) → slot_of old literal.variable ≡ None → number < length table → Contains (clause_at table number) literal →

@@ -34,9 +34,6 @@ use Rattle.resolvo.proofs.SourceLemmas.{causes_at-last, causes_at-push, given_at
 pub grows-push : (table : List (Vec Literal Global)) (clause : Vec Literal Global) → Grows table (table ++ clause ∷ [])
 grows-push table clause = record { longer = simp length-append (omega arith); same = clause_at-push table clause }
 
-pub grows-trans : (a b c : List (Vec Literal Global)) → Grows a b → Grows b c → Grows a c
-grows-trans a b c g h = record { longer = omega (arith, g.longer, h.longer); same = λ n within. h.same n (omega (arith, g.longer)) ∙ g.same n within }
-
 -- what holds of clauses that stay, holds in the longer table
 pub holds-grows : (old new : List (Vec Literal Global)) (values : ℕ → Bool) (numbers : List ℕ) → Grows old new → All (λ n. n < length old) numbers →
     MakesTrue values new numbers → MakesTrue values old numbers

@@ -64,29 +64,9 @@ marked-replace table sources old new bound place last inside derived refute so =
     (λ learnt. replaced-learnt table sources old new bound place last inside derived refute learnt (so.learnt learnt))
     (some_or_none (given_at sources place))
 
--- the clause is not marked
-pub marked-passed : (table : List (Vec Literal Global)) (sources : List Source) (marks : List Bool) (bound place : ℕ) → bound ≡ place + 1 →
-    is_marked marks place ≡ false → MarkedRefute table sources marks bound → MarkedRefute table sources marks place
-marked-passed table sources marks bound place last off refute = record {
-  size = refute.size;
-  apart = refute.apart;
-  given = λ k past m. ⊎_elim
-      (λ (e : k ≡ place). absurd (both_ways _ off (ap (λ p. is_marked marks p) (sym e) ∙ m)))
-      (λ (ne : k ≡ place → ⊥). refute.given k (omega (arith, ne)) m)
-      (cases_eq k place);
-}
-
 pub adds-none : (numbers : List ℕ) (sources : List Source) (marks : List Bool) (place : ℕ) →
     ((number : ℕ) → is_marked marks place ≡ true → given_at sources place ≡ Some number → ⊥) → AddsMarked numbers numbers sources marks place
 adds-none numbers sources marks place none = record { kept = λ number c. c; only = λ all. all; added = λ number m is. absurd (none number m is) }
-
-pub adds-one : (numbers : List ℕ) (number : ℕ) (sources : List Source) (marks : List Bool) (place : ℕ) → given_at sources place ≡ Some number →
-    AddsMarked numbers (numbers ++ number ∷ []) sources marks place
-adds-one numbers number sources marks place is = record {
-  kept = λ n c. Contains-append_left numbers (number ∷ []) n c;
-  only = λ all. All-push (Stands sources) numbers number all (record { place = place; is = is });
-  added = λ n m at. subst (λ x. Contains (numbers ++ number ∷ []) x) (same_Some _ _ (sym is ∙ at)) (Contains-push numbers number);
-}
 
 pub lists-more : (old new : List ℕ) (sources : List Source) (marks : List Bool) (place : ℕ) → AddsMarked old new sources marks place →
     ListsMarked sources marks old place → ListsMarked sources marks new (place + 1)

@@ -28,9 +28,6 @@ forced-is n m e = cc
 pub decided-forced : (n m : ℕ) → Decided n ≡ Forced m → ⊥
 decided-forced n m e = absurd cc
 
-decided-is : (n m : ℕ) → Decided n ≡ Decided m → n ≡ m
-decided-is n m e = cc
-
 -- the reason of the slot that a gain makes
 reason-made : (slot made : Slot) (reason : Reason) → slot ≡ made → slot.reason ≡ reason → made.reason ≡ reason
 reason-made slot made reason e is = sym (ap (λ (s : Slot). s.reason) e) ∙ is
@@ -101,23 +98,11 @@ justified-same table old new justified same =
       contains = λ v s n at reason. justified.contains v s n (sym (back v) ∙ at) reason;
     }
 
-pub extends-none : (trail : Trail) → Extends trail trail
-extends-none trail = record { kept = λ v s at. at; only = λ v s at. inl at }
-
-pub extends-same : (old new : Trail) → IsSame old new → Extends old new
-extends-same old new same = let back = same-slots old new same in record { kept = λ v s at. back v ∙ at; only = λ v s at. inl (sym (back v) ∙ at) }
-
 pub extends-gains : (old new : Trail) (literal : Literal) (level number : ℕ) → Gains old new literal level (Forced number) →
     slot_of old literal.variable ≡ None → Extends old new
 extends-gains old new literal level number gains free = record {
   kept = (keeps-gains old new literal level _ gains free).kept;
   only = λ v s at. ⊎_elim (λ w. inr (ap (λ (slot : Slot). is_decided slot.reason) w.1)) (λ w. inl w) (gains-cases old new literal level _ gains v s at);
-}
-
-pub extends-trans : (old mid new : Trail) → Extends old mid → Extends mid new → Extends old new
-extends-trans old mid new first second = record {
-  kept = λ v s at. second.kept v s (first.kept v s at);
-  only = λ v s at. ⊎_elim (λ w. first.only v s w) (λ w. inr w) (second.only v s at);
 }
 
 -- what is decided stays so where a trail is extended

@@ -246,12 +246,6 @@ levelled-resolve table trail old new mid variable number justified reason levell
           lowest;
     }
 
--- a variable whose place is known has a slot
-pub slot-placed : (o : Option Slot) (place : ℕ) → option_map (λ (slot : Slot). slot.place) o ≡ Some place → (slot : Slot) × (o ≡ Some slot) ×
-    (slot.place ≡ place)
-slot-placed None place is = cc
-slot-placed (Some slot) place is = (slot, refl, same_Some _ _ is)
-
 pub levelled-skip : (trail : Trail) (resolvent : Resolvent) (high place variable : ℕ) → IsLevelled trail resolvent high → high ≡ place + 1 →
     variable ≡ variable_at trail place → is_marked resolvent.marks.items variable ≡ false → IsLevelled trail resolvent place
 levelled-skip trail resolvent high place variable levelled next here unmarked = record {
@@ -304,16 +298,6 @@ never-decided trail resolvent high place variable slot levelled next marked at h
     (λ (none : resolvent.level ≤ 0). absurd (omega (arith, levelled.at_most.top variable slot marked at, (trail.counted variable slot at).1 decided)))
     (cases_lt 0 resolvent.level)
 
--- below the first place nothing is marked
-pub levelled-end : (trail : Trail) (resolvent : Resolvent) (place : ℕ) → place ≡ 0 → IsLevelled trail resolvent place → 0 < resolvent.level → ⊥
-levelled-end trail resolvent place end levelled some = let h = levelled.mark some in
-    omega (arith, end, levelled.before.before h.variable h.stands.slot h.marked h.stands.is)
-
-pub lowest-inside : (trail : Trail) (resolvent : Resolvent) (place : ℕ) → IsLevelled trail resolvent place → 0 < resolvent.level →
-    resolvent.lowest < length_of trail
-lowest-inside trail resolvent place levelled some = let h = levelled.mark some in
-    omega (arith, h.stands.place_is, (trail.listed h.variable h.stands.slot h.stands.is).0)
-
 -- the learnt clause has one literal of its highest level
 pub asserting : (trail : Trail) (marks : List Bool) (literals : List Literal) (literal : Literal) (level backtrack_level variable : ℕ) →
     IsSingle trail marks level variable → Negates trail marks literals → 0 < level →
@@ -355,23 +339,3 @@ asserting trail marks literals literal level backtrack_level variable single neg
           (there.0, there.1, there.2, there.3, (λ e. there.4.0 (ap (λ (x : Literal). x.variable) e ∙ var-is), there.4.1)))
           reached;
     }
-
--- where nothing is marked, the causes contradict each other
-pub empty-follows : (table : List (Vec Literal Global)) (trail : Trail) (marks : List Bool) (causes : List ℕ) → Refutes table trail marks causes →
-    AllBefore trail marks 0 → FollowsFrom table causes []
-empty-follows table trail marks causes refutes none =
-    λ values holds. absurd (refutes.apart values holds (λ v s m at. absurd (omega (arith, none.before v s m at))))
-
--- the mark of another variable is taken away
-pub single-fewer : (trail : Trail) (marks : List Bool) (level variable other : ℕ) → other ≢ variable → IsSingle trail marks level variable →
-    IsSingle trail (set marks other false) level variable
-single-fewer trail marks level variable other differ single = record {
-  slot = single.slot;
-  is = single.is;
-  marked = get_or-set_other marks other variable false false (λ e. differ (sym e)) ∙ single.marked;
-  level_is = single.level_is;
-  others = λ u t m at ne. ⊎_elim
-      (λ (e : u ≡ other). absurd (both_ways _ (unmarked-set marks other) (ap (λ k. is_marked (set marks other false) k) (sym e) ∙ m)))
-      (λ (apart : u ≢ other). single.others u t (sym (get_or-set_other marks other u false false apart) ∙ m) at ne)
-      (cases_eq u other);
-}

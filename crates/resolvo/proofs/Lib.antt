@@ -1,5 +1,4 @@
 pub mod RefusalLemmas
-pub mod SeenLemmas
 pub mod JustifiedLemmas
 pub mod PropagatorLemmas
 pub mod VisitLemmas

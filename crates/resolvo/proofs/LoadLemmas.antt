@@ -55,9 +55,6 @@ keeps_more base old new count k l = keeps_through base old new count (length_of 
 pub first-undone : (old new : Trail) (count level : ℕ) → IsUndone old new level → KeepsFirst old count new (min count (length_of new))
 first-undone old new count level undone = λ base k. keeps_trans base old new count (length_of new) k (keeps_undone old new level undone)
 
-pub first-trans : (a b c : Trail) (first second third : ℕ) → KeepsFirst a first b second → KeepsFirst b second c third → KeepsFirst a first c third
-first-trans a b c first second third k l = λ base h. l base (k base h)
-
 -- a learnt clause behind the others
 pub loaded-learnt : (given table : List (Vec Literal Global)) (sources : List Source) (places : List ℕ) (clause : Vec Literal Global) (source : Source) →
     length sources ≡ length table → number_of source ≡ None → AreLoaded given table sources places →

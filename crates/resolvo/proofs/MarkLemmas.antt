@@ -36,10 +36,6 @@ marks-more old mid clause i d so within inside = record {
       get_or-set_other mid (get_or clause i d).variable v true false (λ e. last (sym e)) ∙ so.only v unmarked before;
 }
 
--- before any clause is marked
-pub marks-none : (marks : List Bool) (clause : List Literal) → MarksAlso marks marks (take 0 clause)
-marks-none marks clause = record { size = refl; kept = λ v m. m; all = λ k d below. absurd (omega arith); only = λ v unmarked none. unmarked }
-
 -- a mark that is cleared
 pub unmarked-set : (marks : List Bool) (at : ℕ) → is_marked (set marks at false) at ≡ false
 unmarked-set marks at = ⊎_elim

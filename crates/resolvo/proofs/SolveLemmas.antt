@@ -29,11 +29,6 @@ explained u same_name root notes core rules kept lawful names encoding is_core l
     let it = encoding_core_explained u same_name root notes core rules lawful names encoding is_core listed stated in
     record { each_true = All-left (IsTrueRule u root) left.cut it.each_true; refuted = still it.refuted; each_reached = again }
 
--- a shortage of ids alone says that a limit was met
-pub shortage_by : (at_limit : Type 0) (e : Shortage) → (e ≡ Ids → at_limit) → IsShortage at_limit e
-shortage_by at_limit Memory h = tt
-shortage_by at_limit Ids h = h refl
-
 pub shortage_weaker : (at_limit other : Type 0) → (at_limit → other) → (e : Shortage) → IsShortage at_limit e → IsShortage other e
 shortage_weaker at_limit other follows Memory h = tt
 shortage_weaker at_limit other follows Ids h = follows h

@@ -130,12 +130,6 @@ keeps-turn old new base held assumed keeps = record {
   places = let Held : ℕ → Type 0 = λ n. KeepsFirst old.trail old.held new.trail n in subst Held (sym held) (first-held old.trail new.trail old.held keeps);
 }
 
-pub root-kept : (old new : ClauseSearch) → KeepsTurn old new → IsRootTurn old → IsRootTurn new
-root-kept old new keeps root = record {
-  base = keeps.base ∙ root.base;
-  none = λ v s at reason. root.none v s (keeps.assumed.was v s at reason) reason;
-}
-
 -- where the whole trail is held
 pub turn-whole : (trail : Trail) (base held kept : ℕ) → IsTop trail base → base ≤ length_of trail → held ≡ length_of trail → held ≤ kept + 1 →
     IsTurn trail base held kept
@@ -313,27 +307,3 @@ pub below-asserted : (trail : Trail) (backtrack_level base back : ℕ) (literal 
     base < level_in trail literal.variable → back ≡ max backtrack_level base → back < level_in trail literal.variable
 below-asserted trail backtrack_level base back literal literals asserting above is =
     omega (arith, is, asserting.above, above, level-in trail literal.variable asserting.slot asserting.is)
-
--- a trail that was taken back to where a turn began is as it was then
-pub record IsBack (start back : Trail) : Type 0 where
-  pub size : variable_count back ≡ variable_count start
-  pub length : length_of back ≡ length_of start
-  pub kept : (variable : ℕ) (slot : Slot) → slot_of start variable ≡ Some slot → slot_of back variable ≡ Some slot
-  pub stays : (variable : ℕ) (slot : Slot) → slot_of back variable ≡ Some slot → slot_of start variable ≡ Some slot
-
-pub turned-back : (start begun ended back : Trail) (literal : Literal) (level : ℕ) → Gains start begun literal level Assumed →
-    slot_of start literal.variable ≡ None → KeepsPlaces begun ended (length_of begun) → variable_count ended ≡ variable_count begun →
-    IsCut ended back (length_of begun - 1) → IsBack start back
-turned-back start begun ended back literal level gains free keeps size cut =
-    let count : length_of begun ≡ length_of start + 1 = gains.count in
-    let first = keeps_through start begun ended (length_of start) (length_of begun)
-    (keeps_all start begun (keeps-gains start begun literal level Assumed gains free)) keeps (omega (arith, count)) in
-    let long : length_of back ≡ length_of start = omega (arith, cut.length, count) in
-    record {
-      size = cut.size ∙ size ∙ gains.size;
-      length = long;
-      kept = λ v s at.
-          let below : s.place < length_of start = (start.listed v s at).0 in
-          cut.kept v s (first.slots v s at below) (omega (arith, below, count));
-      stays = λ v s at. keeps-back start ended (length_of start) v s first (cut.stays v s at) (omega (arith, (back.listed v s at).0, long));
-    }

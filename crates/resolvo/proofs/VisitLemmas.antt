@@ -386,18 +386,6 @@ forces table old new it falsified place number literal v gains free =
       excused = record { each = λ k watch less at. excused-kept table old new _ _ _ watch.number keeps (v.excused.each k watch less at) };
     }
 
--- all literals of the clause are false
-pub falsifies : (trail : Trail) (clause : List Literal) (other : Literal) → IsUnit trail other clause → literal_value trail other ≡ Some false →
-    IsFalsified trail clause
-falsifies trail clause other unit fails = λ k d below. ⊎_elim
-    (λ (e : get_or clause k d ≡ other). ap (λ (l : Literal). literal_value trail l) e ∙ fails)
-    (λ (f : literal_value trail (get_or clause k d) ≡ Some false). f)
-    (unit k d below)
-
-pub not_true-false : (o : Option Bool) (b : Bool) → o ≡ Some b → o ≢ Some true → o ≡ Some false
-not_true-false o true is differ = absurd (differ is)
-not_true-false o false is differ = is
-
 -- the end of a visit
 
 other_value : (v a b : Bool) → beq v a ≡ false → beq v b ≡ false → a ≡ b

@@ -98,9 +98,6 @@ in_lists table watches owned = λ number inside one other apart.
       once = λ list. watches.watched list number ∙ ap (λ (p : WatchedPair). pair_count p list) pair.is;
     }
 
-pub in_lists-of : (table : List (Vec Literal Global)) (trail : Trail) (it : Propagator) → IsPropagator table trail it → ∥ AreInLists table it.watches ∥₁
-in_lists-of table trail it is = ∣ in_lists table it.watches (owned-of table trail it is) ∣₁
-
 pub in_lists-same : (table : List (Vec Literal Global)) (trail : Trail) (it : Propagator) (watches : Watches) → IsPropagator table trail it →
     pairs_of watches ≡ pairs_of it.watches → ∥ AreInLists table watches ∥₁
 in_lists-same table trail it watches is same = ∣ in_lists table watches (owned-same table _ _ same (owned-of table trail it is)) ∣₁
