@@ -38,7 +38,7 @@ use Rattle.resolvo.proofs.PropagatorLemmas.{any-map, covers-kept, late-kept}
 use Rattle.resolver_clause_store.proofs.BoolLemmas.{beq-itself as beq-same}
 use Rattle.resolver_clause_store.proofs.ListLemmas.{All-front as all-left, Contains-at as place_in, slice_get-last as place_last}
 use Rattle.resolver_clause_store.proofs.WatchListLemmas.{pair_at-before as pair-before, watching-number as watching-inside}
-use Rattle.resolvo.proofs.JustifiedLemmas.{extends-gains, extends-none, extends-trans, justified-gains}
+use Rattle.resolvo.proofs.JustifiedLemmas.{extends-gains, justified-gains}
 
 contains-one : {X : Type 0} (x y : X) → Contains (x ∷ []) y → x ≡ y
 contains-one x y (zero, below, is) = is

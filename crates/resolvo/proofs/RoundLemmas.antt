@@ -32,7 +32,6 @@ use Rattle.resolver_encoding.specs.declared.encoding.Encoding.{Encoding}
 use Rattle.resolver_encoding.proofs.Bridge.{before-back, stands, true_before}
 use Rattle.resolver_encoding.proofs.EncodedLemmas.{encoded_below, requirements_inside}
 use Rattle.resolver_encoding.proofs.EncodingLemmas.{Extends-within}
-use Rattle.resolver_encoding.proofs.Lists.{Contains-slice}
 use Rattle.resolver_encoding.proofs.TrailLemmas.{before_extends, follows_still}
 use Rattle.resolvo.specs.ClauseSearches.{IsConsistent, IsLoaded, KeepsLoaded, KeepsBookmark, KeepsTurn, clause_count_of, kept_of, learnt_count_of, numbers_of}
 use Rattle.resolvo.specs.ClauseSearches.{trail_of}
@@ -41,6 +40,7 @@ use Rattle.resolvo.specs.RoundStates.{AreRounds, HasFollowed, HasLoaded, HasBook
 use Rattle.resolvo.specs.RoundStates.{chosen_of, notes_of}
 use Rattle.resolvo.specs.declared.clause_search.ClauseSearch.{ClauseSearch}
 use Rattle.resolvo.specs.declared.rounds.Rounds.{Rounds}
+use Rattle.resolver_clause_store.proofs.ListLemmas.{Contains-at}
 
 -- a trail without variables is empty
 empty_trail : (trail : Trail) → variable_count trail ≡ 0 → length_of trail ≡ 0
@@ -80,7 +80,7 @@ chosen_known {N} {S} origins trail size set is = λ k d below.
         let inside : x < variable_count trail = slot-within _ x p.0.place (ap (option_map (λ (slot : Slot). slot.place)) p.1) in
         let Has : Origin N S → Type 0 = λ o. Contains origins o in
         subst Has (ap (λ (a : Atom N S). a.origin) w.2)
-        (Contains-slice origins x (origin_at origins x) (stands origins trail size x (omega (arith, inside, size))))
+        (Contains-at origins x (origin_at origins x) (stands origins trail size x (omega (arith, inside, size))))
 
 -- what was read for a set was read for a part of it
 pub so_far_less : {N S : Type 0} (u : Universe N S) (root : Demands) (part set : List S) (notes : Notes N S) → IsWithin part set →
