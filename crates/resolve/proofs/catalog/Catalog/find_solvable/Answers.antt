@@ -1,6 +1,6 @@
 use Rattle.std.proofs.Common.{sym, ◌∙◌}
 use Rattle.resolve.specs.Catalogs.{IsUnfound}
-use Rattle.resolve.proofs.InterningLemmas.{If-given, no_text, no_version, text-at, version-at}
+use Rattle.resolve.proofs.InterningLemmas.{IfNone-given, no_text, no_version, text-at, version-at}
 use Rattle.resolve.proofs.catalog.Catalog.find_solvable.Goals as goal
 
 pub returns-clause-found : goal.returns-clause-found
