@@ -8,7 +8,7 @@ use Rattle.std.specs.Option.{MatchOption, option_map}
 use Rattle.std.specs.declared.alloc.Global.{Global}
 use Rattle.std.proofs.lemmas.Bool.{cases_eq, cases_lt}
 use Rattle.std.proofs.lemmas.List.Elements.{All-contains, All-push, Contains-append_cases, Contains-append_left, Contains-append_right}
-use Rattle.std.proofs.lemmas.List.{append-nil, get_or_default, get_or_push, take_all, take_more}
+use Rattle.std.proofs.lemmas.List.{append-nil, get_or_push, take_all, take_more}
 use Rattle.std.proofs.lemmas.Option.{none-some, get_or_from_slice_get, same_Some, slice_get-get_or, slice_get_within}
 use Rattle.resolver_clause_store.specs.declared.Literal.{Literal}
 use Rattle.resolver_clause_store.specs.declared.Reason.{Reason}
@@ -27,7 +27,7 @@ use Rattle.resolvo.specs.declared.propagator.Propagator.{Propagator}
 use Rattle.resolver_clause_store.specs.declared.Watch.{Watch}
 use Rattle.resolver_clause_store.specs.declared.WatchedPair.{WatchedPair}
 use Rattle.resolver_clause_store.specs.declared.Watches.{Watches}
-use Rattle.resolvo.specs.Attaching.{AreAlike, AreApart, EndsWith, Forces, IsHigh, IsHighPair, IsLower, IsNotBefore, IsOther, IsRising, Recalls}
+use Rattle.resolvo.specs.Attaching.{AreApart, EndsWith, Forces, IsHigh, IsHighPair, IsLower, IsNotBefore, IsRising, Recalls}
 use Rattle.resolvo.specs.Propagation.{IsJustified, IsUnit}
 use Rattle.resolver_clause_store.specs.Settled.{IsOpen}
 use Rattle.resolvo.specs.Propagators.{AreLate, AreWatched, Covers, IsConstant, IsExcused, IsNoted, IsPropagator, IsTrueAt, IsTrueBefore, WatchesTwo}

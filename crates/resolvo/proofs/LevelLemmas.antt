@@ -1,17 +1,17 @@
 -- Levels and places of marked variables.
-use Rattle.std.proofs.Common.{◌≡◌, ◌≢◌, ℕ, ◌+◌, ◌<◌, ◌≤◌, ◌⊎◌, List, [], length, get_or, set, take, Option, Some, None, Bool, true, false, arith, rules, inl}
+use Rattle.std.proofs.Common.{◌≡◌, ◌≢◌, ℕ, ◌+◌, ◌<◌, ◌≤◌, ◌⊎◌, List, length, get_or, set, take, Some, Bool, true, false, arith, rules, inl}
 use Rattle.std.proofs.Common.{inr, refl, sym, ap, ◌∙◌, subst, ⊎_elim, get_or-set_other}
 use Rattle.std.specs.Prelude.{Vec, not}
 use Rattle.std.specs.List.{All, Any, Contains}
-use Rattle.std.specs.Option.{option_map, option_map_or}
+use Rattle.std.specs.Option.{option_map_or}
 use Rattle.std.specs.declared.alloc.Global.{Global}
-use Rattle.std.proofs.lemmas.Bool.{cases_Bool, both_ways, cases_eq, cases_lt}
+use Rattle.std.proofs.lemmas.Bool.{cases_Bool, both_ways, cases_lt}
 use Rattle.std.proofs.lemmas.List.Elements.{All-more, All-weaker}
 use Rattle.std.proofs.lemmas.Option.{same_Some}
 use Rattle.resolver_clause_store.specs.declared.Literal.{Literal}
 use Rattle.resolver_clause_store.specs.declared.Slot.{Slot}
 use Rattle.resolver_clause_store.specs.declared.Trail.{Trail}
-use Rattle.resolver_clause_store.specs.Formula.{clause_at, FollowsFrom}
+use Rattle.resolver_clause_store.specs.Formula.{clause_at}
 use Rattle.resolver_clause_store.specs.Outcomes.{IsFalsified, IsFalseBefore}
 use Rattle.resolver_clause_store.specs.Slots.{is_decided}
 use Rattle.resolver_clause_store.specs.TrailView.{slot_of, length_of, variable_at, place_of}
@@ -19,7 +19,7 @@ use Rattle.resolver_clause_store.proofs.TrailLemmas.{value-false}
 use Rattle.resolver_clause_store.proofs.FormulaLemmas.{beq-false}
 use Rattle.resolvo.specs.Propagation.{IsJustified}
 use Rattle.resolvo.specs.declared.analyze.Resolvent.{Resolvent}
-use Rattle.resolvo.specs.Resolvents.{is_marked, MarksAlso, AllBefore, StandsAt, IsLevelled, IsReason, IsSingle, IsAsserting, Negates, Refutes, level_in}
+use Rattle.resolvo.specs.Resolvents.{is_marked, MarksAlso, StandsAt, IsLevelled, IsReason, IsSingle, IsAsserting, Negates, level_in}
 use Rattle.resolvo.proofs.MarkLemmas.{unmarked-set}
 use Rattle.resolvo.proofs.NegationLemmas.{negation}
 

@@ -1,20 +1,16 @@
 -- Marked variables that are listed.
-use Rattle.std.proofs.Common.{◌≡◌, ◌≢◌, ℕ, ◌+◌, ◌<◌, List, [], ◌∷◌, ◌++◌, length, get_or, set, take, Some, Bool, true, false, arith, refl, sym, ap}
+use Rattle.std.proofs.Common.{◌≡◌, ◌≢◌, ℕ, ◌+◌, ◌<◌, List, [], ◌∷◌, ◌++◌, length, get_or, set, take, Some, Bool, true, false, sym, ap}
 use Rattle.std.proofs.Common.{◌∙◌, subst, ⊎_elim, length-set, get_or-set_other}
-use Rattle.std.specs.Prelude.{not}
 use Rattle.std.specs.List.{All, Contains}
-use Rattle.std.proofs.lemmas.Bool.{both_ways, cases_Bool, cases_eq}
-use Rattle.std.proofs.lemmas.List.Elements.{All-contains, All-more, All-nil, All-push, All-weaker, Contains-append_left, Contains-push}
-use Rattle.std.proofs.lemmas.Option.{same_Some}
-use Rattle.std.specs.Bool.{beq}
-use Rattle.std.specs.Option.{option_map}
+use Rattle.std.proofs.lemmas.Bool.{both_ways, cases_eq}
+use Rattle.std.proofs.lemmas.List.Elements.{All-contains, All-more, All-push, All-weaker, Contains-append_left, Contains-push}
 use Rattle.resolver_clause_store.specs.declared.Literal.{Literal}
 use Rattle.resolver_clause_store.specs.declared.Slot.{Slot}
 use Rattle.resolver_clause_store.specs.declared.Trail.{Trail}
-use Rattle.resolver_clause_store.specs.TrailView.{literal_value, slot_of}
+use Rattle.resolver_clause_store.specs.TrailView.{slot_of}
 use Rattle.resolver_clause_store.specs.Outcomes.{IsFalsified}
-use Rattle.resolvo.specs.Resolvents.{AddsNegation, IsUnmarked, ListsMarks, Negates, is_marked}
-use Rattle.resolvo.proofs.NegationLemmas.{beq-itself, negation}
+use Rattle.resolvo.specs.Resolvents.{AddsNegation, ListsMarks, Negates, is_marked}
+use Rattle.resolvo.proofs.NegationLemmas.{negation}
 
 -- a variable that is marked and listed
 pub lists-more : (marks : List Bool) (marked : List ℕ) (variable : ℕ) → variable < length marks → ListsMarks marks marked →

@@ -1,20 +1,14 @@
 -- The literals that negate the marked variables.
-use Rattle.std.proofs.Common.{◌≡◌, ℕ, ◌+◌, ◌<◌, ◌≤◌, List, [], ◌∷◌, ◌++◌, Some, None, Bool, true, false, arith, refl, sym, ap, ◌∙◌, ⊎_elim}
+use Rattle.std.proofs.Common.{◌≡◌, ℕ, List, Bool, true, false, refl, ⊎_elim}
 use Rattle.std.specs.Prelude.{Vec, not}
 use Rattle.std.specs.Bool.{beq}
-use Rattle.std.specs.List.{All, Contains}
-use Rattle.std.specs.Option.{option_map}
 use Rattle.std.specs.declared.alloc.Global.{Global}
-use Rattle.std.proofs.lemmas.Bool.{cases_Bool, both_ways, cases_lt}
-use Rattle.std.proofs.lemmas.List.Elements.{All-push, Contains-push, Contains-append_left}
-use Rattle.std.proofs.lemmas.Option.{same_Some, none-some}
+use Rattle.std.proofs.lemmas.Bool.{cases_Bool}
 use Rattle.resolver_clause_store.specs.declared.Literal.{Literal}
 use Rattle.resolver_clause_store.specs.declared.Slot.{Slot}
 use Rattle.resolver_clause_store.specs.declared.Trail.{Trail}
-use Rattle.resolver_clause_store.specs.TrailView.{slot_of, literal_value, variable_at, length_of}
 use Rattle.resolver_clause_store.specs.Formula.{clause_true, FollowsFrom}
-use Rattle.resolver_clause_store.specs.Outcomes.{IsFalsified}
-use Rattle.resolvo.specs.Resolvents.{is_marked, Negates, Refutes}
+use Rattle.resolvo.specs.Resolvents.{Negates, Refutes}
 use Rattle.resolver_clause_store.proofs.FormulaLemmas.{beq-not, false-contains}
 
 abbrev pub negation : ℕ → Slot → Literal

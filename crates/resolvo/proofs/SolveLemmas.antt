@@ -1,5 +1,5 @@
 -- How a search's outcome answers a problem or explains that there is none.
-use Rattle.std.proofs.Common.{◌≡◌, ℕ, List, refl, All, Bool}
+use Rattle.std.proofs.Common.{ℕ, List, All, Bool}
 use Rattle.resolver_clause_store.specs.Laws.{IsIdentity}
 use Rattle.resolver_clause_store.specs.Outcomes.{IsCore}
 use Rattle.resolver_clause_store.specs.Universe.{Universe, Demands}

@@ -1,5 +1,5 @@
 -- Turns: what is held of a trail, and what begins and ends a turn.
-use Rattle.std.proofs.Common.{◌≡◌, ℕ, ◌+◌, ◌-◌, ◌<◌, ◌≤◌, List, length, min, max, Some, None, arith, inl, inr, refl, sym, ap, ◌∙◌, subst, ⊎_elim}
+use Rattle.std.proofs.Common.{◌≡◌, ℕ, ◌+◌, ◌<◌, ◌≤◌, List, length, min, max, Some, None, arith, inl, inr, refl, sym, ap, ◌∙◌, subst, ⊎_elim}
 use Rattle.std.specs.Prelude.{Vec}
 use Rattle.std.specs.List.{All}
 use Rattle.std.specs.declared.alloc.Global.{Global}
@@ -22,7 +22,7 @@ use Rattle.resolver_clause_store.proofs.TrailLemmas.{Keeps, gains-cases, keeps-g
 use Rattle.resolvo.specs.declared.analyze.Learnt.{Learnt}
 use Rattle.resolvo.specs.declared.clause_search.ClauseSearch.{ClauseSearch}
 use Rattle.resolvo.specs.declared.contradiction.Source.{Source}
-use Rattle.resolvo.specs.ClauseSearches.{IsConsistent, IsLoaded, IsRefused, IsRootTurn, IsTurn, KeepsFirst, KeepsTurn}
+use Rattle.resolvo.specs.ClauseSearches.{IsConsistent, IsLoaded, IsRefused, IsTurn, KeepsFirst, KeepsTurn}
 use Rattle.resolvo.specs.Derivations.{AreGiven, IsDerived}
 use Rattle.resolvo.specs.Propagators.{IsPropagator}
 use Rattle.resolvo.specs.declared.propagator.Propagator.{Propagator}

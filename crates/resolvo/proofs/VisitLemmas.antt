@@ -14,11 +14,10 @@ use Rattle.resolver_clause_store.specs.declared.Slot.{Slot}
 use Rattle.resolver_clause_store.specs.declared.Reason.TheVariants.{Forced}
 use Rattle.resolver_clause_store.specs.declared.Trail.{Trail}
 use Rattle.resolver_clause_store.specs.Formula.{AreBelow, clause_at}
-use Rattle.resolver_clause_store.specs.Outcomes.{IsFalsified, IsSatisfied}
+use Rattle.resolver_clause_store.specs.Outcomes.{IsSatisfied}
 use Rattle.resolver_clause_store.specs.TrailView.{slot_of, length_of, level_of, literal_value, variable_at, Gains, IsTop}
 use Rattle.resolver_clause_store.proofs.PlaceLemmas.{place_cases}
 use Rattle.resolver_clause_store.proofs.TrailLemmas.{Keeps, gains-cases, keeps-gains, value-true}
-use Rattle.resolvo.specs.Propagation.{IsUnit}
 use Rattle.resolvo.specs.Propagators.{AreLate, AreWatched, Covers, IsExcused, IsNoted, IsPropagator, IsTrueAt, IsTrueBefore, WatchesTwo, attached_of, head_of}
 use Rattle.resolvo.specs.Propagators.{late_of, pending_of}
 use Rattle.resolvo.specs.Visits.{GoesOn, IsPaired, IsVisiting, Replaces, StandsAt, watchers_of}

@@ -1,4 +1,4 @@
-use Rattle.std.proofs.Common.{rules, length, ◌<◌, refl}
+use Rattle.std.proofs.Common.{rules, length, ◌<◌}
 use Rattle.std.proofs.lemmas.List.Elements.{All-push}
 use Rattle.resolvo.proofs.ResolutionLemmas.{refutes-resolve}
 use Rattle.resolvo.proofs.DrawnLemmas.{drawn-resolve}
