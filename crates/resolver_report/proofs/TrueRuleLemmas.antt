@@ -1,5 +1,5 @@
 -- A valid set obeys every true rule.
-use Rattle.std.proofs.Common.{List, [], sym, ◌∙◌, ap, subst, inl, inr, Contains, All, arith}
+use Rattle.std.proofs.Common.{List, [], sym, ◌∙◌, ap, subst, inl, inr, All}
 use Rattle.std.proofs.lemmas.List.Elements.{All-contains}
 use Rattle.resolver_clause_store.specs.Lists.{Meets}
 use Rattle.resolver_clause_store.specs.Universe.{Universe, Demands}
