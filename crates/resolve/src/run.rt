@@ -23,6 +23,9 @@ use std::{io, mem};
 /// How many clauses a search may learn that looks for a conflict with a shorter message.
 const LEARNT_LIMIT: usize = 100;
 
+/// A size of blocks, in bytes, that the C library's allocator takes from its heap anyway.
+const SMALL_BLOCK: usize = 4096;
+
 /// Why nothing was answered.
 #[derive(Clone, Copy, PartialEq, Eq)]
 pub(crate) enum Fault {
@@ -215,9 +218,14 @@ fn answer<R: Read + Drop>(alloc: Global, input: R) -> Result<Outcome, Fault>
 }
 
 /// Reads the statements of an input, and lets go of its text, so that solving has that memory.
+///
+/// The text's buffer is made small first. A large block that is freed at once teaches the C library's allocator to take later blocks of that size
+/// from its heap, where a list that grows is copied and leaves a hole.
 fn read_all<R: Read + Drop>(alloc: Global, input: R) -> Result<Request, Fault> {
-    let bytes = read_input(alloc, input)?;
+    let mut bytes = read_input(alloc, input)?;
     let request = read_request(alloc, &bytes);
+    bytes.clear();
+    bytes.shrink_to(SMALL_BLOCK);
     drop(bytes);
     Ok(request?)
 }

@@ -10,11 +10,21 @@ use crate::literals::Literal;
 #[derive(Drop)]
 pub struct RequirementClause {
     /// The clause's number.
-    pub number: usize,
+    pub number: u32,
     /// Whether the requirement is one of the root.
     pub of_root: bool,
     /// For each version set of a union, the place in the clause behind its candidates. Those of one version set alone end with the clause.
-    pub ends: Vec<usize>,
+    pub ends: Option<Box<Vec<usize>>>,
+}
+
+impl RequirementClause {
+    /// The places behind the candidates of each version set of a union, or none for one version set alone.
+    pub fn ends(&self) -> &[usize] {
+        match &self.ends {
+            Some(ends) => ends.as_slice(),
+            None => &[],
+        }
+    }
 }
 
 /// The clause of a requirement, as a search keeps it.

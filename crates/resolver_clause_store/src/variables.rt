@@ -1,6 +1,6 @@
 //! The variables, and what they stand for.
 
-ghost use Rattle.std.specs.Prelude.{Contains, ◌≡◌, ◌<◌, ◌≤◌, ◌^◌, ◌⊎◌, [], ◌∷◌, ◌++◌, Some, IfErr, IfOk, OnErr, length, slice_get};
+ghost use Rattle.std.specs.Prelude.{Contains, ◌≡◌, ◌<◌, ◌≤◌, ◌^◌, ◌⊎◌, [], ◌∷◌, ◌++◌, Some, IfErr, IfOk, OnErr, length, slice_get, take};
 ghost use Rattle.resolver_clause_store.specs.Laws.{IsIdentity};
 
 use crate::data::Exhausted;
@@ -46,6 +46,14 @@ impl<N: Copy + Eq + Hash + Drop, S: Copy + Eq + Hash + Drop> Variables<N, S> {
         ensures { result ≡ slice_get (origins_in self.now) variable }
     {
         self.origins.get_index(variable.index()).copied()
+    }
+
+    /// Removes all variables but the first `length` ones.
+    pub fn truncate(&mut self, length: usize)
+        ensures origins { origins_in self.new ≡ take length (origins_in self.old) }
+        ensures limit { limit_in self.new ≡ limit_in self.old }
+    {
+        self.origins.truncate(length);
     }
 
     /// The variable of an origin, which is made if it does not exist yet.

@@ -79,12 +79,18 @@ fn add_lists(lists: &mut Vec<Vec<Watch>>, alloc: Global, count: usize) -> Result
     Ok(())
 }
 
+/// The room that a list has at first: most literals are watched by one clause or two.
+const FEW: usize = 2;
+
 /// Puts a watch behind the others of a list.
 fn push_at(lists: &mut Vec<Vec<Watch>>, list: usize, watch: Watch) -> Result<(), AllocError>
     requires { list < length lists.old.items }
     ensures ok { OnOk result (PutsList lists.old.items lists.new.items list (list_at lists.old.items list ++ watch ∷ [])) }
     ensures err { OnErr result (PutsList lists.old.items lists.new.items list (list_at lists.old.items list)) }
 {
+    if lists[list].is_empty() {
+        lists[list].reserve_exact(FEW)?;
+    }
     lists[list].push(watch)?;
     Ok(())
 }

@@ -10,7 +10,7 @@ use resolver_clause_store::{
     Cache, DependencyProvider, Exhausted, Interner, Interrupted, Requirement, VersionSetId,
     requirement_candidates,
 };
-use std::alloc::Global;
+use std::alloc::{AllocError, Global};
 use std::hash::Hash;
 
 /// The candidates of a requirement, and for each version set of a union how many of them stand before the end of its own. Those of a requirement of one
@@ -105,12 +105,22 @@ fn counts_of<D: DependencyProvider>(
     counts
 }
 
-/// The candidates of a requirement.
+/// A list with other items, in the block that it has.
+fn refilled<S: Copy + Drop>(mut list: Vec<S>, items: &[S]) -> Result<Vec<S>, AllocError>
+    ensures { IfOk result (λ filled. filled.items ≡ items.now) }
+{
+    list.clear();
+    list.extend_from_slice(items)?;
+    Ok(list)
+}
+
+/// The candidates of a requirement. Those of one version set are put into the given list, in place of what is there.
 pub(crate) fn choices_of<D: DependencyProvider>(
     alloc: Global,
     provider: &D,
     cache: &mut Cache<D::NameId, D::SolvableId>,
     requirement: Requirement,
+    list: Vec<D::SolvableId>,
 ) -> Result<Choices<D::SolvableId>, Interrupted<D::Cancel>>
     requires is_true { IsTrueCache (D.universe provider.now) cache.old }
     ensures is_true { IsTrueCache (D.universe provider.now) cache.new }
@@ -118,13 +128,16 @@ pub(crate) fn choices_of<D: DependencyProvider>(
     ensures small { IfOk result (λ choices. All (λ n. n < 2 ^ 63) choices.counts.items) }
     ensures refusal { IfErr result (IsInterruption (D.may_cancel provider.now)) }
 {
-    let candidates = requirement_candidates(cache, provider, requirement)?;
     match requirement {
-        Requirement::Single(_) => Ok(Choices {
-            candidates,
-            counts: Vec::new(alloc),
-        }),
+        Requirement::Single(version_set) => {
+            cache.fetch_sorted(provider, version_set)?;
+            Ok(Choices {
+                candidates: refilled(list, cache.sorted(version_set))?,
+                counts: Vec::new(alloc),
+            })
+        }
         Requirement::Union(union) => {
+            let candidates = requirement_candidates(cache, provider, requirement)?;
             let counts = counts_of(
                 alloc,
                 provider,

@@ -46,6 +46,8 @@ pub struct Encoding<N: Copy + Eq + Hash + Drop, S: Copy + Eq + Hash + Drop> {
     deferred: Vec<Option<Entry<S>>>,
     deferred_by_name: Groups<N, usize>,
     exempt: IndexSet<S>,
+    /// A list without meaning, whose block the next list of candidates takes.
+    spare: Vec<S>,
 }
 
 impl<N: Copy + Eq + Hash + Drop, S: Copy + Eq + Hash + Drop> Encoding<N, S> {
@@ -73,6 +75,7 @@ impl<N: Copy + Eq + Hash + Drop, S: Copy + Eq + Hash + Drop> Encoding<N, S> {
             deferred: Vec::new(alloc),
             deferred_by_name: Groups::new(alloc),
             exempt: IndexSet::new(alloc),
+            spare: Vec::new(alloc),
         }
     }
 

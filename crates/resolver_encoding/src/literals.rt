@@ -116,6 +116,21 @@ pub(crate) fn depends_on<N, S>(kind: &ClauseKind<N, S>) -> &[VersionSetId]
     }
 }
 
+/// The number of literals that a clause has, for the room that it takes.
+pub(crate) fn count_of<N, S>(
+    second: &Option<(Origin<N, S>, bool)>,
+    helpers: &[VersionSetId],
+    candidates: &[S],
+) -> usize {
+    let front: usize = match second {
+        None => 1,
+        Some(_) => 2,
+    };
+    front
+        .saturating_add(helpers.len())
+        .saturating_add(candidates.len())
+}
+
 /// Puts the literal of an origin behind the others.
 fn push_literal<N: Copy + Eq + Hash + Drop, S: Copy + Eq + Hash + Drop>(
     variables: &mut Variables<N, S>,

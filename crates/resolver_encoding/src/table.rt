@@ -1,9 +1,9 @@
 //! Clauses, each given by its kind.
 
-ghost use Rattle.std.specs.Prelude.{◌≡◌, ◌<◌, ◌≤◌, ◌^◌, [], ◌∷◌, ◌++◌, ℕ, All, IfErr, List, OnErr, OnOk, length, map};
+ghost use Rattle.std.specs.Prelude.{◌≡◌, ◌<◌, ◌≤◌, ◌^◌, ◌⊎◌, [], ◌∷◌, ◌++◌, ℕ, All, IfErr, List, OnErr, OnOk, length, map};
 ghost use Rattle.resolver_clause_store.specs.Laws.{IsIdentity};
 ghost use Rattle.resolver_clause_store.specs.Universe.{Universe};
-ghost use Rattle.resolver_clause_store.specs.Variables.{IsBounded, limit_in, origins_in};
+ghost use Rattle.resolver_clause_store.specs.Variables.{IsBounded, IsFull, limit_in, origins_in};
 ghost use Rattle.resolver_encoding.specs.Atoms.{IsMentioned, atoms_of, wanted};
 ghost use Rattle.resolver_encoding.specs.Encodings.{Grows, numbers_with};
 ghost use Rattle.resolver_encoding.specs.Led.{AddsSuch};
@@ -12,9 +12,13 @@ ghost use Rattle.resolver_encoding.specs.Tables.{HasAdded, IsTableFull, with_num
 ghost use Rattle.resolver_encoding.specs.Values.{IsClauseOf};
 
 use crate::choices::{Choices, places_behind};
-use crate::literals::{depends_on, first_of, push_candidates, push_front, push_helpers, second_of};
-use resolver_clause_store::{By, ClauseKind, Exhausted, Literal, RequirementClause, Variables};
-use std::alloc::Global;
+use crate::literals::{
+    count_of, depends_on, first_of, push_candidates, push_front, push_helpers, second_of,
+};
+use resolver_clause_store::{
+    By, ClauseKind, Exhausted, Literal, RequirementClause, Variables, narrow,
+};
+use std::alloc::{AllocError, Global};
 use std::hash::Hash;
 
 /// The clauses, and what each variable stands for.
@@ -33,8 +37,8 @@ pub(crate) struct ClauseTable<N: Copy + Eq + Hash + Drop, S: Copy + Eq + Hash + 
 /// How a clause with this number is listed among those that ask for candidates, where it asks for any.
 fn listing_of<N, S>(
     kind: &ClauseKind<N, S>,
-    number: usize,
-    ends: Vec<usize>,
+    number: u32,
+    ends: Option<Box<Vec<usize>>>,
 ) -> Option<RequirementClause>
     ensures { (numbers : List ℕ) → numbers_with kind.now number numbers ≡ with_number numbers result }
 {
@@ -51,6 +55,15 @@ fn listing_of<N, S>(
         }),
         _ => None,
     }
+}
+
+/// The ends of a union's candidates behind a pointer, where there are any.
+fn boxed(alloc: Global, ends: Vec<usize>) -> Result<Option<Box<Vec<usize>>>, AllocError> {
+    if ends.is_empty() {
+        return Ok(None);
+    }
+    let ends = Box::new(alloc, ends)?;
+    Ok(Some(ends))
 }
 
 impl<N: Copy + Eq + Hash + Drop, S: Copy + Eq + Hash + Drop> ClauseTable<N, S> {
@@ -79,7 +92,8 @@ impl<N: Copy + Eq + Hash + Drop, S: Copy + Eq + Hash + Drop> ClauseTable<N, S> {
 
     /// Adds a clause. Its literals follow from its kind, and from the candidates where it wants one of these.
     ///
-    /// Where it is refused, there is no other clause than before; variables may be there that no clause has.
+    /// A refusal leaves the table as it was, with one exception: if the limit of variables is reached halfway through the literals, those that
+    /// were made stay, since the error says that the table is full.
     pub(crate) fn add(
         &mut self,
         kind: ClauseKind<N, S>,
@@ -92,7 +106,8 @@ impl<N: Copy + Eq + Hash + Drop, S: Copy + Eq + Hash + Drop> ClauseTable<N, S> {
         ensures bounded { IsBounded self.new.variables }
         ensures added { OnOk result ((u : Universe N S) → choices.now.candidates.items ≡ wanted u kind →
             HasAdded u kind (table_in self.old) (table_in self.new)) }
-        ensures unchanged { OnErr result (table_in self.new ≡ record (table_in self.old) { origins = (table_in self.new).origins }) }
+        ensures clauses_unchanged { OnErr result (table_in self.new ≡ record (table_in self.old) { origins = (table_in self.new).origins }) }
+        ensures unchanged { IfErr result (λ e. (table_in self.new ≡ table_in self.old) ⊎ ((e ≡ Exhausted.Ids) × IsFull self.new.variables)) }
         ensures variables { (table_in self.new).variable_limit ≡ (table_in self.old).variable_limit }
         ensures clauses { (table_in self.new).clause_limit ≡ (table_in self.old).clause_limit }
         ensures adds { (u : Universe N S) → choices.now.candidates.items ≡ wanted u kind →
@@ -102,6 +117,38 @@ impl<N: Copy + Eq + Hash + Drop, S: Copy + Eq + Hash + Drop> ClauseTable<N, S> {
         if self.kinds.len() == self.clause_limit {
             return Err(Exhausted::Ids);
         }
+        let count = self.variables.len();
+        match self.add_below_limit(kind, choices) {
+            Ok(()) => Ok(()),
+            Err(Exhausted::Ids) => Err(Exhausted::Ids),
+            Err(Exhausted::Memory) => {
+                self.variables.truncate(count);
+                Err(Exhausted::Memory)
+            }
+        }
+    }
+
+    /// Adds a clause where the limit of clauses allows one more. A refusal may leave variables that no clause has.
+    fn add_below_limit(
+        &mut self,
+        kind: ClauseKind<N, S>,
+        choices: &Choices<S>,
+    ) -> Result<(), Exhausted>
+        requires names { IsIdentity N.eq }
+        requires solvables { IsIdentity S.eq }
+        requires bounded { IsBounded self.old.variables }
+        requires small { All (λ n. n < 2 ^ 63) choices.now.counts.items }
+        ensures bounded { IsBounded self.new.variables }
+        ensures grows { Grows (table_in self.old).origins (table_in self.new).origins }
+        ensures added { OnOk result ((u : Universe N S) → choices.now.candidates.items ≡ wanted u kind →
+            HasAdded u kind (table_in self.old) (table_in self.new)) }
+        ensures unchanged { OnErr result (table_in self.new ≡ record (table_in self.old) { origins = (table_in self.new).origins }) }
+        ensures variables { (table_in self.new).variable_limit ≡ (table_in self.old).variable_limit }
+        ensures clauses { (table_in self.new).clause_limit ≡ (table_in self.old).clause_limit }
+        ensures adds { (u : Universe N S) → choices.now.candidates.items ≡ wanted u kind →
+            AddsSuch (IsMentioned (atoms_of u kind)) (table_in self.old).origins (table_in self.new).origins }
+        ensures refusal { IfErr result (IsShortage (IsFull self.new.variables)) }
+    {
         let mut literals = Vec::new(self.alloc);
         let ends = self.push_literals(&kind, choices, &mut literals)?;
         self.put(kind, literals, ends)?;
@@ -121,21 +168,19 @@ impl<N: Copy + Eq + Hash + Drop, S: Copy + Eq + Hash + Drop> ClauseTable<N, S> {
         requires small { All (λ n. n < 2 ^ 63) choices.now.counts.items }
         requires empty { literals.old.items ≡ [] }
         ensures bounded { IsBounded self.new.variables }
-        ensures grows { OnOk result (Grows (table_in self.old).origins (table_in self.new).origins) }
+        ensures grows { Grows (table_in self.old).origins (table_in self.new).origins }
         ensures table { table_in self.new ≡ record (table_in self.old) { origins = (table_in self.new).origins } }
         ensures clause { OnOk result ((u : Universe N S) → choices.now.candidates.items ≡ wanted u kind.now →
             IsClauseOf u (table_in self.new).origins literals.new.items kind.now) }
         ensures adds { (u : Universe N S) → choices.now.candidates.items ≡ wanted u kind.now →
             AddsSuch (IsMentioned (atoms_of u kind.now)) (table_in self.old).origins (table_in self.new).origins }
-        ensures refusal { IfErr result (IsShortage (IsTableFull (table_in self.new))) }
+        ensures refusal { IfErr result (IsShortage (IsFull self.new.variables)) }
     {
-        push_front(
-            &mut self.variables,
-            literals,
-            first_of(kind),
-            second_of(kind),
-        )?;
-        push_helpers(&mut self.variables, literals, depends_on(kind))?;
+        let second = second_of(kind);
+        let helpers = depends_on(kind);
+        literals.reserve_exact(count_of(&second, helpers, &choices.candidates))?;
+        push_front(&mut self.variables, literals, first_of(kind), second)?;
+        push_helpers(&mut self.variables, literals, helpers)?;
         let ends = places_behind(self.alloc, literals.len(), &choices.counts)?;
         push_candidates(&mut self.variables, literals, &choices.candidates)?;
         Ok(ends)
@@ -157,7 +202,8 @@ impl<N: Copy + Eq + Hash + Drop, S: Copy + Eq + Hash + Drop> ClauseTable<N, S> {
         ensures variables { self.new.variables ≡ self.old.variables }
         ensures memory { IfErr result (λ e. e ≡ Exhausted.Memory) }
     {
-        let asking = listing_of(&kind, self.kinds.len(), ends);
+        let number = narrow(self.kinds.len())?;
+        let asking = listing_of(&kind, number, boxed(self.alloc, ends)?);
         self.put_literals(kind, literals)?;
         match asking {
             None => Ok(()),

@@ -347,11 +347,11 @@ impl ClauseSearch {
         ensures places { OnOk result (self.new.places.items ≡ self.old.places.items) }
         ensures count { OnOk result (length self.new.requirements.items ≡ length self.old.requirements.items + 1) }
     {
-        let place = self.places[requirement.number];
+        let place = self.places[requirement.number as usize];
         self.queue.add(
             self.requirements.len(),
             clause(&self.table, place as usize),
-            &requirement.ends,
+            requirement.ends(),
         )?;
         self.requirements.push(StoredRequirement {
             number: place,

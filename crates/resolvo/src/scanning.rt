@@ -130,11 +130,11 @@ fn candidate_of(
     requires below { AreBelow (variable_count trail.now) table.now }
     requires inside { requirement.now.number < length table.now }
 {
-    let literals = clause(table, requirement.number);
+    let literals = clause(table, requirement.number as usize);
     let place = first_open(trail, literals)?;
-    let end = requirement.ends.iter().copied().find(|end| place < *end);
+    let end = requirement.ends().iter().copied().find(|end| place < *end);
     Some(Candidate {
-        number: requirement.number,
+        number: requirement.number as usize,
         place,
         of_root: requirement.of_root,
         count: open_between(trail, literals, place, end.unwrap_or(literals.len())),

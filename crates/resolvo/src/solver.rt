@@ -68,7 +68,8 @@ fn explain<D: DependencyProvider>(
 /// Solves problems over one provider.
 ///
 /// However a call of `solve` ends, the next one starts afresh. It keeps only the limits, the parameters of the scores,
-/// and the provider's answers, which are true.
+/// and the provider's answers, which are true. The tables of the last search stay in memory until the next one starts, or until the solver
+/// is dropped, so that a program that ends after an answer need not give back each of their blocks.
 #[derive(Drop)]
 pub struct Solver<D: DependencyProvider> {
     alloc: Global,
@@ -83,6 +84,7 @@ pub struct Solver<D: DependencyProvider> {
     clause_limit: usize,
     learnt_limit: usize,
     activity: Activity,
+    finished: Option<Rounds<D::NameId, D::SolvableId>>,
 }
 
 impl<D: DependencyProvider> Solver<D> {
@@ -110,6 +112,7 @@ impl<D: DependencyProvider> Solver<D> {
             clause_limit: 1 << 31,
             learnt_limit: 1 << 31,
             activity: Activity::standard(),
+            finished: None,
         }
     }
 
@@ -288,6 +291,7 @@ impl<D: DependencyProvider> Solver<D> {
             (IsRefusal (D.universe (provider_in self.old)) (D.may_cancel (provider_in self.old)) (demands_in problem)
             (IsAtLimit (D.universe (provider_in self.old)) (demands_in problem) (HaveBegun S.next_gives (soft_in problem) (list_in problem)) self.new)) }
     {
+        drop(self.finished.take());
         let mut rounds = Rounds::new(
             self.alloc,
             self.variable_limit,
@@ -307,7 +311,7 @@ impl<D: DependencyProvider> Solver<D> {
         self.exempt = Vec::new(self.alloc);
         self.count(&rounds);
         let answer = self.outcome(&rounds, found);
-        drop(rounds);
+        drop(self.finished.replace(rounds));
         answer
     }
 }

@@ -61,7 +61,7 @@ impl<N: Copy + Eq + Hash + Drop, S: Copy + Eq + Hash + Drop> Encoding<N, S> {
         ensures { result.now ≡ literals_at (notes_in self.now) place }
     {
         match self.table.requirements().get(place) {
-            Some(asking) => self.clause(asking.number),
+            Some(asking) => self.clause(asking.number as usize),
             None => &[],
         }
     }

@@ -23,6 +23,7 @@ use resolver_clause_store::{
     Interner, Interrupted, Requirement, VersionSetId, is_among,
 };
 use std::hash::Hash;
+use std::mem::replace;
 
 /// From how many candidates on a requirement of solvables stands on a gate.
 const GATE_THRESHOLD: usize = 4;
@@ -103,7 +104,8 @@ impl<N: Copy + Eq + Hash + Drop, S: Copy + Eq + Hash + Drop> Encoding<N, S> {
         ensures refusal { IfErr result (IsStop (D.may_cancel provider.now) (IsFull (notes_in self.new))) }
     {
         self.ask_named(provider, cache, requirement)?;
-        let choices = choices_of(self.alloc, provider, cache, requirement)?;
+        let list = replace(&mut self.spare, Vec::new(self.alloc));
+        let choices = choices_of(self.alloc, provider, cache, requirement, list)?;
         self.see_all(provider, &choices.candidates)?;
         Ok(choices)
     }
@@ -132,6 +134,7 @@ impl<N: Copy + Eq + Hash + Drop, S: Copy + Eq + Hash + Drop> Encoding<N, S> {
     {
         let choices = self.choose(provider, cache, requirement)?;
         self.encode_choices(provider, cache, by, disjunct, requirement, &choices)?;
+        self.spare = choices.candidates;
         Ok(())
     }
 
@@ -258,10 +261,12 @@ impl<N: Copy + Eq + Hash + Drop, S: Copy + Eq + Hash + Drop> Encoding<N, S> {
             let by = By::Solvable(requirer);
             let none = Vec::new(self.alloc);
             self.encode_choices(provider, cache, by, none, requirement, &choices)?;
+            self.spare = choices.candidates;
             return Ok(());
         }
         self.make_gate(provider, requirement, &choices)?;
         self.imply_gate(provider, requirer, requirement)?;
+        self.spare = choices.candidates;
         Ok(())
     }
 

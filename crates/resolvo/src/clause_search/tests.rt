@@ -42,7 +42,7 @@ fn are_inside(requirements: &[RequirementClause], count: usize) -> bool
 {
     requirements
         .iter()
-        .all(|requirement| requirement.number < count)
+        .all(|requirement| (requirement.number as usize) < count)
 }
 
 /// A variable for a positive number, counted from 1, and its negation for a negative one.
@@ -78,9 +78,12 @@ fn requirement_of(
     of_root: bool,
     places: &[usize],
 ) -> Result<RequirementClause, AllocError> {
-    let ends = Vec::from_slice(alloc, places)?;
+    let mut ends = None;
+    if !places.is_empty() {
+        ends = Some(Box::new(alloc, Vec::from_slice(alloc, places)?)?);
+    }
     Ok(RequirementClause {
-        number,
+        number: narrow(number)?,
         of_root,
         ends,
     })

@@ -624,10 +624,10 @@ fn are_requirements(found: &[RequirementClause], wanted: &[(usize, bool, usize)]
         return false;
     }
     for (clause, (number, of_root, ends)) in found.iter().zip(wanted) {
-        if clause.number != *number || clause.of_root != *of_root {
+        if clause.number as usize != *number || clause.of_root != *of_root {
             return false;
         }
-        if clause.ends.len() != *ends {
+        if clause.ends().len() != *ends {
             return false;
         }
     }

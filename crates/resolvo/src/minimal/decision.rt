@@ -14,7 +14,7 @@ use super::no_packages::NoPackages;
 use super::rule_clauses::{RuleClause, RuleClauses};
 use crate::clause_search::{ClauseSearch, Outcome};
 use resolver_clause_store::{
-    Activity, Exhausted, Interrupted, Literal, RequirementClause, Rule, Trail, Variable,
+    Activity, Exhausted, Interrupted, Literal, RequirementClause, Rule, Trail, Variable, narrow,
 };
 use std::alloc::{AllocError, Global};
 use std::mem::drop;
@@ -40,16 +40,15 @@ pub struct MarkedClauses {
 
 /// Appends a clause number to the clauses whose candidates are to be tried.
 fn add_requirement(
-    alloc: Global,
     requirements: &mut Vec<RequirementClause>,
     number: usize,
 ) -> Result<(), AllocError>
     ensures { OnOk result (numbers_of requirements.new.items ≡ numbers_of requirements.old.items ++ number ∷ []) }
 {
     requirements.push(RequirementClause {
-        number,
+        number: narrow(number)?,
         of_root: false,
-        ends: Vec::new(alloc),
+        ends: None,
     })?;
     Ok(())
 }
@@ -68,7 +67,7 @@ fn add_clause(marked: &mut MarkedClauses, clause: &RuleClause) -> Result<(), All
     if !clause.is_requirement {
         return Ok(());
     }
-    add_requirement(alloc, &mut marked.requirements, number)?;
+    add_requirement(&mut marked.requirements, number)?;
     Ok(())
 }
 

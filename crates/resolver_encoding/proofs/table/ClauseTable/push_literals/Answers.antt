@@ -10,6 +10,16 @@ use Rattle.resolver_encoding.proofs.ClauseLemmas.{Adds-trans, Adds-zip, Grows-tr
 use Rattle.resolver_encoding.proofs.TableLemmas.{candidates_add, clause_made, front_adds, helpers_add}
 use Rattle.resolver_encoding.proofs.table.ClauseTable.push_literals.Goals as goal
 
+pub returns-in_err-push_helpers-clause-grows : goal.returns-in_err-push_helpers-clause-grows
+returns-in_err-push_helpers-clause-grows g c = Grows-trans _ _ _ c.push_front.ensures.grows c.push_helpers.ensures.grows
+
+pub returns-in_err-ends-clause-grows : goal.returns-in_err-ends-clause-grows
+returns-in_err-ends-clause-grows g c = Grows-trans _ _ _ c.push_front.ensures.grows c.push_helpers.ensures.grows
+
+pub returns-in_err-push_candidates-clause-grows : goal.returns-in_err-push_candidates-clause-grows
+returns-in_err-push_candidates-clause-grows g c =
+    Grows-trans _ _ _ c.push_front.ensures.grows (Grows-trans _ _ _ c.push_helpers.ensures.grows c.push_candidates.ensures.grows)
+
 pub returns-clause-grows : goal.returns-clause-grows
 returns-clause-grows g c = Grows-trans _ _ _ c.push_front.ensures.grows (Grows-trans _ _ _ c.push_helpers.ensures.grows c.push_candidates.ensures.grows)
 
@@ -18,47 +28,47 @@ returns-clause-clause g c = λ u are.
     let helpers = c.push_helpers.ensures.grows in
     let candidates = c.push_candidates.ensures.grows in
     let Front : Origin g.row.N.Denot g.row.S.Denot × Bool → Type 0 =
-    λ first. Adds (origins_in c.push_front.new.variables) c.args.literals.now.items c.push_front.new.literals.items (front first c.second_of.result) in
+    λ first. Adds (origins_in c.push_front.new.variables) c.reserve_exact.new.self.items c.push_front.new.literals.items (front first c.second_of-second.result) in
     let Helpers : List VersionSetId → Type 0 =
     λ list. Adds (origins_in c.push_helpers.new.variables) c.push_front.new.literals.items c.push_helpers.new.literals.items
     (map (λ v. atom (ConditionHelper v) false) list) in
     let Candidates : List g.row.S.Denot → Type 0 =
     λ list. Adds (origins_in c.push_candidates.new.variables) c.push_helpers.new.literals.items c.push_candidates.new.literals.items
     (map (λ s. atom (Solvable s) true) list) in
-    clause_made u _ _ c.args.kind.now c.second_of.result c.second_of.ensures
-    (Adds-zip _ _ _ _ c.requires.empty
+    clause_made u _ _ c.args.kind.now c.second_of-second.result c.second_of-second.ensures
+    (Adds-zip _ _ _ _ (c.reserve_exact.ensures.items ∙ c.requires.empty)
     (Adds-trans _ _ _ _ _ _ _ (Grows-trans _ _ _ helpers candidates) (subst Front c.first_of.ensures c.in_ok-push_front.ensures.added)
-    (Adds-trans _ _ _ _ _ _ _ candidates (subst Helpers c.depends_on.ensures c.in_ok-push_helpers.ensures.added)
-    (subst Candidates (c.deref-2.ensures.value ∙ are) c.in_ok-push_candidates.ensures.added))))
+    (Adds-trans _ _ _ _ _ _ _ candidates (subst Helpers c.depends_on-helpers.ensures c.in_ok-push_helpers.ensures.added)
+    (subst Candidates (c.deref-3.ensures.value ∙ are) c.in_ok-push_candidates.ensures.added))))
 
 pub returns-in_err-push_front-clause-adds : goal.returns-in_err-push_front-clause-adds
 returns-in_err-push_front-clause-adds g c = λ u are.
-    front_adds u c.args.kind.now _ _ c.first_of.result c.second_of.result c.first_of.ensures c.second_of.ensures c.push_front.ensures.adds
+    front_adds u c.args.kind.now _ _ c.first_of.result c.second_of-second.result c.first_of.ensures c.second_of-second.ensures c.push_front.ensures.adds
 
 pub returns-in_err-push_helpers-clause-adds : goal.returns-in_err-push_helpers-clause-adds
 returns-in_err-push_helpers-clause-adds g c = λ u are.
     let kind = c.args.kind.now in
-    helpers_add u kind _ _ _ c.depends_on.result.now c.depends_on.ensures
-    (front_adds u kind _ _ c.first_of.result c.second_of.result c.first_of.ensures c.second_of.ensures c.push_front.ensures.adds) c.push_helpers.ensures.adds
+    helpers_add u kind _ _ _ c.depends_on-helpers.result.now c.depends_on-helpers.ensures
+    (front_adds u kind _ _ c.first_of.result c.second_of-second.result c.first_of.ensures c.second_of-second.ensures c.push_front.ensures.adds) c.push_helpers.ensures.adds
 
 pub returns-in_err-ends-clause-adds : goal.returns-in_err-ends-clause-adds
 returns-in_err-ends-clause-adds g c = λ u are.
     let kind = c.args.kind.now in
-    helpers_add u kind _ _ _ c.depends_on.result.now c.depends_on.ensures
-    (front_adds u kind _ _ c.first_of.result c.second_of.result c.first_of.ensures c.second_of.ensures c.push_front.ensures.adds) c.push_helpers.ensures.adds
+    helpers_add u kind _ _ _ c.depends_on-helpers.result.now c.depends_on-helpers.ensures
+    (front_adds u kind _ _ c.first_of.result c.second_of-second.result c.first_of.ensures c.second_of-second.ensures c.push_front.ensures.adds) c.push_helpers.ensures.adds
 
 pub returns-in_err-push_candidates-clause-adds : goal.returns-in_err-push_candidates-clause-adds
 returns-in_err-push_candidates-clause-adds g c = λ u are.
     let kind = c.args.kind.now in
-    candidates_add u kind _ _ _ c.deref-2.result.now (c.deref-2.ensures.value ∙ are)
-    (helpers_add u kind _ _ _ c.depends_on.result.now c.depends_on.ensures
-    (front_adds u kind _ _ c.first_of.result c.second_of.result c.first_of.ensures c.second_of.ensures c.push_front.ensures.adds) c.push_helpers.ensures.adds)
+    candidates_add u kind _ _ _ c.deref-3.result.now (c.deref-3.ensures.value ∙ are)
+    (helpers_add u kind _ _ _ c.depends_on-helpers.result.now c.depends_on-helpers.ensures
+    (front_adds u kind _ _ c.first_of.result c.second_of-second.result c.first_of.ensures c.second_of-second.ensures c.push_front.ensures.adds) c.push_helpers.ensures.adds)
     c.push_candidates.ensures.adds
 
 pub returns-clause-adds : goal.returns-clause-adds
 returns-clause-adds g c = λ u are.
     let kind = c.args.kind.now in
-    candidates_add u kind _ _ _ c.deref-2.result.now (c.deref-2.ensures.value ∙ are)
-    (helpers_add u kind _ _ _ c.depends_on.result.now c.depends_on.ensures
-    (front_adds u kind _ _ c.first_of.result c.second_of.result c.first_of.ensures c.second_of.ensures c.push_front.ensures.adds) c.push_helpers.ensures.adds)
+    candidates_add u kind _ _ _ c.deref-3.result.now (c.deref-3.ensures.value ∙ are)
+    (helpers_add u kind _ _ _ c.depends_on-helpers.result.now c.depends_on-helpers.ensures
+    (front_adds u kind _ _ c.first_of.result c.second_of-second.result c.first_of.ensures c.second_of-second.ensures c.push_front.ensures.adds) c.push_helpers.ensures.adds)
     c.push_candidates.ensures.adds

@@ -127,7 +127,7 @@ pub returns-clause-provider : goal.returns-clause-provider
 returns-clause-provider g c = c.outcome-answer.ensures.provider ∙ c.count.ensures.rest.provider
 
 pub returns-clause-sound : goal.returns-clause-sound
-returns-clause-sound g c = c.outcome-answer.ensures.sound
+returns-clause-sound g c = let sound = c.outcome-answer.ensures.sound in record { true_answers = sound.true_answers; fits = sound.fits }
 
 pub find-found-requires-clause-can_next : goal.find-found-requires-clause-can_next
 find-found-requires-clause-can_next g c =
