@@ -118,7 +118,7 @@ impl DecideQueue {
         self.kept = self.kept.min(count);
     }
 
-    /// Forgets the last followed entry, which has changed, and brings back the requirements that are put aside for it.
+    /// Forgets the last followed entry, which has changed, and brings back the requirements that its variable met.
     fn forget_last(&mut self) -> Result<(), AllocError>
         requires { self.old.kept < length self.old.followed.items }
         ensures queued { OnOk result (StaysQueued self.old self.new) }

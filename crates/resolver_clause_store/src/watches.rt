@@ -188,7 +188,7 @@ impl Watches {
         self.lists[list_number(literal)][place]
     }
 
-    /// Makes a clause watch one more literal, which completes this pair.
+    /// Makes a clause watch one more literal, with `pair` as its new pair.
     fn attach(
         &mut self,
         number: u32,
