@@ -49,7 +49,7 @@ pub(crate) struct Version {
     pub number: u32,
 }
 
-/// Returns the id of a place in a table. The place `u32::MAX` and those after it have none.
+/// Returns the id of a place in a table. The place `u32::MAX` and later places have none.
 pub(crate) fn id_of(place: usize) -> Result<u32, Exhausted>
     ensures id { IfOk result (λ id. id ≡ place) }
     ensures full { IfErr result (λ e. (e ≡ Exhausted.Ids) × (4294967295 ≤ place)) }

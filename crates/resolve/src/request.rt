@@ -29,7 +29,8 @@ pub struct Request {
     pub constraints: Vec<VersionSetId>,
     /// The soft requirements, in the order of their statements.
     pub soft_requirements: Vec<SoftRequirement<SolvableId>>,
-    /// The solvable of the last statement that names one. Statements about the same solvable often follow each other.
+    /// The solvable of the last statement that names a solvable. Statements about the same solvable often follow each
+    /// other.
     last: Option<SolvableId>,
 }
 

@@ -38,10 +38,10 @@ pub enum Statement<'a> {
         reason: &'a str,
     },
 
-    /// The solvable is the favored one of its package.
+    /// The solvable is favored in its package.
     Favor(SolvableText<'a>),
 
-    /// The solvable is the locked one of its package.
+    /// The package of the solvable is locked to it.
     Lock(SolvableText<'a>),
 
     /// The solvable is excluded.

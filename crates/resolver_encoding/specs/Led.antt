@@ -88,7 +88,7 @@ pub data IsBrought {N S : Type 0} (u : Universe N S) (Called : Call N S → Type
   brought_digit : (n : N) (i : ℕ) (list : List S) → AreDistinct list →
       All (λ s. (u.name s ≡ n) × (Contains seen s ⊎ Called (to_see s))) list → 2 ^ i ≤ length list → o ≡ Bit n i → IsBrought u Called Own seen o
 
--- a variable stands for the origin, or one would if a deferred disjunct were encoded
+-- a variable stands for the origin, or would if a deferred disjunct were encoded
 abbrev pub IsThere : {N S : Type 0} → Universe N S → Notes N S → Origin N S → Type 0
 IsThere {N} {S} u notes o = Contains notes.origins o ⊎ ((e : Deferred S) × IsLeft notes e × IsHelped u e.by e.disjunct o)
 

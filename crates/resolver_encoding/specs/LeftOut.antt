@@ -1,4 +1,4 @@
--- Solvables that the chosen ones leave no room for.
+-- Solvables that the chosen set leaves no room for.
 use Rattle.std.specs.Prelude.{◌≡◌, ℕ, Bool, true, false, Contains, List, Some, Vec, slice_get}
 use Rattle.std.specs.declared.alloc.Global.{Global}
 use Rattle.resolver_clause_store.specs.Formula.{Satisfies}

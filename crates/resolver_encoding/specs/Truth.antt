@@ -29,7 +29,7 @@ same_requirement (Single v) (Union w) = false
 same_requirement (Union v) (Single w) = false
 same_requirement (Union v) (Union w) = nat_eq v.0 w.0
 
--- whether the second one is this requirement without a condition
+-- whether the conditional requirement is this requirement without a condition
 abbrev pub is_plain : Requirement → ConditionalRequirement → Bool
 is_plain r q = is_none q.condition && same_requirement q.requirement r
 

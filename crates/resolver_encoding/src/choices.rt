@@ -1,4 +1,4 @@
-//! The candidates of a requirement, with the ends of those of each version set.
+//! The candidates of a requirement, and the number of candidates up to the end of each version set.
 
 ghost use Rattle.std.specs.Prelude.{◌≡◌, ◌<◌, ◌^◌, [], All, IfErr, IfOk, OnOk};
 ghost use Rattle.resolver_clause_store.specs.Caches.{IsTrueCache};
@@ -15,8 +15,8 @@ use std::hash::Hash;
 
 /// The candidates of a requirement.
 ///
-/// For a union, `counts` has the number of candidates up to the end of those of each version set. For a single version
-/// set it is empty.
+/// For each version set of a union, `counts` has the number of candidates up to its end. For a single version set it is
+/// empty.
 #[derive(Drop)]
 pub(crate) struct Choices<S: Drop> {
     pub(crate) candidates: Vec<S>,
@@ -91,7 +91,7 @@ fn counts_behind<D: DependencyProvider>(
     Ok(counts)
 }
 
-/// Returns the number of candidates up to the end of those of each version set, without repeats.
+/// Returns, for each version set, the number of candidates up to its end, without repeats.
 fn counts_of<D: DependencyProvider>(
     alloc: Global,
     provider: &D,

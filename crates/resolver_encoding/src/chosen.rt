@@ -26,7 +26,7 @@ fn is_true_at(trail: &Trail, place: usize) -> bool
     }
 }
 
-/// Returns the solvable that a variable stands for, if it stands for one.
+/// Returns the solvable that a variable stands for, if any.
 pub(crate) fn as_solvable<N: Drop, S: Drop>(origin: Option<Origin<N, S>>) -> Option<S>
     ensures { result ≡ solvable_found origin }
 {
@@ -43,7 +43,7 @@ pub(crate) fn as_solvable<N: Drop, S: Drop>(origin: Option<Origin<N, S>>) -> Opt
     }
 }
 
-/// Returns the solvable that the entry at a place makes true, if there is one.
+/// Returns the solvable that the entry at a place makes true, if any.
 fn solvable_at<N: Copy + Eq + Hash + Drop, S: Copy + Eq + Hash + Drop>(
     variables: &Variables<N, S>,
     trail: &Trail,

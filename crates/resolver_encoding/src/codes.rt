@@ -20,7 +20,7 @@ pub fn has_digit(number: usize, index: u32) -> bool
     (number >> index) % 2 == 1
 }
 
-/// Returns the digit that a number has and no smaller number has, if there is one.
+/// Returns the digit that a number has and no smaller number has, if any.
 pub(crate) fn new_digit(number: usize) -> Option<u32>
     ensures { MatchOption result ((i : ℕ) → number ≢ 2 ^ i) (λ i. number ≡ 2 ^ i) }
 {

@@ -55,7 +55,7 @@ impl<N: Copy + Eq + Hash + Drop, S: Copy + Drop> Groups<N, S> {
         }
     }
 
-    /// Appends a solvable to the group at a place, if there is one.
+    /// Appends a solvable to the group at a place, if there is such a group.
     fn put(&mut self, place: usize, solvable: S) -> Result<(), Exhausted>
         ensures names { self.new.names.keys ≡ self.old.names.keys }
         ensures count { length self.new.members.items ≡ length self.old.members.items }

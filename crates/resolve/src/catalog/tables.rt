@@ -215,7 +215,7 @@ impl PackageTable {
         Some(package)
     }
 
-    /// Favors a solvable. Returns `false` if its package has a favored one already, or does not exist.
+    /// Favors a solvable. Returns `false` if its package has a favored solvable already, or does not exist.
     pub fn favor(&mut self, solvable: SolvableId) -> bool
         ensures favored { MatchBool result (IsFavored self.old.versions.keys self.old.packages.items self.new.packages.items solvable)
             (IsFavorRefused self.old.versions.keys self.old.packages.items self.new.packages.items solvable) }
@@ -287,7 +287,7 @@ impl ConditionTable {
         }
     }
 
-    /// Returns a condition; if there is none, one on the first version set.
+    /// Returns a condition, or a condition on the first version set if there is no such condition.
     pub fn get(&self, condition: ConditionId) -> Condition
         ensures { result ≡ condition_at self.now.conditions.items condition }
     {

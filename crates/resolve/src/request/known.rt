@@ -125,7 +125,7 @@ impl Request {
         Some((solvable, &words[end + 1..]))
     }
 
-    /// Returns the requirement of a union, if the words are one.
+    /// Returns the requirement of a union, if the words are a union.
     fn known_requirement<'a>(
         &mut self,
         known: &mut KnownWords<'a>,
@@ -163,7 +163,7 @@ impl Request {
         Ok(!wants_spec)
     }
 
-    /// Returns the version set of a spec, if the word is one.
+    /// Returns the version set of a spec, if the word is a spec.
     fn known_version_set<'a>(
         &mut self,
         known: &mut KnownWords<'a>,
@@ -184,7 +184,7 @@ impl Request {
     }
 }
 
-/// Returns the solvable that a word names, if it names one.
+/// Returns the solvable that a word names, if any.
 fn solvable_of(word: &[u8]) -> Option<SolvableText<'_>>
     ensures { IfSome result (λ solvable. StatesSolvable word.now solvable.name.now solvable.version) }
 {

@@ -188,7 +188,7 @@ impl<N: Copy + Eq + Hash + Drop, S: Copy + Eq + Hash + Drop> Encoding<N, S> {
         Ok(true)
     }
 
-    /// Fires each of these disjuncts that is due. Returns whether one was.
+    /// Fires each of these disjuncts that is due. Returns whether any disjunct was due.
     fn fire_each<D: DependencyProvider<NameId = N, SolvableId = S>>(
         &mut self,
         provider: &D,
@@ -215,7 +215,7 @@ impl<N: Copy + Eq + Hash + Drop, S: Copy + Eq + Hash + Drop> Encoding<N, S> {
         Ok(any)
     }
 
-    /// Fires each due disjunct that is noted under the package of a solvable. Returns whether there was one.
+    /// Fires each due disjunct that is noted under the package of a solvable. Returns whether any disjunct was due.
     fn fire_named<D: DependencyProvider<NameId = N, SolvableId = S>>(
         &mut self,
         provider: &D,
@@ -242,7 +242,8 @@ impl<N: Copy + Eq + Hash + Drop, S: Copy + Eq + Hash + Drop> Encoding<N, S> {
         Ok(any)
     }
 
-    /// Fires each disjunct that is due because of a chosen solvable from this place on. Returns whether there was one.
+    /// Fires each disjunct that is due because of a chosen solvable from this place on. Returns whether any disjunct
+    /// was due.
     pub(super) fn fire_deferred<D: DependencyProvider<NameId = N, SolvableId = S>>(
         &mut self,
         provider: &D,

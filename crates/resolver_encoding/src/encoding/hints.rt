@@ -36,7 +36,7 @@ fn push_found<T: Drop>(list: &mut Vec<T>, found: Option<T>) -> Result<(), Exhaus
 impl<N: Copy + Eq + Hash + Drop, S: Copy + Eq + Hash + Drop> Encoding<N, S> {
     ghost use Rattle.resolver_encoding.specs.Notes.{IsBounded, KeepsRoom, notes_in};
 
-    /// Returns the solvable of a positive literal, if its variable stands for one.
+    /// Returns the solvable that a positive literal stands for, if any.
     fn stated(&self, literal: Literal) -> Option<S>
         ensures { result ≡ stated_by (notes_in self.now).origins literal }
     {
@@ -201,7 +201,7 @@ impl<N: Copy + Eq + Hash + Drop, S: Copy + Eq + Hash + Drop> Encoding<N, S> {
 
     /// Reads each candidate of the requirement clauses between two places whose dependencies are available.
     ///
-    /// Returns whether there was a new one.
+    /// Returns whether any candidate was new.
     fn read_hinted_each<D: DependencyProvider<NameId = N, SolvableId = S>>(
         &mut self,
         provider: &D,
@@ -236,7 +236,7 @@ impl<N: Copy + Eq + Hash + Drop, S: Copy + Eq + Hash + Drop> Encoding<N, S> {
     /// Reads each candidate of the requirement clauses from a place on whose dependencies are available, and so on for
     /// the clauses that this adds.
     ///
-    /// Clauses are taken in their order. Returns whether there was a new candidate.
+    /// Clauses are taken in their order. Returns whether any candidate was new.
     pub(super) fn read_hinted<D: DependencyProvider<NameId = N, SolvableId = S>>(
         &mut self,
         provider: &D,

@@ -282,7 +282,7 @@ impl<N: Copy + Eq + Hash + Drop, S: Copy + Eq + Hash + Drop> Encoding<N, S> {
         Ok(())
     }
 
-    /// Reads each new chosen solvable from this place on. Returns whether there was one.
+    /// Reads each new chosen solvable from this place on. Returns whether any solvable was new.
     fn read_each<D: DependencyProvider<NameId = N, SolvableId = S>>(
         &mut self,
         provider: &D,

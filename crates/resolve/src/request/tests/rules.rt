@@ -307,7 +307,7 @@ fn count_of(rules: &[Rule<NameId, SolvableId>], kind: Kind) -> usize {
     rules.iter().filter(|rule| kind_of(rule) == kind).count()
 }
 
-/// The number of rules, and of those of three kinds.
+/// The number of all rules, and of the rules of three kinds.
 #[derive(Clone, Copy, PartialEq)]
 struct Counts {
     of_root: usize,
