@@ -1,9 +1,9 @@
--- What the calls that add to a table leave.
+-- What it means that a value was added to a table.
 use Rattle.std.specs.Prelude.{◌≡◌, ℕ, ◌≤◌, ◌⊎◌, List, Some, slice_get, ⊤}
 use Rattle.resolver_clause_store.specs.declared.data.Exhausted.{Exhausted}
 use Rattle.resolver_clause_store.specs.declared.data.Exhausted.TheVariants.{Memory, Ids}
 
--- x stands at the place and nowhere else, what stood in the table stands where it did, and nothing else was added
+-- x has this place and no other, each earlier entry keeps its place, and nothing else was added
 pub record IsInterned {X : Type 0} (old new : List X) (x : X) (place : ℕ) : Type 0 where
   pub stored : slice_get new place ≡ Some x
   pub alone : (k : ℕ) → slice_get new k ≡ Some x → k ≡ place

@@ -1,4 +1,4 @@
--- What a catalog says.
+-- The universe of a catalog.
 use Rattle.std.specs.Prelude.{◌≡◌, ◌<◌, ◌⊎◌, ℕ, Bool, not, ◌==◌, List, [], ◌∷◌, ◌++◌, Option, Some, None, slice_get, filter, map, codes, string_bytes, String}
 use Rattle.std.specs.Prelude.{Vec}
 use Rattle.std.specs.Global.{Global}
@@ -22,7 +22,7 @@ use Rattle.resolve.specs.Sorting.{sorted_by}
 use Rattle.resolve.specs.Packages.{IsPackageAdded, name_at, version_at, preference}
 use Rattle.resolve.specs.Conditions.{condition_at}
 
--- of no version set all versions of the first package
+-- a version set; if there is none, all versions of the first package
 abbrev pub version_set_or_first : Option VersionSet → VersionSet
 version_set_or_first None = record { name = record { 0 = 0 }; range = All }
 version_set_or_first (Some v) = v
@@ -38,12 +38,12 @@ abbrev pub text_of : Option (String Global) → List ℕ
 text_of None = []
 text_of (Some text) = string_bytes text
 
--- of no package nothing is listed
+-- the record of a package; if there is none, it lists nothing
 abbrev pub listing_of : Option Listing → Package SolvableId
 listing_of None = record { listed = []; favored = None; locked = None; excluded = []; hint = hint_none }
 listing_of (Some p) = record { listed = p.candidates.items; favored = p.favored; locked = p.locked; excluded = p.excluded.items; hint = hint_none }
 
--- a reason keeps from the solver what was added
+-- the needs of a solvable; a reason hides its requirements and constraints from the solver
 abbrev pub needs_with : Option StringId → Solvable → Needs
 needs_with None s = known (record { requirements = s.requirements.items; constraints = s.constraints.items })
 needs_with (Some reason) s = unknown reason
@@ -52,7 +52,7 @@ abbrev pub needs_of_solvable : Option Solvable → Needs
 needs_of_solvable None = known (record { requirements = []; constraints = [] })
 needs_of_solvable (Some s) = needs_with s.unknown s
 
--- whether the version set takes the solvable's version
+-- whether the version set matches the solvable's version
 abbrev pub takes : List Version → Range → SolvableId → Bool
 takes versions range s = range_takes range (version_at versions s)
 
@@ -62,11 +62,11 @@ taken versions range xs = filter (takes versions range) xs
 abbrev pub left_out : List Version → Range → List SolvableId → List SolvableId
 left_out versions range xs = filter (λ s. not (takes versions range s)) xs
 
--- the versions, lowest first
+-- the versions, from the lowest on
 abbrev pub rising_versions : List Version → List SolvableId → List ℕ
 rising_versions versions xs = sorted_by nat_cmp (map (version_at versions) xs)
 
--- the name of the first, and all versions
+-- the name of the first solvable, and the versions of all of them
 abbrev pub merged_text_of : List (String Global) → List Version → List SolvableId → List ℕ
 merged_text_of names versions [] = []
 merged_text_of names versions (s ∷ others) = text_of (slice_get names (name_at versions s).0) ++ codes " " ++
@@ -119,7 +119,7 @@ conditions_in it = it.conditions.conditions.items
 abbrev pub strings_in : Catalog → List (List ℕ)
 strings_in it = map string_bytes it.strings.keys
 
--- all tables
+-- all tables of a catalog
 pub record Tables : Type 0 where
   pub names : List (List ℕ)
   pub packages : List Listing
@@ -145,17 +145,17 @@ tables_in it = record {
 abbrev pub no_tables : Tables
 no_tables = record { names = []; packages = []; solvables = []; versions = []; version_sets = []; unions = []; conditions = []; strings = [] }
 
--- the solvable is the version of that number of the package of that name
+-- the solvable is the version with this number of the package with this name
 pub record IsFound (it : Catalog) (text : List ℕ) (number : ℕ) (s : SolvableId) : Type 0 where
   pub name : NameId
   pub named : slice_get (names_in it) name.0 ≡ Some text
   pub numbered : slice_get (versions_in it) s.0 ≡ Some (record { name = name; number = number })
 
--- no ids name such a version
+-- no solvable is such a version
 abbrev pub IsUnfound : Catalog → List ℕ → ℕ → Type 0
 IsUnfound it text number = (s : SolvableId) (found : IsFound it text number s) → s.0 < 4294967295 → found.name.0 < 4294967295 → ⊥
 
--- the name was there and nothing changed, or it is the last one now, with a package that names no version
+-- the name was there and nothing changed, or the name comes last now, with a package that has no versions
 abbrev pub IsNamed : Catalog → Catalog → List ℕ → Type 0
 IsNamed it it' text = ((names_in it' ≡ names_in it) × (packages_in it' ≡ packages_in it)) ⊎
     ((names_in it' ≡ names_in it ++ text ∷ []) × IsPackageAdded (packages_in it) (packages_in it'))

@@ -1,13 +1,14 @@
--- A provider that may call the dependencies of all candidates cheap to ask for, and says the same as another one otherwise.
+-- A provider that may hint that the dependencies of all candidates are available, and is otherwise the same as another
+-- provider.
 use Rattle.std.specs.Prelude.{Bool, cond}
 use Rattle.resolver_clause_store.specs.Universe.{Universe, Package, hint_all}
 use Rattle.resolver_clause_store.specs.Laws.{HasLawfulIds, HasLawfulPackages}
 
--- what is said of a package, with the hint if all are hinted at
+-- the record of a package, with a hint for all candidates if `all` is true
 abbrev pub with_hint : {S : Type 0} → Bool → Package S → Package S
 with_hint all p = record p { hint = cond all hint_all p.hint }
 
--- the same of every package
+-- the same for every package
 abbrev pub with_hints : {N S : Type 0} → Bool → Universe N S → Universe N S
 with_hints all u = record u { package_named = λ n. with_hint all (u.package_named n) }
 

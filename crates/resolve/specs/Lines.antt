@@ -4,7 +4,7 @@ use Rattle.std.specs.List.{enumerate_from}
 use Rattle.std.specs.Str.Lines.{lines}
 use Rattle.resolve.specs.declared.lines.Lines.{Lines}
 
--- the lines of the bytes, numbered from `first` on
+-- the lines of the bytes, numbered from `first`
 abbrev pub numbered_lines : ℕ → List ℕ → List (ℕ × List ℕ)
 numbered_lines first bytes = enumerate_from first (lines bytes)
 

@@ -1,4 +1,4 @@
--- What a request comes to.
+-- The outcome of a request.
 use Rattle.std.specs.Prelude.{◌≡◌, ◌==◌, ℕ, Bool, List, Option, ⊤, string_bytes}
 use Rattle.std.specs.Io.KnownBytes.{Appends}
 use Rattle.resolver_clause_store.specs.Universe.{Demands, Universe}
@@ -34,28 +34,28 @@ pub record IsMessageFrom (it : Catalog) (given : List (Rule NameId SolvableId)) 
 abbrev pub demands_of : Request → Demands
 demands_of request = record { requirements = request.requirements.items; constraints = request.constraints.items }
 
--- where a request has a conflict, its rules say why
+-- if the request has a conflict, its rules explain why
 abbrev pub IsExplained : {C : Type 0} → Request → UnsolvableOrCancelled Catalog C NameId SolvableId → Type 0
 IsExplained request (Unsolvable conflict) = Explains (catalog_universe request.catalog) (demands_of request) (rules_in conflict)
 IsExplained request (Cancelled value) = ⊤
 IsExplained request (Exhausted e) = ⊤
 
--- the text is the message of rules that say why the request has no answer
+-- the text is the message of rules that explain why the request has no answer
 pub record IsMessageOf (request : Request) (text : List ℕ) : Type 0 where
   pub rules : List (Rule NameId SolvableId)
   pub explain : Explains (catalog_universe request.catalog) (demands_of request) rules
   pub is : text ≡ conflict_message request.catalog rules
 
--- for a conflict the text is such a message
+-- the text of a conflict is such a message
 abbrev pub IsOutcomeOf : Request → Outcome → Type 0
 IsOutcomeOf request (Answer text) = ⊤
 IsOutcomeOf request (Conflict text) = IsMessageOf request (string_bytes text)
 
--- some request comes to this
+-- it is the outcome of some request
 abbrev pub IsSomeOutcome : Outcome → Type 0
 IsSomeOutcome outcome = (request : Request) × IsOutcomeOf request outcome
 
--- what was written is such a message, for some request
+-- such a message, for some request, was written
 pub record IsConflictWritten (old new : Option (List ℕ)) : Type 0 where
   pub request : Request
   pub text : List ℕ

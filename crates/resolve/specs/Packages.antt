@@ -1,4 +1,4 @@
--- What tables of packages and versions say, and what they keep to.
+-- Tables of packages and versions, and the invariants that they keep.
 use Rattle.std.specs.Prelude.{◌≡◌, ◌≢◌, [], ◌∷◌, ◌++◌, ℕ, ◌<◌, ◌≤◌, List, Option, Some, None, slice_get, slice_set, true, false, length, Contains, All}
 use Rattle.std.specs.Prelude.{AllPairs, IfSome, IsSome, IsNone}
 use Rattle.std.specs.Ordering.{nat_cmp, on, flip_args, then_cmp}
@@ -12,7 +12,7 @@ use Rattle.resolver_clause_store.specs.declared.ids.VersionSetId.{VersionSetId}
 use Rattle.resolver_clause_store.specs.declared.ids.StringId.{StringId}
 use Rattle.resolver_clause_store.specs.declared.data.ConditionalRequirement.{ConditionalRequirement}
 
--- of no version the first package
+-- the package of a version; the first package if there is no such version
 abbrev pub name_of : Option Version → NameId
 name_of None = record { 0 = 0 }
 name_of (Some v) = v.name
@@ -32,11 +32,12 @@ pub record IsVersionOf (versions : List Version) (n : ℕ) (s : SolvableId) : Ty
   pub declared : s.0 < length versions
   pub named : (name_at versions s).0 ≡ n
 
--- the solvable is not declared, or its package does not stand in the table
+-- the solvable is not declared, or its package is not in the table
 abbrev pub IsWithoutPackage : List Version → List Package → SolvableId → Type 0
 IsWithoutPackage versions packages s = s.0 < length versions → length packages ≤ (name_at versions s).0
 
--- all that the n-th package names are its versions, and its candidates are listed in the order of declaration
+-- everything that the n-th package names is one of its versions, and its candidates are listed in the order of
+-- declaration
 pub record IsPackageOf (versions : List Version) (n : ℕ) (p : Package) : Type 0 where
   pub listed : All (IsVersionOf versions n) p.candidates.items
   pub rising : AllPairs (λ a b. a.0 < b.0) p.candidates.items
@@ -47,11 +48,11 @@ pub record IsPackageOf (versions : List Version) (n : ℕ) (p : Package) : Type 
 abbrev pub ArePackagesOf : List Version → List Package → Type 0
 ArePackagesOf versions packages = (n : ℕ) (p : Package) → slice_get packages n ≡ Some p → IsPackageOf versions n p
 
--- the higher version comes first, and of equal ones that which was declared first
+-- the higher version comes first; of equal versions, the one that was declared first
 abbrev pub preference : List Version → SolvableId → SolvableId → Ordering
 preference versions = then_cmp (flip_args (on (version_at versions) nat_cmp)) (on (λ s. s.0) nat_cmp)
 
--- the candidates of a package, none where there is no such package
+-- the candidates of a package; none if there is no such package
 abbrev pub candidates_of : Option Package → List SolvableId
 candidates_of None = []
 candidates_of (Some p) = p.candidates.items
@@ -59,50 +60,50 @@ candidates_of (Some p) = p.candidates.items
 abbrev pub candidates_at : List Package → ℕ → List SolvableId
 candidates_at packages n = candidates_of (slice_get packages n)
 
--- each package is what it was
+-- each package stays as it was
 abbrev pub KeepsPackages : List Package → List Package → Type 0
 KeepsPackages packages packages' = (n : ℕ) (p : Package) → slice_get packages n ≡ Some p → slice_get packages' n ≡ Some p
 
--- the package names no version
+-- the package has no versions
 pub record IsEmptyPackage (p : Package) : Type 0 where
   pub candidates : p.candidates.items ≡ []
   pub favored : p.favored ≡ None
   pub locked : p.locked ≡ None
   pub excluded : p.excluded.items ≡ []
 
--- there is one package more, which names no version
+-- one more package was added, which has no versions
 pub record IsPackageAdded (packages packages' : List Package) : Type 0 where
   pub added : Package
   pub empty : IsEmptyPackage added
   pub last : packages' ≡ packages ++ added ∷ []
 
--- the version stands last, and is the last candidate of its package; each other package lists what it did
+-- the version was appended, and is the last candidate of its package; the other packages stay as they were
 pub record IsDeclared (versions versions' : List Version) (packages packages' : List Package) (version : Version) : Type 0 where
   pub last : versions' ≡ versions ++ version ∷ []
   pub listed : candidates_at packages' version.name.0 ≡ candidates_at packages version.name.0 ++ record { 0 = length versions } ∷ []
   pub others : (n : ℕ) → n ≢ version.name.0 → slice_get packages' n ≡ slice_get packages n
 
--- nothing changed, since the version is declared, or there is no such package
+-- nothing changed, because the version is declared already, or there is no such package
 pub record IsDeclarationRefused (versions versions' : List Version) (packages packages' : List Package) (version : Version) : Type 0 where
   pub kept : versions' ≡ versions
   pub kept_packages : packages' ≡ packages
   pub taken : version.name.0 < length packages → Contains versions version
 
--- the solvable is now its package's favored one, of which there was none; nothing else changed
+-- the solvable is now the favored one of its package, which had none; nothing else changed
 pub record IsFavored (versions : List Version) (packages packages' : List Package) (s : SolvableId) : Type 0 where
   pub package_before : Package
   pub stood : slice_get packages (name_at versions s).0 ≡ Some package_before
   pub free : IsNone package_before.favored
   pub written : packages' ≡ slice_set packages (name_at versions s).0 (record package_before { favored = Some s })
 
--- the solvable's package is now locked to it; nothing else changed
+-- the package of the solvable, which was not locked, is now locked to it; nothing else changed
 pub record IsLocked (versions : List Version) (packages packages' : List Package) (s : SolvableId) : Type 0 where
   pub package_before : Package
   pub stood : slice_get packages (name_at versions s).0 ≡ Some package_before
   pub free : IsNone package_before.locked
   pub written : packages' ≡ slice_set packages (name_at versions s).0 (record package_before { locked = Some s })
 
--- the solvable requires one thing more, and stays what it was otherwise; nothing else changed
+-- one requirement of the solvable was added; nothing else changed
 pub record IsRequired (solvables solvables' : List Solvable) (s : SolvableId) (requirement : ConditionalRequirement) : Type 0 where
   pub before : Solvable
   pub after : Solvable
@@ -112,7 +113,7 @@ pub record IsRequired (solvables solvables' : List Solvable) (s : SolvableId) (r
   pub constraints : after.constraints ≡ before.constraints
   pub reason : after.unknown ≡ before.unknown
 
--- the solvable constrains one thing more, and stays what it was otherwise; nothing else changed
+-- one constraint of the solvable was added; nothing else changed
 pub record IsConstrained (solvables solvables' : List Solvable) (s : SolvableId) (version_set : VersionSetId) : Type 0 where
   pub before : Solvable
   pub after : Solvable
@@ -122,14 +123,15 @@ pub record IsConstrained (solvables solvables' : List Solvable) (s : SolvableId)
   pub requirements : after.requirements ≡ before.requirements
   pub reason : after.unknown ≡ before.unknown
 
--- the solvable, which had none, now is unknown for the reason; nothing else changed
+-- the dependencies of the solvable are now unknown for this reason, and were known before; nothing else changed
 pub record IsMadeUnknown (solvables solvables' : List Solvable) (s : SolvableId) (reason : StringId) : Type 0 where
   pub before : Solvable
   pub stood : slice_get solvables s.0 ≡ Some before
   pub free : IsNone before.unknown
   pub written : solvables' ≡ slice_set solvables s.0 (record before { unknown = Some reason })
 
--- the solvable, which was not excluded, now is for the reason, and is the last such one of its package; nothing else changed
+-- the solvable is now excluded for this reason, as the last excluded one of its package, and was not before; nothing
+-- else changed
 pub record IsExcluded (versions : List Version) (solvables solvables' : List Solvable) (packages packages' : List Package) (s : SolvableId)
     (reason : StringId) : Type 0 where
   pub before : Solvable
@@ -145,22 +147,22 @@ pub record IsExcluded (versions : List Version) (solvables solvables' : List Sol
   pub favored : package_after.favored ≡ package_before.favored
   pub locked : package_after.locked ≡ package_before.locked
 
--- nothing changed, since the package of the solvable has a favored one, or there is none
+-- nothing changed, because the package of the solvable has a favored one, or there is no such package
 pub record IsFavorRefused (versions : List Version) (packages packages' : List Package) (s : SolvableId) : Type 0 where
   pub kept : packages' ≡ packages
   pub taken : (p : Package) → s.0 < length versions → slice_get packages (name_at versions s).0 ≡ Some p → IsSome p.favored
 
--- nothing changed, since the package of the solvable is locked, or there is none
+-- nothing changed, because the package of the solvable is locked, or there is no such package
 pub record IsLockRefused (versions : List Version) (packages packages' : List Package) (s : SolvableId) : Type 0 where
   pub kept : packages' ≡ packages
   pub taken : (p : Package) → s.0 < length versions → slice_get packages (name_at versions s).0 ≡ Some p → IsSome p.locked
 
--- nothing changed, since the solvable has a reason, or there is no such solvable
+-- nothing changed, because the solvable has a reason, or there is no such solvable
 pub record IsReasonRefused (solvables solvables' : List Solvable) (s : SolvableId) : Type 0 where
   pub kept : solvables' ≡ solvables
   pub taken : (t : Solvable) → slice_get solvables s.0 ≡ Some t → IsSome t.unknown
 
--- nothing changed, since the solvable is excluded, or there is no such solvable or no package of it
+-- nothing changed, because the solvable is excluded, or it or its package does not exist
 pub record IsExclusionRefused (versions : List Version) (solvables solvables' : List Solvable) (packages packages' : List Package)
     (s : SolvableId) : Type 0 where
   pub kept : solvables' ≡ solvables

@@ -6,18 +6,18 @@ use Rattle.resolve.specs.Words.{IsBounded}
 use Rattle.resolve.specs.declared.words.Spec.{Spec}
 use Rattle.resolve.specs.declared.condition.PendingOperators.{PendingOperators}
 
--- how many parts are put aside once an operator joined two of so many, if there are two
+-- the depth of the stack after an operator joined its two topmost parts, if there are two
 abbrev pub joined : ℕ → Option ℕ
 joined (suc (suc parts)) = Some (suc parts)
 joined parts = None
 
--- the same after one step
+-- the depth of the stack after one step
 abbrev pub stepped : ConditionStep → ℕ → Option ℕ
 stepped (Version spec) parts = Some (parts + 1)
 stepped And parts = joined parts
 stepped Or parts = joined parts
 
--- how many parts are put aside after the steps, where so many were before, and where each operator finds its two
+-- the depth of the stack after the steps, if each operator finds its two parts
 abbrev pub depth_after : Option ℕ → List ConditionStep → Option ℕ
 depth_after parts [] = parts
 depth_after None (step ∷ steps) = None
@@ -26,14 +26,14 @@ depth_after (Some parts) (step ∷ steps) = depth_after (stepped step parts) ste
 abbrev pub depth_of : List ConditionStep → Option ℕ
 depth_of steps = depth_after (Some 0) steps
 
--- the steps are one condition
+-- the steps make a single condition
 abbrev pub IsPostfix : List ConditionStep → Type 0
 IsPostfix steps = depth_of steps ≡ Some 1
 
--- how many operators are pending
+-- the number of pending operators
 abbrev pub pending_count : PendingOperators → ℕ
 pending_count pending = cond pending.or 1 0 + cond pending.and 1 0
 
--- the bounds of a step's spec are such as a statement may have
+-- the bounds in a step's spec are allowed in a statement
 abbrev pub IsStep : ConditionStep → Type 0
 IsStep step = (spec : Spec) → step ≡ Version spec → IsBounded spec.versions

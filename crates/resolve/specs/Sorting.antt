@@ -3,7 +3,7 @@ use Rattle.std.specs.Prelude.{cond, List, [], ◌∷◌}
 use Rattle.std.specs.Ordering.{is_lt}
 use Rattle.std.specs.declared.cmp.Ordering.{Ordering}
 
--- x behind what is less
+-- x inserted after the elements that are less
 abbrev pub inserted_by : {X : Type 0} → (X → X → Ordering) → X → List X → List X
 inserted_by cmp x [] = x ∷ []
 inserted_by cmp x (y ∷ ys) = cond (is_lt (cmp y x)) (y ∷ inserted_by cmp x ys) (x ∷ y ∷ ys)

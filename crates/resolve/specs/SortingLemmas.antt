@@ -1,4 +1,4 @@
--- The sorted list of an order that ties no two values: in order, a permutation, and the only such list.
+-- The sorted list of an order that ties no two different values: in order, a permutation, and the only such list.
 use Rattle.std.proofs.Common.{◌≡◌, ℕ, suc, ◌<◌, ◌≤◌, ◌+◌, Bool, true, false, cond, List, [], ◌∷◌, length, get_or, refl, arith, sym, ◌∙◌, ap}
 use Rattle.std.specs.Prelude.{⊤}
 use Rattle.std.specs.List.{sum_by}
@@ -100,7 +100,7 @@ module _ {X : Type 0} (cmp : X → X → Ordering) (order : IsStrictWeakOrder (�
     rising-from_far xs (λ i j d i≤j l. h (suc i) (suc j) d (omega arith) (omega arith)),
   )
 
-  -- how many are less than the first
+  -- the number of elements less than the first one
   none_less : (x : X) (ys : List X) → IsFirstOf cmp x ys → sum_by (λ a. one_if (is_lt (cmp a x))) ys ≡ 0
   none_less x [] h = refl
   none_less x (y ∷ ys) h = let here : one_if (is_lt (cmp y x)) ≡ 0 = ap one_if h.0 in
@@ -141,7 +141,7 @@ neither_less Greater Less e l r = absurd cc
 neither_less Greater Equal e l r = absurd cc
 neither_less Greater Greater e l r = absurd cc
 
--- a sort by an order that ties no two values gives the sorted list
+-- sorting by an order that ties no two different values gives the sorted list
 pub sorted_by-unique : {X : Type 0} (cmp : X → X → Ordering) → IsTotalOrder cmp → ((x y : X) → cmp x y ≡ Equal → x ≡ y) → (xs ys : List X) →
     IsPermutation xs ys → IsSortedBy (λ x y. is_lt (cmp x y)) ys → ys ≡ sorted_by cmp xs
 sorted_by-unique {X} cmp total tied xs ys moved up =
@@ -151,7 +151,7 @@ sorted_by-unique {X} cmp total tied xs ys moved up =
     (rising-sorted cmp order xs)
     (λ f. sum_by-IsPermutation f xs ys moved ∙ sym (sum-sorted cmp f xs))
 
--- the same of what `sort_unstable_by` ensures, where each call of the closure compares its two elements
+-- the same from the clauses of `sort_unstable_by`, if each call of the closure compares its two arguments
 pub sorted_by-from_clause : {X : Type 0} (cmp : X → X → Ordering) → IsTotalOrder cmp → ((x y : X) → cmp x y ≡ Equal → x ≡ y) →
     {F : Type 0} {g : Mut F (Bor X × (Bor X × Unit {0})) Ordering} {f : F} (xs ys : List X) → IsPermutation xs ys →
     ((lt : X → X → Bool) → IsStrictWeakOrder lt → ComparesAs g lt f → IsSortedBy lt ys) →
@@ -163,7 +163,7 @@ sorted_by-from_clause {X} cmp total tied {g = g} {f = f} xs ys moved up calls =
 pub nat_cmp-tied : (x y : ℕ) → nat_cmp x y ≡ Equal → x ≡ y
 nat_cmp-tied x y e = grind (arith, nat_tests)
 
--- numbers sorted as they are
+-- numbers in their own order
 pub sorted_by-numbers : (xs ys : List ℕ) → IsPermutation xs ys → IsSortedBy (λ x y. is_lt (nat_cmp x y)) ys → ys ≡ sorted_by nat_cmp xs
 sorted_by-numbers xs ys moved up = sorted_by-unique nat_cmp nat_cmp_total nat_cmp-tied xs ys moved up
 

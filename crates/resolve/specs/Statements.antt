@@ -1,4 +1,4 @@
--- Which lines state something, and why one is refused.
+-- Lines that state nothing, refused lines, and well-formed statements.
 use Rattle.std.specs.Prelude.{◌≡◌, ℕ, ◌<◌, ◌==◌, ◌⊎◌, not, List, [], length, All, ⊤}
 use Rattle.std.specs.List.{find}
 use Rattle.std.specs.Option.{MatchOption}
@@ -22,18 +22,18 @@ abbrev pub IsRefusal : LineError → Type 0
 IsRefusal Bad = ⊤
 IsRefusal (Exhausted e) = e ≡ Memory
 
--- the steps are one condition, or none, with bounds such as a statement may have
+-- the steps are empty or make a single condition, with bounds that are allowed in a statement
 pub record IsAnyCondition (steps : List ConditionStep) : Type 0 where
   pub whole : (steps ≡ []) ⊎ IsPostfix steps
   pub sound : All IsStep steps
 
--- there is a spec, the steps are one condition, or none, and each spec is such as a statement may have
+-- there is at least one spec, the steps are empty or make a single condition, and each spec is allowed in a statement
 pub record IsRequirement (specs : List Spec) (steps : List ConditionStep) : Type 0 where
   pub nonempty : 0 < length specs
   pub sound : All IsSpec specs
   pub condition : IsAnyCondition steps
 
--- what the parts of a statement keep to
+-- the parts of the statement are well-formed
 abbrev pub IsWellFormed : Statement → Type 0
 IsWellFormed (Requires solvable specs steps) = IsName solvable.name.now × IsRequirement specs.items steps.items
 IsWellFormed (Require specs steps) = IsRequirement specs.items steps.items

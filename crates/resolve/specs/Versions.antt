@@ -3,7 +3,7 @@ use Rattle.std.specs.Prelude.{ℕ, List, [], ◌∷◌, ◌++◌, codes}
 use Rattle.std.specs.List.{flat_map}
 use Rattle.std.specs.Fmt.{decimal}
 
--- a version behind another
+-- the text of a version that follows another one
 abbrev pub next_version_text : ℕ → List ℕ
 next_version_text version = codes " | " ++ decimal version
 

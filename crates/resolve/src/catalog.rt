@@ -1,4 +1,4 @@
-//! What was declared, in tables.
+//! The catalog: tables of everything that was declared.
 
 ghost use Rattle.std.specs.Prelude.{◌≡◌, ◌<◌, IfErr, IfNone, IfOk, IfSome, IsTrue, OnOk, Some, length, slice_get};
 ghost use Rattle.resolve.specs.Additions.{IsInterned, IsShortage};
@@ -16,7 +16,7 @@ use resolver_clause_store::{Exhausted, StringId, VersionSetId, VersionSetUnionId
 use std::alloc::Global;
 use tables::{ConditionTable, PackageTable};
 
-/// What was declared of packages and their versions.
+/// The packages, their versions, and everything else that was declared.
 ///
 /// An id of another catalog does no harm: what is added to it is dropped.
 #[derive(Drop)]
@@ -34,7 +34,7 @@ impl Catalog {
     ghost use Rattle.resolve.specs.Catalogs.{IsFound, IsNamed, IsUnfound, catalog_universe, names_in, no_tables, packages_in, strings_in};
     ghost use Rattle.resolve.specs.Catalogs.{tables_in, unions_in, version_sets_in, versions_in};
 
-    /// A catalog in which nothing is declared.
+    /// Returns a catalog without declarations.
     pub fn new(alloc: Global) -> Catalog
         ensures { tables_in result ≡ no_tables }
     {
@@ -49,7 +49,7 @@ impl Catalog {
         }
     }
 
-    /// The package of a name. Equal names share it.
+    /// Returns the package of a name, which is added if it is new. Equal names share a package.
     pub fn name(&mut self, text: &str) -> Result<NameId, Exhausted>
         ensures interned { IfOk result (λ id. IsInterned (names_in self.old) (names_in self.new) text.now id.0) }
         ensures kept { tables_in self.new ≡ record (tables_in self.old) { names = names_in self.new; packages = packages_in self.new } }
@@ -57,7 +57,7 @@ impl Catalog {
         ensures packages { KeepsPackages (packages_in self.old) (packages_in self.new) }
         ensures refusal { IfErr result (IsShortage (length (names_in self.old))) }
     {
-        // With the count comes that no two names are equal.
+        // With the length comes the fact that no two names are equal.
         prove!(self.names.len() < 1 << 63);
         if let Some(known) = found_id(self.names.get_index_of(text)) {
             return Ok(NameId(known));
@@ -75,12 +75,12 @@ impl Catalog {
         Ok(name)
     }
 
-    /// The version of the package of that name, exactly if it was declared.
+    /// Returns the version with this number of the package with this name, if it was declared.
     pub fn find_solvable(&self, text: &str, number: u32) -> Option<SolvableId>
         ensures found { IfSome result (IsFound self.now text.now number) }
         ensures none { IfNone result (IsUnfound self.now text.now number) }
     {
-        // With the count comes that no two names are equal.
+        // With the length comes the fact that no two names are equal.
         prove!(self.names.len() < 1 << 63);
         let name = NameId(found_id(self.names.get_index_of(text))?);
         let version = Version { name, number };
@@ -88,7 +88,9 @@ impl Catalog {
         Some(SolvableId(found))
     }
 
-    /// Whether a solvable is the version of the package of that name. It compares two texts, which costs less than to look for one.
+    /// Returns whether a solvable is this version of the package with this name.
+    ///
+    /// Comparing two texts costs less than looking a name up.
     pub fn is_version(&self, solvable: SolvableId, text: &str, number: u32) -> bool
         ensures { IsTrue result → IsFound self.now text.now number solvable }
     {
@@ -98,7 +100,7 @@ impl Catalog {
         }
     }
 
-    /// Whether a package has that name.
+    /// Returns whether a package has this name.
     fn has_name(&self, name: NameId, text: &str) -> bool
         ensures { IsTrue result → slice_get (names_in self.now) name.0 ≡ Some text.now }
     {
@@ -108,7 +110,7 @@ impl Catalog {
         }
     }
 
-    /// The name of a solvable's package, and its version.
+    /// Returns the name of a solvable's package, and its version.
     pub fn label(&self, solvable: SolvableId) -> (&str, u32)
         ensures name { result.0.now ≡ (catalog_universe self.now).name_text ((catalog_universe self.now).name solvable) }
         ensures version { result.1 ≡ version_at (versions_in self.now) solvable }
@@ -121,7 +123,7 @@ impl Catalog {
         (text, self.packages.version(solvable))
     }
 
-    /// The versions of a package that a range takes. Equal ones share an id.
+    /// Returns the set of versions of a package in a range. Equal sets share an id.
     pub fn version_set(&mut self, name: NameId, range: Range) -> Result<VersionSetId, Exhausted>
         ensures interned { IfOk result (λ id. IsInterned (version_sets_in self.old) (version_sets_in self.new) (record { name = name; range = range }) id.0) }
         ensures kept { tables_in self.new ≡ record (tables_in self.old) { version_sets = version_sets_in self.new } }
@@ -131,7 +133,7 @@ impl Catalog {
         Ok(VersionSetId(id_of(place)?))
     }
 
-    /// The union of version sets in that order. Equal ones share an id.
+    /// Returns the union of version sets in this order. Equal unions share an id.
     pub fn union(&mut self, members: Vec<VersionSetId>) -> Result<VersionSetUnionId, Exhausted>
         ensures interned { IfOk result (λ id. IsInterned (unions_in self.old) (unions_in self.new) members.items id.0) }
         ensures kept { tables_in self.new ≡ record (tables_in self.old) { unions = unions_in self.new } }
@@ -141,7 +143,7 @@ impl Catalog {
         Ok(VersionSetUnionId(id_of(place)?))
     }
 
-    /// The id of a reason. Equal texts share it.
+    /// Returns the id of a reason. Equal texts share an id.
     pub fn string(&mut self, text: &str) -> Result<StringId, Exhausted>
         ensures interned { IfOk result (λ id. IsInterned (strings_in self.old) (strings_in self.new) text.now id.0) }
         ensures kept { tables_in self.new ≡ record (tables_in self.old) { strings = strings_in self.new } }

@@ -9,8 +9,7 @@ use crate::statement::LineError;
 use crate::words::{Spec, Words, parse_spec};
 use std::alloc::{AllocError, Global};
 
-/// One step of a condition in postfix order: a spec is put aside, and an operator joins the two that were put aside
-/// last.
+/// One step of a condition in postfix order: a spec is pushed, and an operator joins the two topmost parts.
 #[derive(Clone, Copy, PartialEq, Eq)]
 pub enum ConditionStep<'a> {
     Version(Spec<'a>),
@@ -20,8 +19,8 @@ pub enum ConditionStep<'a> {
 
 /// The pending operators of one pair of parentheses, or of the whole condition: those whose right part is not complete.
 ///
-/// An operator is written out before one that binds no tighter becomes pending, so at most one of each kind is, the `and` to
-/// the right of the `or`.
+/// An operator is written out before one that binds no tighter becomes pending. So at most one of each kind is pending,
+/// and the `and` is to the right of the `or`.
 #[derive(Clone, Copy)]
 struct PendingOperators {
     or: bool,
@@ -35,14 +34,14 @@ impl PendingOperators {
     };
 }
 
-/// A condition that is read from the left.
+/// A condition that is being read, from left to right.
 #[derive(Drop)]
 struct Reading<'a> {
     steps: Vec<ConditionStep<'a>>,
     pending: PendingOperators,
     /// The pending operators outside each open parenthesis, the innermost last.
     outside: Vec<PendingOperators>,
-    /// Whether a spec or an opening parenthesis comes next.
+    /// Whether the next word has to be a spec or an opening parenthesis.
     wants_part: bool,
     ghost balanced: { depth_of steps.items ≡ Some (pending_count pending + sum_by pending_count outside.items + cond wants_part 0 1) },
     ghost sound: { All IsStep steps.items },
@@ -144,7 +143,7 @@ impl<'a> Reading<'a> {
     }
 }
 
-/// Reads the rest of a line as a condition, and gives it in postfix order.
+/// Reads the rest of a line as a condition, and returns it in postfix order.
 ///
 /// `and` binds tighter than `or`, and both group from the left.
 pub fn parse_condition<'a>(

@@ -1,30 +1,30 @@
-//! Ids of packages and their versions, and sets of versions.
+//! Ids of packages and their versions, and ranges of versions.
 
 ghost use Rattle.std.specs.Prelude.{◌≡◌, IfOk, IfErr, IfNone, IfSome, ◌≤◌};
 ghost use Rattle.resolve.specs.Ranges.{range_takes};
 
 use resolver_clause_store::Exhausted;
 
-/// Names a package.
+/// The id of a package.
 #[derive(Clone, Copy, PartialEq, Eq, PartialOrd, Ord, Hash)]
 pub struct NameId(pub u32);
 
-/// Names one version of a package.
+/// The id of one version of a package.
 #[derive(Clone, Copy, PartialEq, Eq, PartialOrd, Ord, Hash)]
 pub struct SolvableId(pub u32);
 
-/// Which versions of a package are taken.
+/// Some versions of a package.
 #[derive(Clone, Copy, PartialEq, Eq, Hash)]
 pub enum Range {
     /// Every version.
     All,
 
-    /// The versions from `low` up to but not including `high`, none where `low` is not below `high`.
+    /// The versions from `low` up to but not including `high`; none if `low` is not below `high`.
     Within { low: u64, high: u64 },
 }
 
 impl Range {
-    /// Whether the range takes a version.
+    /// Returns whether the range matches a version.
     pub fn takes(self, version: u32) -> bool
         ensures { result ≡ range_takes self version }
     {
@@ -35,7 +35,7 @@ impl Range {
     }
 }
 
-/// The versions of one package that a range takes.
+/// The versions of one package that a range matches.
 #[derive(Clone, Copy, PartialEq, Eq, Hash)]
 pub(crate) struct VersionSet {
     pub name: NameId,
@@ -49,7 +49,7 @@ pub(crate) struct Version {
     pub number: u32,
 }
 
-/// The id of a place in a table. Ids end where they would not fit.
+/// Returns the id of a place in a table. The place `u32::MAX` and later places have none.
 pub(crate) fn id_of(place: usize) -> Result<u32, Exhausted>
     ensures id { IfOk result (λ id. id ≡ place) }
     ensures full { IfErr result (λ e. (e ≡ Exhausted.Ids) × (4294967295 ≤ place)) }
@@ -61,7 +61,7 @@ pub(crate) fn id_of(place: usize) -> Result<u32, Exhausted>
     }
 }
 
-/// The id of the place that was found, if any.
+/// Returns the id of the place that was found, if any.
 pub(crate) fn found_id(place: Option<usize>) -> Option<u32>
     ensures found { IfSome result (λ id. place ≡ Some id) }
     ensures none { IfNone result (IfSome place (λ p. 4294967295 ≤ p)) }

@@ -1,4 +1,4 @@
-//! Splits an input into lines.
+//! The lines of an input.
 
 ghost use Rattle.std.specs.Prelude.{◌≡◌, ◌+◌, ◌<◌, ◌==◌, ◌^◌, ◌∷◌, length};
 ghost use Rattle.std.specs.List.{position};
@@ -9,14 +9,14 @@ use memchr::memchr;
 /// A line of an input, without its end.
 #[derive(Clone, Copy, PartialEq, Eq)]
 pub struct Line<'a> {
-    /// Counts the lines of the input from 1.
+    /// The number of the line, counted from 1.
     pub number: usize,
     pub bytes: &'a [u8],
 }
 
 /// The lines of an input, in order.
 ///
-/// A line ends with a line feed, and the last may lack it. A carriage return just before a line feed is dropped.
+/// A line ends with a line feed, which the last line may lack. A carriage return just before a line feed is dropped.
 #[derive(Clone, Copy)]
 pub struct Lines<'a> {
     rest: &'a [u8],
@@ -59,7 +59,7 @@ impl<'a> Iterator for Lines<'a> {
     }
 }
 
-/// The first line, without its end, and what follows it.
+/// Returns the first line without its end, and the rest.
 #[tactic(auto, using(crate::proofs::LinesLemmas::cuts))]
 fn cut_first_line(bytes: &[u8]) -> (&[u8], &[u8])
     requires { 0 < length bytes.now }

@@ -1,4 +1,4 @@
-//! Reads statements about packages from standard input, and writes which versions to install.
+//! Reads statements about packages from standard input, and writes the versions to install.
 #![tactic(auto)]
 
 mod catalog;

@@ -20,23 +20,24 @@ use resolver_clause_store::{
 };
 use std::alloc::Global;
 
-/// What was declared, and the problem that was put to it.
+/// The declarations of an input, and the problem to solve.
 #[derive(Drop)]
 pub struct Request {
     alloc: Global,
     pub catalog: Catalog,
     pub requirements: Vec<ConditionalRequirement>,
     pub constraints: Vec<VersionSetId>,
-    /// In the order of their statements.
+    /// The soft requirements, in the order of their statements.
     pub soft_requirements: Vec<SoftRequirement<SolvableId>>,
-    /// The solvable of the last statement that was about one. Statements about one solvable often follow each other.
+    /// The solvable of the last statement that names a solvable. Statements about the same solvable often follow each
+    /// other.
     last: Option<SolvableId>,
 }
 
 /// Why an input gives no request.
 #[derive(Clone, Copy, Debug, PartialEq, Eq)]
 pub enum InputError {
-    /// The first bad statement stands on this line, counted from 1.
+    /// The line of the first bad statement, counted from 1.
     BadStatement(usize),
 
     /// Memory or ids ran out.
@@ -108,7 +109,7 @@ impl Request {
         }
     }
 
-    /// Takes in a statement. Returns false if it is a bad one, which declares and requires nothing.
+    /// Adds a statement. Returns `false` if it is bad; it then declares and requires nothing.
     fn add(&mut self, statement: Statement<'_>) -> Result<bool, Exhausted> {
         match statement {
             Statement::Package(solvable) => self.declare(solvable),
@@ -129,7 +130,7 @@ impl Request {
         }
     }
 
-    /// The solvable, if it was declared.
+    /// Returns the solvable, if it was declared.
     fn find(&mut self, solvable: SolvableText<'_>) -> Option<SolvableId>
         ensures only { self.new ≡ record self.old { last = self.new.last } }
         ensures found { IfSome result (IsFound self.old.catalog solvable.entry.name.now solvable.entry.version) }
@@ -233,7 +234,7 @@ impl Request {
         Ok(true)
     }
 
-    /// Adds a soft requirement of a solvable, if it was declared. Returns whether it was.
+    /// Adds a soft requirement of a solvable. Returns `false` if it was not declared.
     fn add_soft_requirement(&mut self, solvable: SolvableText<'_>) -> Result<bool, Exhausted>
         ensures only { self.new ≡ record self.old { soft_requirements = self.new.soft_requirements } }
         ensures added { IfOk result (λ declared.
@@ -250,7 +251,7 @@ impl Request {
         Ok(true)
     }
 
-    /// Adds a soft requirement of a version set. A package without candidates is no bad statement.
+    /// Adds a soft requirement of a version set. It is not bad if the package has no candidates.
     fn add_soft_version_set(&mut self, spec: Spec<'_>) -> Result<bool, Exhausted> {
         let version_set = self.version_set(spec)?;
         self.soft_requirements
@@ -263,7 +264,7 @@ impl Request {
         self.catalog.version_set(name, spec.versions)
     }
 
-    /// The requirement of a union and a condition in postfix order; none where that is no condition.
+    /// Returns the requirement of a union under a condition in postfix order, and `None` if the steps are no condition.
     fn requirement(
         &mut self,
         union: &[Spec<'_>],
@@ -285,7 +286,7 @@ impl Request {
         }))
     }
 
-    /// One version set is no union.
+    /// Returns the requirement of some specs. A single spec gives a version set, and no union.
     fn union(&mut self, union: &[Spec<'_>]) -> Result<Requirement, Exhausted> {
         if let [spec] = union {
             return Ok(Requirement::Single(self.version_set(*spec)?));

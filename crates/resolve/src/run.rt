@@ -20,13 +20,13 @@ use std::alloc::{AllocError, AllocFailed, Global};
 use std::io::{Read, Write};
 use std::{io, mem};
 
-/// How many clauses a search may learn that looks for a conflict with a shorter message.
+/// The number of clauses that a search for a conflict with a shorter message may learn.
 const LEARNT_LIMIT: usize = 100;
 
-/// A size of blocks, in bytes, that the C library's allocator takes from its heap anyway.
+/// A size of blocks, in bytes, that the C library's allocator always takes from its heap.
 const SMALL_BLOCK: usize = 4096;
 
-/// Why nothing was answered.
+/// Why there is neither an answer nor a conflict.
 #[derive(Clone, Copy, PartialEq, Eq)]
 pub(crate) enum Fault {
     BadStatement(usize),
@@ -70,17 +70,17 @@ impl From<Exhausted> for Fault {
     }
 }
 
-/// What a request came to.
+/// The outcome of a request.
 #[derive(Drop)]
 pub(crate) enum Outcome {
     /// The text of the answer.
     Answer(String),
 
-    /// The message that says why there is no answer.
+    /// The message that explains why there is no answer.
     Conflict(String),
 }
 
-/// What is said of memory or ids that ran out, without a line end.
+/// Returns the text for memory or ids that ran out, without a line end.
 pub fn fault_text(e: Exhausted) -> &'static str
     ensures { result.now ≡ exhausted_text e }
 {
@@ -90,9 +90,10 @@ pub fn fault_text(e: Exhausted) -> &'static str
     }
 }
 
-/// Reads statements to the input's end, solves the problem that they state, and writes the answer, one `NAME=VERSION`
-/// to a line, by the bytes of the names and then by version. Where there is no answer it writes the message that says
-/// why. Gives the status with which the program ends.
+/// Reads all statements of the input, solves their problem, and writes the answer or the message of the conflict.
+///
+/// An answer has a line `NAME=VERSION` for each chosen version, ordered by the bytes of the names and then by version.
+/// Returns the status with which the program ends.
 ///
 /// | Outcome | Output | Errors | Status |
 /// |---|---|---|---|
@@ -102,9 +103,9 @@ pub fn fault_text(e: Exhausted) -> &'static str
 /// | the input cannot be read | nothing | `resolve: cannot read input` | 3 |
 /// | the output cannot be written | open | `resolve: cannot write output` | 3 |
 /// | memory is refused | nothing | `resolve: out of memory` | 4 |
-/// | ids stand at their limit | nothing | `resolve: out of ids` | 4 |
+/// | ids are at their limit | nothing | `resolve: out of ids` | 4 |
 ///
-/// An answer or a message is made whole before the first byte is written. A failed write of an error changes no status.
+/// An answer or a message is complete before its first byte is written. A failed write of an error changes no status.
 pub fn run<R: Read + Drop, O: Write, E: Write>(
     alloc: Global,
     input: R,
@@ -122,7 +123,7 @@ pub fn run<R: Read + Drop, O: Write, E: Write>(
     status
 }
 
-/// Writes what an input came to, or why it came to nothing, and gives the status.
+/// Writes the outcome of an input, or its fault, and returns the status.
 fn tell<O: Write, E: Write>(told: &Result<Outcome, Fault>, output: &mut O, errors: &mut E) -> u8
     ensures status { result ≤ 4 }
     ensures output_kept { 1 < result → result ≢ 3 → output.new ≡ output.old }
@@ -135,7 +136,7 @@ fn tell<O: Write, E: Write>(told: &Result<Outcome, Fault>, output: &mut O, error
     }
 }
 
-/// Writes what an input came to, and gives the status.
+/// Writes the outcome of an input, and returns the status.
 fn tell_outcome<O: Write, E: Write>(outcome: &Outcome, output: &mut O, errors: &mut E) -> u8
     ensures status { result ≤ 4 }
     ensures output_kept { 1 < result → result ≢ 3 → output.new ≡ output.old }
@@ -154,7 +155,7 @@ fn tell_outcome<O: Write, E: Write>(outcome: &Outcome, output: &mut O, errors: &
     }
 }
 
-/// Writes what went wrong, and gives its status.
+/// Writes the text of a fault, and returns its status.
 fn report<E: Write>(errors: &mut E, fault: Fault) -> u8
     ensures status { result ≡ status_of fault }
     ensures least { 2 ≤ result }
@@ -181,7 +182,7 @@ fn report<E: Write>(errors: &mut E, fault: Fault) -> u8
     }
 }
 
-/// Writes all of a text.
+/// Writes a whole text.
 fn write_text<O: Write>(output: &mut O, text: &str) -> Result<(), Fault>
     ensures fault { IfErr result (λ fault. fault ≡ Fault.UnwritableOutput) }
     ensures written { OnOk result (Appends (O.contents output.old) (O.contents output.new) text.now) }
@@ -208,7 +209,7 @@ fn read_input<R: Read + Drop>(alloc: Global, mut input: R) -> Result<Vec<u8>, Fa
     }
 }
 
-/// What the statements of an input come to.
+/// Returns the outcome of an input.
 fn answer<R: Read + Drop>(alloc: Global, input: R) -> Result<Outcome, Fault>
     ensures { IfOk result IsSomeOutcome }
 {
@@ -217,10 +218,10 @@ fn answer<R: Read + Drop>(alloc: Global, input: R) -> Result<Outcome, Fault>
     Ok(outcome)
 }
 
-/// Reads the statements of an input, and lets go of its text, so that solving has that memory.
+/// Reads the statements of an input, and frees its text, which leaves that memory to the solver.
 ///
-/// The text's buffer is made small first. A large block that is freed at once teaches the C library's allocator to take later blocks of that size
-/// from its heap, where a list that grows is copied and leaves a hole.
+/// The buffer is shrunk first. After a large block is freed, the C library's allocator takes blocks of that size from its heap, where a list
+/// that grows is copied and leaves a hole.
 fn read_all<R: Read + Drop>(alloc: Global, input: R) -> Result<Request, Fault> {
     let mut bytes = read_input(alloc, input)?;
     let request = read_request(alloc, &bytes);
@@ -230,7 +231,9 @@ fn read_all<R: Read + Drop>(alloc: Global, input: R) -> Result<Request, Fault> {
     Ok(request?)
 }
 
-/// What a request comes to. What the solver holds then is not given back, since the program ends.
+/// Returns the outcome of a request.
+///
+/// The solver's memory is not freed, because the program ends.
 fn solve_request(alloc: Global, request: Request) -> Result<Outcome, Fault>
     ensures { IfOk result (IsOutcomeOf request) }
 {
@@ -246,7 +249,7 @@ fn solve_request(alloc: Global, request: Request) -> Result<Outcome, Fault>
     outcome
 }
 
-/// What comes of what a solver answered.
+/// Returns the outcome of a solver's answer.
 fn outcome_of(
     alloc: Global,
     solver: &Solver<Catalog>,
@@ -260,7 +263,7 @@ fn outcome_of(
     }
 }
 
-/// What comes of why a solver gave no answer.
+/// Returns the outcome of a call that gave no answer.
 fn refusal_of(
     solver: &Solver<Catalog>,
     why: &UnsolvableOrCancelled<Catalog>,
@@ -276,7 +279,7 @@ fn refusal_of(
     }
 }
 
-/// The message of a conflict, or of one that was refined from it, if that has fewer rules and its message is shorter.
+/// Returns the message of a conflict, or of the refined conflict if that has fewer rules and a shorter message.
 fn conflict_text(
     solver: &Solver<Catalog>,
     conflict: &Conflict<NameId, SolvableId>,
@@ -290,7 +293,7 @@ fn conflict_text(
     }
 }
 
-/// The message of a conflict.
+/// Returns the message of a conflict.
 fn whole_text(
     solver: &Solver<Catalog>,
     conflict: &Conflict<NameId, SolvableId>,
@@ -303,7 +306,7 @@ fn whole_text(
     Ok(text?)
 }
 
-/// The message of the conflict that is refined from this one, if that has fewer rules and its message has fewer bytes than this.
+/// Returns the message of the refined conflict, if that has fewer rules and its message has fewer bytes than `length`.
 fn refined_text(
     solver: &Solver<Catalog>,
     conflict: &Conflict<NameId, SolvableId>,
@@ -317,7 +320,8 @@ fn refined_text(
     Ok(text?)
 }
 
-/// The message of a conflict, if it has fewer rules than another one and its message has fewer bytes than this.
+/// Returns the message of a conflict, if it has fewer rules than another one and its message has fewer bytes than
+/// `length`.
 fn smaller_text(
     solver: &Solver<Catalog>,
     other: &Conflict<NameId, SolvableId>,
@@ -336,7 +340,7 @@ fn smaller_text(
     Ok(text?)
 }
 
-/// The chosen solvables, by the bytes of the names and then by version.
+/// Returns the lines of the chosen solvables, ordered by the bytes of the names and then by version.
 fn answer_text(alloc: Global, catalog: &Catalog, chosen: &[SolvableId]) -> Result<String, Fault> {
     let labels = chosen.iter().map(|solvable| catalog.label(*solvable));
     let mut text = String::new(alloc);

@@ -13,35 +13,35 @@ use resolver_clause_store::Exhausted;
 use std::alloc::{AllocError, AllocFailed, Global};
 use std::str;
 
-/// What a line states. A condition stands in postfix order, and is empty where there is none.
+/// The statement of a line. A condition is in postfix order, and empty if there is none.
 #[derive(PartialEq, Eq, Drop)]
 pub enum Statement<'a> {
-    /// There is such a solvable, and it is a candidate.
+    /// The version exists and is a candidate of its package.
     Package(SolvableText<'a>),
 
-    /// The solvable needs one of the union, if the condition holds.
+    /// The solvable requires a candidate of the union, if the condition holds.
     Requires {
         solvable: SolvableText<'a>,
         union: Vec<Spec<'a>>,
         condition: Vec<ConditionStep<'a>>,
     },
 
-    /// The solvable allows a package these versions alone.
+    /// The solvable allows only these versions of a package.
     Constrains {
         solvable: SolvableText<'a>,
         spec: Spec<'a>,
     },
 
-    /// Nobody knows what the solvable needs.
+    /// The dependencies of the solvable are unknown.
     Unknown {
         solvable: SolvableText<'a>,
         reason: &'a str,
     },
 
-    /// The solvable is the favored one of its package.
+    /// The solvable is favored in its package.
     Favor(SolvableText<'a>),
 
-    /// The solvable is the locked one of its package.
+    /// The package of the solvable is locked to it.
     Lock(SolvableText<'a>),
 
     /// The solvable is excluded.
@@ -50,26 +50,26 @@ pub enum Statement<'a> {
         reason: &'a str,
     },
 
-    /// The problem needs one of the union, if the condition holds.
+    /// The problem requires a candidate of the union, if the condition holds.
     Require {
         union: Vec<Spec<'a>>,
         condition: Vec<ConditionStep<'a>>,
     },
 
-    /// The problem allows a package these versions alone.
+    /// The problem allows only these versions of a package.
     Constrain(Spec<'a>),
 
-    /// The problem takes the solvable where it can.
+    /// The problem has this solvable as a soft requirement.
     Soft(SolvableText<'a>),
 
-    /// The problem takes one of these versions where it can.
+    /// The problem has these versions as a soft requirement.
     SoftMatching(Spec<'a>),
 }
 
-/// Why a line gives no statement.
+/// Why a line has no statement.
 #[derive(Clone, Copy, Debug, PartialEq, Eq)]
 pub enum LineError {
-    /// The line fits no form of statement.
+    /// The line has the form of no statement.
     Bad,
 
     /// Memory was refused.
@@ -92,8 +92,9 @@ impl<T: Drop> From<AllocFailed<T>> for LineError {
     }
 }
 
-/// Reads a line without its end. A line that is empty, has only spaces, or begins with `#` after any spaces states
-/// nothing.
+/// Parses a line without its end.
+///
+/// A line states nothing if it has only spaces, or if its first byte other than a space is `#`.
 pub fn parse_line<'a>(alloc: Global, line: &'a [u8]) -> Result<Option<Statement<'a>>, LineError>
     ensures skipped { (result ≡ Ok None) ↔ StatesNothing line.now }
     ensures statement { IfOk result (λ statement. IfSome statement IsWellFormed) }
@@ -105,7 +106,7 @@ pub fn parse_line<'a>(alloc: Global, line: &'a [u8]) -> Result<Option<Statement<
     }
 }
 
-/// Reads a line that states something. One that is no text is bad.
+/// Parses a line that states something. A line that is not UTF-8 is bad.
 fn parse_text<'a>(alloc: Global, line: &'a [u8]) -> Result<Statement<'a>, LineError>
     ensures statement { IfOk result IsWellFormed }
     ensures refused { IfErr result IsRefusal }
@@ -116,14 +117,14 @@ fn parse_text<'a>(alloc: Global, line: &'a [u8]) -> Result<Statement<'a>, LineEr
     }
 }
 
-/// The first byte other than a space.
+/// Returns the first byte other than a space.
 fn first_byte(line: &[u8]) -> Option<u8>
     ensures { result ≡ find (λ byte. not (byte == 32)) line.now }
 {
     line.iter().copied().find(|byte| *byte != b' ')
 }
 
-/// Whether a statement lists the alternatives of a requirement, and whose requirement it is.
+/// Whether a statement has the list of a requirement, and whether a solvable has this requirement.
 enum StatementList {
     None,
     Requirement,
@@ -142,7 +143,7 @@ fn parse_statement<'a>(alloc: Global, mut words: Words<'a>) -> Result<Statement<
     }
 }
 
-/// What list a statement with this keyword holds.
+/// Returns the list that a statement with this keyword has.
 fn list_of(keyword: &str) -> StatementList {
     match keyword {
         "require" => StatementList::Requirement,
@@ -151,7 +152,7 @@ fn list_of(keyword: &str) -> StatementList {
     }
 }
 
-/// Reads a statement that holds no list.
+/// Parses a statement without a list.
 fn parse_listless<'a>(keyword: &str, words: Words<'a>) -> Result<Statement<'a>, LineError>
     ensures statement { IfOk result IsWellFormed }
     ensures refused { IfErr result IsRefusal }
@@ -183,7 +184,7 @@ fn parse_requires<'a>(alloc: Global, mut words: Words<'a>) -> Result<Statement<'
     })
 }
 
-/// Reads what follows the first word of a statement that holds no list.
+/// Parses the words after the keyword of a statement without a list.
 fn parse_short_statement<'a>(keyword: &str, words: Words<'a>) -> Option<Statement<'a>>
     ensures { IfSome result IsWellFormed }
 {
@@ -203,7 +204,7 @@ fn parse_short_statement<'a>(keyword: &str, words: Words<'a>) -> Option<Statemen
     }
 }
 
-/// Reads the next word, if no other follows, as a solvable or else as a spec.
+/// Parses the last word as a solvable, or else as a spec.
 fn parse_soft(mut words: Words<'_>) -> Option<Statement<'_>>
     ensures { IfSome result IsWellFormed }
 {
@@ -218,7 +219,7 @@ fn parse_soft(mut words: Words<'_>) -> Option<Statement<'_>>
     }
 }
 
-/// The statement that says this of a solvable alone.
+/// Returns the statement with this keyword, if it is about a solvable and nothing else.
 fn parse_solvable_statement<'a>(keyword: &str, solvable: SolvableText<'a>) -> Option<Statement<'a>>
     requires { IsName solvable.name.now }
     ensures { IfSome result IsWellFormed }
@@ -239,7 +240,7 @@ fn parse_constrains<'a>(mut words: Words<'a>) -> Option<Statement<'a>>
     Some(Statement::Constrains { solvable, spec })
 }
 
-/// Reads a solvable, and the rest of the line as a reason.
+/// Parses a solvable, and the rest of the line as a reason.
 fn parse_reasoned<'a>(mut words: Words<'a>) -> Option<(SolvableText<'a>, &'a str)>
     ensures { IfSome result (λ parts. IsName parts.0.name.now) }
 {
@@ -254,7 +255,7 @@ fn next_solvable<'a>(words: &mut Words<'a>) -> Option<SolvableText<'a>>
     parse_solvable(words.next()?)
 }
 
-/// Reads the next word as a solvable, if no other follows.
+/// Parses the next word as a solvable, if it is the last word.
 fn last_solvable(mut words: Words<'_>) -> Option<SolvableText<'_>>
     ensures { IfSome result (λ solvable. IsName solvable.name.now) }
 {
@@ -262,7 +263,7 @@ fn last_solvable(mut words: Words<'_>) -> Option<SolvableText<'_>>
     words.next().is_none().then_some(solvable)
 }
 
-/// Reads the next word as a spec, if no other follows.
+/// Parses the next word as a spec, if it is the last word.
 fn last_spec(mut words: Words<'_>) -> Option<Spec<'_>>
     ensures { IfSome result IsSpec }
 {
@@ -270,7 +271,7 @@ fn last_spec(mut words: Words<'_>) -> Option<Spec<'_>>
     words.next().is_none().then_some(spec)
 }
 
-/// Reads a reason: text that is not empty, without the spaces around it.
+/// Parses a reason: a text without the spaces around it, which is not empty.
 fn parse_reason(text: &str) -> Option<&str> {
     let reason = text.trim_matches(' ');
     if reason.is_empty() {
@@ -279,7 +280,7 @@ fn parse_reason(text: &str) -> Option<&str> {
     Some(reason)
 }
 
-/// Reads the rest of a line as a union and any condition.
+/// Parses the rest of a line as a union and an optional condition.
 fn parse_requirement<'a>(
     alloc: Global,
     mut words: Words<'a>,
@@ -301,7 +302,7 @@ fn parse_requirement<'a>(
     }
 }
 
-/// Reads specs with `|` between them, and gives the word behind them, if there is one.
+/// Parses specs with `|` between them. Returns the word after them, if there is one.
 fn parse_union<'a>(
     words: &mut Words<'a>,
     union: &mut Vec<Spec<'a>>,
@@ -321,7 +322,7 @@ fn parse_union<'a>(
     }
 }
 
-/// Reads `if` and the condition behind it, unless the line ends.
+/// Parses `if` and the condition after it, unless the line ends.
 fn parse_if<'a>(
     alloc: Global,
     word: Option<&str>,

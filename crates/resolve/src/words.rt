@@ -1,4 +1,4 @@
-//! Words of a line: names, numbers, solvables and specs.
+//! The words of a line: names, numbers, solvables and specs.
 
 ghost use Rattle.std.specs.Prelude.{◌≡◌, ◌≢◌, ◌<◌, ◌≤◌, ◌↔◌, ◌==◌, ℕ, List, ◌∷◌, ◌++◌, length, All, IsTrue, MatchBool, MatchOption};
 ghost use Rattle.std.specs.Fmt.{decimal};
@@ -28,7 +28,7 @@ pub struct Spec<'a> {
     pub versions: Range,
 }
 
-/// The words of a line, which spaces separate.
+/// The words of a line, separated by spaces.
 #[derive(Clone, Copy)]
 pub struct Words<'a> {
     rest: &'a str,
@@ -39,7 +39,7 @@ impl<'a> Words<'a> {
         Words { rest: line }
     }
 
-    /// What follows the last word that was taken and the space behind it.
+    /// Returns the rest of the line after the last word and the space that follows it.
     pub fn rest(&self) -> &'a str {
         self.rest
     }
@@ -61,14 +61,14 @@ impl<'a> Iterator for Words<'a> {
     }
 }
 
-/// Whether a text begins as no plain number does: with a plus, or with a zero that more follows.
+/// Returns whether a text begins unlike a plain number: with a plus, or with a zero that is followed by more.
 fn has_odd_front(text: &[u8]) -> bool
     ensures { MatchBool result (HasOddFront text.now) (HasPlainFront text.now) }
 {
     !text.is_empty() && (text[0] == b'+' || text[0] == b'0' && text.len() != 1)
 }
 
-/// The number that a text writes in decimal digits, with no leading zeros, unless it is greater than `most`.
+/// Parses a decimal number without leading zeros, unless it is greater than `most`.
 #[tactic(auto, using(crate::proofs::NumberLemmas::numbers))]
 fn parse_number(text: &[u8], most: u64) -> Option<u64>
     requires { most ≤ VERSION_LIMIT }
@@ -83,7 +83,7 @@ fn parse_number(text: &[u8], most: u64) -> Option<u64>
     Some(number)
 }
 
-/// The number that a text writes in decimal digits, unless it is greater than `most`.
+/// Parses a decimal number, unless it is greater than `most`.
 fn parse_digits(text: &[u8], most: u64) -> Option<u64>
     requires { most ≤ VERSION_LIMIT }
     ensures { MatchOption result (IsNumeralUpTo most text.now → ⊥) (λ n. IsNumeralUpTo most text.now × (n ≡ digits_value 10 text.now)) }
@@ -111,7 +111,7 @@ fn parse_version(text: &[u8]) -> Option<u32>
     Some(version as u32)
 }
 
-/// Whether a text of such bytes as names have is a package's name.
+/// Returns whether a text is the name of a package. It has only bytes that a name may have.
 fn is_name(text: &str) -> bool
     requires { All (λ b. IsTrue (is_name_byte b)) text.now }
     ensures { IsTrue result ↔ IsName text.now }
@@ -119,7 +119,7 @@ fn is_name(text: &str) -> bool
     text.len() > 3 || !text.is_empty() && text != "if" && text != "and" && text != "or"
 }
 
-/// Each byte that names may have stands at its own place, and a comma at every other place.
+/// Each byte that a name may have is at its own place; all other places have a comma.
 static NAME_BYTES: [u8; 256] = *b"\
     ,,,,,,,,,,,,,,,,,,,,,,,,,,,,,,,,\
     ,,,,,,,,,,,,,-.,0123456789,,,,,,\
@@ -136,7 +136,7 @@ fn is_name_byte(byte: u8) -> bool
     NAME_BYTES[byte as usize] != b','
 }
 
-/// How many bytes at the front of a text are such as names have.
+/// Returns the number of bytes at the front of a text that a name may have.
 fn name_length(text: &[u8]) -> usize
     ensures { result ≡ prefix_len is_name_byte text.now }
 {
@@ -147,7 +147,7 @@ fn name_length(text: &[u8]) -> usize
     length
 }
 
-/// The name that a word begins with, up to the first byte that no name has, and what follows it.
+/// Splits a word after the name that it begins with.
 fn split_name(word: &str) -> Option<(&str, &[u8])>
     ensures { MatchOption result ((name rest : List ℕ) → BeginsWithName word.now name rest → ⊥) (λ parts.
         BeginsWithName word.now parts.0.now parts.1.now) }
@@ -159,7 +159,7 @@ fn split_name(word: &str) -> Option<(&str, &[u8])>
     Some((name, rest.as_bytes()))
 }
 
-/// What stands before and behind the first such byte of a text.
+/// Splits a text around the first byte that is `sign`.
 fn around(text: &[u8], sign: u8) -> Option<(&[u8], &[u8])>
     ensures { MatchOption result (Lacks sign text.now) (λ parts. (text.now ≡ parts.0.now ++ sign ∷ parts.1.now) × Lacks sign parts.0.now) }
 {
@@ -175,7 +175,7 @@ fn position_of(text: &[u8], sign: u8) -> Option<usize>
     text.iter().position(|byte| *byte == sign)
 }
 
-/// What follows such a byte at the front of a text.
+/// Returns the rest of a text that begins with `sign`.
 fn behind(text: &[u8], sign: u8) -> Option<&[u8]>
     ensures { MatchOption result ((rest : List ℕ) → text.now ≢ sign ∷ rest) (λ rest. text.now ≡ sign ∷ rest.now) }
 {
@@ -188,7 +188,7 @@ fn behind(text: &[u8], sign: u8) -> Option<&[u8]>
     Some(rest)
 }
 
-/// Reads `VERSION`, or `LOW..HIGH`.
+/// Parses `VERSION` or `LOW..HIGH`.
 fn parse_versions(text: &[u8]) -> Option<Range>
     ensures { MatchOption result ((versions : Range) → StatesVersions text.now versions → ⊥) (StatesVersions text.now) }
 {
@@ -207,7 +207,7 @@ fn parse_versions(text: &[u8]) -> Option<Range>
     Some(Range::Within { low, high })
 }
 
-/// Reads `VERSION`.
+/// Parses `VERSION`.
 fn parse_one_version(text: &[u8]) -> Option<Range>
     requires { (front back : List ℕ) → text.now ≢ front ++ 46 ∷ 46 ∷ back }
     ensures { MatchOption result ((versions : Range) → StatesVersions text.now versions → ⊥) (StatesVersions text.now) }
@@ -220,7 +220,7 @@ fn parse_one_version(text: &[u8]) -> Option<Range>
     Some(Range::Within { low, high })
 }
 
-/// Reads what follows the name in a spec: nothing, or `@` and versions.
+/// Parses the rest of a spec after its name: nothing, or `@` and versions.
 fn parse_range(text: &[u8]) -> Option<Range>
     ensures { MatchOption result ((versions : Range) → StatesRangeBehind text.now versions → ⊥) (StatesRangeBehind text.now) }
 {
@@ -233,7 +233,7 @@ fn parse_range(text: &[u8]) -> Option<Range>
     parse_versions(versions)
 }
 
-/// Reads `NAME=VERSION`.
+/// Parses `NAME=VERSION`.
 pub fn parse_solvable(word: &str) -> Option<SolvableText<'_>>
     ensures { MatchOption result ((name : List ℕ) (version : ℕ) → StatesSolvable word.now name version → ⊥) (λ solvable.
         StatesSolvable word.now solvable.name.now solvable.version) }
@@ -250,7 +250,7 @@ pub fn parse_solvable(word: &str) -> Option<SolvableText<'_>>
     Some(SolvableText { name, version })
 }
 
-/// Reads `NAME`, `NAME@VERSION` or `NAME@LOW..HIGH`.
+/// Parses `NAME`, `NAME@VERSION` or `NAME@LOW..HIGH`.
 pub fn parse_spec(word: &str) -> Option<Spec<'_>>
     ensures { MatchOption result ((name : List ℕ) (versions : Range) → StatesSpec word.now name versions → ⊥) (λ spec.
         StatesSpec word.now spec.name.now spec.versions) }

@@ -8,7 +8,7 @@ use Rattle.resolver_clause_store.specs.declared.ids.VersionSetId.{VersionSetId}
 use Rattle.resolver_clause_store.specs.declared.cache.Cache.{Cache}
 use Rattle.std.specs.Prelude.{Some}
 
--- the hint says that the dependencies of s are cheap
+-- the hint says that the dependencies of s are cheap to get
 abbrev pub Covers : {S : Type 0} → Hint S → S → Type 0
 Covers hint_none s = ⊥
 Covers hint_all s = ⊤

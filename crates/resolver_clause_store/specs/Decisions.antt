@@ -1,4 +1,4 @@
--- The requirement that is decided next.
+-- Candidates that may be decided.
 use Rattle.std.specs.Prelude.{◌≡◌, ◌≢◌, ℕ, ◌<◌, ◌⊎◌, true, false, Option, Some, None, List, length, Vec, Contains, slice_index_or}
 use Rattle.std.specs.declared.alloc.Global.{Global}
 use Rattle.resolver_clause_store.specs.declared.literals.Literal.{Literal}
@@ -19,7 +19,8 @@ pub record IsFirst (trail : Trail) (clause : List Literal) (place : ℕ) : Type 
   pub false_before : (k : ℕ) (d : Literal) → k < place → literal_value trail (slice_index_or clause k d) ≡ Some false
   pub unmet : IsMet trail clause → ⊥
 
--- what is known after the first literals of a clause, where the one at this place was the first with no value
+-- what is known after the first `count` literals of a clause, where `first` is the place of the first one without a
+-- value
 pub record HasPassed (trail : Trail) (clause : List Literal) (count : ℕ) (first : Option ℕ) : Type 0 where
   pub undecided : (k : ℕ) (d : Literal) → k < count → (literal_value trail (slice_index_or clause k d) ≡ Some false) ⊎
       ((literal_value trail (slice_index_or clause k d) ≡ None) × ((slice_index_or clause k d).positive ≡ true))
@@ -38,7 +39,7 @@ pub record IsChoice (trail : Trail) (table : List (Vec Literal Global)) (require
   pub listed : Contains requirements requirement
   pub chosen : IsChoiceOf trail table requirement choice
 
--- how a requirement stands under a trail
+-- the state of a requirement under a trail
 abbrev pub StandingIs : Trail → List Literal → Standing → Type 0
 StandingIs trail clause (Inactive variable) = Contains clause (record { variable = variable; positive = false }) ×
     (literal_value trail (record { variable = variable; positive = false }) ≢ Some false)

@@ -71,7 +71,7 @@ abbrev pub work_left : {N S : Type 0} → Universe N S → List PartialDisjunct 
 work_left u [] = 0
 work_left u (p ∷ ps) = pending_work u p.pending + work_left u ps
 
--- both result in the same disjuncts, and the first takes less work
+-- both give the same disjuncts, and the first one takes less work
 pub record IsCloser {N S : Type 0} (u : Universe N S) (after before : List PartialDisjunct) : Type 0 where
   pub same : (lists : List (List VersionSetId)) → AreFinished u after lists → AreFinished u before lists
   pub less : work_left u after < work_left u before

@@ -14,7 +14,7 @@ literal_true values literal = beq (values literal.variable) literal.positive
 abbrev pub clause_true : (ℕ → Bool) → List Literal → Bool
 clause_true values clause = list_any (literal_true values) clause
 
--- the literals of the clause with this number, or none if there is no such clause
+-- the literals of the clause with this number, none if there is no such clause
 abbrev pub clause_at : List (Vec Literal Global) → ℕ → List Literal
 clause_at table number = option_map_or (λ (clause : Vec Literal Global). clause.items) (slice_get table number) []
 

@@ -1,4 +1,4 @@
--- What a search over clauses may end with.
+-- What the end of a search over clauses means.
 use Rattle.std.specs.Prelude.{◌≡◌, ◌⊎◌, ◌++◌, ◌∷◌, ◌<◌, ℕ, Bool, true, false, Some, None, List, length, Vec, All, Any, Contains}
 use Rattle.std.specs.Bool.{beq}
 use Rattle.std.specs.declared.alloc.Global.{Global}
@@ -18,7 +18,7 @@ IsFalsified trail clause = All (λ literal. literal_value trail literal ≡ Some
 abbrev pub IsSatisfied : Trail → List Literal → Type 0
 IsSatisfied trail clause = Any (λ literal. literal_value trail literal ≡ Some true) clause
 
--- the literal is false, and was so before this place
+-- the literal is false, and was already false before this place
 pub record IsFalseBefore (trail : Trail) (place : ℕ) (literal : Literal) : Type 0 where
   pub slot : Slot
   pub is : slot_of trail literal.variable ≡ Some slot
@@ -33,7 +33,7 @@ IsForcing trail place literal clause = All (λ other. (other ≡ literal) ⊎ Is
 abbrev pub IsImplied : List (Vec Literal Global) → List Literal → Type 0
 IsImplied clauses clause = (values : ℕ → Bool) → Satisfies values clauses → clause_true values clause ≡ true
 
--- the variable is true, and stands in the clause of a requirement behind literals that were all false before
+-- the variable is true, and in a requirement clause it comes after literals that were all false before
 pub record IsChosen (clauses : List (Vec Literal Global)) (requirements : List RequirementClause) (trail : Trail) (variable : ℕ) (slot : Slot) : Type 0 where
   pub requirement : RequirementClause
   pub listed : Contains requirements requirement
@@ -43,7 +43,7 @@ pub record IsChosen (clauses : List (Vec Literal Global)) (requirements : List R
   pub clause : clause_at clauses requirement.number ≡ before ++ record { variable = variable; positive = true } ∷ after
   pub false_before : All (IsFalseBefore trail slot.place) before
 
--- a clause that the clauses imply has forced the variable
+-- a clause that follows from the clauses has forced the variable
 pub record IsForced (clauses : List (Vec Literal Global)) (trail : Trail) (variable : ℕ) (slot : Slot) : Type 0 where
   pub clause : List Literal
   pub implied : IsImplied clauses clause
@@ -54,7 +54,7 @@ abbrev pub IsReasoned : List (Vec Literal Global) → List RequirementClause →
 IsReasoned clauses requirements trail variable slot =
     IsChosen clauses requirements trail variable slot ⊎ (IsForced clauses trail variable slot ⊎ (slot.reason ≡ Assumed))
 
--- the clause is not false, and where all its literals but one are false that one is true
+-- the clause is not false, and if all its literals but one are false, that one is true
 pub record IsPropagated (trail : Trail) (clause : List Literal) : Type 0 where
   pub not_false : IsFalsified trail clause → ⊥
   pub last : (literal : Literal) → Contains clause literal →

@@ -1,4 +1,4 @@
--- The queue of requirements that are to be decided.
+-- The queue of requirements to decide.
 use Rattle.std.specs.Prelude.{◌≡◌, ℕ, ◌<◌, ◌≤◌, ◌⊎◌, true, false, Some, List, [], length, Vec, Contains, slice_get, slice_index, slice_index_or}
 use Rattle.std.specs.Option.{option_map_or}
 use Rattle.std.specs.declared.alloc.Global.{Global}
@@ -11,7 +11,7 @@ use Rattle.resolver_clause_store.specs.TrailView.{length_of, literal_value, slot
 use Rattle.resolver_clause_store.specs.declared.lists.Lists.{Lists}
 use Rattle.resolver_clause_store.specs.declared.queue.DecideQueue.{DecideQueue}
 
--- the list with this number, and an empty one where there is none
+-- the list with this number, empty if there is none
 abbrev pub list_at : List (Vec ℕ Global) → ℕ → List ℕ
 list_at lists number = option_map_or (λ (list : Vec ℕ Global). list.items) (slice_get lists number) []
 
@@ -19,14 +19,16 @@ list_at lists number = option_map_or (λ (list : Vec ℕ Global). list.items) (s
 abbrev pub list_of : Lists → ℕ → List ℕ
 list_of it number = list_at it.lists.items number
 
--- The requirement with this index is put aside for a variable that its clause negates, and that is not true at a followed place.
+-- The requirement with this index is put aside for a variable that its clause negates, and that is not true at an
+-- unchanged place.
 pub record IsInactive (inactive : Lists) (trail : Trail) (kept : ℕ) (clause : List Literal) (index : ℕ) : Type 0 where
   pub variable : ℕ
   pub parked : Contains (list_of inactive variable) index
   pub asks : Contains clause (record { variable = variable; positive = false })
   pub not_true : (slot : Slot) → slot_of trail variable ≡ Some slot → slot.value ≡ true → kept ≤ slot.place
 
--- The requirement with this index has a candidate that was true when its place was followed, and is so if that place stayed.
+-- The requirement with this index has a candidate that was true when its place was followed, and is still true if that
+-- place is unchanged.
 pub record IsMetBy (met : Lists) (trail : Trail) (followed : List ℕ) (kept : ℕ) (clause : List Literal) (index : ℕ) : Type 0 where
   pub variable : ℕ
   pub parked : Contains (list_of met variable) index
@@ -36,25 +38,25 @@ pub record IsMetBy (met : Lists) (trail : Trail) (followed : List ℕ) (kept : �
   pub is : slice_index followed place ≡ variable
   pub true_there : place < kept → literal_value trail (record { variable = variable; positive = true }) ≡ Some true
 
--- The requirement with this index is to be looked at, or inactive, or met.
+-- The requirement with this index is active, inactive, or met.
 abbrev pub IsHeld : List ℕ → Lists → Lists → List ℕ → ℕ → Trail → List Literal → ℕ → Type 0
 IsHeld active inactive met followed kept trail clause index =
     Contains active index ⊎ (IsInactive inactive trail kept clause index ⊎ IsMetBy met trail followed kept clause index)
 
--- the first places of the trail were followed, and stayed
+-- the first `kept` places of the trail were followed, and are unchanged
 pub record IsFollowing (queue : DecideQueue) (trail : Trail) : Type 0 where
   pub followed : queue.kept ≤ length queue.followed.items
   pub reached : queue.kept ≤ length_of trail
   pub same : (place : ℕ) → place < queue.kept → slice_index queue.followed.items place ≡ variable_at trail place
 
--- the queue follows the trail, and each requirement has its place in it
+-- the queue follows the trail, and each requirement is in one of its lists
 pub record IsQueued (queue : DecideQueue) (trail : Trail) (table : List (Vec Literal Global)) (requirements : List StoredRequirement) : Type 0 where
   pub following : IsFollowing queue trail
   pub each : (index : ℕ) (d : StoredRequirement) → index < length requirements →
       IsHeld queue.active.items queue.inactive queue.met queue.followed.items queue.kept trail
       (clause_at table (slice_index_or requirements index d).number) index
 
--- whatever the trail and the requirements, the queue still follows the one and has places for the others
+-- for every trail and all requirements, the queue still follows the trail and has the requirements
 abbrev pub StaysQueued : DecideQueue → DecideQueue → Type 0
 StaysQueued old new = (trail : Trail) (table : List (Vec Literal Global)) (requirements : List StoredRequirement) → IsQueued old trail table requirements →
     IsQueued new trail table requirements

@@ -12,7 +12,8 @@ pub record Obeys {N S : Type 0} (set : List S) (rules : List (Rule N S)) : Type 
   pub each : (r : Rule N S) → Contains rules r → ObeysAlone set (statement_of r)
   pub one_each : (n : N) (s t : S) → Contains rules (OnePerPackage n s) → Contains rules (OnePerPackage n t) → Contains set s → Contains set t → s ≡ t
 
--- s is in the set, and is a candidate of a rule whose requirer is the root or needed, and whose lists all have members in the set
+-- s is in the set, and is a candidate of a rule whose requirer is the root or a needed solvable, and whose condition
+-- lists all have a member in the set
 pub data IsNeeded {N S : Type 0} (rules : List (Rule N S)) (set : List S) : S → Type 0 where
   by_root : {s : S} {requirement : Requirement} {candidates : Vec S Global} {when : Vec (Vec S Global) Global} →
       Contains rules (Requires Root requirement candidates when) → AllMeet set (lists_of when.items) → Contains candidates.items s → Contains set s →

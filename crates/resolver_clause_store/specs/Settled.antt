@@ -1,4 +1,4 @@
--- Clauses that leave nothing to set.
+-- Clauses that leave no literal to set.
 use Rattle.std.specs.Prelude.{◌≡◌, ◌≢◌, ℕ, ◌<◌, ◌⊎◌, None, List, length, Vec, Contains}
 use Rattle.std.specs.declared.alloc.Global.{Global}
 use Rattle.resolver_clause_store.specs.declared.literals.Literal.{Literal}
@@ -17,10 +17,10 @@ pub record IsOpen (trail : Trail) (clause : List Literal) : Type 0 where
   pub first_open : literal_value trail first ≡ None
   pub second_open : literal_value trail second ≡ None
 
--- no clause is false, and none has a last literal to set
+-- the clause is true, or has two literals without a value: it is not false, and forces nothing
 abbrev pub IsSettled : Trail → List Literal → Type 0
 IsSettled trail clause = IsSatisfied trail clause ⊎ IsOpen trail clause
 
--- each clause is true or has two literals with no value
+-- each clause is true or has two literals without a value
 abbrev pub AllSettled : Trail → List (Vec Literal Global) → Type 0
 AllSettled trail table = (number : ℕ) → number < length table → IsSettled trail (clause_at table number)

@@ -1,4 +1,4 @@
--- The slots of the variables against the list of the variables that have a value.
+-- The slots of variables, and the list of the variables that have a value.
 use Rattle.std.specs.Prelude.{◌≡◌, ℕ, ◌+◌, ◌<◌, ◌≤◌, Bool, true, false, List, length, slice_index, slice_index_or, Option, Some, None}
 use Rattle.std.specs.Option.{option_map}
 use Rattle.resolver_clause_store.specs.declared.trail.Slot.{Slot}
@@ -9,13 +9,13 @@ use Rattle.resolver_clause_store.specs.declared.trail.Reason.TheVariants.{Assume
 abbrev pub slot_in : List (Option Slot) → ℕ → Option Slot
 slot_in slots variable = slice_index_or slots variable None
 
--- whether the variable was decided, or assumed
+-- whether the variable was decided or assumed
 abbrev pub is_decided : Reason → Bool
 is_decided (Decided number) = true
 is_decided (Forced number) = false
 is_decided Assumed = true
 
--- the table of values has the value of each slot, and none where there is no slot
+-- the table has the value of each slot, and none for a variable without a slot
 pub record AreValues (values : List (Option Bool)) (slots : List (Option Slot)) : Type 0 where
   pub size : length slots ≤ length values
   pub each : (variable : ℕ) → slice_index_or values variable None ≡ option_map (λ (slot : Slot). slot.value) (slot_in slots variable)

@@ -1,4 +1,4 @@
--- What a trail says.
+-- The view of a trail.
 use Rattle.std.specs.Prelude.{◌≡◌, ◌≢◌, ℕ, ◌+◌, ◌-◌, ◌<◌, ◌≤◌, Bool, Option, Some, length, is_none, count_by, slice_index}
 use Rattle.std.specs.Option.{option_map, option_map_or}
 use Rattle.std.specs.Bool.{beq}
@@ -12,15 +12,15 @@ use Rattle.resolver_clause_store.specs.Slots.{slot_in}
 abbrev pub slot_of : Trail → ℕ → Option Slot
 slot_of trail variable = slot_in trail.slots.items variable
 
--- how many variables there are
+-- the number of variables
 abbrev pub variable_count : Trail → ℕ
 variable_count trail = length trail.slots.items
 
--- how many variables have a value
+-- the number of variables that have a value
 abbrev pub length_of : Trail → ℕ
 length_of trail = length trail.order.items
 
--- how many variables have no value
+-- the number of variables without a value
 abbrev pub open_count : Trail → ℕ
 open_count trail = count_by is_none trail.slots.items
 
@@ -28,11 +28,11 @@ open_count trail = count_by is_none trail.slots.items
 abbrev pub variable_at : Trail → ℕ → ℕ
 variable_at trail place = slice_index trail.order.items place
 
--- the place of a variable, if it has a value, and else 0
+-- the place of a variable, 0 if it has no value
 abbrev pub place_of : Trail → ℕ → ℕ
 place_of trail variable = option_map_or (λ (slot : Slot). slot.place) (slot_of trail variable) 0
 
--- the level at the trail's last place, and 0 where no variable has a value
+-- the level of the trail's last place, 0 if no variable has a value
 abbrev pub level_of : Trail → ℕ
 level_of trail = option_map_or (λ (slot : Slot). slot.level) (slot_of trail (variable_at trail (length_of trail - 1))) 0
 
@@ -48,12 +48,12 @@ IsTop trail level = (variable : ℕ) (slot : Slot) → slot_of trail variable �
 abbrev pub IsAbove : Trail → ℕ → Type 0
 IsAbove trail level = (variable : ℕ) (slot : Slot) → slot_of trail variable ≡ Some slot → slot.level < level
 
--- nothing that the trail says has changed
+-- nothing in the trail has changed
 pub record IsSame (old new : Trail) : Type 0 where
   pub slots : new.slots.items ≡ old.slots.items
   pub order : new.order.items ≡ old.order.items
 
--- the literal is true from now on, and nothing else has changed
+-- the literal is true now, and nothing else has changed
 pub record Gains (old new : Trail) (literal : Literal) (level : ℕ) (reason : Reason) : Type 0 where
   pub here : slot_of new literal.variable ≡ Some (record { value = literal.positive; level = level; place = length_of old; reason = reason })
   pub others : (variable : ℕ) → variable ≢ literal.variable → slot_of new variable ≡ slot_of old variable
@@ -61,20 +61,20 @@ pub record Gains (old new : Trail) (literal : Literal) (level : ℕ) (reason : R
   pub count : length_of new ≡ length_of old + 1
   pub fewer_open : open_count new + 1 ≡ open_count old
 
--- there are so many variables, and nothing else has changed: those that were not there have no value
+-- there are this many variables now, the new ones without a value, and nothing else has changed
 pub record IsGrown (old new : Trail) (variables : ℕ) : Type 0 where
   pub size : variable_count new ≡ variables
   pub slots : (variable : ℕ) → slot_of new variable ≡ slot_of old variable
   pub order : new.order.items ≡ old.order.items
 
--- the first places of the old trail are left, and no others
+-- exactly the first `count` places of the old trail are left
 pub record IsCut (old new : Trail) (count : ℕ) : Type 0 where
   pub size : variable_count new ≡ variable_count old
   pub length : length_of new ≡ count
   pub kept : (variable : ℕ) (slot : Slot) → slot_of old variable ≡ Some slot → slot.place < count → slot_of new variable ≡ Some slot
   pub stays : (variable : ℕ) (slot : Slot) → slot_of new variable ≡ Some slot → slot_of old variable ≡ Some slot
 
--- so many first places of the trail are as they were: each has its variable, and that its slot
+-- the first `count` places of the trail have not changed: each has its variable, with the same slot
 pub record KeepsPlaces (old new : Trail) (count : ℕ) : Type 0 where
   pub were : count ≤ length_of old
   pub are : count ≤ length_of new

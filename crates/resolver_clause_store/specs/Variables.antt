@@ -1,4 +1,4 @@
--- What a table of variables holds.
+-- The view of a table of variables.
 use Rattle.std.specs.Prelude.{◌≡◌, ◌≤◌, ◌^◌, ℕ, List, Some, length, slice_get}
 use Rattle.resolver_clause_store.specs.declared.kinds.Origin.{Origin}
 use Rattle.resolver_clause_store.specs.declared.variables.Variables.{Variables}
@@ -7,24 +7,24 @@ use Rattle.resolver_clause_store.specs.declared.variables.Variables.{Variables}
 abbrev pub origins_in : {N S : Type 0} → Variables N S → List (Origin N S)
 origins_in v = v.origins.keys
 
--- how many there may be
+-- the limit on the number of variables
 abbrev pub limit_in : {N S : Type 0} → Variables N S → ℕ
 limit_in v = v.limit
 
--- there are no more than there may be
+-- the number of variables is within its limit
 pub record IsBounded {N S : Type 0} (v : Variables N S) : Type 0 where
   pub bounded : length (origins_in v) ≤ limit_in v
   pub small : limit_in v ≤ 2 ^ 31
 
--- no two places hold the same
+-- no two places have the same element
 pub record AreDistinct {X : Type 0} (xs : List X) : Type 0 where
   pub same : (i k : ℕ) (x : X) → slice_get xs i ≡ Some x → slice_get xs k ≡ Some x → i ≡ k
 
--- each place keeps what stands there
+-- each place keeps its element
 pub record Keeps {X : Type 0} (old new : List X) : Type 0 where
   pub kept : (k : ℕ) (x : X) → slice_get old k ≡ Some x → slice_get new k ≡ Some x
 
--- there are as many as there may be, no two alike
+-- the number of variables, no two of them alike, is at its limit
 pub record IsFull {N S : Type 0} (v : Variables N S) : Type 0 where
   pub count : length (origins_in v) ≡ limit_in v
   pub distinct : AreDistinct (origins_in v)

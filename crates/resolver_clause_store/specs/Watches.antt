@@ -1,4 +1,4 @@
--- Which clauses watch which literals.
+-- The clauses that watch each literal.
 use Rattle.std.specs.Prelude.{◌≡◌, ◌≢◌, ◌⊎◌, ℕ, ◌+◌, ◌*◌, ◌<◌, ◌==◌, Bool, false, Option, Some, None, List, [], length, Vec, All, Contains, slice_get}
 use Rattle.std.specs.Prelude.{slice_index_or, count_by, if◌then◌else◌}
 use Rattle.std.specs.Bool.{beq}
@@ -9,15 +9,15 @@ use Rattle.resolver_clause_store.specs.Formula.{clause_at}
 use Rattle.resolver_clause_store.specs.declared.watches.Watch.{Watch}
 use Rattle.resolver_clause_store.specs.declared.watches.WatchedPair.{WatchedPair}
 
--- the place of a literal's list
+-- the number of a literal's list
 abbrev pub list_number : Literal → ℕ
 list_number literal = 2 * literal.variable + (if literal.positive then 1 else 0)
 
--- what stands in a list
+-- the content of a list
 abbrev pub list_at : List (Vec Watch Global) → ℕ → List Watch
 list_at lists list = option_map_or (λ (watches : Vec Watch Global). watches.items) (slice_get lists list) []
 
--- the number of the clause at a place of some list, and 0 where the list ends before it
+-- the number of the clause at a place of a list, 0 if the list ends before it
 abbrev pub number_at : List Watch → ℕ → ℕ
 number_at list place = option_map_or (λ (watch : Watch). watch.number) (slice_get list place) 0
 
@@ -25,7 +25,7 @@ number_at list place = option_map_or (λ (watch : Watch). watch.number) (slice_g
 abbrev pub unwatched : WatchedPair
 unwatched = record { first = None; second = None }
 
--- a clause that watches these two
+-- a clause that watches these two literals
 abbrev pub watched_pair : Literal → Literal → WatchedPair
 watched_pair first second = record { first = Some first; second = Some second }
 
@@ -33,7 +33,7 @@ watched_pair first second = record { first = Some first; second = Some second }
 abbrev pub pair_at : List WatchedPair → ℕ → WatchedPair
 pair_at pairs number = slice_index_or pairs number unwatched
 
--- whether two literals are one
+-- whether two literals are the same
 abbrev pub is_literal : Literal → Literal → Bool
 is_literal one other = if one.variable == other.variable then beq one.positive other.positive else false
 
@@ -41,27 +41,27 @@ is_literal one other = if one.variable == other.variable then beq one.positive o
 abbrev pub is_watched : Option Literal → Literal → Bool
 is_watched watched literal = option_map_or (λ (one : Literal). is_literal one literal) watched false
 
--- the pair with one literal in the place of another, which is its first one, or else its second one
+-- the pair with its first literal replaced if it is `from`, and otherwise its second one
 abbrev pub replaced : WatchedPair → Literal → Literal → WatchedPair
 replaced pair from to = if is_watched pair.first from then record { first = Some to; second = pair.second } else record { first = pair.first; second = Some to }
 
--- how often a clause stands in a list
+-- the number of times that a clause is in a list
 unfoldable pub entry_count : List (Vec Watch Global) → ℕ → ℕ → ℕ
 entry_count lists list number = count_by (λ (watch : Watch). watch.number == number) (list_at lists list)
 
--- 1 where the two are one, and else 0
+-- 1 if both are the same, and otherwise 0
 unfoldable pub same : ℕ → ℕ → ℕ
 same a b = if a == b then 1 else 0
 
--- 1 where there is a literal and its list is this one, and else 0
+-- 1 if there is a literal and this is its list, and otherwise 0
 unfoldable pub stands_in : Option Literal → ℕ → ℕ
 stands_in watched list = option_map_or (λ (literal : Literal). same (list_number literal) list) watched 0
 
--- how often a pair of literals wants its clause in a list
+-- the number of times that the clause of a pair has to be in a list
 unfoldable pub pair_count : WatchedPair → ℕ → ℕ
 pair_count pair list = stands_in pair.first list + stands_in pair.second list
 
--- each clause stands in the lists of the literals that it watches, once for each, and in no other list
+-- each clause is in the lists of the literals that it watches, once for each, and in no other list
 abbrev pub IsWatched : List (Vec Watch Global) → List WatchedPair → Type 0
 IsWatched lists pairs = (list number : ℕ) → entry_count lists list number ≡ pair_count (pair_at pairs number) list
 
@@ -77,7 +77,7 @@ HasBlockers table lists = (list : ℕ) → All (λ (watch : Watch). Contains (cl
 abbrev pub IsPair : WatchedPair → Literal → Literal → Type 0
 IsPair pair one other = (pair ≡ watched_pair one other) ⊎ (pair ≡ watched_pair other one)
 
--- what a clause watches, given two literals or none
+-- the literals that a clause watches, given two literals or none
 abbrev pub pair_from : Option (Literal × Literal) → WatchedPair
 pair_from pair = record { first = option_map (λ (two : Literal × Literal). two.0) pair; second = option_map (λ (two : Literal × Literal). two.1) pair }
 
@@ -88,7 +88,7 @@ pub record SameClauses (old new : List (Vec Watch Global)) : Type 0 where
   pub back : (list place : ℕ) (watch : Watch) → slice_get (list_at new list) place ≡ Some watch → (was : Watch) ×
       (slice_get (list_at old list) place ≡ Some was) × (was.number ≡ watch.number)
 
--- the clause with this number, which stood at a place of the list of one literal, watches another literal instead
+-- the clause with this number, which was at a place of the list of one literal, watches another literal instead
 pub record MovesWatch (old new : List (Vec Watch Global)) (before after : List WatchedPair) (from to : Literal) (place number : ℕ) : Type 0 where
   pub size : length new ≡ length old
   pub attached : length after ≡ length before
@@ -97,7 +97,7 @@ pub record MovesWatch (old new : List (Vec Watch Global)) (before after : List W
   pub shorter : length (list_at new (list_number from)) + 1 ≡ length (list_at old (list_number from))
   pub first : (k : ℕ) → k < place → slice_get (list_at new (list_number from)) k ≡ slice_get (list_at old (list_number from)) k
 
--- one list is another now
+-- one list was replaced
 pub record PutsList (old new : List (Vec Watch Global)) (list : ℕ) (watches : List Watch) : Type 0 where
   pub size : length new ≡ length old
   pub here : list_at new list ≡ watches

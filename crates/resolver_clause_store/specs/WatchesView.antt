@@ -7,7 +7,7 @@ use Rattle.resolver_clause_store.specs.declared.watches.WatchedPair.{WatchedPair
 use Rattle.resolver_clause_store.specs.declared.watches.Watches.{Watches}
 use Rattle.resolver_clause_store.specs.Watches.{list_number}
 
--- what the struct has
+-- the fields of the struct
 abbrev pub lists_of : Watches → List (Vec Watch Global)
 lists_of watches = watches.lists.items
 

@@ -34,7 +34,7 @@ impl<N: Copy + Eq + Hash + Drop, S: Copy + Eq + Hash + Drop> Cache<N, S> {
     ghost use Rattle.resolver_clause_store.specs.Caches.{HasCandidates, HasDependencies, HasMatching, HasNonMatching, HasSorted, IsAvailable, IsTrueCache};
     ghost use Rattle.resolver_clause_store.specs.Caches.{KeepsAnswers};
 
-    /// An empty cache.
+    /// Returns an empty cache.
     pub fn new(alloc: Global) -> Self
         ensures { (u : Universe N S) → IsTrueCache u result }
     {
@@ -48,7 +48,7 @@ impl<N: Copy + Eq + Hash + Drop, S: Copy + Eq + Hash + Drop> Cache<N, S> {
         }
     }
 
-    /// The allocator of the cache.
+    /// Returns the allocator of the cache.
     pub(crate) fn allocator(&self) -> Global {
         self.alloc
     }
@@ -73,7 +73,7 @@ impl<N: Copy + Eq + Hash + Drop, S: Copy + Eq + Hash + Drop> Cache<N, S> {
         Ok(())
     }
 
-    /// The candidates of a package, none if the provider does not know it.
+    /// Returns the candidates of a package, none if the provider does not know it.
     pub fn candidates(&self, name: N) -> &Candidates<S>
         requires names { IsIdentity N.eq }
         requires has { HasCandidates self.now name }
@@ -105,7 +105,7 @@ impl<N: Copy + Eq + Hash + Drop, S: Copy + Eq + Hash + Drop> Cache<N, S> {
         Ok(())
     }
 
-    /// The candidates in a version set.
+    /// Returns the candidates in a version set.
     pub fn matching(&self, version_set: VersionSetId) -> &[S]
         requires { HasMatching self.now version_set }
         ensures { (u : Universe N S) → IsTrueCache u self.now → result.now ≡ matching_in u version_set }
@@ -113,7 +113,7 @@ impl<N: Copy + Eq + Hash + Drop, S: Copy + Eq + Hash + Drop> Cache<N, S> {
         &self.matching[&version_set]
     }
 
-    /// Fetches the candidates of its package that are outside a version set.
+    /// Fetches the candidates outside a version set, of its package.
     pub fn fetch_non_matching<D: DependencyProvider<NameId = N, SolvableId = S>>(
         &mut self,
         provider: &D,
@@ -136,7 +136,7 @@ impl<N: Copy + Eq + Hash + Drop, S: Copy + Eq + Hash + Drop> Cache<N, S> {
         Ok(())
     }
 
-    /// The candidates of its package that are outside a version set.
+    /// Returns the candidates outside a version set, of its package.
     pub fn non_matching(&self, version_set: VersionSetId) -> &[S]
         requires { HasNonMatching self.now version_set }
         ensures { (u : Universe N S) → IsTrueCache u self.now → result.now ≡ others u version_set }
@@ -169,7 +169,7 @@ impl<N: Copy + Eq + Hash + Drop, S: Copy + Eq + Hash + Drop> Cache<N, S> {
         Ok(())
     }
 
-    /// The candidates in a version set, by preference, but with the favored one first.
+    /// Returns the candidates in a version set by preference, but with the favored one first.
     pub fn sorted(&self, version_set: VersionSetId) -> &[S]
         requires { HasSorted self.now version_set }
         ensures { (u : Universe N S) → IsTrueCache u self.now → result.now ≡ sorted_candidates u version_set }
@@ -197,7 +197,7 @@ impl<N: Copy + Eq + Hash + Drop, S: Copy + Eq + Hash + Drop> Cache<N, S> {
         Ok(())
     }
 
-    /// The dependencies of a solvable, or why they are unknown.
+    /// Returns the dependencies of a solvable, or the reason why they are unknown.
     pub fn dependencies(&self, solvable: S) -> &Dependencies
         requires solvables { IsIdentity S.eq }
         requires has { HasDependencies self.now solvable }
@@ -206,7 +206,7 @@ impl<N: Copy + Eq + Hash + Drop, S: Copy + Eq + Hash + Drop> Cache<N, S> {
         &self.dependencies[&solvable]
     }
 
-    /// Whether the dependencies of a solvable are available: fetched already, or hinted to be cheap.
+    /// Returns whether the dependencies of a solvable are available: fetched already, or hinted to be cheap.
     pub fn are_dependencies_available_for<D: DependencyProvider<NameId = N, SolvableId = S>>(
         &self,
         provider: &D,

@@ -12,14 +12,15 @@ use crate::ids::{ConditionId, VersionSetId};
 use crate::provider::Interner;
 use std::alloc::Global;
 
-/// An unfinished disjunct: the conditions still to be added to it, the next one last, and the version sets that it has.
+/// An unfinished disjunct: the conditions that are still to be added, the next one last, and the version sets that it
+/// has.
 #[derive(Drop)]
 struct Partial {
     pending: Vec<ConditionId>,
     chosen: Vec<VersionSetId>,
 }
 
-/// Takes one step on a condition of a disjunct, and pushes the one or two disjuncts that result.
+/// Resolves one condition of a disjunct by one step, and pushes the one or two disjuncts that result.
 fn put<I: Interner>(
     alloc: Global,
     interner: &I,
@@ -57,7 +58,9 @@ fn put<I: Interner>(
     }
 }
 
-/// The disjunctive normal form of a condition. The depth of the call stack does not depend on the condition.
+/// Converts a condition to disjunctive normal form.
+///
+/// The depth of the call stack does not depend on the condition.
 pub fn convert_conditions_to_dnf<I: Interner>(
     alloc: Global,
     interner: &I,

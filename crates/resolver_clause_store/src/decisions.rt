@@ -8,7 +8,7 @@ use crate::clauses::StoredRequirement;
 use crate::literals::Literal;
 use crate::trail::Trail;
 
-/// A candidate of a requirement that has none yet.
+/// A candidate that may be decided for a requirement that is not met.
 #[derive(Clone, Copy, PartialEq, Eq)]
 pub struct Choice {
     /// The number of the requirement's clause.
@@ -17,11 +17,12 @@ pub struct Choice {
     pub place: usize,
     /// Whether the requirement is one of the root.
     pub of_root: bool,
-    /// How many candidates of the same version set have no value.
+    /// The number of candidates of the same version set that have no value.
     pub count: usize,
 }
 
-/// The place behind the candidates of the version set whose candidate stands at this place, or the clause's end.
+/// Returns the place after the candidates of the version set to which the candidate at `place` belongs, or the clause's
+/// end.
 fn end_of(ends: &[usize], place: usize, length: usize) -> usize {
     'ends: for end in ends {
         if place < *end {
@@ -31,7 +32,7 @@ fn end_of(ends: &[usize], place: usize, length: usize) -> usize {
     length
 }
 
-/// How many literals have no value, from a place on up to another.
+/// Returns the number of literals without a value from one place up to but not including another.
 fn open_between(trail: &Trail, clause: &[Literal], from: usize, to: usize) -> usize
     requires { IsBelow (variable_count trail.now) clause.now }
 {
@@ -44,8 +45,9 @@ fn open_between(trail: &Trail, clause: &[Literal], from: usize, to: usize) -> us
     count
 }
 
-/// The choice of the candidate at a place of a requirement's clause, in which the candidates of each version set of a union end
-/// at these places.
+/// Returns the choice of the candidate at a place of a requirement clause.
+///
+/// `ends` has the place after the candidates of each version set of a union.
 pub fn choice_at(
     trail: &Trail,
     clause: &[Literal],

@@ -8,7 +8,7 @@ ghost use Rattle.resolver_clause_store.specs.Universe.{hint_of};
 use crate::data::HintDependenciesAvailable;
 use crate::sets::has;
 
-/// Whether a hint says that the dependencies of a solvable are cheap.
+/// Returns whether a hint says that the dependencies of a solvable are cheap.
 pub(crate) fn covers<S: Eq>(hint: &HintDependenciesAvailable<S>, solvable: &S) -> bool
     requires { IsIdentity S.eq }
     ensures { let covered = Covers (hint_of hint.now) solvable.now in MatchBool result covered (covered → ⊥) }

@@ -7,7 +7,7 @@ use crate::data::Exhausted;
 use indexmap::IndexSet;
 use std::hash::Hash;
 
-/// Whether `member` is in the set.
+/// Returns whether `member` is in the set.
 pub fn is_among<T: Eq + Hash>(set: &IndexSet<T>, member: &T) -> bool
     requires { IsIdentity T.eq }
     ensures { MatchBool result (Contains set.now.keys member.now) (Contains set.now.keys member.now → ⊥) }
@@ -15,7 +15,7 @@ pub fn is_among<T: Eq + Hash>(set: &IndexSet<T>, member: &T) -> bool
     set.contains(member)
 }
 
-/// The place of a member.
+/// Returns the place of a member, if it is in the set.
 pub fn place_of<T: Eq + Hash>(set: &IndexSet<T>, member: &T) -> Option<usize>
     requires { IsIdentity T.eq }
     ensures place { IfSome result (λ i. slice_get set.now.keys i ≡ Some member.now) }

@@ -10,11 +10,11 @@ pub enum Origin<N, S> {
     Solvable(S),
     /// A bit of the code that distinguishes the instances of a name.
     Bit { name: N, index: u32 },
-    /// Follows from each solvable that has the requirement without a condition.
+    /// Implied by each solvable that has the requirement without a condition.
     Gate(Requirement),
-    /// Follows from each candidate outside the version set of a constraint.
+    /// Implied by each candidate outside the version set of a constraint.
     ConstraintHelper(VersionSetId),
-    /// Follows from each candidate in the version set of a condition.
+    /// Implied by each candidate in the version set of a condition.
     ConditionHelper(VersionSetId),
 }
 
@@ -30,7 +30,7 @@ pub enum ClauseKind<N, S> {
         disjunct: Vec<VersionSetId>,
         requirement: Requirement,
     },
-    /// The helper follows from the candidate.
+    /// The candidate implies the helper.
     AnyOf {
         helper: Origin<N, S>,
         candidate: S,
@@ -45,7 +45,7 @@ pub enum ClauseKind<N, S> {
     GateRequires {
         requirement: Requirement,
     },
-    /// The helper of a constraint follows from a candidate outside the version set.
+    /// A candidate outside the version set implies the helper of a constraint.
     ConstrainsExcluded {
         candidate: S,
         version_set: VersionSetId,

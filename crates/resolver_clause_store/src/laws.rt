@@ -6,9 +6,10 @@ ghost use Rattle.resolver_clause_store.specs.Near.{IsNear, IsNext};
 ghost use Rattle.resolver_clause_store.specs.SoftRun.{SoftRun};
 ghost use Rattle.resolver_clause_store.specs.Universe.{Demands, Universe};
 
-/// The need closure of some seeds is the least set that has the seeds and all candidates of its active requirements,
-/// those of the root and of its members. Here a test stands for a set: the closure is within each test that has them
-/// all.
+/// The need closure of some seeds is the least set that has the seeds and all candidates of its active requirements.
+///
+/// Active requirements are those of the root and of the members. A test stands for a set: the closure is within each
+/// test that accepts the seeds and these candidates.
 pub fn the_need_closure_is_least_closed<N, S>()
     ensures seeds { (u : Universe N S) (root : Demands) (seeds : List S) (s : S) → Contains seeds s → IsNear u root seeds s }
     ensures closed { (u : Universe N S) (root : Demands) (seeds : List S) (s : S) → IsNext u root (IsNear u root seeds) s → IsNear u root seeds s }
@@ -16,9 +17,10 @@ pub fn the_need_closure_is_least_closed<N, S>()
         ((s : S) → IsNext u root (λ t. closed t ≡ true) s → closed s ≡ true) → (s : S) → IsNear u root seeds s → closed s ≡ true }
 {}
 
-/// The first choices are the least set that has the first choice of each of its active requirements that is no union,
-/// those of the root and of its members. Here a test stands for a set: the first choices are within each test that has
-/// them all.
+/// The first choices are the least set that has the first choice of each of its active requirements that is no union.
+///
+/// Active requirements are those of the root and of the members. A test stands for a set: the first choices are within
+/// each test that accepts these choices.
 pub fn first_choices_are_least_closed<N, S>()
     ensures closed { (u : Universe N S) (root : Demands) (s : S) → IsFirstNext u root (IsFirst u root) s → IsFirst u root s }
     ensures least { (u : Universe N S) (root : Demands) (closed : S → Bool) → ((s : S) → IsFirstNext u root (λ t. closed t ≡ true) s → closed s ≡ true) →

@@ -1,10 +1,10 @@
-//! Lists of numbers, by numbers.
+//! Numbered lists of numbers.
 
 ghost use Rattle.std.specs.Prelude.{◌≡◌, ◌≢◌, ◌≤◌, ◌+◌, ◌∷◌, ◌++◌, [], ℕ, OnOk, length};
 
 use std::alloc::{AllocError, Global};
 
-/// A list for each number, of which all but some are empty.
+/// A list for each number, which is empty until something is added to it.
 #[derive(Drop)]
 pub struct Lists {
     lists: Vec<Vec<u32>>,
@@ -13,7 +13,7 @@ pub struct Lists {
 impl Lists {
     ghost use Rattle.resolver_clause_store.specs.Queues.{list_of};
 
-    /// Empty lists.
+    /// Returns empty lists.
     pub fn new(alloc: Global) -> Self
         ensures { (number : ℕ) → list_of result number ≡ [] }
     {
@@ -22,7 +22,7 @@ impl Lists {
         }
     }
 
-    /// Makes room for the lists up to this one.
+    /// Makes room for the lists up to this number.
     fn reach(&mut self, number: usize) -> Result<(), AllocError>
         ensures same { (other : ℕ) → list_of self.new other ≡ list_of self.old other }
         ensures enough { OnOk result (number + 1 ≤ length self.new.lists.items) }
@@ -34,7 +34,7 @@ impl Lists {
         Ok(())
     }
 
-    /// The list with a number.
+    /// Returns the list with a number.
     pub fn at(&self, number: usize) -> &[u32]
         ensures { result.now ≡ list_of self.now number }
     {
@@ -44,7 +44,7 @@ impl Lists {
         }
     }
 
-    /// Puts an item behind the others of a list.
+    /// Appends an item to a list.
     pub fn add(&mut self, number: usize, item: u32) -> Result<(), AllocError>
         ensures here { OnOk result (list_of self.new number ≡ list_of self.old number ++ item ∷ []) }
         ensures others { OnOk result ((other : ℕ) → other ≢ number → list_of self.new other ≡ list_of self.old other) }
@@ -54,7 +54,7 @@ impl Lists {
         Ok(())
     }
 
-    /// Moves the items of a list behind those of another one.
+    /// Moves the items of a list to the end of another list.
     pub fn take(&mut self, number: usize, items: &mut Vec<u32>) -> Result<(), AllocError>
         ensures items { OnOk result (items.new.items ≡ items.old.items ++ list_of self.old number) }
         ensures here { OnOk result (list_of self.new number ≡ []) }

@@ -19,14 +19,14 @@ impl Model for Variable {
 }
 
 impl Variable {
-    /// The variable with this number.
+    /// Returns the variable with this number.
     pub fn new(index: u32) -> Self
         ensures { result ≡ index }
     {
         Variable { index }
     }
 
-    /// The variable's number, as an index into a table of the variables.
+    /// Returns the variable's number, as an index into a table of the variables.
     pub fn index(self) -> usize
         ensures { result ≡ self }
     {

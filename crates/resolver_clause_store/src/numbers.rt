@@ -4,7 +4,9 @@ ghost use Rattle.std.specs.Prelude.{◌≡◌, IfOk};
 
 use std::alloc::AllocError;
 
-/// A number in four bytes. One that does not fit is refused like want of memory: a list of so many items takes tens of gigabytes.
+/// Narrows a number to four bytes.
+///
+/// A number that does not fit is refused like lack of memory: a list with so many items takes tens of gigabytes.
 pub fn narrow(number: usize) -> Result<u32, AllocError>
     ensures { IfOk result (λ narrow. narrow ≡ number) }
 {

@@ -5,24 +5,24 @@ ghost use Rattle.std.specs.Prelude.{◌≡◌, IfOk, None, Some};
 use crate::numbers::narrow;
 use std::alloc::AllocError;
 
-/// The number of the package of a variable, where it stands for a solvable.
+/// The number of a variable's package, if the variable stands for a solvable.
 #[derive(Clone, Copy, PartialEq, Eq, PartialOrd, Ord)]
 pub struct Owner {
-    /// The package's number and one more, or 0 where the variable stands for no solvable.
+    /// The package's number plus one, or 0 if the variable stands for no solvable.
     place: u32,
 }
 
 impl Owner {
     ghost use Rattle.resolver_clause_store.specs.Owners.{package_of};
 
-    /// The owner of a variable that stands for no solvable.
+    /// Returns the owner of a variable that stands for no solvable.
     pub fn none() -> Self
         ensures { package_of result ≡ None }
     {
         Owner { place: 0 }
     }
 
-    /// The package with this number.
+    /// Returns the package with this number as an owner.
     pub fn package(number: usize) -> Result<Self, AllocError>
         ensures { IfOk result (λ owner. package_of owner ≡ Some number) }
     {
@@ -32,7 +32,7 @@ impl Owner {
         }
     }
 
-    /// The number of the package, if there is one.
+    /// Returns the number of the package, if there is one.
     pub fn number(self) -> Option<usize>
         ensures { result ≡ package_of self }
     {

@@ -14,24 +14,24 @@ use std::hash::Hash;
 /// Each `display` method appends to `out`. When it is refused, what `out` held stays, followed by whatever was already
 /// written.
 pub trait Interner {
-    /// Names a package.
+    /// The id of a package.
     type NameId: Copy + Eq + Ord + Hash + Drop;
 
-    /// Names a solvable: one version of a package.
+    /// The id of a solvable: one version of a package.
     type SolvableId: Copy + Eq + Ord + Hash + Drop;
 
-    /// What the ids mean. For packages and solvables that is up to the provider.
+    /// The meaning of the ids. For packages and solvables it is up to the provider.
     ghost universe: { Self → Universe Self.NameId Self.SolvableId };
 
-    /// The package of a solvable.
+    /// Returns the package of a solvable.
     fn solvable_name(&self, solvable: Self::SolvableId) -> Self::NameId
         ensures { result ≡ (universe self.now).name solvable };
 
-    /// The package of a version set.
+    /// Returns the package of a version set.
     fn version_set_name(&self, version_set: VersionSetId) -> Self::NameId
         ensures { result ≡ (universe self.now).version_set_name version_set };
 
-    /// The version sets of a union, in order.
+    /// Returns the version sets of a union, in order.
     fn version_sets_in_union(&self, version_set_union: VersionSetUnionId) -> &[VersionSetId]
         ensures { result.now ≡ (universe self.now).union_members version_set_union };
 
@@ -90,8 +90,9 @@ pub trait DependencyProvider: Interner {
     /// The values with which the provider may stop a search.
     ghost may_cancel: { Self → Self.Cancel → Type 0 };
 
-    /// The candidates of a package. `None` counts as a package without candidates, and so without locked, favored,
-    /// excluded or hinted ones.
+    /// Returns the candidates of a package.
+    ///
+    /// `None` counts as a package without candidates, and so without locked, favored, excluded or hinted ones.
     fn get_candidates(
         &self,
         name: Self::NameId,
@@ -99,12 +100,12 @@ pub trait DependencyProvider: Interner {
         ensures answer { IfOk result (λ answer. package_of answer ≡ (Self.universe self.now).package_named name) }
         ensures memory { IfErr result (λ e. e ≡ Exhausted.Memory) };
 
-    /// The requirements and constraints of a solvable, or why they are unknown.
+    /// Returns the requirements and constraints of a solvable, or the reason why they are unknown.
     fn get_dependencies(&self, solvable: Self::SolvableId) -> Result<Dependencies, Exhausted>
         ensures answer { IfOk result (λ answer. needs_of answer ≡ (Self.universe self.now).needs solvable) }
         ensures memory { IfErr result (λ e. e ≡ Exhausted.Memory) };
 
-    /// Keeps the candidates in the version set, or with `inverse` those outside it.
+    /// Returns the candidates in the version set, or with `inverse` those outside it.
     fn filter_candidates(
         &self,
         candidates: &[Self::SolvableId],
@@ -122,7 +123,7 @@ pub trait DependencyProvider: Interner {
         ensures sorted { OnOk result (candidates.new.items ≡ (Self.universe self.now).sorted_of candidates.old.items) }
         ensures memory { IfErr result (λ e. e ≡ Exhausted.Memory) };
 
-    /// A value to stop the search with, or `None` to let it go on. The result may change from call to call.
+    /// Returns a value to stop the search with, or `None` to let it go on. The result may change from call to call.
     fn should_cancel_with_value(&self) -> Option<Self::Cancel>
         ensures { IfSome result (may_cancel self.now) };
 

@@ -20,7 +20,7 @@ pub fn check_cancel<D: DependencyProvider>(provider: &D) -> Result<(), Interrupt
     }
 }
 
-/// An unknown package, without candidates.
+/// Returns the data of an unknown package, which has no candidates.
 fn unknown_package<S>(alloc: Global) -> Candidates<S>
     ensures { package_of (Some result) ≡ package_of None }
 {
@@ -62,7 +62,7 @@ pub(crate) fn fetch_dependencies<D: DependencyProvider>(
     Ok(answer)
 }
 
-/// The list with `first` in front, if the list has it.
+/// Returns the list with `first` in front, if the list has it.
 fn with_first<S: Copy + Eq + Drop>(alloc: Global, list: &[S], first: S) -> Result<Vec<S>, Exhausted>
     ensures value { IfOk result (λ moved. moved.items ≡ moved_to_front S.eq first list.now) }
     ensures memory { IfErr result (λ e. e ≡ Exhausted.Memory) }
@@ -80,7 +80,7 @@ fn with_first<S: Copy + Eq + Drop>(alloc: Global, list: &[S], first: S) -> Resul
     Ok(moved)
 }
 
-/// Copies the candidates, sorted by the provider, with the favored one in front if it is among them.
+/// Returns the candidates sorted by the provider, with the favored one in front if it is among them.
 pub(crate) fn sorted_favored_first<D: DependencyProvider>(
     alloc: Global,
     provider: &D,

@@ -1,4 +1,4 @@
-//! The queue of requirements that are to be decided.
+//! The queue of requirements to decide.
 
 ghost use Rattle.std.specs.Prelude.{◌<◌, ◌≡◌, ◌≤◌, ◌+◌, ◌++◌, ◌∷◌, [], All, IfNone, IfOk, IfSome, List, OnOk, Vec, false, length, min};
 ghost use Rattle.std.specs.Option.{option_map_or};
@@ -25,7 +25,7 @@ use crate::standing::{Standing, standing_of};
 use crate::trail::Trail;
 use std::alloc::{AllocError, Global};
 
-/// Whether a variable is true.
+/// Returns whether a variable is true.
 fn is_true(trail: &Trail, variable: Variable) -> bool
     requires { variable < variable_count trail.now }
     ensures { result ≡ option_map_or (λ (slot : Slot). slot.value) (slot_of trail.now variable) false }
@@ -36,31 +36,31 @@ fn is_true(trail: &Trail, variable: Variable) -> bool
     }
 }
 
-/// Requirements that are to be decided, and those that are put aside until that is so.
+/// The requirements that may be left to decide, and the others, which are put aside.
 ///
-/// Each requirement stands in one place. It is put aside while a variable that it depends on is not true, or while a candidate
-/// of it is true. The queue follows a trail: what was put aside comes back where a variable becomes true, or loses its value.
-/// So the requirements that are not put aside are all that may be left to decide.
+/// A requirement is put aside while a variable that it depends on is not true, or while one of its candidates is true.
+/// The queue follows a trail: when a variable becomes true or loses its value, the requirements that are put aside for
+/// it come back. So the requirements that are not put aside are all that may be left to decide.
 #[derive(Drop)]
 pub struct DecideQueue {
     /// The requirements that are not put aside.
     active: Vec<u32>,
-    /// Those put aside for a variable that is not true.
+    /// The requirements that are put aside for a variable that is not true, by that variable.
     inactive: Lists,
-    /// Those put aside for a candidate that is true.
+    /// The requirements that are put aside for a candidate that is true, by that candidate.
     met: Lists,
-    /// The variables at the places of the trail that were followed.
+    /// The variables of the trail's entries that were followed.
     followed: Vec<Variable>,
-    /// How many first places of the trail are as they were when they were followed.
+    /// The number of first entries that have not changed since they were followed.
     kept: usize,
-    /// Which active requirement comes first.
+    /// The order of the active requirements.
     ranks: Ranks,
 }
 
 impl DecideQueue {
     ghost use Rattle.resolver_clause_store.specs.Queues.{IsFollowed, IsFollowing, IsQueued, StaysQueued};
 
-    /// No requirements, and no place followed.
+    /// Returns a queue without requirements, which has followed no entry.
     pub fn new(alloc: Global, activity: Activity) -> Self
         ensures { (trail : Trail) (table : List (Vec Literal Global)) → IsQueued result trail table [] }
     {
@@ -74,7 +74,9 @@ impl DecideQueue {
         }
     }
 
-    /// Puts the requirement of a clause behind the others. The candidates of each version set of a union end at these places of it.
+    /// Appends the requirement of a clause.
+    ///
+    /// `ends` has the place after the candidates of each version set of a union.
     pub fn add(
         &mut self,
         index: usize,
@@ -92,7 +94,7 @@ impl DecideQueue {
         Ok(())
     }
 
-    /// Takes in the numbers of the packages of the variables behind those that are known.
+    /// Adds the packages of new variables.
     pub fn learn_owners(&mut self, owners: &[Owner]) -> Result<(), AllocError>
         ensures { OnOk result (StaysQueued self.old self.new) }
     {
@@ -100,7 +102,7 @@ impl DecideQueue {
         Ok(())
     }
 
-    /// Takes in a learnt clause: the scores of its packages grow, and all scores fade.
+    /// Raises the scores of a learnt clause's packages, and decays all scores.
     pub fn learn(&mut self, literals: &[Literal]) -> Result<(), AllocError>
         ensures { OnOk result (StaysQueued self.old self.new) }
     {
@@ -108,7 +110,7 @@ impl DecideQueue {
         Ok(())
     }
 
-    /// Notes that no more than the first places of the trail stayed.
+    /// Notes that at most the first `count` entries of the trail are unchanged.
     pub fn cut(&mut self, count: usize)
         ensures { (old new : Trail) (table : List (Vec Literal Global)) (requirements : List StoredRequirement) →
             KeepsPlaces old new (min self.old.kept count) → IsQueued self.old old table requirements → IsQueued self.new new table requirements }
@@ -116,7 +118,7 @@ impl DecideQueue {
         self.kept = self.kept.min(count);
     }
 
-    /// Takes back the last place that was followed, which did not stay.
+    /// Forgets the last followed entry, which has changed, and brings back the requirements that its variable met.
     fn forget_last(&mut self) -> Result<(), AllocError>
         requires { self.old.kept < length self.old.followed.items }
         ensures queued { OnOk result (StaysQueued self.old self.new) }
@@ -133,7 +135,7 @@ impl DecideQueue {
         }
     }
 
-    /// Takes back the places that were followed and did not stay.
+    /// Forgets the followed entries that have changed.
     fn forget(&mut self) -> Result<(), AllocError>
         requires { self.old.kept ≤ length self.old.followed.items }
         ensures queued { OnOk result (StaysQueued self.old self.new) }
@@ -146,7 +148,7 @@ impl DecideQueue {
         Ok(())
     }
 
-    /// Follows the next place of the trail.
+    /// Follows the next entry of the trail.
     fn follow_place(&mut self, trail: &Trail) -> Result<(), AllocError>
         requires all { length self.old.followed.items ≡ self.old.kept }
         requires inside { self.old.kept < length_of trail.now }
@@ -182,8 +184,8 @@ impl DecideQueue {
         Ok(())
     }
 
-    /// Looks at an active requirement, by its place among them. If it is to be decided, its candidate is answered. Else it is put
-    /// aside.
+    /// Looks at the active requirement at a place. Returns its candidate if it is to be decided, and puts it aside
+    /// otherwise.
     fn consider(
         &mut self,
         trail: &Trail,
@@ -231,8 +233,8 @@ impl DecideQueue {
         }
     }
 
-    /// The requirement that is decided next, with its candidate, or none where each requirement has a candidate or depends on
-    /// what is not true.
+    /// Returns the requirement that is decided next, with its candidate, and `None` if no requirement is left to
+    /// decide.
     pub fn next(
         &mut self,
         trail: &Trail,

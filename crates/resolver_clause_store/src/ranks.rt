@@ -19,16 +19,18 @@ use std::alloc::{AllocError, Global};
 use std::cmp::Reverse;
 use std::collections::{BinaryHeap, HashMap};
 
-/// What requirements are compared by, where their packages have the same score: those of the root come first, then those with
-/// fewer candidates in the version set that is tried, and then those that came first.
+/// The rank of a requirement among those whose packages have the same score.
+///
+/// Requirements of the root come first, then those with fewer candidates in the version set that is tried, and then
+/// those that were added first.
 #[derive(Clone, Copy, PartialEq, Eq, PartialOrd, Ord)]
 pub struct Rank {
     is_later: bool,
     count: u32,
     requirement: u32,
-    /// The package of that version set, where it is known.
+    /// The package of that version set, if it is known.
     owner: Owner,
-    /// How often the requirement had been ranked.
+    /// The number of times that the requirement had been ranked before.
     edition: u64,
 }
 
@@ -40,7 +42,7 @@ pub struct Scored {
 }
 
 impl Scored {
-    /// Whether it comes before another one.
+    /// Returns whether a rank comes before another one.
     fn is_before(&self, other: &Scored) -> bool {
         if self.rank.is_later != other.rank.is_later {
             return other.rank.is_later;
@@ -52,7 +54,7 @@ impl Scored {
     }
 }
 
-/// The one that comes first of those that are there.
+/// Returns the rank that comes first, of those that are there.
 fn first_of(one: Option<Scored>, other: Option<Scored>) -> Option<Scored> {
     match (one, other) {
         (Some(left), Some(right)) => {
@@ -66,21 +68,21 @@ fn first_of(one: Option<Scored>, other: Option<Scored>) -> Option<Scored> {
     }
 }
 
-/// What is known of a requirement: where it stands among the active ones, if it does, and its latest rank.
+/// What is known of a requirement: its place among the active ones, if it is active, and its latest rank.
 #[derive(Clone, Copy)]
 pub struct Entry {
     edition: u64,
     place: u32,
     is_changed: bool,
-    /// Whether it is a union.
+    /// Whether the requirement is a union.
     is_union: bool,
 }
 
 /// The ranks of active requirements.
 ///
-/// A requirement is ranked anew where a variable of a package that it asks for gets or loses its value, and where the score of
-/// such a package grows. Nothing is proved of the order, and nothing rests on it: whichever requirement comes out, the queue looks at
-/// it before it is decided.
+/// A requirement is ranked again when a variable of one of its packages gets or loses its value, and when the score of
+/// such a package grows. Nothing is proved of the order, and nothing depends on it: the queue looks at each requirement
+/// before it is decided.
 #[derive(Drop)]
 pub struct Ranks {
     /// The package of each variable.
@@ -88,23 +90,23 @@ pub struct Ranks {
     scores: Scores,
     learnt: u64,
     entries: Vec<Entry>,
-    /// For each requirement that is a union, the places in its clause behind the candidates of each version set.
+    /// For each requirement that is a union, the places in its clause after the candidates of each version set.
     ends: HashMap<u32, Vec<usize>>,
-    /// The requirements that have a candidate of a package, by its number.
+    /// The requirements that have a candidate of a package, by the package's number.
     asking: Lists,
-    /// The packages whose requirements are to be ranked anew.
+    /// The packages whose requirements have to be ranked again.
     touched: Vec<usize>,
     is_touched: Vec<bool>,
-    /// The requirements that are to be ranked anew.
+    /// The requirements that have to be ranked again.
     changed: Vec<u32>,
-    /// Ranks whose packages have a score, in no order.
+    /// The ranks whose packages have a score, in no order.
     scored: Vec<Rank>,
-    /// Ranks whose packages have none.
+    /// The ranks whose packages have no score.
     unscored: BinaryHeap<Reverse<Rank>>,
 }
 
 impl Ranks {
-    /// No requirements.
+    /// Returns no ranks.
     pub fn new(alloc: Global, activity: Activity) -> Self {
         Ranks {
             owners: Vec::new(alloc),
@@ -121,7 +123,7 @@ impl Ranks {
         }
     }
 
-    /// Takes in the packages of the variables behind those that are known.
+    /// Adds the packages of new variables.
     pub fn learn_owners(&mut self, owners: &[Owner]) -> Result<(), AllocError> {
         'variables: for variable in self.owners.len()..owners.len() {
             self.owners.push(owners[variable])?;
@@ -129,7 +131,7 @@ impl Ranks {
         Ok(())
     }
 
-    /// The package of a variable, where it is known.
+    /// Returns the package of a variable, if it is known.
     fn owner_of(&self, variable: Variable) -> Owner {
         match self.owners.get(variable.index()) {
             Some(owner) => *owner,
@@ -137,7 +139,9 @@ impl Ranks {
         }
     }
 
-    /// Adds the requirement of a clause behind the others. The candidates of each version set of a union end at these places of it.
+    /// Appends the requirement of a clause.
+    ///
+    /// `ends` has the place after the candidates of each version set of a union.
     pub fn add(&mut self, literals: &[Literal], ends: &[usize]) -> Result<(), AllocError> {
         let requirement = narrow(self.entries.len())?;
         self.entries.push(Entry {
@@ -154,7 +158,7 @@ impl Ranks {
         Ok(())
     }
 
-    /// Notes where the candidates of each version set of a requirement end, if it is a union.
+    /// Notes the places after the candidates of each version set of a requirement, if it is a union.
     fn note_ends(&mut self, requirement: u32, ends: &[usize]) -> Result<(), AllocError> {
         if ends.is_empty() {
             return Ok(());
@@ -164,7 +168,7 @@ impl Ranks {
         Ok(())
     }
 
-    /// For each version set of a requirement that is a union, the place in its clause behind the candidates.
+    /// Returns the places in a requirement's clause after the candidates of each version set, if it is a union.
     pub fn ends_of(&self, requirement: u32) -> &[usize] {
         if !self.is_union(requirement) {
             return &[];
@@ -175,7 +179,7 @@ impl Ranks {
         }
     }
 
-    /// Whether a requirement is a union.
+    /// Returns whether a requirement is a union.
     fn is_union(&self, requirement: u32) -> bool {
         match self.entries.get(requirement as usize) {
             Some(entry) => entry.is_union,
@@ -183,7 +187,7 @@ impl Ranks {
         }
     }
 
-    /// Notes the package of a literal of a requirement's clause, unless it is that of the candidate before.
+    /// Notes the package of a literal of a requirement's clause, unless the candidate before it has the same package.
     fn add_candidate(
         &mut self,
         requirement: u32,
@@ -206,7 +210,7 @@ impl Ranks {
         }
     }
 
-    /// Notes that the score of a package grew, or that a variable of it got or lost its value.
+    /// Notes that the score of a package grew, or that one of its variables got or lost its value.
     fn touch_package(&mut self, number: usize) -> Result<(), AllocError> {
         'packages: while self.is_touched.len() <= number {
             self.is_touched.push(false)?;
@@ -230,7 +234,7 @@ impl Ranks {
         }
     }
 
-    /// Adds to the score of the package of a variable.
+    /// Raises the score of a variable's package.
     fn score_up(&mut self, variable: Variable) -> Result<(), AllocError> {
         match self.owner_of(variable).number() {
             Some(number) => {
@@ -242,7 +246,7 @@ impl Ranks {
         }
     }
 
-    /// Takes in a learnt clause: each solvable in it adds to the score of its package, and then all scores fade.
+    /// Raises the score of the package of each solvable in a learnt clause, and then decays all scores.
     pub fn learn(&mut self, literals: &[Literal]) -> Result<(), AllocError> {
         'literals: for literal in literals {
             self.score_up(literal.variable)?;
@@ -251,7 +255,7 @@ impl Ranks {
         Ok(())
     }
 
-    /// Puts a requirement among those that are to be ranked anew.
+    /// Notes that a requirement has to be ranked again.
     fn change(&mut self, requirement: u32) -> Result<(), AllocError> {
         let index = requirement as usize;
         if index >= self.entries.len() || self.entries[index].is_changed {
@@ -262,7 +266,7 @@ impl Ranks {
         Ok(())
     }
 
-    /// Notes where a requirement stands that became active.
+    /// Notes the place of a requirement that became active.
     fn enter_at(&mut self, requirement: u32, place: usize) -> Result<(), AllocError> {
         let place = narrow(place)?;
         let index = requirement as usize;
@@ -273,7 +277,7 @@ impl Ranks {
         Ok(())
     }
 
-    /// Notes where the active requirements from a place on stand. Each of these places fits in four bytes.
+    /// Notes the places of the active requirements from a place on. Each of these places fits in four bytes.
     pub fn enter(&mut self, active: &[u32], from: usize) -> Result<(), AllocError> {
         'places: for place in from..active.len() {
             self.enter_at(active[place], place)?;
@@ -281,7 +285,8 @@ impl Ranks {
         Ok(())
     }
 
-    /// Notes that another active requirement, if one, stands now at a place. It stood at a later one.
+    /// Notes that a requirement left a place, which another active requirement may now have. That one came from a later
+    /// place.
     pub fn leave(&mut self, active: &[u32], place: usize) {
         if place >= active.len() || active[place] as usize >= self.entries.len() {
             return;
@@ -291,7 +296,7 @@ impl Ranks {
         }
     }
 
-    /// The place of a requirement, if it is active.
+    /// Returns the place of a requirement, if it is active.
     fn place_of(&self, active: &[u32], requirement: u32) -> Option<usize>
         ensures { IfSome result (λ place. place < length active.now) }
     {
@@ -307,7 +312,7 @@ impl Ranks {
         }
     }
 
-    /// Puts the active ones of the requirements that ask for a package among those that are to be ranked anew.
+    /// Notes that the active requirements of a package have to be ranked again.
     fn spread_package(&mut self, active: &[u32], number: usize) -> Result<(), AllocError> {
         if number < self.is_touched.len() {
             self.is_touched[number] = false;
@@ -318,7 +323,7 @@ impl Ranks {
         Ok(())
     }
 
-    /// Puts one of the requirements that ask for a package among those that are to be ranked anew, if it is active.
+    /// Notes that one of the requirements of a package has to be ranked again, if it is active.
     fn spread_at(&mut self, active: &[u32], number: usize, index: usize) -> Result<(), AllocError> {
         match self.asking.at(number).get(index) {
             Some(requirement) => {
@@ -332,7 +337,7 @@ impl Ranks {
         }
     }
 
-    /// Puts the requirements that ask for touched packages among those that are to be ranked anew.
+    /// Notes that the requirements of touched packages have to be ranked again.
     fn spread(&mut self, active: &[u32]) -> Result<(), AllocError> {
         'packages: for _ in 0..self.touched.len() {
             match self.touched.pop() {
@@ -355,7 +360,7 @@ impl Ranks {
         Ok(())
     }
 
-    /// Puts a rank where it belongs.
+    /// Adds a rank to those with or without a score.
     fn put(&mut self, rank: Rank) -> Result<(), AllocError>
         ensures changed { self.new.changed.items ≡ self.old.changed.items }
     {
@@ -367,7 +372,7 @@ impl Ranks {
         Ok(())
     }
 
-    /// The score of the package of a rank.
+    /// Returns the score of the package of a rank.
     fn current_score(&mut self, rank: &Rank) -> u64
         ensures changed { self.new.changed.items ≡ self.old.changed.items }
         ensures scored { self.new.scored.items ≡ self.old.scored.items }
@@ -378,7 +383,7 @@ impl Ranks {
         }
     }
 
-    /// Ranks a requirement anew. If it is active and there is nothing to decide for it, its place is answered.
+    /// Ranks a requirement again. If it is active and there is nothing to decide for it, its place is returned.
     fn rank(
         &mut self,
         active: &[u32],
@@ -425,7 +430,7 @@ impl Ranks {
         }
     }
 
-    /// Whether a rank is the latest one of an active requirement.
+    /// Returns whether a rank is the latest one of an active requirement.
     fn is_current(&self, active: &[u32], rank: &Rank) -> bool {
         if self.place_of(active, rank.requirement).is_none() {
             return false;
@@ -436,7 +441,8 @@ impl Ranks {
         }
     }
 
-    /// The rank at a place of those whose packages had a score. If it is old, or its package has none any more, it is taken away.
+    /// Returns the rank at a place of those whose packages had a score. It is removed if it is old, or if its package
+    /// has none any more.
     fn scored_at(&mut self, active: &[u32], index: usize) -> Result<Option<Scored>, AllocError>
         requires { index < length self.old.scored.items }
         ensures some { IfOk result (λ answer. IfSome answer (λ scored. length self.new.scored.items ≡ length self.old.scored.items)) }
@@ -455,7 +461,7 @@ impl Ranks {
         Ok(None)
     }
 
-    /// The first of the ranks whose packages have a score.
+    /// Returns the first of the ranks whose packages have a score.
     fn first_scored(&mut self, active: &[u32]) -> Result<Option<Scored>, AllocError> {
         let mut first = None;
         let mut index = 0;
@@ -469,7 +475,7 @@ impl Ranks {
         Ok(first)
     }
 
-    /// The first of the ranks whose packages have no score. Old ones before it are taken away.
+    /// Returns the first of the ranks whose packages have no score, and removes old ones before it.
     fn first_unscored(&mut self, active: &[u32]) -> Option<Scored> {
         'ranks: for _ in 0..self.unscored.len() {
             match self.unscored.peek() {
@@ -486,7 +492,7 @@ impl Ranks {
         None
     }
 
-    /// The place of the requirement whose rank comes first.
+    /// Returns the place of the requirement whose rank comes first.
     fn first_place(&mut self, active: &[u32]) -> Result<Option<usize>, AllocError>
         ensures { IfOk result (λ answer. IfSome answer (λ place. place < length active.now)) }
     {
@@ -498,7 +504,8 @@ impl Ranks {
         }
     }
 
-    /// The place of an active requirement to look at: one for which there is nothing to decide, or else the one that is decided first.
+    /// Returns the place of the active requirement to look at next: one for which there is nothing to decide, or else
+    /// the first one by rank.
     pub fn best(
         &mut self,
         active: &[u32],

@@ -14,8 +14,9 @@ use crate::provider::{DependencyProvider, Interner};
 use indexmap::IndexSet;
 use std::hash::Hash;
 
-/// The candidates of a requirement, in the order in which they are to be tried. A candidate of several version sets of
-/// a union keeps its first place.
+/// Returns the candidates of a requirement, in the order in which they are to be tried.
+///
+/// A candidate of several version sets of a union keeps its first place.
 pub fn requirement_candidates<D: DependencyProvider>(
     cache: &mut Cache<D::NameId, D::SolvableId>,
     provider: &D,
@@ -39,7 +40,7 @@ pub fn requirement_candidates<D: DependencyProvider>(
     }
 }
 
-/// The candidates of the version sets of a union, in order and without repeats.
+/// Returns the candidates of the version sets of a union, in order and without repeats.
 fn union_candidates<D: DependencyProvider>(
     cache: &mut Cache<D::NameId, D::SolvableId>,
     provider: &D,

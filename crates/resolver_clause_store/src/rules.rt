@@ -65,9 +65,9 @@ fn copy_lists<S: Copy + Drop>(lists: &Vec<Vec<S>>) -> Result<Vec<Vec<S>>, AllocE
 }
 
 impl<N: Copy, S: Copy + Drop> Rule<N, S> {
-    /// A copy that states the same.
+    /// Returns a copy that states the same.
     ///
-    /// The error is [`Exhausted::Memory`] alone.
+    /// The error is always [`Exhausted::Memory`].
     pub fn clone(&self) -> Result<Rule<N, S>, Exhausted>
         ensures same { IfOk result (λ copy. StatesTheSame self.now copy) }
         ensures memory { IfErr result (λ e. e ≡ Exhausted.Memory) }

@@ -6,17 +6,17 @@ ghost use Rattle.resolver_clause_store.specs.declared.scores.Scores.{Scores as A
 
 use std::alloc::{AllocError, Global};
 
-/// How scores grow and decay.
+/// The parameters by which scores grow and decay.
 #[derive(Clone, Copy)]
 pub struct Activity {
-    /// What a solvable in a learnt clause adds to the score of its package.
+    /// The amount that a solvable in a learnt clause adds to the score of its package.
     pub add: u64,
-    /// How many millionths of each score are left after a learnt clause.
+    /// The millionths of each score that are left after a learnt clause.
     pub decay: u64,
 }
 
 impl Activity {
-    /// Scores in millionths, which lose a twentieth with each learnt clause.
+    /// Returns the standard parameters: scores in millionths, which lose a twentieth with each learnt clause.
     pub fn standard() -> Self
         ensures add { result.add ≡ 1000000 }
         ensures decay { result.decay ≡ 950000 }
@@ -28,14 +28,14 @@ impl Activity {
     }
 }
 
-/// What is left of a score after a learnt clause.
+/// Returns what is left of a score after a learnt clause.
 pub fn decayed(score: u64, decay: u64) -> u64
     ensures { result ≡ after_decay decay score }
 {
     score.saturating_mul(decay) / 1_000_000
 }
 
-/// What is left of a score after `times` learnt clauses.
+/// Returns what is left of a score after `times` learnt clauses.
 pub fn decayed_often(score: u64, decay: u64, times: u64) -> u64
     ensures { result ≡ after_decays decay times score }
 {
@@ -50,7 +50,7 @@ pub fn decayed_often(score: u64, decay: u64, times: u64) -> u64
     left
 }
 
-/// A score, and how many clauses were learnt when it had this value.
+/// A score, and the number of learnt clauses when it had this value.
 #[derive(Clone, Copy)]
 pub struct Score {
     value: u64,
@@ -67,7 +67,7 @@ pub struct Scores {
 }
 
 impl Scores {
-    /// Each score is 0.
+    /// Returns scores of 0.
     pub fn new(alloc: Global, activity: Activity) -> Self
         ensures { (number learnt : ℕ) → score_in result number learnt ≡ 0 }
     {
@@ -77,7 +77,7 @@ impl Scores {
         }
     }
 
-    /// The stored score of a package.
+    /// Returns the stored score of a package.
     fn kept(&self, number: usize) -> Score
         ensures { result ≡ kept_score self.now.scores.items number }
     {
@@ -90,7 +90,7 @@ impl Scores {
         }
     }
 
-    /// The score of a package after `learnt` learnt clauses.
+    /// Returns the score of a package after `learnt` learnt clauses.
     pub fn of(&self, number: usize, learnt: u64) -> u64
         ensures { result ≡ score_in self.now number learnt }
     {
@@ -102,7 +102,7 @@ impl Scores {
         )
     }
 
-    /// The score of a package after `learnt` learnt clauses, which is stored.
+    /// Returns the score of a package after `learnt` learnt clauses, and stores it.
     pub fn read(&mut self, number: usize, learnt: u64) -> u64
         ensures value { result ≡ score_in self.old number learnt }
         ensures same { kept_at self.old number ≤ learnt → (other later : ℕ) → learnt ≤ later → score_in self.new other later ≡ score_in self.old other later }
@@ -124,7 +124,7 @@ impl Scores {
         self.scores[number] = score;
     }
 
-    /// Makes scores of 0 for all packages up to this one that have none.
+    /// Stores a score of 0 for each package up to this one that has none.
     fn reach(&mut self, number: usize) -> Result<(), AllocError>
         ensures same { (other : ℕ) → kept_score self.new.scores.items other ≡ kept_score self.old.scores.items other }
         ensures activity { self.new.activity ≡ self.old.activity }
@@ -154,6 +154,8 @@ impl Scores {
 }
 
 /// A score that is read one learnt clause later has decayed once more.
+///
+/// The call does nothing: its contract is the law.
 pub fn scores_fade()
     ensures { (scores : AllScores) (number learnt : ℕ) → (kept_score scores.scores.items number).learnt ≤ learnt →
         score_in scores number (suc learnt) ≡ after_decay scores.activity.decay (score_in scores number learnt) }

@@ -20,7 +20,7 @@ pub enum Standing {
     Open(usize),
 }
 
-/// The state of a clause's requirement.
+/// Returns the state of a clause's requirement.
 pub fn standing_of(trail: &Trail, clause: &[Literal]) -> Standing
     requires below { IsBelow (variable_count trail.now) clause.now }
     requires settled { IsSettled trail.now clause.now }

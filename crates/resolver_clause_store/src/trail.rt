@@ -1,4 +1,4 @@
-//! The variables that have a value, in the order in which they got it.
+//! The trail: the variables that have a value, in the order in which they got it.
 
 ghost use Rattle.std.specs.Prelude.{◌<◌, ◌≡◌, ◌≤◌, ℕ, IfOk, MatchBool, None, OnErr, OnOk, Some};
 ghost use Rattle.resolver_clause_store.specs.Slots.{AreCounted, AreRising, AreValues, IsListed, IsPlaced};
@@ -12,13 +12,13 @@ use std::alloc::{AllocError, Global};
 pub enum Reason {
     /// It was decided for the requirement clause with this number.
     Decided(u32),
-    /// The clause with this number forced it: the other literals were false before.
+    /// It was forced by the clause with this number, whose other literals were false before.
     Forced(u32),
-    /// It was assumed: a soft requirement that is tried or was accepted, or one that was refused.
+    /// It was assumed: a soft requirement that is being tried, was accepted, or was refused.
     Assumed,
 }
 
-/// The value of a variable, the level and the place of the trail at which it got it, and why.
+/// The value of a variable, the reason for it, and the level and the place of its entry on the trail.
 #[derive(Clone, Copy, PartialEq, Eq)]
 pub struct Slot {
     pub value: bool,
@@ -27,11 +27,12 @@ pub struct Slot {
     pub reason: Reason,
 }
 
-/// The variables in the order in which they got their values, and a slot for each variable.
+/// The variables in the order in which they got their values, with a slot for each variable.
 ///
-/// The values stand in a small table besides, since most looks are for the value, and slots are wide.
+/// The values are also in a table of their own: most look-ups want only the value, and slots are wide.
 ///
-/// Levels count from 0. They never fall from place to place. A decision begins a level, and so does an assumption.
+/// Decision levels count from 0, and never fall from place to place. A decision begins a level, and so does an
+/// assumption.
 #[derive(Drop)]
 pub struct Trail {
     slots: Vec<Option<Slot>>,
@@ -52,7 +53,7 @@ impl Trail {
     ghost use Rattle.resolver_clause_store.specs.TrailView.{Gains, IsAbove, IsCut, IsGrown, IsSame, IsTop, IsUndone, length_of, level_of};
     ghost use Rattle.resolver_clause_store.specs.TrailView.{literal_value, slot_of, variable_at, variable_count};
 
-    /// A trail of no variables.
+    /// Returns a trail without variables.
     pub fn empty(alloc: Global) -> Self
         ensures size { variable_count result ≡ 0 }
         ensures none { (variable : ℕ) → slot_of result variable ≡ None }
@@ -64,7 +65,7 @@ impl Trail {
         }
     }
 
-    /// A trail of this many variables, none of which has a value.
+    /// Returns a trail of this many variables, none of which has a value.
     pub fn new(alloc: Global, variables: usize) -> Result<Self, AllocError>
         ensures size { IfOk result (λ trail. variable_count trail ≡ variables) }
         ensures none { IfOk result (λ trail. (variable : ℕ) → slot_of trail variable ≡ None) }
@@ -74,28 +75,28 @@ impl Trail {
         Ok(trail)
     }
 
-    /// How many variables there are, with a value or without.
+    /// Returns the number of variables, with a value or without.
     pub fn variable_count(&self) -> usize
         ensures { result ≡ variable_count self.now }
     {
         self.slots.len()
     }
 
-    /// How many variables have a value.
+    /// Returns the number of variables that have a value.
     pub fn len(&self) -> usize
         ensures { result ≡ length_of self.now }
     {
         self.order.len()
     }
 
-    /// Whether no variable has a value.
+    /// Returns whether no variable has a value.
     pub fn is_empty(&self) -> bool
         ensures { MatchBool result (length_of self.now ≡ 0) (0 < length_of self.now) }
     {
         self.order.is_empty()
     }
 
-    /// The slot of a variable, if it has a value.
+    /// Returns the slot of a variable, if it has a value.
     pub fn slot(&self, variable: Variable) -> Option<Slot>
         requires { variable < variable_count self.now }
         ensures { result ≡ slot_of self.now variable }
@@ -103,7 +104,7 @@ impl Trail {
         self.slots[variable.index()]
     }
 
-    /// Whether a literal is true, if its variable has a value.
+    /// Returns whether a literal is true, if its variable has a value.
     pub fn value(&self, literal: Literal) -> Option<bool>
         requires { literal.variable < variable_count self.now }
         ensures { result ≡ literal_value self.now literal }
@@ -114,7 +115,7 @@ impl Trail {
         }
     }
 
-    /// The variable at a place.
+    /// Returns the variable at a place.
     pub fn variable_at(&self, place: usize) -> Variable
         requires { place < length_of self.now }
         ensures value { result ≡ variable_at self.now place }
@@ -124,7 +125,7 @@ impl Trail {
         self.order[place]
     }
 
-    /// The highest level, which is the one at the last place; 0 where no variable has a value.
+    /// Returns the highest level, which is that of the last place, or 0 if no variable has a value.
     pub fn level(&self) -> usize
         ensures value { result ≡ level_of self.now }
         ensures top { IsTop self.now result }
@@ -140,7 +141,7 @@ impl Trail {
         }
     }
 
-    /// Makes a literal true whose variable has no value, at the highest level or above it.
+    /// Makes a literal true whose variable has no value, at the highest level or at a new one above it.
     pub fn assign(
         &mut self,
         literal: Literal,
@@ -180,7 +181,7 @@ impl Trail {
         Ok(())
     }
 
-    /// Makes a literal true at the highest level whose variable has no value, forced by the clause with this number.
+    /// Makes a literal true whose variable has no value, at the highest level, forced by the clause with this number.
     pub fn force(&mut self, literal: Literal, number: usize) -> Result<(), AllocError>
         requires inside { literal.variable < variable_count self.old }
         requires free { slot_of self.old literal.variable ≡ None }
@@ -192,7 +193,7 @@ impl Trail {
         Ok(())
     }
 
-    /// Begins a level with a literal whose variable has no value, assumed for no clause.
+    /// Begins a level with a literal whose variable has no value, as an assumption.
     pub fn assume(&mut self, literal: Literal) -> Result<(), AllocError>
         requires inside { literal.variable < variable_count self.old }
         requires free { slot_of self.old literal.variable ≡ None }
@@ -215,7 +216,7 @@ impl Trail {
         Ok(())
     }
 
-    /// Takes the value at the last place away.
+    /// Takes back the value at the last place.
     pub fn undo_last(&mut self)
         requires { 0 < length_of self.old }
         ensures { IsCut self.old self.new (length_of self.old - 1) }
@@ -226,7 +227,7 @@ impl Trail {
         }
     }
 
-    /// Takes the values behind the first places away.
+    /// Takes back the values after the first `count` places.
     pub fn cut(&mut self, count: usize)
         requires { count ≤ length_of self.old }
         ensures { IsCut self.old self.new count }
@@ -236,7 +237,7 @@ impl Trail {
         }
     }
 
-    /// Takes the values of the levels above this one away.
+    /// Takes back the values of all levels above this one.
     pub fn undo_until(&mut self, level: usize)
         ensures { IsUndone self.old self.new level }
     {

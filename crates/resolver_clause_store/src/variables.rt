@@ -1,4 +1,4 @@
-//! The variables, and what they stand for.
+//! The variables and their origins.
 
 ghost use Rattle.std.specs.Prelude.{Contains, ◌≡◌, ◌<◌, ◌≤◌, ◌^◌, ◌⊎◌, [], ◌∷◌, ◌++◌, Some, IfErr, IfOk, OnErr, length, slice_get, take};
 ghost use Rattle.resolver_clause_store.specs.Laws.{IsIdentity};
@@ -11,7 +11,7 @@ use indexmap::IndexSet;
 use std::alloc::Global;
 use std::hash::Hash;
 
-/// What each variable stands for, by number. No two stand for the same.
+/// The origin of each variable, by number. No two variables have the same origin.
 #[derive(Drop)]
 pub struct Variables<N: Copy + Eq + Hash + Drop, S: Copy + Eq + Hash + Drop> {
     origins: IndexSet<Origin<N, S>>,
@@ -21,7 +21,7 @@ pub struct Variables<N: Copy + Eq + Hash + Drop, S: Copy + Eq + Hash + Drop> {
 impl<N: Copy + Eq + Hash + Drop, S: Copy + Eq + Hash + Drop> Variables<N, S> {
     ghost use Rattle.resolver_clause_store.specs.Variables.{AreDistinct, IsBounded, IsFull, Keeps, limit_in, origins_in};
 
-    /// No variables yet. The limit is at most 2147483648.
+    /// Creates an empty table. The limit is at most 2147483648.
     pub fn new(alloc: Global, limit: usize) -> Self
         requires { limit ≤ 2 ^ 31 }
         ensures bounded { IsBounded result }
@@ -34,14 +34,14 @@ impl<N: Copy + Eq + Hash + Drop, S: Copy + Eq + Hash + Drop> Variables<N, S> {
         }
     }
 
-    /// The number of variables.
+    /// Returns the number of variables.
     pub fn len(&self) -> usize
         ensures { result ≡ length (origins_in self.now) }
     {
         self.origins.len()
     }
 
-    /// What a variable stands for, or `None` if there is no such variable.
+    /// Returns the origin of a variable, or `None` if there is no such variable.
     pub fn origin(&self, variable: Variable) -> Option<Origin<N, S>>
         ensures { result ≡ slice_get (origins_in self.now) variable }
     {
@@ -56,10 +56,10 @@ impl<N: Copy + Eq + Hash + Drop, S: Copy + Eq + Hash + Drop> Variables<N, S> {
         self.origins.truncate(length);
     }
 
-    /// The variable of an origin, which is made if it does not exist yet.
+    /// Returns the variable of an origin, and creates it if it does not exist yet.
     ///
-    /// The error is `Ids` if a new variable is needed and there are as many as the limit allows. After any refusal
-    /// nothing has changed.
+    /// The error is `Ids` if a new variable is needed and there are as many as the limit allows. An error changes
+    /// nothing.
     pub fn intern(&mut self, origin: Origin<N, S>) -> Result<Variable, Exhausted>
         requires names { IsIdentity N.eq }
         requires solvables { IsIdentity S.eq }
@@ -79,7 +79,7 @@ impl<N: Copy + Eq + Hash + Drop, S: Copy + Eq + Hash + Drop> Variables<N, S> {
         }
     }
 
-    /// A new variable.
+    /// Creates a variable.
     fn allocate(&mut self, origin: Origin<N, S>) -> Result<Variable, Exhausted>
         requires names { IsIdentity N.eq }
         requires solvables { IsIdentity S.eq }

@@ -1,4 +1,4 @@
-//! Which clauses watch which literals.
+//! The clauses that watch each literal.
 
 ghost use Rattle.std.specs.Prelude.{◌≡◌, ◌≢◌, ℕ, ◌+◌, ◌*◌, ◌<◌, ◌≤◌, ◌++◌, ◌∷◌, [], List, OnErr, OnOk, Some, Vec, length, slice_get, slice_set};
 ghost use Rattle.std.specs.List.{swap_remove};
@@ -10,12 +10,12 @@ use crate::literals::Literal;
 use crate::numbers::narrow;
 use std::alloc::{AllocError, Global};
 
-/// A clause in a literal's list.
+/// A clause in the list of a literal that it watches.
 #[derive(Clone, Copy, PartialEq, Eq)]
 pub struct Watch {
     /// The clause's number.
     pub number: u32,
-    /// A literal of the clause: where it is true, the clause need not be looked at.
+    /// A literal of the clause. While it is true, the clause need not be visited.
     pub blocker: Literal,
 }
 
@@ -26,21 +26,23 @@ pub struct WatchedPair {
     pub second: Option<Literal>,
 }
 
-/// The place of a literal's list.
+/// Returns the number of a literal's list.
 pub fn list_number(literal: Literal) -> usize
     ensures { result ≡ list_number literal }
 {
     2 * literal.variable.index() + usize::from(literal.positive)
 }
 
-/// A copy of a literal. The borrow checker does not see that a literal is `Copy`, and would move it.
+/// Returns a copy of a literal.
+///
+/// The borrow checker does not see that a literal is `Copy`, and would move it.
 pub fn copied(literal: &Literal) -> Literal
     ensures { result ≡ literal.now }
 {
     *literal
 }
 
-/// Whether there is a literal, and it is this one.
+/// Returns whether there is a literal, and it is this one.
 fn is_watched(watched: Option<Literal>, literal: Literal) -> bool
     ensures { result ≡ is_watched watched literal }
 {
@@ -50,7 +52,7 @@ fn is_watched(watched: Option<Literal>, literal: Literal) -> bool
     }
 }
 
-/// A pair with one literal in the place of another.
+/// Returns the pair with one literal replaced by another.
 fn replaced(pair: WatchedPair, from: Literal, to: Literal) -> WatchedPair
     ensures { result ≡ replaced pair from to }
 {
@@ -67,7 +69,7 @@ fn replaced(pair: WatchedPair, from: Literal, to: Literal) -> WatchedPair
     }
 }
 
-/// Makes empty lists, up to this many.
+/// Adds empty lists, up to this many.
 fn add_lists(lists: &mut Vec<Vec<Watch>>, alloc: Global, count: usize) -> Result<(), AllocError>
     requires { length lists.old.items ≤ count }
     ensures size { OnOk result (length lists.new.items ≡ count) }
@@ -79,23 +81,23 @@ fn add_lists(lists: &mut Vec<Vec<Watch>>, alloc: Global, count: usize) -> Result
     Ok(())
 }
 
-/// The room that a list has at first: most literals are watched by one clause or two.
-const FEW: usize = 2;
+/// The first capacity of a list: most literals are watched by one or two clauses.
+const FIRST_CAPACITY: usize = 2;
 
-/// Puts a watch behind the others of a list.
+/// Appends a watch to a list.
 fn push_at(lists: &mut Vec<Vec<Watch>>, list: usize, watch: Watch) -> Result<(), AllocError>
     requires { list < length lists.old.items }
     ensures ok { OnOk result (PutsList lists.old.items lists.new.items list (list_at lists.old.items list ++ watch ∷ [])) }
     ensures err { OnErr result (PutsList lists.old.items lists.new.items list (list_at lists.old.items list)) }
 {
     if lists[list].is_empty() {
-        lists[list].reserve_exact(FEW)?;
+        lists[list].reserve_exact(FIRST_CAPACITY)?;
     }
     lists[list].push(watch)?;
     Ok(())
 }
 
-/// Takes a watch out of a list, and puts the last one in its place.
+/// Removes a watch from a list, and puts the last one in its place.
 fn take_at(lists: &mut Vec<Vec<Watch>>, list: usize, place: usize)
     requires list { list < length lists.old.items }
     requires place { place < length (list_at lists.old.items list) }
@@ -104,7 +106,7 @@ fn take_at(lists: &mut Vec<Vec<Watch>>, list: usize, place: usize)
     let _taken = lists[list].swap_remove(place);
 }
 
-/// Gives the watch at a place of a list another blocker.
+/// Changes the blocker of the watch at a place of a list.
 fn set_at(lists: &mut Vec<Vec<Watch>>, list: usize, place: usize, blocker: Literal)
     requires list { list < length lists.old.items }
     requires place { place < length (list_at lists.old.items list) }
@@ -115,9 +117,10 @@ fn set_at(lists: &mut Vec<Vec<Watch>>, list: usize, place: usize, blocker: Liter
     lists[list][place] = Watch { number, blocker };
 }
 
-/// For each literal the clauses that watch it, and for each clause the two literals that it watches.
+/// The clauses that watch each literal, and the two literals that each clause watches.
 ///
-/// A clause stands in the lists of its two literals and in no other list. One without two different literals watches none.
+/// A clause is in the lists of its two literals and in no other list. A clause without two different literals watches
+/// none.
 #[derive(Drop)]
 pub struct Watches {
     lists: Vec<Vec<Watch>>,
@@ -132,7 +135,7 @@ impl Watches {
     ghost use Rattle.resolver_clause_store.specs.Watches.{watched_pair};
     ghost use Rattle.resolver_clause_store.specs.WatchesView.{HasList, lists_of, pairs_of};
 
-    /// No literal and no clause.
+    /// Returns watches without literals and clauses.
     pub fn empty(alloc: Global) -> Self
         ensures lists { lists_of result ≡ [] }
         ensures pairs { pairs_of result ≡ [] }
@@ -143,7 +146,7 @@ impl Watches {
         }
     }
 
-    /// Makes empty lists for the literals of new variables, up to this many variables.
+    /// Adds empty lists for the literals of new variables, up to this many variables.
     pub fn grow(&mut self, alloc: Global, variables: usize) -> Result<(), AllocError>
         requires { length (lists_of self.old) ≤ 2 * variables }
         ensures size { OnOk result (length (lists_of self.new) ≡ 2 * variables) }
@@ -157,14 +160,14 @@ impl Watches {
         Ok(())
     }
 
-    /// How many clauses there are.
+    /// Returns the number of clauses.
     pub fn len(&self) -> usize
         ensures { result ≡ length (pairs_of self.now) }
     {
         self.pairs.len()
     }
 
-    /// The two literals that a clause watches.
+    /// Returns the two literals that a clause watches.
     pub fn pair(&self, number: usize) -> WatchedPair
         requires { number < length (pairs_of self.now) }
         ensures { result ≡ pair_at (pairs_of self.now) number }
@@ -172,7 +175,7 @@ impl Watches {
         self.pairs[number]
     }
 
-    /// How many clauses watch a literal.
+    /// Returns the number of clauses that watch a literal.
     pub fn count(&self, literal: Literal) -> usize
         requires { HasList self.now literal }
         ensures { result ≡ length (list_at (lists_of self.now) (list_number literal)) }
@@ -180,7 +183,7 @@ impl Watches {
         self.lists[list_number(literal)].len()
     }
 
-    /// The clause at a place of a literal's list.
+    /// Returns the clause at a place of a literal's list.
     pub fn watch_at(&self, literal: Literal, place: usize) -> Watch
         requires list { HasList self.now literal }
         requires place { place < length (list_at (lists_of self.now) (list_number literal)) }
@@ -191,7 +194,7 @@ impl Watches {
         self.lists[list_number(literal)][place]
     }
 
-    /// Lets a clause watch one literal more, so that its pair is this one.
+    /// Makes a clause watch one more literal, with `pair` as its new pair.
     fn attach(
         &mut self,
         number: u32,
@@ -213,7 +216,7 @@ impl Watches {
         Ok(())
     }
 
-    /// Adds a clause behind the others that watches two literals, which are each other's blockers.
+    /// Appends a clause that watches two literals, which are each other's blockers.
     fn add_two(&mut self, first: Literal, second: Literal) -> Result<(), AllocError>
         requires first { HasList self.old first }
         requires second { HasList self.old second }
@@ -239,7 +242,7 @@ impl Watches {
         Ok(())
     }
 
-    /// Adds a clause behind the others that watches nothing.
+    /// Appends a clause that watches nothing.
     fn add_none(&mut self) -> Result<(), AllocError>
         ensures pairs { OnOk result (pairs_of self.new ≡ pairs_of self.old ++ unwatched ∷ []) }
         ensures kept { (number : ℕ) → number < length (pairs_of self.old) → pair_at (pairs_of self.new) number ≡ pair_at (pairs_of self.old) number }
@@ -252,7 +255,7 @@ impl Watches {
         Ok(())
     }
 
-    /// Adds a clause behind the others that watches two literals, which are each other's blockers, or none.
+    /// Appends a clause that watches two literals, which are each other's blockers, or none.
     pub fn add(&mut self, pair: Option<(Literal, Literal)>) -> Result<(), AllocError>
         requires inside { (first second : Literal) → pair ≡ Some (first, second) → (list_number first < length (lists_of self.old)) ×
             (list_number second < length (lists_of self.old)) }
@@ -276,7 +279,7 @@ impl Watches {
         }
     }
 
-    /// Puts another literal in the place of a blocker.
+    /// Replaces the blocker of a watch.
     pub fn set_blocker(&mut self, literal: Literal, place: usize, blocker: Literal)
         requires list { HasList self.old literal }
         requires place { place < length (list_at (lists_of self.old) (list_number literal)) }
@@ -292,9 +295,9 @@ impl Watches {
         set_at(&mut self.lists, list_number(literal), place, blocker);
     }
 
-    /// Lets the clause at a place of a literal's list watch another literal instead.
+    /// Makes the clause at a place of a literal's list watch another literal instead.
     ///
-    /// The last clause of the list comes to that place.
+    /// The last clause of the list moves to that place.
     pub fn move_watch(
         &mut self,
         from: Literal,

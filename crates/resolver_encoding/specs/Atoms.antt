@@ -1,4 +1,5 @@
--- What clauses say of sets of solvables. An atom is what a variable stands for, and whether it is to be true.
+-- Clauses as lists of atoms, and what they state about sets of solvables. An atom is a literal over origins: what a
+-- variable stands for, and the value that makes the literal true.
 use Rattle.std.specs.Prelude.{ℕ, ◌≡◌, Bool, true, false, List, [], ◌∷◌, ◌++◌, Contains, Option, Some, None, map, ⊤}
 use Rattle.std.specs.List.{list_any}
 use Rattle.std.specs.Bool.{beq}
@@ -22,7 +23,7 @@ pub record Atom (N S : Type 0) : Type 0 where
 abbrev pub atom : {N S : Type 0} → Origin N S → Bool → Atom N S
 atom o b = record { origin = o; positive = b }
 
--- the root or a solvable as an origin
+-- the origin of the root or of a solvable
 abbrev pub origin_by : {N S : Type 0} → By S → Origin N S
 origin_by ByRoot = Root
 origin_by (BySolvable s) = Solvable s
@@ -41,7 +42,7 @@ atoms_of u (HasBit name instance index value) = atom (Solvable instance) false �
 atoms_of u (Lock locked forbidden) = atom Root false ∷ atom (Solvable forbidden) false ∷ []
 atoms_of u (Excluded solvable reason) = atom (Solvable solvable) false ∷ []
 
--- the candidates of which a clause wants one
+-- the candidates that a requirement clause lists; no other clause lists any
 abbrev pub wanted : {N S : Type 0} → Universe N S → ClauseKind N S → List S
 wanted u (Requires parent disjunct requirement) = requirement_candidates u requirement
 wanted u (GateRequires requirement) = requirement_candidates u requirement
@@ -60,7 +61,7 @@ first_atom (HasBit name instance index value) = (Solvable instance, false)
 first_atom (Lock locked forbidden) = (Root, false)
 first_atom (Excluded solvable reason) = (Solvable solvable, false)
 
--- the second one, where it is neither a helper's of a list nor a candidate's
+-- the second atom of a clause, if that is neither a disjunct's helper nor a listed candidate
 abbrev pub second_atom : {N S : Type 0} → ClauseKind N S → Option (Origin N S × Bool)
 second_atom (AnyOf helper candidate) = Some (Solvable candidate, false)
 second_atom (Constrains parent version_set candidate) = Some (Solvable candidate, false)
@@ -70,17 +71,17 @@ second_atom (HasBit name instance index value) = Some (Bit name index, value)
 second_atom (Lock locked forbidden) = Some (Solvable forbidden, false)
 second_atom kind = None
 
--- the version sets of conditions on whose helpers a clause depends
+-- the version sets whose condition helpers a clause depends on
 abbrev pub helpers_of : {N S : Type 0} → ClauseKind N S → List VersionSetId
 helpers_of (Requires parent disjunct requirement) = disjunct.items
 helpers_of kind = []
 
--- one or two atoms at the front of a clause
+-- the one or two atoms at the front of a clause
 abbrev pub front : {N S : Type 0} → Origin N S × Bool → Option (Origin N S × Bool) → List (Atom N S)
 front first None = atom first.0 first.1 ∷ []
 front first (Some second) = atom first.0 first.1 ∷ atom second.0 second.1 ∷ []
 
--- some atom is about the origin
+-- an atom of the list has this origin
 abbrev pub IsMentioned : {N S : Type 0} → List (Atom N S) → Origin N S → Type 0
 IsMentioned {N} {S} atoms o = (a : Atom N S) × Contains atoms a × (o ≡ a.origin)
 
@@ -88,7 +89,7 @@ IsMentioned {N} {S} atoms o = (a : Atom N S) × Contains atoms a × (o ≡ a.ori
 abbrev pub has : {N S : Type 0} → Universe N S → List S → S → Bool
 has u set s = list_any (u.same_solvable s) set
 
--- what a set makes of an origin, where `implies` says from which solvables a helper follows
+-- the value that a set gives to an origin; `implies` says which solvables imply a helper
 abbrev pub is_on : {N S : Type 0} → Universe N S → (Origin N S → S → Bool) → List S → Origin N S → Bool
 is_on u implies set Root = true
 is_on u implies set (Solvable s) = has u set s
@@ -97,7 +98,7 @@ is_on u implies set (Gate r) = list_any (implies (Gate r)) set
 is_on u implies set (ConstraintHelper v) = list_any (implies (ConstraintHelper v)) set
 is_on u implies set (ConditionHelper v) = list_any (implies (ConditionHelper v)) set
 
--- it stands for neither the root nor a solvable
+-- the origin is neither the root nor a solvable
 abbrev pub IsHelper : {N S : Type 0} → Origin N S → Type 0
 IsHelper Root = ⊥
 IsHelper (Solvable s) = ⊥
@@ -106,16 +107,16 @@ IsHelper (Gate r) = ⊤
 IsHelper (ConstraintHelper v) = ⊤
 IsHelper (ConditionHelper v) = ⊤
 
--- whether some atom has the value that it is to have
+-- whether the values make an atom of the list true
 abbrev pub is_satisfied : {N S : Type 0} → (Origin N S → Bool) → List (Atom N S) → Bool
 is_satisfied value atoms = list_any (λ a. beq (value a.origin) a.positive) atoms
 
--- what a list of clauses states
+-- the statements that a list of clauses makes
 pub data IsStated {N S : Type 0} (u : Universe N S) (implies : Origin N S → S → Bool) (kinds : List (ClauseKind N S)) : Statement N S → Type 0 where
   states_requires : (by : By S) (disjunct : _) (requirement : Requirement) → Contains kinds (Requires by disjunct requirement) →
       IsStated u implies kinds (requires by requirement (requirement_candidates u requirement) (map (matching u) disjunct.items))
   states_constrains : (by : By S) (v : VersionSetId) (s : S) → Contains kinds (Constrains by v s) → IsStated u implies kinds (constrains by v s)
-  -- of a gate: the requirement of each solvable from which it follows
+  -- a gate makes a statement for each solvable that implies it
   states_gated : (s : S) (requirement : Requirement) → Contains kinds (GateRequires requirement) → implies (Gate requirement) s ≡ true →
       IsStated u implies kinds (requires (BySolvable s) requirement (requirement_candidates u requirement) [])
   states_helped : (by : By S) (v : VersionSetId) (s : S) → Contains kinds (ConstrainsParent by v) → implies (ConstraintHelper v) s ≡ true →
@@ -125,7 +126,7 @@ pub data IsStated {N S : Type 0} (u : Universe N S) (implies : Origin N S → S 
   states_lock : (s t : S) → Contains kinds (Lock s t) → IsStated u implies kinds (lock s t)
   states_excluded : (s : S) (reason : _) → Contains kinds (Excluded s reason) → IsStated u implies kinds (excluded s reason)
 
--- what the clauses define fits what the helpers follow from
+-- `implies` agrees with the clauses that define helpers
 pub record Defines {N S : Type 0} (u : Universe N S) (implies : Origin N S → S → Bool) (kinds : List (ClauseKind N S)) : Type 0 where
   pub defined : (o : Origin N S) (s : S) → Contains kinds (AnyOf o s) → implies o s ≡ true
   pub helper : (o : Origin N S) (s : S) → Contains kinds (AnyOf o s) → IsHelper o

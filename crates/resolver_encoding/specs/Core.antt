@@ -1,4 +1,4 @@
--- What the clauses of a conflict's core imply by themselves.
+-- What the clauses of an unsatisfiable core imply by themselves.
 use Rattle.std.specs.Prelude.{Contains, ◌≡◌, ◌≡◌, nat_eq, ◌&&◌, Bool, true, false, List, All}
 use Rattle.std.specs.List.{list_any}
 use Rattle.resolver_clause_store.specs.Universe.{Universe, Demands}
@@ -20,14 +20,14 @@ same_helper same_name (ConstraintHelper v) (ConstraintHelper w) = nat_eq v.0 w.0
 same_helper same_name (ConditionHelper v) (ConditionHelper w) = nat_eq v.0 w.0
 same_helper same_name o p = false
 
--- whether the clause says that the helper follows from the solvable
+-- whether the clause states that the solvable implies the helper
 abbrev pub says_implies : {N S : Type 0} → Universe N S → (N → N → Bool) → Origin N S → S → ClauseKind N S → Bool
 says_implies u same_name o s (AnyOf helper t) = same_helper same_name helper o && u.same_solvable t s
 says_implies u same_name o s (ConstrainsExcluded t v) = same_helper same_name (ConstraintHelper v) o && u.same_solvable t s
 says_implies u same_name o s (HasBit n t i true) = same_helper same_name (Bit n i) o && u.same_solvable t s
 says_implies u same_name o s k = false
 
--- from which solvables a helper follows by these clauses
+-- whether one of these clauses states that the solvable implies the helper
 abbrev pub implied_in : {N S : Type 0} → Universe N S → (N → N → Bool) → List (ClauseKind N S) → Origin N S → S → Bool
 implied_in u same_name kinds o s = list_any (says_implies u same_name o s) kinds
 

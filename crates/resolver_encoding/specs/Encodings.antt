@@ -1,4 +1,4 @@
--- What an encoding of everything that was read holds.
+-- The notes of an encoding, the invariant that they keep, and the steps that change them.
 use Rattle.std.specs.Prelude.{ℕ, ◌≡◌, ◌≢◌, ◌⊎◌, ◌≤◌, ◌^◌, Bool, List, map, Option, Some, None, [], ◌∷◌, ◌++◌, Contains, All, Vec, length, slice_get, ⊤}
 use Rattle.std.specs.List.{AllZip}
 use Rattle.std.specs.declared.alloc.Global.{Global}
@@ -32,12 +32,12 @@ use Rattle.resolver_encoding.specs.Truth.{AreCodes, AreDue, IsTrueClause}
 use Rattle.resolver_encoding.specs.Values.{AreEncoded, IsAtom, IsClauseOf}
 use Rattle.resolver_encoding.specs.declared.groups.Groups.{Groups}
 
--- what each variable stands for, the literals and the kind of each clause, the numbers of the clauses that ask for
--- candidates, the candidates that were met, those by their names, the packages that were asked, the version sets of
--- conditions whose helper has its clauses, the requirements that have a gate, the version sets of constraints whose
--- helper has its clauses, the solvables that were read, the disjuncts that were put off, where none is left once it was
--- taken out, the numbers of these by the packages of their version sets, the exempt solvables, and how many variables and
--- clauses there may be
+-- The view of an encoding: the origin of each variable; the literals and the kind of each clause; the numbers of the
+-- requirement clauses; the registered candidates, and the same by package name; the packages that were asked; the
+-- version sets of conditions whose helpers have their clauses; the requirements that have a gate; the version sets of
+-- constraints whose helpers have their clauses; the solvables that were read; the deferred disjuncts, with `None` in
+-- the place of each that was removed; their numbers, by the package names of their version sets; the exempt solvables;
+-- and the limits of variables and clauses.
 pub record Notes (N S : Type 0) : Type 0 where
   pub origins : List (Origin N S)
   pub table : List (Vec Literal Global)
@@ -56,27 +56,27 @@ pub record Notes (N S : Type 0) : Type 0 where
   pub variable_limit : ℕ
   pub clause_limit : ℕ
 
--- the disjunct is put off, and was not taken out
+-- the disjunct is deferred, and was not removed
 abbrev pub IsLeft : {N S : Type 0} → Notes N S → Deferred S → Type 0
 IsLeft notes e = Contains notes.deferred (Some e)
 
--- a requirement with a condition that holds where the disjunct is met
+-- the root or the solvable has this requirement, under a condition that holds wherever the disjunct is met
 abbrev pub IsTrueUnder : {N S : Type 0} → Universe N S → By S → List VersionSetId → Requirement → Demands → Type 0
 IsTrueUnder u by disjunct requirement root =
     (r : ConditionalRequirement) × Contains (demands_by u root by).requirements r × (r.requirement ≡ requirement) ×
     Implies u (map (matching u) disjunct) r.condition
 
--- what a disjunct that is put off stands for
+-- a deferred disjunct belongs to a requirement of the problem, and has each version set once
 pub record IsTrueEntry {N S : Type 0} (u : Universe N S) (root : Demands) (e : Deferred S) : Type 0 where
   pub is_true : IsTrueUnder u e.by e.disjunct e.requirement root
   pub once : AreDistinct e.disjunct
 
--- the clause asks for candidates
+-- the clause is a requirement clause
 abbrev pub IsRequirementKind : {N S : Type 0} → ClauseKind N S → Type 0
 IsRequirementKind {N} {S} kind = ((by : By S) × (disjunct : Vec VersionSetId Global) × (r : Requirement) × (kind ≡ Requires by disjunct r)) ⊎
     ((r : Requirement) × (kind ≡ GateRequires r))
 
--- what follows from a solvable here is a gate or the helper of a condition
+-- if the clause defines a helper by `AnyOf`, that is a gate or a condition helper
 abbrev pub HasProperHelper : {N S : Type 0} → ClauseKind N S → Type 0
 HasProperHelper (AnyOf (ConditionHelper v) s) = ⊤
 HasProperHelper (AnyOf (Gate r) s) = ⊤
@@ -94,14 +94,14 @@ HasProperHelper (HasBit n s i b) = ⊤
 HasProperHelper (Lock s t) = ⊤
 HasProperHelper (Excluded s reason) = ⊤
 
--- a solvable that gets the clauses of its code: it will be the one with this number under its name
+-- a solvable that is getting the clauses of its code: it will have this number under its name
 pub record Coding (N S : Type 0) : Type 0 where
   pub name : N
   pub number : ℕ
   pub instance : S
 
--- what is in progress: packages that are being asked, solvables that are getting their codes, and solvables that are exempt
--- no longer and are getting the clauses that they were spared
+-- the work in progress: packages that are being asked, solvables that are getting their codes, and solvables that are
+-- no longer exempt and are getting the clauses that they were spared
 pub record Doing (N S : Type 0) : Type 0 where
   pub asking : List N
   pub coding : List (Coding N S)
@@ -119,8 +119,8 @@ coding_for n k s = record { asking = []; coding = record { name = n; number = k;
 abbrev pub owing_for : {N S : Type 0} → S → Doing N S
 owing_for s = record { asking = []; coding = []; owing = s ∷ [] }
 
--- The clauses are true, and leave nothing out of what they bring with them. Of what is in progress some clauses may be
--- there already.
+-- The clauses are true, and each clause is there that another one relies on. Some clauses of the work in progress may
+-- be there already.
 pub record IsEncodingWhile {N S : Type 0} (u : Universe N S) (doing : Doing N S) (root : Demands) (notes : Notes N S) : Type 0 where
   pub root_first : slice_get notes.origins 0 ≡ Some Root
   pub distinct : AreDistinct notes.origins
@@ -131,10 +131,10 @@ pub record IsEncodingWhile {N S : Type 0} (u : Universe N S) (doing : Doing N S)
   pub each_proper : All HasProperHelper notes.kinds
   pub due : AreDue u (doing.asking ++ notes.asked) notes.exempt notes.kinds
   pub installs : Contains notes.kinds InstallRoot
-  -- the numbers are just those of the clauses that ask for candidates
+  -- the listed numbers are exactly those of the requirement clauses
   pub listed : (n : ℕ) (kind : ClauseKind N S) → slice_get notes.kinds n ≡ Some kind → IsRequirementKind kind → Contains notes.requirements n
   pub ask : (n : ℕ) → Contains notes.requirements n → (kind : ClauseKind N S) × (slice_get notes.kinds n ≡ Some kind) × IsRequirementKind kind
-  -- of each requirement that has its clause
+  -- for each requirement that has a clause of its own
   pub helpers : (by : By S) (disjunct : Vec VersionSetId Global) (r : Requirement) → Contains notes.kinds (Requires by disjunct r) → (v : VersionSetId) →
       Contains disjunct.items v → Contains notes.helped v
   pub packages : (by : By S) (disjunct : Vec VersionSetId Global) (r : Requirement) → Contains notes.kinds (Requires by disjunct r) → (v : VersionSetId) →
@@ -142,56 +142,57 @@ pub record IsEncodingWhile {N S : Type 0} (u : Universe N S) (doing : Doing N S)
   pub candidates : (by : By S) (disjunct : Vec VersionSetId Global) (r : Requirement) → Contains notes.kinds (Requires by disjunct r) → (s : S) →
       Contains (requirement_candidates u r) s → Contains notes.seen s
   pub once : (by : By S) (disjunct : Vec VersionSetId Global) (r : Requirement) → Contains notes.kinds (Requires by disjunct r) → AreDistinct disjunct.items
-  -- of each gate
+  -- for each gate
   pub gate_packages : (r : Requirement) → Contains notes.kinds (GateRequires r) → (v : VersionSetId) → Contains (version_sets u r) v →
       Contains notes.asked (u.version_set_name v)
   pub gate_candidates : (r : Requirement) → Contains notes.kinds (GateRequires r) → (s : S) → Contains (requirement_candidates u r) s → Contains notes.seen s
   pub gated : (r : Requirement) → Contains notes.gates r → Contains notes.kinds (GateRequires r)
-  -- of each version set of a constraint that has its helper
+  -- for each version set of a constraint that has a helper
   pub excluded : (v : VersionSetId) → Contains notes.constrained v → (s : S) → Contains (others u v) s → Contains notes.kinds (ConstrainsExcluded s v)
-  -- of each version set of a condition that has its helper
+  -- for each version set of a condition that has a helper
   pub follow : (v : VersionSetId) → Contains notes.helped v → (s : S) → Contains (matching u v) s → Contains notes.kinds (AnyOf (ConditionHelper v) s)
-  -- of each package that was asked for
+  -- for each package that was asked
   pub locks : (s t : S) → Contains notes.asked (u.name s) → (Contains (doing.owing ++ notes.exempt) s → ⊥) → (u.package_named (u.name s)).locked ≡ Some t →
       Contains (u.package_named (u.name s)).listed s → s ≢ t → Contains notes.kinds (Lock t s)
   pub exclusions : (s : S) (reason : StringId) → Contains notes.asked (u.name s) → (Contains (doing.owing ++ notes.exempt) s → ⊥) →
       Contains (u.package_named (u.name s)).excluded (s, reason) → Contains notes.kinds (Excluded s reason)
-  -- of each that was met
+  -- for each registered solvable
   pub registered : (s : S) → Contains notes.seen s → Contains notes.origins (Solvable s)
-  -- the code of a solvable is its number under its name, and it has a clause for each digit that some number there has
+  -- the code of a solvable is its number under its name, and it has a clause for each digit that some number under that
+  -- name has
   pub placed : (n : N) (k : ℕ) (s : S) → IsAt notes.groups n k s → (i : ℕ) → codes n i s ≡ bit k i
   pub coding : (c : Coding N S) → Contains doing.coding c → (i : ℕ) → codes c.name i c.instance ≡ bit c.number i
   pub coded : (n : N) (s : S) (i : ℕ) (b : Bool) → Contains notes.kinds (HasBit n s i b) → Contains notes.seen s ⊎
       Contains (map (λ (c : Coding N S). c.instance) doing.coding) s
   pub digits : (n : N) (j k : ℕ) (s t : S) → IsAt notes.groups n j s → IsAt notes.groups n k t → (i : ℕ) → 2 ^ i ≤ k →
       Contains notes.kinds (HasBit n s i (bit j i))
-  -- those that were met stand under their names, and no others
+  -- each registered solvable is in the group of its name, and no other solvable is in a group
   pub sound_groups : AreGroups notes.groups
   pub grouped : (s : S) → Contains notes.seen s → IsNamed notes.groups (u.name s) s
   pub members : (n : N) (s : S) → IsNamed notes.groups n s → (u.name s ≡ n) × Contains notes.seen s
-  -- of each disjunct that is put off
+  -- for each deferred disjunct
   pub left_true : (e : Deferred S) → IsLeft notes e → IsTrueEntry u root e
   pub indexed : (i : ℕ) (e : Deferred S) → slice_get notes.deferred i ≡ Some (Some e) → (v : VersionSetId) → Contains e.disjunct v →
       IsNamed notes.deferred_by_name (u.version_set_name v) i
   pub sound_deferred_by_name : AreGroups notes.deferred_by_name
 
--- nothing is in progress
+-- the notes are an encoding, and no work is in progress
 abbrev pub IsEncoding : {N S : Type 0} → Universe N S → Demands → Notes N S → Type 0
 IsEncoding u root notes = IsEncodingWhile u idle root notes
 
--- the notes are an encoding of a problem of which the premise holds
+-- the notes are an encoding of a problem for which the premise holds
 pub record IsEncodingOf {N S : Type 0} (u : Universe N S) (Premise : Demands → Type 0) (notes : Notes N S) : Type 0 where
   pub root : Demands
   pub premise : Premise root
   pub encoding : IsEncoding u root notes
 
--- the first list, and then others
+-- the second list continues the first one
 pub record Extends {X : Type 0} (xs ys : List X) : Type 0 where
   pub more : List X
   pub is : ys ≡ xs ++ more
 
--- The notes grew, and where the premise holds of the root they are still right. Nothing was asked or registered. Something may be
--- in progress.
+-- The notes grew, and are still right for each problem for which the premise holds. No package was asked, and no
+-- candidate registered. Work may be in progress.
 pub record IsStepWhile {N S : Type 0} (u : Universe N S) (doing : Doing N S) (Premise : Demands → Type 0) (old new : Notes N S) : Type 0 where
   pub origins : Keeps old.origins new.origins
   pub table : Extends old.table new.table
@@ -211,12 +212,13 @@ pub record IsStepWhile {N S : Type 0} (u : Universe N S) (doing : Doing N S) (Pr
 abbrev pub IsStep : {N S : Type 0} → Universe N S → (Demands → Type 0) → Notes N S → Notes N S → Type 0
 IsStep u Premise old new = IsStepWhile u idle Premise old new
 
--- the package was asked, or the candidate registered
+-- the package was asked, or the candidate is registered
 abbrev pub IsFollowed : {N S : Type 0} → Notes N S → Call N S → Type 0
 IsFollowed notes (to_ask n) = Contains notes.asked n
 IsFollowed notes (to_see s) = Contains notes.seen s
 
--- The notes grew, and only called packages were asked, and only called candidates registered. Nothing was put off.
+-- The notes grew. Only packages and candidates that are called for were asked or registered, and no disjunct was
+-- deferred.
 pub record IsAskStep {N S : Type 0} (u : Universe N S) (Called : Call N S → Type 0) (Premise : Demands → Type 0) (old new : Notes N S) : Type 0 where
   pub origins : Keeps old.origins new.origins
   pub table : Extends old.table new.table
@@ -231,12 +233,13 @@ pub record IsAskStep {N S : Type 0} (u : Universe N S) (Called : Call N S → Ty
   pub exempt : new.exempt ≡ old.exempt
   pub keeps : (root : Demands) → Premise root → IsEncoding u root old → IsEncoding u root new
 
--- a disjunct of a requirement of the root or of the solvable that is not met in the set
+-- a disjunct of this requirer that is not met in the set
 pub record IsUnmet {N S : Type 0} (u : Universe N S) (set : List S) (by : By S) (e : Deferred S) : Type 0 where
   pub of : e.by ≡ by
   pub never : AllMeet set (map (matching u) e.disjunct) → ⊥
 
--- The notes grew, only called packages were asked and called candidates registered, and only such disjuncts were put off.
+-- The notes grew. Only packages and candidates that are called for were asked or registered, and only such disjuncts
+-- were deferred.
 pub record IsReadStep {N S : Type 0} (u : Universe N S) (Defers : Deferred S → Type 0) (Called : Call N S → Type 0) (Premise : Demands → Type 0)
     (old new : Notes N S) : Type 0 where
   pub origins : Keeps old.origins new.origins
@@ -252,12 +255,12 @@ pub record IsReadStep {N S : Type 0} (u : Universe N S) (Defers : Deferred S →
   pub exempt : new.exempt ≡ old.exempt
   pub keeps : (root : Demands) → Premise root → IsEncoding u root old → IsEncoding u root new
 
--- as many variables, and as many clauses, may be there as before
+-- the limits of variables and clauses stay
 pub record KeepsLimits {N S : Type 0} (old new : Notes N S) : Type 0 where
   pub variables : new.variable_limit ≡ old.variable_limit
   pub clauses : new.clause_limit ≡ old.clause_limit
 
--- there are as many variables, no two alike, or as many clauses, as there may be
+-- the number of variables, no two of them alike, or the number of clauses is at its limit
 abbrev pub IsFull : {N S : Type 0} → Notes N S → Type 0
 IsFull notes = ((length notes.origins ≡ notes.variable_limit) × AreDistinct notes.origins) ⊎ (length notes.kinds ≡ notes.clause_limit)
 
@@ -278,24 +281,24 @@ pub record IsUnread {N S : Type 0} (notes : Notes N S) : Type 0 where
   pub none_deferred : notes.deferred ≡ []
   pub sound_deferred_by_name : AreGroups notes.deferred_by_name
 
--- literals that are these atoms stand behind the old ones
+-- literals with these atoms were appended
 pub record Adds {N S : Type 0} (origins : List (Origin N S)) (old new : List Literal) (atoms : List (Atom N S)) : Type 0 where
   pub added : List Literal
   pub is : new ≡ old ++ added
   pub are : AllZip (IsAtom origins) added atoms
 
--- each place keeps its origin, and if no two were alike no two are
+-- each variable keeps its origin, and distinct origins stay distinct
 pub record Grows {N S : Type 0} (old new : List (Origin N S)) : Type 0 where
   pub keeps : Keeps old new
   pub distinct : AreDistinct old → AreDistinct new
 
--- the numbers of the clauses that ask for candidates, with that of one more clause where it does
+-- the numbers of the requirement clauses, after one more clause was added
 abbrev pub numbers_with : {N S : Type 0} → ClauseKind N S → ℕ → List ℕ → List ℕ
 numbers_with (Requires by disjunct r) number numbers = numbers ++ number ∷ []
 numbers_with (GateRequires r) number numbers = numbers ++ number ∷ []
 numbers_with kind number numbers = numbers
 
--- one more clause, with the literals of its kind
+-- one more clause was added, with the literals of its kind
 pub record AddsKind {N S : Type 0} (u : Universe N S) (kind : ClauseKind N S) (old new : Notes N S) : Type 0 where
   pub origins : Grows old.origins new.origins
   pub literals : Vec Literal Global
@@ -307,46 +310,46 @@ pub record AddsKind {N S : Type 0} (u : Universe N S) (kind : ClauseKind N S) (o
     requirements = numbers_with kind (length old.kinds) old.requirements;
   }
 
--- what is read of a requirement, of a constraint, of the root or a solvable
+-- what it means that requirements, constraints and demands were read
 module _ {N S : Type 0} (u : Universe N S) (kinds : List (ClauseKind N S)) where
-  -- clauses forbid each candidate that the constraint does not take
+  -- clauses forbid each candidate outside the constraint's version set
   abbrev pub IsConstraintRead : By S → VersionSetId → Type 0
   IsConstraintRead by v = All (IsForbidden kinds by v) (others u v)
 
--- the requirement has its clauses under the disjunct, without repeats, or that is put off
+-- the requirement has its clauses under the disjunct, without repeats, or that disjunct is deferred
 pub record IsDisjunctRead {N S : Type 0} (notes : Notes N S) (by : By S) (requirement : Requirement) (list : List VersionSetId) : Type 0 where
   pub kept : List VersionSetId
   pub same : HaveSameMembers kept list
   pub either : HasClause notes.kinds by kept requirement ⊎ IsLeft notes (record { by = by; disjunct = kept; requirement = requirement })
 
--- the clauses say all that the root or a solvable asks for, but for disjuncts that are put off
+-- the demands of the root or of a solvable have their clauses, except for deferred disjuncts
 pub record AreDemandsRead {N S : Type 0} (u : Universe N S) (notes : Notes N S) (by : By S) (demands : Demands) : Type 0 where
   pub requirements : All (IsReadRequirement u notes.kinds (IsLeft notes) by) demands.requirements
   pub constraints : All (IsConstraintRead u notes.kinds by) demands.constraints
   pub packages : All (λ v. Contains notes.asked (u.version_set_name v)) demands.constraints
 
--- the clauses say what a solvable asks for, or that nobody knows it
+-- the demands of a solvable have their clauses; if they are unknown, a clause excludes the solvable
 abbrev pub AreNeedsRead : {N S : Type 0} → Universe N S → Notes N S → S → Needs → Type 0
 AreNeedsRead u notes s (known d) = AreDemandsRead u notes (BySolvable s) d
 AreNeedsRead u notes s (unknown reason) = Contains notes.kinds (Excluded s reason)
 
--- a clause forbids each listed candidate other than the locked one, unless it is exempt
+-- a clause forbids each listed candidate other than the locked one, unless that candidate is exempt
 abbrev pub IsLockRead : {N S : Type 0} → List (ClauseKind N S) → List S → Option S → List S → Type 0
 IsLockRead kinds exempt None listed = ⊤
 IsLockRead kinds exempt (Some t) listed = All (λ s. s ≢ t → (Contains exempt s → ⊥) → Contains kinds (Lock t s)) listed
 
--- the lists of version sets of which one has to be met: without a condition one list without any
+-- the disjuncts of a condition, of which one has to be met; without a condition, a single empty disjunct
 abbrev pub AreDisjuncts : {N S : Type 0} → Universe N S → Option ConditionId → List (List VersionSetId) → Type 0
 AreDisjuncts u None lists = lists ≡ [] ∷ []
 AreDisjuncts u (Some c) lists = IsDisjunctive u c lists
 
--- the list is one of these
+-- the list is a disjunct of the condition
 pub record IsDisjunctOf {N S : Type 0} (u : Universe N S) (c : Option ConditionId) (disjunct : List VersionSetId) : Type 0 where
   pub lists : List (List VersionSetId)
   pub are : AreDisjuncts u c lists
   pub listed : Contains lists disjunct
 
--- the root, or the solvable, asks for the requirement; for the constraint
+-- the root or the solvable has the requirement; or the constraint
 abbrev pub HasRequirement : {N S : Type 0} → Universe N S → By S → ConditionalRequirement → Demands → Type 0
 HasRequirement u by r root = Contains (demands_by u root by).requirements r
 

@@ -1,11 +1,11 @@
--- Solvables by the names of their packages.
+-- Solvables grouped by the names of their packages.
 use Rattle.std.specs.Prelude.{ℕ, ◌≡◌, ◌<◌, ◌⊎◌, List, [], Some, Contains, Vec, length, slice_get}
 use Rattle.std.specs.Option.{option_map_or}
 use Rattle.std.specs.declared.alloc.Global.{Global}
 use Rattle.resolver_clause_store.specs.Variables.{AreDistinct}
 use Rattle.resolver_encoding.specs.declared.groups.Groups.{Groups}
 
--- the group at this place, and none where there is no such group
+-- the group at this place, empty if there is none
 abbrev pub group_at : {S : Type 0} → List (Vec S Global) → ℕ → List S
 group_at {S} groups place = option_map_or (λ (group : Vec S Global). group.items) (slice_get groups place) []
 
@@ -32,7 +32,7 @@ pub record AddsNamed {N S : Type 0} (old new : Groups N S) (n : N) (s : S) : Typ
   pub earlier : (m : N) (t : S) → IsNamed old m t → IsNamed new m t
   pub here : IsNamed new n s
   pub only : (m : N) (t : S) → IsNamed new m t → IsNamed old m t ⊎ ((m ≡ n) × (t ≡ s))
-  -- its number is how many there were, and the others keep theirs
+  -- its number follows those of its group, and the others keep theirs
   pub number : ℕ
   pub here_at : IsAt new n number s
   pub earlier_at : (m : N) (k : ℕ) (t : S) → IsAt old m k t → IsAt new m k t

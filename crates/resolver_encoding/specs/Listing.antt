@@ -1,4 +1,4 @@
--- Rules as they are listed, clause by clause.
+-- Lists of rules, and the rules that each clause adds.
 use Rattle.std.specs.Prelude.{◌≡◌, ◌⊎◌, List, [], Contains, map}
 use Rattle.resolver_clause_store.specs.Universe.{Universe}
 use Rattle.resolver_clause_store.specs.Candidates.{matching, requirement_candidates}
@@ -19,7 +19,7 @@ use Rattle.resolver_encoding.specs.declared.sources.Sources.{Sources}
 abbrev pub IsListed : {N S : Type 0} → List (Rule N S) → Statement N S → Type 0
 IsListed {N} {S} rules st = (rule : Rule N S) × Contains rules rule × (statement_of rule ≡ st)
 
--- the rules state these statements, and no others
+-- the rules make exactly these statements
 pub record AreRulesOf {N S : Type 0} (Stated : Statement N S → Type 0) (rules : List (Rule N S)) : Type 0 where
   pub listed : (st : Statement N S) → Stated st → IsListed rules st
   pub only : (rule : Rule N S) → Contains rules rule → Stated (statement_of rule)
@@ -28,18 +28,18 @@ pub record AreRulesOf {N S : Type 0} (Stated : Statement N S → Type 0) (rules 
 abbrev pub HasInstances : {N S : Type 0} → Listing N S → Type 0
 HasInstances {N} {S} listing = (m : Instance N S) → Contains listing.instances.keys m → IsListed listing.rules.items (one_per_package m.name m.instance)
 
--- rules were added that state these statements, and no others
+-- rules were added that make exactly these statements
 pub record AddsRules {N S : Type 0} (Stated : Statement N S → Type 0) (old new : Listing N S) : Type 0 where
   pub instances : HasInstances new
   pub kept : (rule : Rule N S) → Contains old.rules.items rule → Contains new.rules.items rule
   pub listed : (st : Statement N S) → Stated st → IsListed new.rules.items st
   pub only : (rule : Rule N S) → Contains new.rules.items rule → Contains old.rules.items rule ⊎ Stated (statement_of rule)
 
--- some of these say so
+-- an element of the list makes the statement
 abbrev pub SomeOf : {X N S : Type 0} → List X → (X → Statement N S → Type 0) → Statement N S → Type 0
 SomeOf {X} xs Says st = (x : X) × Contains xs x × Says x st
 
--- what the clause asks of sets, where the sources say from which solvables a helper follows
+-- what the clause states about sets; the sources have the solvables that imply each helper
 abbrev pub StatesRule : {N S : Type 0} → Universe N S → Sources S → ClauseKind N S → Statement N S → Type 0
 StatesRule u sources InstallRoot st = ⊥
 StatesRule u sources (Requires by disjunct r) st = st ≡ requires by r (requirement_candidates u r) (map (matching u) disjunct.items)
@@ -52,7 +52,7 @@ StatesRule u sources (HasBit n s i b) st = ⊥
 StatesRule u sources (Lock s t) st = st ≡ lock s t
 StatesRule u sources (Excluded s reason) st = st ≡ excluded s reason
 
--- the instance that has the bit
+-- the instance that implies the helper, if that is a bit
 abbrev pub ListsBit : {N S : Type 0} → Origin N S → S → Statement N S → Type 0
 ListsBit Root s st = ⊥
 ListsBit (Solvable t) s st = ⊥

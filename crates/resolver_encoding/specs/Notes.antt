@@ -1,4 +1,4 @@
--- What a table of clauses holds, and what an encoding has noted.
+-- The view of a clause table and that of an encoding.
 use Rattle.std.specs.Prelude.{◌≡◌, map}
 use Rattle.std.specs.Option.{option_map}
 use Rattle.resolver_clause_store.specs.Variables.{IsBounded as AreBounded, limit_in, origins_in}
@@ -43,11 +43,11 @@ notes_in e = record {
   clause_limit = e.table.clause_limit;
 }
 
--- there are no more variables than there may be
+-- the number of variables is within its limit
 abbrev pub IsBounded : {N S : Type 0} → Encoding N S → Type 0
 IsBounded e = AreBounded e.table.variables
 
--- there still are not, and as many variables and as many clauses may be there as before
+-- the number of variables is within its limit, and both limits stay
 pub record KeepsRoom {N S : Type 0} (old new : Encoding N S) : Type 0 where
   pub bounded : IsBounded new
   pub variables : (notes_in new).variable_limit ≡ (notes_in old).variable_limit

@@ -1,4 +1,4 @@
--- What an encoding has when it has read some solvables, and asked for some packages.
+-- The state of an encoding that has read some solvables and asked some packages.
 use Rattle.std.specs.Prelude.{◌≡◌, ◌≢◌, ◌⊎◌, List, [], Some, Contains, Vec, map}
 use Rattle.std.proofs.Common.{Global}
 use Rattle.resolver_clause_store.specs.Universe.{Universe, Demands, unknown}
@@ -17,7 +17,7 @@ use Rattle.resolver_clause_store.specs.declared.ClauseKind.{ClauseKind}
 use Rattle.resolver_clause_store.specs.declared.ClauseKind.TheVariants.{InstallRoot, Requires, AnyOf, GateRequires, Lock, Excluded}
 use Rattle.resolver_encoding.specs.Read.{IsForbidden, AreApart}
 
--- a disjunct of a requirement's condition that has not held yet
+-- a disjunct of a requirement's condition that has not been met yet
 pub record Deferred (S : Type 0) : Type 0 where
   pub by : By S
   pub disjunct : List VersionSetId
@@ -28,7 +28,7 @@ pub data HasClause {N S : Type 0} (kinds : List (ClauseKind N S)) (by : By S) (l
   has_direct : (disjunct : Vec VersionSetId Global) → disjunct.items ≡ list → Contains kinds (Requires by disjunct r) → HasClause kinds by list r
   has_gate : (s : S) → by ≡ BySolvable s → list ≡ [] → Contains kinds (AnyOf (Gate r) s) → Contains kinds (GateRequires r) → HasClause kinds by list r
 
--- the disjuncts of a requirement's condition, each with its clauses or deferred
+-- each disjunct of a requirement's condition has its clauses or is deferred
 pub record IsReadRequirement {N S : Type 0} (u : Universe N S) (kinds : List (ClauseKind N S)) (IsLeft : Deferred S → Type 0) (by : By S)
     (r : ConditionalRequirement) : Type 0 where
   pub disjuncts : List (List VersionSetId)
@@ -36,17 +36,17 @@ pub record IsReadRequirement {N S : Type 0} (u : Universe N S) (kinds : List (Cl
   pub each : (list : List VersionSetId) → Contains disjuncts list →
       HasClause kinds by list r.requirement ⊎ IsLeft (record { by = by; disjunct = list; requirement = r.requirement })
 
--- the clauses are all that the rules ask of the root and of what was read
+-- the clauses cover all that the rules state about the root and the solvables that were read
 pub record IsRead {N S : Type 0} (u : Universe N S) (root : Demands) (kinds : List (ClauseKind N S)) (IsLeft : Deferred S → Type 0) (read : List S)
     (asked : List N) (registered exempt : List S) : Type 0 where
   pub installs : Contains kinds InstallRoot
-  -- of each solvable that was read
+  -- for each solvable that was read
   pub requirements : (by : By S) (r : ConditionalRequirement) → IsPresent by read → Contains (demands_by u root by).requirements r →
       IsReadRequirement u kinds IsLeft by r
   pub constraints : (by : By S) (v : VersionSetId) (s : S) → IsPresent by read → Contains (demands_by u root by).constraints v → Contains (others u v) s →
       IsForbidden kinds by v s
   pub unknowns : (s : S) (reason : StringId) → Contains read s → u.needs s ≡ unknown reason → Contains kinds (Excluded s reason)
-  -- of each requirement that has its clauses
+  -- for each requirement that has its clauses
   pub helpers : (by : By S) (disjunct : Vec VersionSetId Global) (r : Requirement) → Contains kinds (Requires by disjunct r) → (v : VersionSetId) →
       Contains disjunct.items v →
       (s : S) → Contains (matching u v) s → Contains kinds (AnyOf (ConditionHelper v) s)
@@ -54,15 +54,15 @@ pub record IsRead {N S : Type 0} (u : Universe N S) (root : Demands) (kinds : Li
       Contains asked (u.version_set_name v)
   pub candidates : (by : By S) (list : List VersionSetId) (r : Requirement) → HasClause kinds by list r → (s : S) → Contains (requirement_candidates u r) s →
       Contains registered s
-  -- of each package that was asked for
+  -- for each package that was asked
   pub locks : (s t : S) → Contains asked (u.name s) → (Contains exempt s → ⊥) → (u.package_named (u.name s)).locked ≡ Some t →
       Contains (u.package_named (u.name s)).listed s → s ≢ t → Contains kinds (Lock t s)
   pub exclusions : (s : S) (reason : StringId) → Contains asked (u.name s) → (Contains exempt s → ⊥) →
       Contains (u.package_named (u.name s)).excluded (s, reason) → Contains kinds (Excluded s reason)
-  -- of each two that are registered
+  -- for each two registered solvables
   pub instances : (s t : S) → Contains registered s → Contains registered t → u.name s ≡ u.name t → s ≢ t → AreApart kinds (u.name s) s t
 
--- each soft requirement is registered, and exempt unless its package was asked for
+-- each soft requirement is registered, and exempt unless its package was asked
 pub record AreSeeds {N S : Type 0} (u : Universe N S) (seeds chosen : List S) (asked : List N) (registered exempt : List S) : Type 0 where
   pub seed_chosen : (s : S) → Contains seeds s → Contains chosen s
   pub seed_registered : (s : S) → Contains seeds s → Contains registered s

@@ -21,7 +21,7 @@ use Rattle.resolver_encoding.specs.declared.groups.Groups.{Groups}
 use Rattle.resolver_encoding.specs.declared.progress.Progress.{Progress}
 use Rattle.resolver_encoding.specs.declared.progress.Progress.TheVariants.{Nothing, Fired, Read}
 
--- the notes are an encoding, and the root and what was read have their clauses and what they put off
+-- the notes are an encoding, and the root and each solvable that was read have their clauses or deferred disjuncts
 pub record IsHalfRead {N S : Type 0} (u : Universe N S) (root : Demands) (notes : Notes N S) : Type 0 where
   pub encoding : IsEncoding u root notes
   pub root_read : AreDemandsRead u notes ByRoot root
@@ -29,13 +29,13 @@ pub record IsHalfRead {N S : Type 0} (u : Universe N S) (root : Demands) (notes 
   pub read_known : (s : S) → Contains notes.read s → Contains notes.origins (Solvable s)
   pub left_read : (e : Deferred S) → IsLeft notes e → IsPresent e.by notes.read
 
--- and each of the set was read, and nothing that is put off is met in it
+-- besides, each solvable of the set was read, and no deferred disjunct is met in the set
 pub record IsReadSoFar {N S : Type 0} (u : Universe N S) (root : Demands) (set : List S) (notes : Notes N S) : Type 0 where
   pub half : IsHalfRead u root notes
   pub set_read : (s : S) → Contains set s → Contains notes.read s
   pub none : NoneFires u (IsLeft notes) set
 
--- so it is for some root
+-- the same, for some root
 pub record IsHalfReading {N S : Type 0} (u : Universe N S) (notes : Notes N S) : Type 0 where
   pub root : Demands
   pub half : IsHalfRead u root notes
@@ -44,12 +44,12 @@ pub record IsReading {N S : Type 0} (u : Universe N S) (set : List S) (notes : N
   pub root : Demands
   pub so_far : IsReadSoFar u root set notes
 
--- how many disjuncts are put off
+-- the number of deferred disjuncts
 abbrev pub left_count : {N S : Type 0} → Notes N S → ℕ
 left_count notes = count_by is_some notes.deferred
 
--- What one more reading does: besides new solvables of the set candidates of new clauses alone are read, and a disjunct that
--- was put off is taken out only where it is met in the set.
+-- What one more reading does. It reads new solvables of the set and candidates of new requirement clauses, and no
+-- others. It removes a deferred disjunct only if that is met in the set.
 pub record IsReadMore {N S : Type 0} (u : Universe N S) (set : List S) (old new : Notes N S) : Type 0 where
   pub origins : Keeps old.origins new.origins
   pub table : Extends old.table new.table
@@ -61,7 +61,7 @@ pub record IsReadMore {N S : Type 0} (u : Universe N S) (set : List S) (old new 
       AllMeet set (map (matching u) e.disjunct)
   pub exempt : new.exempt ≡ old.exempt
 
--- whether solvables were read; whether disjuncts were taken out; if not, nothing changed
+-- whether solvables were read, or disjuncts removed; if not, nothing changed
 abbrev pub HasRead : {N S : Type 0} → Notes N S → Notes N S → Bool → Type 0
 HasRead old new true = length old.read < length new.read
 HasRead old new false = new ≡ old
@@ -79,13 +79,13 @@ progress_by true fired = Read
 progress_by false true = Fired
 progress_by false false = Nothing
 
--- what changed: nothing; disjuncts were taken out, and nothing was read; or solvables were read
+-- what changed: nothing; disjuncts were removed, and no solvable was read; or solvables were read
 abbrev pub IsProgress : {N S : Type 0} → Notes N S → Notes N S → Progress → Type 0
 IsProgress old new Nothing = new ≡ old
 IsProgress old new Fired = (new.read ≡ old.read) × (left_count new < left_count old)
 IsProgress old new Read = length old.read < length new.read
 
--- the deferred disjunct with this number is noted under the packages of these version sets, too
+-- the number of the deferred disjunct was added under the packages of these version sets
 pub record IsIndexing {N S : Type 0} (u : Universe N S) (number : ℕ) (list : List VersionSetId) (old new : Notes N S) : Type 0 where
   pub deferred_by_name : Groups N ℕ
   pub is : new ≡ record old { deferred_by_name = deferred_by_name }
@@ -93,7 +93,7 @@ pub record IsIndexing {N S : Type 0} (u : Universe N S) (number : ℕ) (list : L
   pub earlier : AreGroups old.deferred_by_name → (n : N) (i : ℕ) → IsNamed old.deferred_by_name n i → IsNamed deferred_by_name n i
   pub here : AreGroups old.deferred_by_name → All (λ v. IsNamed deferred_by_name (u.version_set_name v) number) list
 
--- one more disjunct is put off
+-- one more disjunct was deferred
 pub record IsDeferral {N S : Type 0} (u : Universe N S) (e : Deferred S) (old new : Notes N S) : Type 0 where
   pub deferred_by_name : Groups N ℕ
   pub is : new ≡ record old { deferred_by_name = deferred_by_name; deferred = old.deferred ++ Some e ∷ [] }
@@ -101,27 +101,27 @@ pub record IsDeferral {N S : Type 0} (u : Universe N S) (e : Deferred S) (old ne
   pub earlier : AreGroups old.deferred_by_name → (n : N) (i : ℕ) → IsNamed old.deferred_by_name n i → IsNamed deferred_by_name n i
   pub here : AreGroups old.deferred_by_name → All (λ v. IsNamed deferred_by_name (u.version_set_name v) (length old.deferred)) e.disjunct
 
--- the disjunct with this number is taken out
+-- the deferred disjunct with this number was removed
 pub record IsTakenOut {N S : Type 0} (number : ℕ) (e : Deferred S) (old new : Notes N S) : Type 0 where
   pub was : slice_get old.deferred number ≡ Some (Some e)
   pub is : new ≡ record old { deferred = slice_set old.deferred number None }
 
--- the disjunct with this number is put off and met in the set
+-- the disjunct with this number is deferred, and met in the set
 pub record HasMet {N S : Type 0} (u : Universe N S) (set : List S) (notes : Notes N S) (number : ℕ) : Type 0 where
   pub entry : Deferred S
   pub is : slice_get notes.deferred number ≡ Some (Some entry)
   pub met : AllMeet set (map (matching u) entry.disjunct)
 
--- the disjunct with this number is not put off, or not met in the set
+-- the disjunct with this number is not deferred, or not met in the set
 pub record IsQuietAt {N S : Type 0} (u : Universe N S) (set : List S) (notes : Notes N S) (number : ℕ) : Type 0 where
   pub quiet : (e : Deferred S) → slice_get notes.deferred number ≡ Some (Some e) → AllMeet set (map (matching u) e.disjunct) → ⊥
 
--- so are all disjuncts that are noted under the package
+-- the same for each disjunct that is noted under the package
 pub record IsQuietUnder {N S : Type 0} (u : Universe N S) (set : List S) (notes : Notes N S) (n : N) : Type 0 where
   pub quiet : (i : ℕ) → IsNamed notes.deferred_by_name n i → IsQuietAt u set notes i
 
--- Disjuncts were taken out that are met in the set, and each has its clause. Only packages of their requirements were asked,
--- and only their candidates registered.
+-- Disjuncts that are met in the set were removed, and each has its clause. Only packages of their requirements were
+-- asked, and only candidates of these registered.
 pub record IsFiring {N S : Type 0} (u : Universe N S) (set : List S) (old new : Notes N S) : Type 0 where
   pub origins : Keeps old.origins new.origins
   pub table : Extends old.table new.table
@@ -139,8 +139,8 @@ pub record IsFiring {N S : Type 0} (u : Universe N S) (set : List S) (old new : 
   pub exempt : new.exempt ≡ old.exempt
   pub keeps : (root : Demands) → IsEncoding u root old → IsEncoding u root new
 
--- Such solvables were read. Packages were asked and candidates registered that they demand in the set, and disjuncts put off
--- that are not met in it.
+-- Such solvables were read. Only packages and candidates that they demand in the set were asked or registered, and only
+-- disjuncts that are not met in it were deferred.
 pub record IsReadingOf {N S : Type 0} (u : Universe N S) (set : List S) (Reads : S → Type 0) (old new : Notes N S) : Type 0 where
   pub origins : Keeps old.origins new.origins
   pub table : Extends old.table new.table
@@ -155,14 +155,14 @@ pub record IsReadingOf {N S : Type 0} (u : Universe N S) (set : List S) (Reads :
   pub exempt : new.exempt ≡ old.exempt
   pub keeps : (root : Demands) → IsHalfRead u root old → IsHalfRead u root new
 
--- nothing but the root
+-- the notes have nothing but the root
 pub record IsBare {N S : Type 0} (notes : Notes N S) : Type 0 where
   pub none_seen : notes.seen ≡ []
   pub none_asked : notes.asked ≡ []
   pub none_read : notes.read ≡ []
   pub none_deferred : notes.deferred ≡ []
 
--- Candidates of clauses from this place on were read. What was near stays so, with a set that is near.
+-- Candidates of requirement clauses from this place on were read. What was near is still near, if the set is.
 pub record IsHintedReading {N S : Type 0} (u : Universe N S) (set : List S) (from : ℕ) (old new : Notes N S) : Type 0 where
   pub reading : IsReadingOf u set (IsListedFrom new from) old new
   pub near : (root : Demands) (seeds : List S) (packages : List N) → AreNear u root seeds packages old → All (IsNear u root seeds) set →

@@ -1,4 +1,4 @@
--- The solvables from which helpers follow by some clauses.
+-- The solvables that imply helpers, according to some clauses.
 use Rattle.std.specs.Prelude.{◌⊎◌, List, Contains}
 use Rattle.resolver_clause_store.specs.declared.Requirement.{Requirement}
 use Rattle.resolver_clause_store.specs.declared.VersionSetId.{VersionSetId}
@@ -8,7 +8,7 @@ use Rattle.resolver_clause_store.specs.declared.ClauseKind.TheVariants.{AnyOf, C
 use Rattle.resolver_encoding.specs.Groups.{AreGroups, IsNamed}
 use Rattle.resolver_encoding.specs.declared.sources.Sources.{Sources}
 
--- the clauses say that the helper of the version set follows from the solvable
+-- the clauses state that the solvable implies the constraint helper of the version set
 abbrev pub IsExcludedIn : {N S : Type 0} → List (ClauseKind N S) → VersionSetId → S → Type 0
 IsExcludedIn kinds v s = Contains kinds (ConstrainsExcluded s v) ⊎ Contains kinds (AnyOf (ConstraintHelper v) s)
 
@@ -17,7 +17,7 @@ pub record HasGroups {S : Type 0} (sources : Sources S) : Type 0 where
   pub gates : AreGroups sources.gates
   pub helpers : AreGroups sources.helpers
 
--- noted are the solvables from which the gates and the helpers follow by these clauses, and no others
+-- exactly the solvables are noted that imply the gates and the constraint helpers by these clauses
 pub record AreSources {N S : Type 0} (kinds : List (ClauseKind N S)) (sources : Sources S) : Type 0 where
   pub groups : HasGroups sources
   pub only_requirers : (r : Requirement) (s : S) → IsNamed sources.gates r s → Contains kinds (AnyOf (Gate r) s)

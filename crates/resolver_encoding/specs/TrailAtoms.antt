@@ -1,4 +1,4 @@
--- A trail as a list of atoms, the last one first, and why each atom stands there.
+-- A trail as a list of atoms, the latest first, and the reason of each atom.
 use Rattle.std.specs.Prelude.{◌≡◌, ◌⊎◌, Bool, true, false, not, List, [], ◌∷◌, ◌++◌, Contains, All, Vec}
 use Rattle.std.proofs.Common.{Global}
 use Rattle.resolver_clause_store.specs.Universe.{Universe, Demands}
@@ -16,22 +16,22 @@ use Rattle.resolver_clause_store.specs.declared.ClauseKind.TheVariants.{Requires
 use Rattle.resolver_encoding.specs.Atoms.{Atom, atom, origin_by, atoms_of, is_satisfied}
 use Rattle.resolver_encoding.specs.Read.{Covers}
 
--- the clause is true wherever all clauses are
+-- the clause is true under all values that satisfy the clauses of the encoding
 pub record IsEntailed {N S : Type 0} (u : Universe N S) (kinds : List (ClauseKind N S)) (clause : List (Atom N S)) : Type 0 where
   pub holds : (value : Origin N S → Bool) → ((k : ClauseKind N S) → Contains kinds k → is_satisfied value (atoms_of u k) ≡ true) →
       is_satisfied value clause ≡ true
 
--- it is the first of the requirement's candidates that is not false
+-- the solvable is the first candidate of the requirement that is not false
 pub record IsFirstOpen {N S : Type 0} (u : Universe N S) (earlier : List (Atom N S)) (r : Requirement) (s : S) : Type 0 where
   pub before : List S
   pub after : List S
   pub is : requirement_candidates u r ≡ before ++ s ∷ after
   pub closed : (x : S) → Contains before x → Contains earlier (atom (Solvable x) false)
 
--- why the atom stands on the trail behind these
+-- why the atom comes after these on the trail
 pub data IsBecause {N S : Type 0} (u : Universe N S) (kinds : List (ClauseKind N S)) (seeds refused : List S) (earlier : List (Atom N S)) : Atom N S →
     Type 0 where
-  -- a candidate of a requirement that is active
+  -- a candidate of an active requirement
   needed : (by : By S) (disjunct : Vec VersionSetId Global) (r : Requirement) (s : S) → Contains kinds (Requires by disjunct r) →
       Contains earlier (atom (origin_by by) true) →
       All (λ v. Contains earlier (atom (ConditionHelper v) true)) disjunct.items → IsFirstOpen u earlier r s →
@@ -39,10 +39,10 @@ pub data IsBecause {N S : Type 0} (u : Universe N S) (kinds : List (ClauseKind N
   -- a candidate of a gate's requirement
   needed_gate : (r : Requirement) (s : S) → Contains kinds (GateRequires r) → Contains earlier (atom (Gate r) true) → IsFirstOpen u earlier r s →
       IsBecause u kinds seeds refused earlier (atom (Solvable s) true)
-  -- a soft requirement, taken or left
+  -- a soft requirement, accepted or refused
   seeded : (s : S) → Contains seeds s → IsBecause u kinds seeds refused earlier (atom (Solvable s) true)
   left_out : (s : S) → Contains refused s → IsBecause u kinds seeds refused earlier (atom (Solvable s) false)
-  -- the others of a clause are false
+  -- all other literals of the clause are false
   forced : (clause : List (Atom N S)) (a : Atom N S) → IsEntailed u kinds clause →
       ((b : Atom N S) → Contains clause b → (b ≡ a) ⊎ Contains earlier (atom b.origin (not b.positive))) → IsBecause u kinds seeds refused earlier a
 
@@ -51,21 +51,21 @@ pub data IsTrail {N S : Type 0} (u : Universe N S) (kinds : List (ClauseKind N S
   went_on : {earlier : List (Atom N S)} (a : Atom N S) → IsTrail u kinds seeds refused earlier → IsBecause u kinds seeds refused earlier a →
       IsTrail u kinds seeds refused (a ∷ earlier)
 
--- what the trail makes true
+-- the trail gives this value to the origin
 abbrev pub Takes : {N S : Type 0} → List (Atom N S) → Origin N S → Bool → Type 0
 Takes trail o b = Contains trail (atom o b)
 
--- the chosen ones are the solvables that the trail makes true
+-- the chosen solvables are those that the trail makes true
 pub record IsChosen {N S : Type 0} (trail : List (Atom N S)) (chosen : List S) : Type 0 where
   pub each_true : (s : S) → Contains chosen s → Contains trail (atom (Solvable s) true)
   pub each_chosen : (s : S) → Contains trail (atom (Solvable s) true) → Contains chosen s
 
--- the clauses are all that the rules ask of any chosen ones that are there by need
+-- the clauses cover the rules of every part of the chosen solvables that is reached by need
 abbrev pub CoversReached : {N S : Type 0} → Universe N S → Demands → List (ClauseKind N S) → (chosen seeds exempt : List S) → Type 0
 CoversReached {N} {S} u root kinds chosen seeds exempt =
     (part : List S) → IsWithin part chosen → ((s : S) → Contains part s → IsReached u root chosen seeds s) → Covers u root kinds part exempt
 
--- the chosen ones answer the problem, and each is there by need
+-- the chosen solvables answer the problem, and each is reached by need
 pub record IsAnswerBy {N S : Type 0} (u : Universe N S) (root : Demands) (chosen seeds exempt : List S) : Type 0 where
   pub valid : IsValid u root chosen exempt
   pub reached : AllReached u root chosen seeds

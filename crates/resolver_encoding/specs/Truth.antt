@@ -18,7 +18,7 @@ use Rattle.resolver_clause_store.specs.declared.ClauseKind.TheVariants.{InstallR
 use Rattle.resolver_clause_store.specs.declared.ClauseKind.TheVariants.{ConstrainsParent, HasBit, Lock, Excluded}
 use Rattle.resolver_encoding.specs.Atoms.{has, IsHelper, IsStated}
 
--- conditions are well-founded, and solvables that compare equal are one
+-- conditions are well-founded, and solvables that compare equal are the same
 pub record HasLawfulSolvables {N S : Type 0} (u : Universe N S) : Type 0 where
   pub ids : HasLawfulIds u
   pub same_solvable : IsIdentity u.same_solvable
@@ -29,11 +29,11 @@ same_requirement (Single v) (Union w) = false
 same_requirement (Union v) (Single w) = false
 same_requirement (Union v) (Union w) = nat_eq v.0 w.0
 
--- the requirement stands there without a condition
+-- whether the conditional requirement is this requirement without a condition
 abbrev pub is_plain : Requirement → ConditionalRequirement → Bool
 is_plain r q = is_none q.condition && same_requirement q.requirement r
 
--- from which solvables a helper follows, where `codes` says which bits a solvable has for a name
+-- whether the solvable implies the helper; `codes` has the bits of each solvable under a name
 abbrev pub follows : {N S : Type 0} → Universe N S → (N → ℕ → S → Bool) → Origin N S → S → Bool
 follows u codes Root s = false
 follows u codes (Solvable t) s = false
@@ -42,15 +42,15 @@ follows u codes (Gate r) s = list_any (is_plain r) (demands_of (u.needs s)).requ
 follows u codes (ConstraintHelper v) s = has u (others u v) s
 follows u codes (ConditionHelper v) s = has u (matching u v) s
 
--- where nothing is told apart by bits
+-- codes without bits
 abbrev pub no_codes : {N S : Type 0} → N → ℕ → S → Bool
 no_codes n i s = false
 
--- a solvable has bits for its own name alone
+-- a solvable has bits under its own name only
 pub record AreCodes {N S : Type 0} (u : Universe N S) (codes : N → ℕ → S → Bool) : Type 0 where
   pub named : (n : N) (i : ℕ) (s : S) → codes n i s ≡ true → u.name s ≡ n
 
--- the clause says what the provider and the problem say, or defines a helper
+-- the clause states what the provider or the problem states, or defines a helper
 abbrev pub IsTrueClause : {N S : Type 0} → Universe N S → (N → ℕ → S → Bool) → Demands → ClauseKind N S → Type 0
 IsTrueClause u codes root InstallRoot = ⊤
 IsTrueClause u codes root (Requires by disjunct requirement) =
@@ -68,21 +68,22 @@ IsTrueClause u codes root (Lock locked forbidden) = ((u.package_named (u.name fo
 IsTrueClause u codes root (Excluded solvable reason) = Contains (u.package_named (u.name solvable)).excluded (solvable, reason) ⊎
     (u.needs solvable ≡ unknown reason)
 
--- no lock and no exclusion says anything of these
+-- no lock, and no exclusion by a package, forbids an exempt solvable
 pub record Spares {N S : Type 0} (u : Universe N S) (exempt : List S) (kinds : List (ClauseKind N S)) : Type 0 where
   pub locks : (s t : S) → Contains kinds (Lock s t) → Contains exempt t → ⊥
   pub exclusions : (s : S) (reason : _) → Contains kinds (Excluded s reason) → Contains exempt s → u.needs s ≡ unknown reason
 
--- the rules state all that the clauses state
+-- the rules make each statement that the clauses make
 abbrev pub AreListed : {N S : Type 0} → Universe N S → (Origin N S → S → Bool) → List (ClauseKind N S) → List (Rule N S) → Type 0
 AreListed {N} {S} u implies kinds rules = (st : Statement N S) → IsStated u implies kinds st → (rule : Rule N S) × Contains rules rule ×
     (statement_of rule ≡ st)
 
--- each rule states what the clauses state
+-- each rule makes a statement that the clauses make
 abbrev pub AreStated : {N S : Type 0} → Universe N S → (Origin N S → S → Bool) → List (ClauseKind N S) → List (Rule N S) → Type 0
 AreStated {N} {S} u implies kinds rules = (rule : Rule N S) → Contains rules rule → IsStated u implies kinds (statement_of rule)
 
--- locks and exclusions are made for packages that were asked for, and for none that is exempt
+-- locks are of packages that were asked, and forbid no exempt solvable; the same goes for exclusions, except those of
+-- unknown dependencies
 pub record AreDue {N S : Type 0} (u : Universe N S) (asked : List N) (exempt : List S) (kinds : List (ClauseKind N S)) : Type 0 where
   pub locks : (s t : S) → Contains kinds (Lock s t) → Contains asked (u.name t) × (Contains exempt t → ⊥)
   pub exclusions : (s : S) (reason : _) → Contains kinds (Excluded s reason) → (Contains asked (u.name s) × (Contains exempt s → ⊥)) ⊎

@@ -1,4 +1,4 @@
-//! The candidates of a requirement, and where those of each version set end.
+//! The candidates of a requirement, and the number of candidates up to the end of each version set.
 
 ghost use Rattle.std.specs.Prelude.{◌≡◌, ◌<◌, ◌^◌, [], All, IfErr, IfOk, OnOk};
 ghost use Rattle.resolver_clause_store.specs.Caches.{IsTrueCache};
@@ -13,8 +13,10 @@ use resolver_clause_store::{
 use std::alloc::{AllocError, Global};
 use std::hash::Hash;
 
-/// The candidates of a requirement, and for each version set of a union how many of them stand before the end of its own. Those of a requirement of one
-/// version set end with the list.
+/// The candidates of a requirement.
+///
+/// For each version set of a union, `counts` has the number of candidates up to its end. For a single version set it is
+/// empty.
 #[derive(Drop)]
 pub(crate) struct Choices<S: Drop> {
     pub(crate) candidates: Vec<S>,
@@ -22,7 +24,7 @@ pub(crate) struct Choices<S: Drop> {
 }
 
 impl<S: Drop> Choices<S> {
-    /// No candidates, of no version set.
+    /// Returns an empty list of candidates.
     pub(crate) fn none(alloc: Global) -> Self
         ensures none { result.candidates.items ≡ [] }
         ensures small { All (λ n. n < 2 ^ 63) result.counts.items }
@@ -34,7 +36,7 @@ impl<S: Drop> Choices<S> {
     }
 }
 
-/// Adds what is not there yet at the end.
+/// Appends the candidates that are not listed yet.
 fn list_all<S: Copy + Eq + Hash + Drop>(
     listed: &mut IndexSet<S>,
     more: &[S],
@@ -47,7 +49,7 @@ fn list_all<S: Copy + Eq + Hash + Drop>(
     Ok(())
 }
 
-/// Counts the candidates up to the end of those of one more version set.
+/// Lists the candidates of one more version set, and counts all candidates up to their end.
 fn count_next<D: DependencyProvider>(
     provider: &D,
     cache: &mut Cache<D::NameId, D::SolvableId>,
@@ -67,7 +69,9 @@ fn count_next<D: DependencyProvider>(
     Ok(())
 }
 
-/// How many candidates stand before the end of those of each version set, what is listed already counted too.
+/// Lists the candidates of each version set, and returns the number of all candidates up to the end of each.
+///
+/// Candidates that are listed already are counted, too.
 fn counts_behind<D: DependencyProvider>(
     provider: &D,
     cache: &mut Cache<D::NameId, D::SolvableId>,
@@ -87,7 +91,7 @@ fn counts_behind<D: DependencyProvider>(
     Ok(counts)
 }
 
-/// How many candidates stand before the end of those of each version set, repeats dropped.
+/// Returns, for each version set, the number of candidates up to its end, without repeats.
 fn counts_of<D: DependencyProvider>(
     alloc: Global,
     provider: &D,
@@ -105,7 +109,7 @@ fn counts_of<D: DependencyProvider>(
     counts
 }
 
-/// A list with other items, in the block that it has.
+/// Replaces the items of a list, and keeps its block of memory.
 fn refilled<S: Copy + Drop>(mut list: Vec<S>, items: &[S]) -> Result<Vec<S>, AllocError>
     ensures { IfOk result (λ filled. filled.items ≡ items.now) }
 {
@@ -114,7 +118,7 @@ fn refilled<S: Copy + Drop>(mut list: Vec<S>, items: &[S]) -> Result<Vec<S>, All
     Ok(list)
 }
 
-/// The candidates of a requirement. Those of one version set are put into the given list, in place of what is there.
+/// Returns the candidates of a requirement. Those of a single version set take the place of the items of `list`.
 pub(crate) fn choices_of<D: DependencyProvider>(
     alloc: Global,
     provider: &D,
@@ -149,7 +153,7 @@ pub(crate) fn choices_of<D: DependencyProvider>(
     }
 }
 
-/// The places behind a number of literals and each of these counts of candidates.
+/// Returns the places in a clause that come after `start` literals and each of these counts of candidates.
 pub(crate) fn places_behind(
     alloc: Global,
     start: usize,

@@ -15,7 +15,7 @@ use resolver_clause_store::{Exhausted, Origin, Trail, Variables};
 use std::alloc::Global;
 use std::hash::Hash;
 
-/// Whether the entry at a place is true.
+/// Returns whether the entry at a place is true.
 fn is_true_at(trail: &Trail, place: usize) -> bool
     requires { place < length_of trail.now }
     ensures { result ≡ value_of trail.now (variable_at trail.now place) }
@@ -26,7 +26,7 @@ fn is_true_at(trail: &Trail, place: usize) -> bool
     }
 }
 
-/// The solvable that a variable stands for, if it does for one.
+/// Returns the solvable that a variable stands for, if any.
 pub(crate) fn as_solvable<N: Drop, S: Drop>(origin: Option<Origin<N, S>>) -> Option<S>
     ensures { result ≡ solvable_found origin }
 {
@@ -43,7 +43,7 @@ pub(crate) fn as_solvable<N: Drop, S: Drop>(origin: Option<Origin<N, S>>) -> Opt
     }
 }
 
-/// The solvable that a place makes true, if it makes one true.
+/// Returns the solvable that the entry at a place makes true, if any.
 fn solvable_at<N: Copy + Eq + Hash + Drop, S: Copy + Eq + Hash + Drop>(
     variables: &Variables<N, S>,
     trail: &Trail,
@@ -59,7 +59,7 @@ fn solvable_at<N: Copy + Eq + Hash + Drop, S: Copy + Eq + Hash + Drop>(
     as_solvable(variables.origin(trail.variable_at(place)))
 }
 
-/// Puts a member behind the others, where it is not among them.
+/// Appends a member, unless the set has it.
 fn put<T: Copy + Eq + Hash + Drop>(set: &mut IndexSet<T>, member: T) -> Result<(), Exhausted>
     requires { IsIdentity T.eq }
     ensures last { OnOk result ((Contains set.old.keys member → ⊥) → set.new.keys ≡ set.old.keys ++ member ∷ []) }
@@ -70,7 +70,7 @@ fn put<T: Copy + Eq + Hash + Drop>(set: &mut IndexSet<T>, member: T) -> Result<(
     Ok(())
 }
 
-/// Puts what was found behind the others, where it is not among them.
+/// Appends the member that was found, if any, unless the set has it.
 fn put_found<T: Copy + Eq + Hash + Drop>(
     set: &mut IndexSet<T>,
     found: Option<T>,
@@ -90,20 +90,20 @@ fn put_found<T: Copy + Eq + Hash + Drop>(
     }
 }
 
-/// The solvables that the first places of a trail make true, in the order of the trail.
+/// The solvables that the first entries of a trail make true, in the order of the trail.
 ///
-/// What was followed once is not read again: where the trail was cut, the places that are left keep what they gave.
+/// An entry is followed once: when the trail is cut, the solvables of the entries that are left stay.
 #[derive(Drop)]
 pub struct Chosen<S: Copy + Eq + Hash + Drop> {
     solvables: IndexSet<S>,
-    /// How many of them stand before each place that was followed.
+    /// The number of solvables before each entry that was followed.
     counts: Vec<usize>,
 }
 
 impl<S: Copy + Eq + Hash + Drop> Chosen<S> {
     ghost use Rattle.resolver_encoding.specs.Trails.{Follows, chosen_in};
 
-    /// None: no place of any trail was followed.
+    /// Returns an empty list, which follows no entry of any trail.
     pub fn new<N>(alloc: Global) -> Self
         ensures none { chosen_in result ≡ [] }
         ensures follows { (origins : List (OriginOf N S)) (trail : TrailOf) → Follows result origins trail 0 }
@@ -114,28 +114,28 @@ impl<S: Copy + Eq + Hash + Drop> Chosen<S> {
         }
     }
 
-    /// How many there are.
+    /// Returns the number of chosen solvables.
     pub fn len(&self) -> usize
         ensures { result ≡ length (chosen_in self.now) }
     {
         self.solvables.len()
     }
 
-    /// Whether there are none.
+    /// Returns whether no solvable is chosen.
     pub fn is_empty(&self) -> bool
         ensures { MatchBool result (chosen_in self.now ≡ []) (0 < length (chosen_in self.now)) }
     {
         self.solvables.is_empty()
     }
 
-    /// The set of them.
+    /// Returns the set of chosen solvables.
     pub fn solvables(&self) -> &IndexSet<S>
         ensures { result.now.keys ≡ chosen_in self.now }
     {
         &self.solvables
     }
 
-    /// A list of them.
+    /// Returns a list of the chosen solvables.
     pub fn to_vec(&self, alloc: Global) -> Result<Vec<S>, Exhausted>
         ensures list { IfOk result (λ list. list.items ≡ chosen_in self.now) }
         ensures memory { IfErr result (λ e. e ≡ Exhausted.Memory) }
@@ -144,7 +144,7 @@ impl<S: Copy + Eq + Hash + Drop> Chosen<S> {
         Ok(list)
     }
 
-    /// Forgets what stands at this place and behind it.
+    /// Forgets the entries from a place on.
     pub fn cut<N>(&mut self, kept: usize)
         ensures { (origins : List (OriginOf N S)) (trail : TrailOf) (count : ℕ) → Follows self.old origins trail count → kept ≤ count →
             Follows self.new origins trail kept }
@@ -157,7 +157,7 @@ impl<S: Copy + Eq + Hash + Drop> Chosen<S> {
         self.counts.truncate(kept);
     }
 
-    /// Adds the place behind those that were followed.
+    /// Follows the entry at the first place that was not followed.
     fn follow_place<N: Copy + Eq + Hash + Drop>(
         &mut self,
         variables: &Variables<N, S>,
@@ -178,9 +178,9 @@ impl<S: Copy + Eq + Hash + Drop> Chosen<S> {
         Ok(())
     }
 
-    /// Adds the places of the trail from where it stands up to the last one.
+    /// Follows the trail to its end.
     ///
-    /// After a refusal it holds some of them, and is of no more use.
+    /// After a refusal the list may have some of the new solvables, and is of no more use.
     pub fn follow<N: Copy + Eq + Hash + Drop>(
         &mut self,
         variables: &Variables<N, S>,

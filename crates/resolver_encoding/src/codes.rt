@@ -1,9 +1,9 @@
-//! Numbers in binary.
+//! Binary digits of numbers.
 
 ghost use Rattle.std.specs.Prelude.{◌≡◌, ◌≢◌, ◌<◌, ◌≤◌, ◌^◌, ℕ, MatchOption};
 ghost use Rattle.resolver_encoding.specs.Codes.{bit};
 
-/// How many binary digits the number has. 0 has none.
+/// Returns the number of binary digits of a number. 0 has none.
 pub fn digit_count(number: usize) -> u32
     ensures each { (i : ℕ) → i < result → 2 ^ i ≤ number }
     ensures every { (i : ℕ) → 2 ^ i ≤ number → i < result }
@@ -12,7 +12,7 @@ pub fn digit_count(number: usize) -> u32
     usize::BITS - number.leading_zeros()
 }
 
-/// Whether the number has this digit, the lowest one first.
+/// Returns whether a number has this digit. Digit 0 is the lowest.
 pub fn has_digit(number: usize, index: u32) -> bool
     requires { index < 64 }
     ensures { result ≡ bit number index }
@@ -20,7 +20,7 @@ pub fn has_digit(number: usize, index: u32) -> bool
     (number >> index) % 2 == 1
 }
 
-/// The digit that no smaller number has, where there is one.
+/// Returns the digit that a number has and no smaller number has, if any.
 pub(crate) fn new_digit(number: usize) -> Option<u32>
     ensures { MatchOption result ((i : ℕ) → number ≢ 2 ^ i) (λ i. number ≡ 2 ^ i) }
 {

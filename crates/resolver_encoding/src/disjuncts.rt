@@ -1,4 +1,4 @@
-//! The disjuncts of a condition: which there are, which hold in a set, and what is noted of one that is put off.
+//! The disjuncts of a condition: which there are, whether they are met, and the entry of a deferred one.
 
 ghost use Rattle.std.specs.Prelude.{◌≡◌, ◌⊎◌, Contains, IfErr, IfOk, OnOk, map, MatchBool};
 ghost use Rattle.resolver_clause_store.specs.Lists.{HaveSameMembers, IsWithin, Meets};
@@ -19,17 +19,19 @@ use resolver_clause_store::{
 use std::alloc::Global;
 use std::hash::Hash;
 
-/// A disjunct of a requirement's condition that did not hold when it was read.
+/// A disjunct of a requirement's condition that was not met when the requirement was read.
 #[derive(Drop)]
 pub(crate) struct Entry<S: Copy + Drop> {
-    /// Whose requirement it is.
+    /// The requirer.
     pub(crate) by: By<S>,
-    /// Version sets, each once, of which each has to be met.
+    /// The version sets that all have to be met, without repeats.
     pub(crate) disjunct: Vec<VersionSetId>,
     pub(crate) requirement: Requirement,
 }
 
-/// The lists of version sets of which one has to be met: without a condition one list without any.
+/// Returns the disjuncts of a condition, of which one has to be met.
+///
+/// Without a condition there is one empty disjunct, which is always met.
 pub(crate) fn disjuncts_of<I: Interner>(
     alloc: Global,
     interner: &I,
@@ -48,7 +50,7 @@ pub(crate) fn disjuncts_of<I: Interner>(
     }
 }
 
-/// Puts a version set behind the others, if it is not among them.
+/// Appends a version set, unless it is listed.
 fn keep(kept: &mut IndexSet<VersionSetId>, version_set: VersionSetId) -> Result<(), Exhausted>
     ensures earlier { OnOk result (IsWithin kept.old.keys kept.new.keys) }
     ensures here { OnOk result (Contains kept.new.keys version_set) }
@@ -63,7 +65,7 @@ fn keep(kept: &mut IndexSet<VersionSetId>, version_set: VersionSetId) -> Result<
     Ok(())
 }
 
-/// The version sets of a list, each once.
+/// Returns the version sets of a list without repeats.
 pub(crate) fn without_repeats(
     alloc: Global,
     list: &[VersionSetId],
@@ -79,7 +81,7 @@ pub(crate) fn without_repeats(
     Ok(Vec::from_slice(alloc, kept.as_slice())?)
 }
 
-/// Whether some of these is in the set.
+/// Returns whether one of the candidates is chosen.
 fn is_any_chosen<S: Copy + Eq + Hash + Drop>(chosen: &IndexSet<S>, candidates: &[S]) -> bool
     requires { IsIdentity S.eq }
     ensures { MatchBool result (Meets candidates.now chosen.now.keys) (Meets candidates.now chosen.now.keys → ⊥) }
@@ -92,7 +94,7 @@ fn is_any_chosen<S: Copy + Eq + Hash + Drop>(chosen: &IndexSet<S>, candidates: &
     false
 }
 
-/// Whether something in the set matches the version set.
+/// Returns whether a chosen solvable matches the version set.
 fn is_matched<D: DependencyProvider>(
     provider: &D,
     cache: &mut Cache<D::NameId, D::SolvableId>,
@@ -110,7 +112,7 @@ fn is_matched<D: DependencyProvider>(
     Ok(is_any_chosen(chosen, cache.matching(version_set)))
 }
 
-/// Reads the candidates of the version sets.
+/// Fetches the candidates that match each version set.
 fn read_candidates<D: DependencyProvider>(
     provider: &D,
     cache: &mut Cache<D::NameId, D::SolvableId>,
@@ -126,7 +128,9 @@ fn read_candidates<D: DependencyProvider>(
     Ok(())
 }
 
-/// Whether each version set of a disjunct is met in the set. The candidates of all of them are read.
+/// Returns whether each version set of a disjunct is met in the chosen set.
+///
+/// The candidates of all its version sets are fetched, even if the first one is not met.
 pub(crate) fn is_met<D: DependencyProvider>(
     provider: &D,
     cache: &mut Cache<D::NameId, D::SolvableId>,

@@ -1,4 +1,4 @@
-//! The clauses of all that was read.
+//! The clauses of everything that was read.
 
 ghost use Rattle.std.specs.Prelude.{◌≡◌, ◌<◌, ◌≤◌, ◌^◌, [], All, IfErr, OnOk, length, map};
 ghost use Rattle.resolver_clause_store.specs.Laws.{IsIdentity};
@@ -31,7 +31,7 @@ use resolver_clause_store::{
 use std::alloc::Global;
 use std::hash::Hash;
 
-/// The clauses of all that was read, and what each variable stands for.
+/// The clauses of everything that was read, and the variables with their origins.
 #[derive(Drop)]
 pub struct Encoding<N: Copy + Eq + Hash + Drop, S: Copy + Eq + Hash + Drop> {
     alloc: Global,
@@ -46,14 +46,14 @@ pub struct Encoding<N: Copy + Eq + Hash + Drop, S: Copy + Eq + Hash + Drop> {
     deferred: Vec<Option<Entry<S>>>,
     deferred_by_name: Groups<N, usize>,
     exempt: IndexSet<S>,
-    /// A list without meaning, whose block the next list of candidates takes.
+    /// A list without meaning. The next list of candidates takes its block of memory.
     spare: Vec<S>,
 }
 
 impl<N: Copy + Eq + Hash + Drop, S: Copy + Eq + Hash + Drop> Encoding<N, S> {
     ghost use Rattle.resolver_encoding.specs.Notes.{IsBounded, KeepsRoom, notes_in};
 
-    /// Nothing read yet. There may be as many variables and as many clauses as the limits say.
+    /// Returns an encoding that has read nothing, with limits on the numbers of its variables and clauses.
     pub fn new(alloc: Global, variable_limit: usize, clause_limit: usize) -> Self
         requires { variable_limit ≤ 2 ^ 31 }
         ensures bounded { IsBounded result }
@@ -79,7 +79,7 @@ impl<N: Copy + Eq + Hash + Drop, S: Copy + Eq + Hash + Drop> Encoding<N, S> {
         }
     }
 
-    /// Adds a clause that asks for candidates, with these. Its literals follow from its kind and from them.
+    /// Adds a clause with the candidates that it lists. Its literals follow from its kind and the candidates.
     fn add_with(&mut self, kind: ClauseKind<N, S>, choices: &Choices<S>) -> Result<(), Exhausted>
         requires names { IsIdentity N.eq }
         requires solvables { IsIdentity S.eq }
@@ -96,7 +96,7 @@ impl<N: Copy + Eq + Hash + Drop, S: Copy + Eq + Hash + Drop> Encoding<N, S> {
         Ok(())
     }
 
-    /// Adds a clause that asks for no candidates. Its literals follow from its kind.
+    /// Adds a clause that lists no candidates. Its literals follow from its kind.
     fn add(&mut self, kind: ClauseKind<N, S>) -> Result<(), Exhausted>
         requires names { IsIdentity N.eq }
         requires solvables { IsIdentity S.eq }
@@ -112,35 +112,35 @@ impl<N: Copy + Eq + Hash + Drop, S: Copy + Eq + Hash + Drop> Encoding<N, S> {
         Ok(())
     }
 
-    /// What the clauses say, by their numbers.
+    /// Returns the kinds of the clauses, by their numbers.
     pub fn kinds(&self) -> &[ClauseKind<N, S>]
         ensures { result.now ≡ (notes_in self.now).kinds }
     {
         self.table.kinds()
     }
 
-    /// The literals of the clauses, by their numbers.
+    /// Returns the literals of the clauses, by their numbers.
     pub fn literals(&self) -> &[Vec<Literal>]
         ensures { result.now ≡ (notes_in self.now).table }
     {
         self.table.literals()
     }
 
-    /// What the variables stand for.
+    /// Returns the variables with their origins.
     pub fn variables(&self) -> &Variables<N, S>
         ensures { origins_in result.now ≡ (notes_in self.now).origins }
     {
         &self.table.variables
     }
 
-    /// The clauses that ask for candidates, in the order of their numbers.
+    /// Returns the requirement clauses, in the order of their numbers.
     pub fn requirements(&self) -> &[RequirementClause]
         ensures { map (λ r. r.number) result.now ≡ (notes_in self.now).requirements }
     {
         self.table.requirements()
     }
 
-    /// How many clauses there are.
+    /// Returns the number of clauses.
     pub fn clause_count(&self) -> usize
         ensures { result ≡ length (notes_in self.now).kinds }
     {

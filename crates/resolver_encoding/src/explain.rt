@@ -22,7 +22,7 @@ use resolver_clause_store::{
 use std::alloc::Global;
 use std::hash::Hash;
 
-/// What each of the version sets takes.
+/// Returns the solvables that match each of the version sets.
 fn matching_lists<D: DependencyProvider>(
     alloc: Global,
     provider: &D,
@@ -42,7 +42,7 @@ fn matching_lists<D: DependencyProvider>(
     Ok(lists)
 }
 
-/// Adds a requirement that a clause states by itself.
+/// Adds the requirement that a clause states by itself.
 fn add_requirement<D: DependencyProvider>(
     provider: &D,
     cache: &mut Cache<D::NameId, D::SolvableId>,
@@ -65,7 +65,7 @@ fn add_requirement<D: DependencyProvider>(
     Ok(())
 }
 
-/// Adds a requirement for each of the solvables that state it.
+/// Adds a requirement for each of its requirers.
 fn require_each<N: Copy + Eq + Hash + Drop, S: Copy + Eq + Hash + Drop>(
     listing: &mut Listing<N, S>,
     requirers: &[S],
@@ -85,7 +85,7 @@ fn require_each<N: Copy + Eq + Hash + Drop, S: Copy + Eq + Hash + Drop>(
     Ok(())
 }
 
-/// Adds the requirement of each solvable from which a gate follows.
+/// Adds the requirement of a gate for each solvable that implies the gate.
 fn add_gate<D: DependencyProvider>(
     provider: &D,
     cache: &mut Cache<D::NameId, D::SolvableId>,
@@ -123,7 +123,7 @@ fn constrain_each<N: Copy + Eq + Hash + Drop, S: Copy + Eq + Hash + Drop>(
     Ok(())
 }
 
-/// Adds the rules by which a clause asks something of sets.
+/// Adds the rules that a clause states about sets, without the instances of packages.
 fn add_rules<D: DependencyProvider>(
     provider: &D,
     cache: &mut Cache<D::NameId, D::SolvableId>,
@@ -189,7 +189,7 @@ fn add_rules<D: DependencyProvider>(
     }
 }
 
-/// Adds the instance of a package that a bit of its code follows from.
+/// Adds the instance of a package that implies a helper, if that is a bit of the package's codes.
 fn list_bit<N: Copy + Eq + Hash + Drop, S: Copy + Eq + Hash + Drop>(
     listing: &mut Listing<N, S>,
     helper: &Origin<N, S>,
@@ -210,7 +210,7 @@ fn list_bit<N: Copy + Eq + Hash + Drop, S: Copy + Eq + Hash + Drop>(
     }
 }
 
-/// Adds the instance of a clause that keeps instances of a package apart.
+/// Adds the instance of a package that a clause of its codes names.
 fn add_instances<N: Copy + Eq + Hash + Drop, S: Copy + Eq + Hash + Drop>(
     listing: &mut Listing<N, S>,
     kind: &ClauseKind<N, S>,
@@ -254,10 +254,10 @@ fn add_stated<D: DependencyProvider>(
     Ok(())
 }
 
-/// The rules that the clauses with these numbers state, in the order of the numbers.
+/// Returns the rules that the clauses with these numbers state, in the order of the numbers.
 ///
-/// No rule names a helper: what a gate or the helper of a constraint joins is stated of each solvable from which it
-/// follows by these clauses. An instance is listed once for its package.
+/// No rule names a helper: the rule of a gate or of a constraint helper is stated for each solvable that implies it by
+/// these clauses. An instance is listed once for its package.
 pub fn rules_of_clauses<D: DependencyProvider>(
     alloc: Global,
     provider: &D,

@@ -1,4 +1,4 @@
-//! Solvables by the names of their packages.
+//! Solvables grouped by the names of their packages.
 
 ghost use Rattle.std.specs.Prelude.{◌≡◌, ◌≢◌, ◌<◌, ℕ, [], ◌∷◌, ◌++◌, All, Contains, IfErr, OnOk, Some, length, slice_get};
 ghost use Rattle.resolver_clause_store.specs.Laws.{IsIdentity};
@@ -8,7 +8,7 @@ use resolver_clause_store::{Exhausted, append, place_of};
 use std::alloc::Global;
 use std::hash::Hash;
 
-/// For each name the solvables that were put there, first come first.
+/// The solvables that were added under each name, in the order in which they were added.
 #[derive(Drop)]
 pub(crate) struct Groups<N: Copy + Eq + Hash + Drop, S: Copy + Drop> {
     alloc: Global,
@@ -19,7 +19,7 @@ pub(crate) struct Groups<N: Copy + Eq + Hash + Drop, S: Copy + Drop> {
 impl<N: Copy + Eq + Hash + Drop, S: Copy + Drop> Groups<N, S> {
     ghost use Rattle.resolver_encoding.specs.Groups.{AddsNamed, AreGroups, IsAt, IsNamed, group_at};
 
-    /// No groups.
+    /// Returns no groups.
     pub(crate) fn new(alloc: Global) -> Self
         ensures sound { AreGroups result }
         ensures none { (n : N) (s : S) → IsNamed result n s → ⊥ }
@@ -31,7 +31,7 @@ impl<N: Copy + Eq + Hash + Drop, S: Copy + Drop> Groups<N, S> {
         }
     }
 
-    /// The group at a place, and none where there is no such group.
+    /// Returns the group at a place, empty if there is none.
     fn group(&self, place: usize) -> &[S]
         ensures { result.now ≡ group_at self.now.members.items place }
     {
@@ -41,7 +41,7 @@ impl<N: Copy + Eq + Hash + Drop, S: Copy + Drop> Groups<N, S> {
         }
     }
 
-    /// The solvables of a name.
+    /// Returns the solvables of a name.
     pub(crate) fn named(&self, name: N) -> &[S]
         requires { IsIdentity N.eq }
         ensures each { All (IsNamed self.now name) result.now }
@@ -55,7 +55,7 @@ impl<N: Copy + Eq + Hash + Drop, S: Copy + Drop> Groups<N, S> {
         }
     }
 
-    /// Puts a solvable into the group at a place, where there is such a group.
+    /// Appends a solvable to the group at a place, if there is such a group.
     fn put(&mut self, place: usize, solvable: S) -> Result<(), Exhausted>
         ensures names { self.new.names.keys ≡ self.old.names.keys }
         ensures count { length self.new.members.items ≡ length self.old.members.items }
@@ -71,7 +71,7 @@ impl<N: Copy + Eq + Hash + Drop, S: Copy + Drop> Groups<N, S> {
         Ok(())
     }
 
-    /// Puts a solvable into the group of a name that has none yet.
+    /// Makes the group of a name that has none yet, with one solvable.
     fn open(&mut self, name: N, solvable: S) -> Result<(), Exhausted>
         requires names { IsIdentity N.eq }
         requires absent { Contains self.old.names.keys name → ⊥ }
@@ -85,7 +85,7 @@ impl<N: Copy + Eq + Hash + Drop, S: Copy + Drop> Groups<N, S> {
         Ok(())
     }
 
-    /// Puts a solvable into the group of a name.
+    /// Appends a solvable to the group of a name.
     pub(crate) fn add(&mut self, name: N, solvable: S) -> Result<(), Exhausted>
         requires { IsIdentity N.eq }
         ensures added { OnOk result (AreGroups self.old → AddsNamed self.old self.new name solvable) }

@@ -1,4 +1,4 @@
-//! What the clauses say of sets of solvables.
+//! What clauses mean for sets of solvables.
 
 ghost use Rattle.std.specs.Prelude.{All, Bool, Contains, List, Vec, length, map, ℕ, ◌<◌, ◌≡◌, ◌≤◌, []};
 ghost use Rattle.std.specs.declared.alloc.Global.{Global};
@@ -29,10 +29,10 @@ ghost use Rattle.resolver_encoding.specs.TrailAtoms.{CoversReached, IsAnswerBy, 
 ghost use Rattle.resolver_encoding.specs.Truth.{HasLawfulSolvables, AreCodes, AreListed, AreStated, IsTrueClause, Spares, follows};
 ghost use Rattle.resolver_encoding.specs.Values.{AreEncoded, extension, kinds_at};
 
-/// The extension of an answer makes every true clause true, where no lock and no exclusion speaks of what is exempt.
+/// The extension of an answer satisfies every true clause, if no lock and no exclusion forbids an exempt solvable.
 ///
-/// The extension gives each variable the value that a set stands for: a solvable's is whether it is in the set, and a
-/// helper's whether it follows from a member. The call does nothing: its contract is the law.
+/// The extension is the values that a set gives to variables: a solvable is true if it is in the set, and a helper if a
+/// member implies it. The call does nothing: its contract is the law.
 pub fn answers_satisfy_true_clauses<N, S>()
     ensures { (u : Universe N S) (codes : N → ℕ → S → Bool) (root : Demands) (origins : List (Origin N S)) (table : List (Vec Literal Global))
         (kinds : List (ClauseKind N S)) (set exempt : List S) →
@@ -41,7 +41,7 @@ pub fn answers_satisfy_true_clauses<N, S>()
         Satisfies (extension u (follows u codes) origins set) table }
 {}
 
-/// Where no values make some true clauses true together, the rules that these clauses state are true, and no set obeys
+/// If no values make some true clauses true together, the rules that these clauses state are true, and no set obeys
 /// them.
 ///
 /// The call does nothing: its contract is the law.
@@ -56,7 +56,7 @@ pub fn core_rules_explain<N, S>()
         IsExplained u root rules }
 {}
 
-/// What a trail makes true that leaves nothing to set is an answer, and each of it is there by need.
+/// The solvables that a trail makes true, if it leaves nothing to set, are an answer, and each is reached by need.
 ///
 /// The call does nothing: its contract is the law.
 pub fn finished_trails_are_answers<N, S>()
@@ -67,7 +67,7 @@ pub fn finished_trails_are_answers<N, S>()
         IsAnswerBy u root chosen seeds exempt }
 {}
 
-/// The same, where the clauses are those of what was read, and each chosen solvable that a clause asks for was read.
+/// The same for the clauses of what was read, if each chosen solvable that is registered was read.
 ///
 /// The call does nothing: its contract is the law.
 pub fn read_trails_are_answers<N, S>()
@@ -80,9 +80,11 @@ pub fn read_trails_are_answers<N, S>()
         IsAnswerBy u root chosen seeds exempt }
 {}
 
-/// A search that is finished over what was read so far has an answer, where each solvable that its trail makes true was
-/// read and nothing that is put off holds in them: these solvables, each there by need and none twice. What was assumed
-/// counts as needed where it is true, and as refused where it is false.
+/// The solvables that the trail of a finished search makes true are an answer, each reached by need and none listed
+/// twice.
+///
+/// Each of them has to have been read, and no deferred disjunct may be met in them. An assumed solvable counts as
+/// needed if it is true, and as refused if it is false.
 ///
 /// The call does nothing: its contract is the law.
 pub fn finished_searches_are_answers<N, S>()
@@ -96,8 +98,8 @@ pub fn finished_searches_are_answers<N, S>()
         HasNoRepeats (solvables_before origins trail (length_of trail)) }
 {}
 
-/// The answer of a finished search over what was read so far, where nothing was assumed, takes first choices: where these are
-/// promised, it has just their members.
+/// The answer of a finished search takes first choices, if nothing was assumed: where they are promised, it has exactly
+/// their members.
 ///
 /// The call does nothing: its contract is the law.
 pub fn finished_searches_answer_first_choices<N, S>()
@@ -108,8 +110,7 @@ pub fn finished_searches_answer_first_choices<N, S>()
         TakesFirstChoices u root (solvables_before notes.origins trail (length_of trail)) }
 {}
 
-/// The rules that the clauses of a core state, where the clauses are those of an encoding: they are true, and no set obeys
-/// them.
+/// The rules that the core of an encoding's clauses states are true, and no set obeys them.
 ///
 /// The call does nothing: its contract is the law.
 pub fn cores_of_encodings_explain<N, S>()
@@ -120,7 +121,7 @@ pub fn cores_of_encodings_explain<N, S>()
         IsExplained u root rules }
 {}
 
-/// A list of chosen solvables follows a trail whose first places stay, also where variables were added.
+/// A list of chosen solvables still follows a trail whose first entries stay, even if variables were added.
 ///
 /// The call does nothing: its contract is the law.
 pub fn chosen_lists_stay<N, S>()

@@ -1,4 +1,5 @@
-//! Clauses that encode a provider's rules: what they state, and what follows for sets of solvables.
+//! The encoding of a provider's rules as clauses: which clauses there are, what they state, and what follows for sets
+//! of solvables.
 #![tactic(auto)]
 
 mod choices;

@@ -1,4 +1,4 @@
-//! Lists of rules, with each instance of a package once.
+//! Lists of rules that have each instance of a package once.
 
 ghost use Rattle.std.specs.Prelude.{◌≡◌, [], IfErr, OnOk, map};
 ghost use Rattle.resolver_clause_store.specs.Laws.{IsIdentity};
@@ -18,7 +18,7 @@ pub(crate) struct Instance<N, S> {
     pub instance: S,
 }
 
-/// Rules in the order in which they came, and the instances that some of them list.
+/// Rules in the order in which they were added, and the instances that they list.
 #[derive(Drop)]
 pub(crate) struct Listing<N: Copy + Eq + Hash + Drop, S: Copy + Eq + Hash + Drop> {
     alloc: Global,
@@ -29,7 +29,7 @@ pub(crate) struct Listing<N: Copy + Eq + Hash + Drop, S: Copy + Eq + Hash + Drop
 impl<N: Copy + Eq + Hash + Drop, S: Copy + Eq + Hash + Drop> Listing<N, S> {
     ghost use Rattle.resolver_encoding.specs.Listing.{AddsRules, HasInstances};
 
-    /// No rules.
+    /// Returns an empty list.
     pub(crate) fn new(alloc: Global) -> Self
         ensures instances { HasInstances result }
         ensures none { result.rules.items ≡ [] }
@@ -41,12 +41,12 @@ impl<N: Copy + Eq + Hash + Drop, S: Copy + Eq + Hash + Drop> Listing<N, S> {
         }
     }
 
-    /// Where the rules get their memory.
+    /// Returns the allocator of the rules.
     pub(crate) fn allocator(&self) -> Global {
         self.alloc
     }
 
-    /// The rules.
+    /// Returns the rules.
     pub(crate) fn into_rules(self) -> Vec<Rule<N, S>>
         ensures { result ≡ self.rules }
     {
@@ -74,7 +74,7 @@ impl<N: Copy + Eq + Hash + Drop, S: Copy + Eq + Hash + Drop> Listing<N, S> {
         Ok(())
     }
 
-    /// Adds a constraint and a candidate that it excludes.
+    /// Adds a constraint with a candidate that it excludes.
     pub(crate) fn constrain(
         &mut self,
         by: By<S>,
@@ -113,7 +113,7 @@ impl<N: Copy + Eq + Hash + Drop, S: Copy + Eq + Hash + Drop> Listing<N, S> {
         Ok(())
     }
 
-    /// Adds a rule `OnePerPackage` for an instance, unless the list has one.
+    /// Adds a rule `OnePerPackage` for an instance, unless it is listed.
     pub(crate) fn list_instance(&mut self, name: N, instance: S) -> Result<(), Exhausted>
         requires names { IsIdentity N.eq }
         requires solvables { IsIdentity S.eq }

@@ -15,7 +15,7 @@ ghost use Rattle.resolver_encoding.specs.Tables.{IsBeside, IsSecond};
 use resolver_clause_store::{By, ClauseKind, Exhausted, Literal, Origin, Variables, VersionSetId};
 use std::hash::Hash;
 
-/// What the variable of the root, or of a solvable, stands for.
+/// Returns the origin of the root or of a solvable.
 fn origin_of<N, S: Copy>(by: By<S>) -> Origin<N, S>
     ensures { result ≡ origin_by by }
 {
@@ -25,7 +25,7 @@ fn origin_of<N, S: Copy>(by: By<S>) -> Origin<N, S>
     }
 }
 
-/// What the first literal of a clause is about, and whether it is to be there.
+/// Returns the origin and the sign of a clause's first literal.
 pub(crate) fn first_of<N: Copy, S: Copy>(kind: &ClauseKind<N, S>) -> (Origin<N, S>, bool)
     ensures { result ≡ first_atom kind.now }
 {
@@ -43,7 +43,7 @@ pub(crate) fn first_of<N: Copy, S: Copy>(kind: &ClauseKind<N, S>) -> (Origin<N, 
     }
 }
 
-/// Whether it is this solvable.
+/// Returns whether the requirer is this solvable.
 fn is_by<S: Copy + Eq>(by: By<S>, solvable: S) -> bool
     requires { IsIdentity S.eq }
     ensures { MatchBool result (by ≡ BySolvable solvable) (by ≡ BySolvable solvable → ⊥) }
@@ -54,7 +54,8 @@ fn is_by<S: Copy + Eq>(by: By<S>, solvable: S) -> bool
     }
 }
 
-/// The candidate beside the root or the solvable that constrains it, and nothing beside a solvable that constrains itself.
+/// Returns the origin and the sign of the candidate's literal in the clause of a constraint, and none if a solvable
+/// excludes itself.
 fn beside<N, S: Copy + Eq>(by: By<S>, candidate: S) -> Option<(Origin<N, S>, bool)>
     requires { IsIdentity S.eq }
     ensures { IsBeside by candidate result }
@@ -65,8 +66,8 @@ fn beside<N, S: Copy + Eq>(by: By<S>, candidate: S) -> Option<(Origin<N, S>, boo
     Some((Origin::Solvable(candidate), false))
 }
 
-/// What the second literal of a clause is about, and whether it is to be there, where it has one besides helpers of a disjunct and
-/// candidates.
+/// Returns the origin and the sign of a clause's second literal, if that is neither a disjunct's helper nor a listed
+/// candidate.
 pub(crate) fn second_of<N: Copy, S: Copy + Eq>(
     kind: &ClauseKind<N, S>,
 ) -> Option<(Origin<N, S>, bool)>
@@ -106,7 +107,7 @@ pub(crate) fn second_of<N: Copy, S: Copy + Eq>(
     }
 }
 
-/// The version sets of conditions on whose helpers a clause depends.
+/// Returns the version sets whose condition helpers a clause depends on.
 pub(crate) fn depends_on<N, S>(kind: &ClauseKind<N, S>) -> &[VersionSetId]
     ensures { result.now ≡ helpers_of kind.now }
 {
@@ -116,7 +117,7 @@ pub(crate) fn depends_on<N, S>(kind: &ClauseKind<N, S>) -> &[VersionSetId]
     }
 }
 
-/// The number of literals that a clause has, for the room that it takes.
+/// Counts the literals of a clause. The count serves as a capacity, so nothing rests on it.
 pub(crate) fn count_of<N, S>(
     second: &Option<(Origin<N, S>, bool)>,
     helpers: &[VersionSetId],
@@ -131,7 +132,7 @@ pub(crate) fn count_of<N, S>(
         .saturating_add(candidates.len())
 }
 
-/// Puts the literal of an origin behind the others.
+/// Appends the literal of an origin.
 fn push_literal<N: Copy + Eq + Hash + Drop, S: Copy + Eq + Hash + Drop>(
     variables: &mut Variables<N, S>,
     literals: &mut Vec<Literal>,
@@ -153,7 +154,7 @@ fn push_literal<N: Copy + Eq + Hash + Drop, S: Copy + Eq + Hash + Drop>(
     Ok(())
 }
 
-/// Puts the one or two literals at the front of a clause behind the others.
+/// Appends the one or two literals at the front of a clause.
 pub(crate) fn push_front<N: Copy + Eq + Hash + Drop, S: Copy + Eq + Hash + Drop>(
     variables: &mut Variables<N, S>,
     literals: &mut Vec<Literal>,
@@ -180,7 +181,7 @@ pub(crate) fn push_front<N: Copy + Eq + Hash + Drop, S: Copy + Eq + Hash + Drop>
     }
 }
 
-/// Puts the negated literal of each condition helper behind the others.
+/// Appends the negated literal of the condition helper of each version set.
 pub(crate) fn push_helpers<N: Copy + Eq + Hash + Drop, S: Copy + Eq + Hash + Drop>(
     variables: &mut Variables<N, S>,
     literals: &mut Vec<Literal>,
@@ -208,7 +209,7 @@ pub(crate) fn push_helpers<N: Copy + Eq + Hash + Drop, S: Copy + Eq + Hash + Dro
     Ok(())
 }
 
-/// Puts the literal of each candidate behind the others.
+/// Appends the literal of each candidate.
 pub(crate) fn push_candidates<N: Copy + Eq + Hash + Drop, S: Copy + Eq + Hash + Drop>(
     variables: &mut Variables<N, S>,
     literals: &mut Vec<Literal>,

@@ -3,9 +3,9 @@
 /// What one more reading did.
 #[derive(Clone, Copy, PartialEq, Eq)]
 pub enum Progress {
-    /// Nothing was read or taken out: there are the same clauses as before.
+    /// No solvable was read and no disjunct was removed: the clauses are the same as before.
     Nothing,
-    /// Disjuncts that were put off were taken out, and no solvable was read.
+    /// Deferred disjuncts were removed, and no solvable was read.
     Fired,
     /// Solvables were read.
     Read,

@@ -1,4 +1,4 @@
-//! The solvables from which helpers follow.
+//! The solvables that imply helpers.
 
 ghost use Rattle.std.specs.Prelude.{◌≡◌, ◌++◌, ◌∷◌, ◌<◌, [], All, Contains, IfErr, IfOk, List, OnOk, length};
 ghost use Rattle.resolver_clause_store.specs.declared.ClauseKind.{ClauseKind as Kind};
@@ -10,7 +10,7 @@ use crate::groups::Groups;
 use resolver_clause_store::{ClauseKind, Exhausted, Origin, Requirement, VersionSetId};
 use std::alloc::Global;
 
-/// From which solvables the gates of requirements and the helpers of constraints follow, by some clauses.
+/// The solvables that imply the gates of requirements and the helpers of constraints, according to some clauses.
 #[derive(Drop)]
 pub(crate) struct Sources<S: Copy + Drop> {
     gates: Groups<Requirement, S>,
@@ -21,7 +21,7 @@ impl<S: Copy + Drop> Sources<S> {
     ghost use Rattle.resolver_encoding.specs.Groups.{IsNamed};
     ghost use Rattle.resolver_encoding.specs.Sources.{HasGroups};
 
-    /// The solvables that ask for a requirement through its gate.
+    /// Returns the solvables that imply the gate of a requirement.
     pub(crate) fn requirers(&self, requirement: Requirement) -> &[S]
         ensures each { All (IsNamed self.now.gates requirement) result.now }
         ensures every { HasGroups self.now → (s : S) → IsNamed self.now.gates requirement s → Contains result.now s }
@@ -29,7 +29,7 @@ impl<S: Copy + Drop> Sources<S> {
         self.gates.named(requirement)
     }
 
-    /// The solvables that a version set does not take, as far as its helper knows.
+    /// Returns the solvables that imply the constraint helper of a version set.
     pub(crate) fn excluded(&self, version_set: VersionSetId) -> &[S]
         ensures each { All (IsNamed self.now.helpers version_set) result.now }
         ensures every { HasGroups self.now → (s : S) → IsNamed self.now.helpers version_set s → Contains result.now s }
@@ -37,7 +37,7 @@ impl<S: Copy + Drop> Sources<S> {
         self.helpers.named(version_set)
     }
 
-    /// Takes note of a clause that says that a helper follows from a solvable.
+    /// Notes that a candidate implies a helper.
     fn note_helper<N>(&mut self, helper: &Origin<N, S>, candidate: S) -> Result<(), Exhausted>
         ensures noted { OnOk result ((kinds : List (Kind N S)) → AreSources kinds self.old → AreSources (kinds ++ AnyOf helper.now candidate ∷ []) self.new) }
         ensures memory { IfErr result (λ e. e ≡ Exhausted.Memory) }
@@ -55,7 +55,7 @@ impl<S: Copy + Drop> Sources<S> {
         }
     }
 
-    /// Takes note of one more clause.
+    /// Notes one more clause.
     fn note<N>(&mut self, kind: &ClauseKind<N, S>) -> Result<(), Exhausted>
         ensures noted { OnOk result ((kinds : List (Kind N S)) → AreSources kinds self.old → AreSources (kinds ++ kind.now ∷ []) self.new) }
         ensures memory { IfErr result (λ e. e ≡ Exhausted.Memory) }
@@ -77,7 +77,7 @@ impl<S: Copy + Drop> Sources<S> {
     }
 }
 
-/// The sources that the clauses with these numbers name.
+/// Returns the sources that the clauses with these numbers name.
 pub(crate) fn sources_of<N, S: Copy + Drop>(
     alloc: Global,
     kinds: &[ClauseKind<N, S>],

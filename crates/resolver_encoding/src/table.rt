@@ -1,4 +1,4 @@
-//! Clauses, each given by its kind.
+//! The table of clauses, each of which is added by its kind.
 
 ghost use Rattle.std.specs.Prelude.{◌≡◌, ◌<◌, ◌≤◌, ◌^◌, ◌⊎◌, [], ◌∷◌, ◌++◌, ℕ, All, IfErr, List, OnErr, OnOk, length, map};
 ghost use Rattle.resolver_clause_store.specs.Laws.{IsIdentity};
@@ -21,9 +21,9 @@ use resolver_clause_store::{
 use std::alloc::{AllocError, Global};
 use std::hash::Hash;
 
-/// The clauses, and what each variable stands for.
+/// The clauses, and the origin of each variable.
 ///
-/// A clause is added by its kind alone: its literals follow from that.
+/// A clause is added by its kind alone, from which its literals follow.
 #[derive(Drop)]
 pub(crate) struct ClauseTable<N: Copy + Eq + Hash + Drop, S: Copy + Eq + Hash + Drop> {
     alloc: Global,
@@ -34,7 +34,7 @@ pub(crate) struct ClauseTable<N: Copy + Eq + Hash + Drop, S: Copy + Eq + Hash + 
     clause_limit: usize,
 }
 
-/// How a clause with this number is listed among those that ask for candidates, where it asks for any.
+/// Returns the entry of a clause among the requirement clauses, or `None` for a clause of another kind.
 fn listing_of<N, S>(
     kind: &ClauseKind<N, S>,
     number: u32,
@@ -57,7 +57,7 @@ fn listing_of<N, S>(
     }
 }
 
-/// The ends of a union's candidates behind a pointer, where there are any.
+/// Boxes the places where the candidates of each version set of a union end, or returns `None` without any.
 fn boxed(alloc: Global, ends: Vec<usize>) -> Result<Option<Box<Vec<usize>>>, AllocError> {
     if ends.is_empty() {
         return Ok(None);
@@ -69,7 +69,7 @@ fn boxed(alloc: Global, ends: Vec<usize>) -> Result<Option<Box<Vec<usize>>>, All
 impl<N: Copy + Eq + Hash + Drop, S: Copy + Eq + Hash + Drop> ClauseTable<N, S> {
     ghost use Rattle.resolver_encoding.specs.Notes.{table_in};
 
-    /// No clauses. There may be as many variables and as many clauses as the limits say.
+    /// Creates an empty table with limits for its variables and its clauses.
     pub(crate) fn new(alloc: Global, variable_limit: usize, clause_limit: usize) -> Self
         requires { variable_limit ≤ 2 ^ 31 }
         ensures bounded { IsBounded result.variables }
@@ -90,10 +90,10 @@ impl<N: Copy + Eq + Hash + Drop, S: Copy + Eq + Hash + Drop> ClauseTable<N, S> {
         }
     }
 
-    /// Adds a clause. Its literals follow from its kind, and from the candidates where it wants one of these.
+    /// Adds a clause. Its literals follow from its kind, and from the candidates of a requirement clause.
     ///
-    /// A refusal leaves the table as it was, with one exception: if the limit of variables is reached halfway through the literals, those that
-    /// were made stay, since the error says that the table is full.
+    /// An error leaves the table as it was, with one exception: if the variables reach their limit amid the literals of the clause, the new
+    /// ones stay, since `Ids` says that the table is full.
     pub(crate) fn add(
         &mut self,
         kind: ClauseKind<N, S>,
@@ -128,7 +128,7 @@ impl<N: Copy + Eq + Hash + Drop, S: Copy + Eq + Hash + Drop> ClauseTable<N, S> {
         }
     }
 
-    /// Adds a clause where the limit of clauses allows one more. A refusal may leave variables that no clause has.
+    /// Adds a clause to a table below its limit of clauses. An error may leave variables that no clause has.
     fn add_below_limit(
         &mut self,
         kind: ClauseKind<N, S>,
@@ -155,7 +155,7 @@ impl<N: Copy + Eq + Hash + Drop, S: Copy + Eq + Hash + Drop> ClauseTable<N, S> {
         Ok(())
     }
 
-    /// Puts the literals of a clause into an empty list. Answers the places behind the candidates of each version set.
+    /// Appends the literals of a clause to an empty list. Returns the places after the candidates of each version set.
     fn push_literals(
         &mut self,
         kind: &ClauseKind<N, S>,
@@ -186,7 +186,7 @@ impl<N: Copy + Eq + Hash + Drop, S: Copy + Eq + Hash + Drop> ClauseTable<N, S> {
         Ok(ends)
     }
 
-    /// Puts a clause with its literals behind the others. Where it is refused, nothing changes.
+    /// Appends a clause with its literals. An error changes nothing.
     fn put(
         &mut self,
         kind: ClauseKind<N, S>,
@@ -218,7 +218,7 @@ impl<N: Copy + Eq + Hash + Drop, S: Copy + Eq + Hash + Drop> ClauseTable<N, S> {
         }
     }
 
-    /// Puts a kind and its literals behind the others. Where it is refused, nothing changes.
+    /// Appends a kind and its literals. An error changes nothing.
     fn put_literals(
         &mut self,
         kind: ClauseKind<N, S>,
@@ -242,21 +242,21 @@ impl<N: Copy + Eq + Hash + Drop, S: Copy + Eq + Hash + Drop> ClauseTable<N, S> {
         }
     }
 
-    /// What the clauses say, by their numbers.
+    /// Returns the kinds of the clauses, by their numbers.
     pub(crate) fn kinds(&self) -> &[ClauseKind<N, S>]
         ensures { result.now ≡ (table_in self.now).kinds }
     {
         &self.kinds
     }
 
-    /// The literals of the clauses, by their numbers.
+    /// Returns the literals of the clauses, by their numbers.
     pub(crate) fn literals(&self) -> &[Vec<Literal>]
         ensures { result.now ≡ (table_in self.now).literals }
     {
         &self.literals
     }
 
-    /// The clauses that ask for candidates, in the order of their numbers.
+    /// Returns the requirement clauses, in the order of their numbers.
     pub(crate) fn requirements(&self) -> &[RequirementClause]
         ensures { map (λ r. r.number) result.now ≡ (table_in self.now).requirements }
     {

@@ -13,7 +13,8 @@ use Rattle.resolvo.specs.Propagation.{Extends, IsJustified}
 use Rattle.resolver_clause_store.specs.Watches.{watched_pair}
 use Rattle.resolvo.specs.Propagators.{IsNoted}
 
--- the new trail is the first entries of the old one, with everything of their levels or lower ones
+-- the new trail consists of first entries of the old one, and has with each entry all entries of its level and of lower
+-- levels
 pub record IsLower (old new : Trail) : Type 0 where
   pub size : variable_count new ≡ variable_count old
   pub places : KeepsPlaces old new (length_of new)
@@ -70,7 +71,7 @@ abbrev pub IsAlike : List Literal → Option ℕ → ℕ → Type 0
 IsAlike clause None place = ⊥
 IsAlike clause (Some other) place = (d : Literal) → slice_index_or clause place d ≡ slice_index_or clause other d
 
--- each of the first literals of the clause is
+-- the same for each of the first literals of the clause
 abbrev pub AreAlike : List Literal → Option ℕ → ℕ → Type 0
 AreAlike clause other count = (place : ℕ) → place < count → IsAlike clause other place
 

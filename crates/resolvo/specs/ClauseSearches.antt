@@ -1,4 +1,4 @@
--- A search over clauses, and what it finds.
+-- A search over clauses, and its results.
 use Rattle.std.specs.Prelude.{◌≡◌, ℕ, ◌+◌, ◌<◌, ◌≤◌, Some, List, length, map, slice_index, Vec, All}
 use Rattle.std.specs.declared.alloc.Global.{Global}
 use Rattle.resolver_clause_store.specs.declared.Literal.{Literal}
@@ -20,35 +20,35 @@ use Rattle.resolvo.specs.Derivations.{AreGiven, IsDerived, given_at}
 use Rattle.resolvo.specs.Resolvents.{IsFalseAt}
 use Rattle.resolver_clause_store.specs.Queues.{IsQueued}
 
--- the values that it has found
+-- the trail, which has the values that were found
 abbrev pub trail_of : ClauseSearch → Trail
 trail_of it = it.trail
 
--- how many clauses it has learnt
+-- the number of learnt clauses
 abbrev pub learnt_count_of : ClauseSearch → ℕ
 learnt_count_of it = it.learnt
 
--- how many clauses there are, given and learnt
+-- the number of clauses, given and learnt
 abbrev pub clause_count_of : ClauseSearch → ℕ
 clause_count_of it = length it.table.items
 
--- how many first places of the trail are as they were when it was last bookmarked
+-- the number of first entries of the trail that have not changed since it was last bookmarked
 abbrev pub kept_of : ClauseSearch → ℕ
 kept_of it = it.kept
 
--- the level of the present assumption, and 0 where there is none
+-- the level of the present assumption, or 0 if there is none
 abbrev pub base_of : ClauseSearch → ℕ
 base_of it = it.base
 
--- how many first places of the trail are not undone in the present turn
+-- the number of first entries of the trail that are not undone in the present turn
 abbrev pub held_of : ClauseSearch → ℕ
 held_of it = it.held
 
--- the numbers of the clauses that ask for candidates
+-- the numbers of the requirement clauses
 abbrev pub numbers_of : List RequirementClause → List ℕ
 numbers_of requirements = map (λ (requirement : RequirementClause). requirement.number) requirements
 
--- the places of the clauses that ask for candidates
+-- the places of the requirement clauses
 abbrev pub stored_places : List StoredRequirement → List ℕ
 stored_places requirements = map (λ (requirement : StoredRequirement). requirement.number) requirements
 
@@ -56,28 +56,28 @@ stored_places requirements = map (λ (requirement : StoredRequirement). requirem
 abbrev pub place_of : List ℕ → ℕ → ℕ
 place_of places number = slice_index places number
 
--- the given clauses stand in the table, each at its place
+-- the given clauses are in the table, each at its place
 pub record AreLoaded (given table : List (Vec Literal Global)) (sources : List Source) (places : List ℕ) : Type 0 where
   pub count : length places ≡ length given
   pub placed : (number : ℕ) → number < length given → given_at sources (place_of places number) ≡ Some number
   pub are : AreGiven given table sources
 
--- The search was given these clauses, of which those with the numbers ask for candidates. It decides just those, by
--- their places.
+-- The search was given these clauses, of which those with these numbers are requirement clauses. It decides exactly
+-- those, by their places.
 pub record IsLoaded (given : List (Vec Literal Global)) (numbers : List ℕ) (it : ClauseSearch) : Type 0 where
   pub clauses : AreLoaded given it.table.items it.sources.items it.places.items
   pub requirements : stored_places it.requirements.items ≡ map (place_of it.places.items) numbers
   pub inside : All (λ number. number < length given) numbers
 
--- The first places of the trail are held: their levels are not above the base, so they stay where the levels above it are
--- undone. All of them but the last one stood when the trail was last bookmarked.
+-- The first entries of the trail are held: their levels are not above the base, so they stay when the levels above it
+-- are undone. All of them but the last one were there when the trail was last bookmarked.
 pub record IsTurn (trail : Trail) (base held kept : ℕ) : Type 0 where
   pub inside : held ≤ length_of trail
   pub low : (variable : ℕ) (slot : Slot) → slot_of trail variable ≡ Some slot → slot.place < held → slot.level ≤ base
   pub some : 0 < base → 0 < held
   pub bookmarked : held ≤ kept + 1
 
--- what each step of a search keeps
+-- the invariant of the search
 pub record IsConsistent (it : ClauseSearch) : Type 0 where
   pub below : AreBelow (variable_count it.trail) it.table.items
   pub derived : IsDerived it.table.items it.sources.items
@@ -91,20 +91,20 @@ pub record IsConsistent (it : ClauseSearch) : Type 0 where
   pub turn : IsTurn it.trail it.base it.held it.kept
   pub queued : IsQueued it.queue it.trail it.table.items it.requirements.items
 
--- the clauses that were there stay
+-- the earlier clauses stay
 pub record Grows (old new : List (Vec Literal Global)) : Type 0 where
   pub longer : length old ≤ length new
   pub same : (number : ℕ) → number < length old → clause_at new number ≡ clause_at old number
 
--- the first places that one trail keeps of any other are kept in the next
+-- if the first `count` entries of the old trail are those of some trail, so are the first `left` entries of the new one
 abbrev pub KeepsFirst : Trail → ℕ → Trail → ℕ → Type 0
 KeepsFirst old count new left = (base : Trail) → KeepsPlaces base old count → KeepsPlaces base new left
 
--- so many first places of the trail are still as they were when it was last bookmarked
+-- the number of first entries that have not changed since the last bookmark is still right
 abbrev pub KeepsBookmark : ClauseSearch → ClauseSearch → Type 0
 KeepsBookmark old new = KeepsFirst (trail_of old) (kept_of old) (trail_of new) (kept_of new)
 
--- the turn is the same, and what is held of the trail stays
+-- the turn is the same, and the held entries of the trail stay
 pub record KeepsTurn (old new : ClauseSearch) : Type 0 where
   pub base : base_of new ≡ base_of old
   pub held : held_of new ≡ held_of old
@@ -116,7 +116,7 @@ pub record IsRootTurn (it : ClauseSearch) : Type 0 where
   pub base : base_of it ≡ 0
   pub none : (variable : ℕ) (slot : Slot) → slot_of (trail_of it) variable ≡ Some slot → slot.reason ≡ Assumed → ⊥
 
--- what was loaded stays so
+-- whatever was loaded stays loaded
 abbrev pub KeepsLoaded : ClauseSearch → ClauseSearch → Type 0
 KeepsLoaded old new = (given : List (Vec Literal Global)) (numbers : List ℕ) → IsLoaded given numbers old → IsLoaded given numbers new
 
@@ -127,11 +127,11 @@ pub record IsSameProblem (old new : ClauseSearch) : Type 0 where
   pub kept : KeepsBookmark old new
   pub turn : KeepsTurn old new
 
--- no variable got a value since
+-- no variable got a value
 pub record SetsNone (old new : Trail) : Type 0 where
   pub was : (variable : ℕ) (slot : Slot) → slot_of new variable ≡ Some slot → slot_of old variable ≡ Some slot
 
--- a trail that was bookmarked as it is still is so
+-- a trail that is the same as when it was bookmarked stays the same
 abbrev pub StaysBookmarked : ClauseSearch → ClauseSearch → Type 0
 StaysBookmarked old new = kept_of old ≡ length_of (trail_of old) → kept_of new ≡ length_of (trail_of new)
 
@@ -150,15 +150,15 @@ pub record IsBacktrack (old new : Trail) (literal : Literal) (level number : ℕ
   pub undone : IsUndone old middle level
   pub gains : Gains middle new literal (level_of middle) (Forced number)
 
--- a clause that the given ones imply is false by what was assumed and what was held before alone
+-- a clause that the given ones imply is false by the assumption and the values held before it alone
 pub record IsRefused (given : List (Vec Literal Global)) (trail : Trail) (base : ℕ) : Type 0 where
   pub turn : 0 < base
   pub clause : List Literal
   pub implied : IsImplied given clause
   pub low : All (IsFalseAt trail base) clause
 
--- Values that leave nothing to force and nothing to decide, for any requirements with these numbers, or given clauses that
--- no values make true, or a clause that is false at the base.
+-- One of three results: values that leave nothing to force and nothing to decide, for any requirement clauses with
+-- these numbers; given clauses that no values make true together; or a clause that is false at the base.
 abbrev pub OutcomeIs : List (Vec Literal Global) → List ℕ → Trail → ℕ → Outcome → Type 0
 OutcomeIs given numbers trail base Finished = (requirements : List RequirementClause) → numbers_of requirements ≡ numbers → IsFinished given requirements trail
 OutcomeIs given numbers trail base (Contradiction core) = IsCore given core.items

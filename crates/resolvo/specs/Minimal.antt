@@ -32,7 +32,7 @@ marked [] xs = []
 marked (b ∷ bs) [] = []
 marked (b ∷ bs) (x ∷ xs) = cond b (x ∷ marked bs xs) (marked bs xs)
 
--- the marks of the other rules when the one after `kept` has its turn: those that were kept, and all those behind it
+-- the marks of the other rules when the one after `kept` has its turn: those that were kept, and all those after it
 abbrev pub others_of : List Bool → ℕ → List Bool
 others_of kept behind = kept ++ false ∷ replicate behind true
 

@@ -42,7 +42,7 @@ pub record IsJustified (table : List (Vec Literal Global)) (trail : Trail) : Typ
   pub contains : (variable : ℕ) (slot : Slot) (number : ℕ) → slot_of trail variable ≡ Some slot → slot.reason ≡ Forced number →
       Contains (clause_at table number) (record { variable = variable; positive = slot.value })
 
--- the variable is true, and stands in the clause of a stored requirement behind literals that were all false before
+-- the variable is true, and in the clause of a stored requirement it comes after literals that were all false before
 pub record IsDecidedFor (table : List (Vec Literal Global)) (requirements : List StoredRequirement) (trail : Trail) (variable : ℕ) (slot : Slot) : Type 0 where
   pub requirement : StoredRequirement
   pub listed : Contains requirements requirement

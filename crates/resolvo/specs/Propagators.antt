@@ -15,7 +15,7 @@ use Rattle.resolver_clause_store.specs.declared.WatchedPair.{WatchedPair}
 use Rattle.resolvo.specs.declared.propagator.Late.{Late}
 use Rattle.resolvo.specs.declared.propagator.Propagator.{Propagator}
 
--- how many entries of the trail have been propagated
+-- the number of entries of the trail that have been propagated
 abbrev pub head_of : Propagator → ℕ
 head_of it = it.head
 
@@ -27,7 +27,7 @@ late_of it = it.late.items
 abbrev pub pending_of : Propagator → List ℕ
 pending_of it = it.pending.items
 
--- how many clauses are attached
+-- the number of attached clauses
 abbrev pub attached_of : Propagator → ℕ
 attached_of it = length (pairs_of it.watches)
 

@@ -78,7 +78,7 @@ pub record HasAssumed (search : ClauseSearch) (variable : ℕ) : Type 0 where
   pub place : variable_at (trail_of search) (held_of search - 1) ≡ variable
 
 module _ {N S : Type 0} where
-  -- the notes, the chosen solvables and the values
+  -- the notes of the encoding; the chosen solvables and the values
   abbrev pub notes_of : Rounds N S → Notes N S
   notes_of r = notes_in r.encoding
 
@@ -135,14 +135,14 @@ module _ {N S : Type 0} where
   abbrev pub KeepsRead : Universe N S → Rounds N S → Rounds N S → Type 0
   KeepsRead u old new = (root : Demands) → IsReadSoFar u root (chosen_of old) (notes_of old) → IsReadSoFar u root (chosen_of new) (notes_of new)
 
-  -- If only the taken and the refused solvables are assumed, what was near the seeds stays so.
+  -- If only the taken and the refused solvables are assumed, everything that was near the seeds stays near.
   abbrev pub KeepsNear : Universe N S → Rounds N S → Rounds N S → Type 0
   KeepsNear u old new = (root : Demands) (seeds taken refused : List S) (packages : List N) → IsReadSoFar u root (chosen_of old) (notes_of old) →
       IsWithin taken seeds → AreAssumed (notes_of old).origins taken refused (trail_of old.search) →
       AreNear u root seeds packages (notes_of old) → AreNear u root seeds packages (notes_of new)
 
-  -- If only the taken and the refused solvables are assumed, and everything registered, read and asked is near the seeds, then the problem leads to
-  -- all that there is now, if it led to all that there was.
+  -- If only the taken and the refused solvables are assumed, everything registered, read and asked is near the seeds,
+  -- and the problem led to all origins before, then it leads to all origins now.
   abbrev pub LeadsOn : Universe N S → Rounds N S → Rounds N S → Type 0
   LeadsOn u old new = (root : Demands) (seeds taken refused : List S) (packages : List N) → IsReadSoFar u root (chosen_of old) (notes_of old) →
       IsWithin taken seeds → AreAssumed (notes_of old).origins taken refused (trail_of old.search) →
@@ -177,7 +177,8 @@ module _ {N S : Type 0} where
     pub exempt : IsWithin (notes_of r).exempt taken
     pub near : AreNear u root seeds packages (notes_of r)
 
-  -- The problem leads to all that there is now, if it led to all that there was, and everything registered, read and asked was near.
+  -- If everything registered, read and asked was near, and the problem led to all origins before, then it leads to all
+  -- origins now.
   abbrev pub StaysLed : Universe N S → Rounds N S → Rounds N S → Type 0
   StaysLed u old new = (root : Demands) (seeds : List S) (packages : List N) → AreNear u root seeds packages (notes_of old) →
       AreLed u root seeds packages (notes_of old) → AreLed u root seeds packages (notes_of new)
@@ -220,11 +221,12 @@ module _ {N S : Type 0} where
     pub run : SoftRun u root first done taken (chosen_of r) (notes_of r).exempt (notes_of r).asked
     pub standing : IsStanding u root taken refused (flat_map (options u) done) (flat_map (own_packages u) done) r
 
-  -- the problem, with these soft requirements, leads to all that there is
+  -- the problem, with these soft requirements, leads to all origins that are there
   pub record IsLedBy (u : Universe N S) (root : Demands) (soft : List (SoftRequirement S)) (r : Rounds N S) : Type 0 where
     pub all : AreLed u root (flat_map (options u) soft) (flat_map (own_packages u) soft) (notes_of r)
 
-  -- the turn of one more soft requirement has begun, and the problem leads to all that there is now, if it led to all that there was
+  -- the turn of one more soft requirement has begun, and if the problem led to all origins before, it leads to all
+  -- origins now
   abbrev pub LeadsOver : Universe N S → SoftRequirement S → Rounds N S → Rounds N S → Type 0
   LeadsOver u requirement old new = (root : Demands) (done : List (SoftRequirement S)) → IsBetween u root done old → IsLedBy u root done old →
       IsLedBy u root (done ++ requirement ∷ []) new
@@ -271,8 +273,8 @@ module _ {N S : Type 0} where
   abbrev pub HasAllClauses : Rounds N S → Type 0
   HasAllClauses r = clause_count_of r.search ≡ length (notes_of r).kinds + learnt_count_of r.search
 
-  -- What is chosen is an answer for which the seeds need no requirer, if only they are assumed and the refused solvables. Without assumptions it
-  -- takes the first choices.
+  -- The chosen solvables are an answer for which the seeds need no requirer, if only they are assumed true and the
+  -- refused solvables false. Without assumptions the answer takes the first choices.
   pub record IsAnswering (u : Universe N S) (r : Rounds N S) : Type 0 where
     pub bookmarked : kept_of r.search ≡ length_of (trail_of r.search)
     pub chosen : chosen_of r ≡ solvables_before (notes_of r).origins (trail_of r.search) (length_of (trail_of r.search))
@@ -289,7 +291,7 @@ module _ {N S : Type 0} where
     pub none : (values : ℕ → Bool) → Satisfies values (notes_of r).table →
         ((variable : ℕ) (slot : Slot) → slot_of (trail_of r.search) variable ≡ Some slot → slot.level ≤ base_of r.search → values variable ≡ slot.value) → ⊥
 
-  -- what is chosen is an answer, or there is an unsatisfiable core, or the assumption cannot be kept
+  -- the chosen solvables are an answer, or there is an unsatisfiable core, or the assumption cannot be kept
   abbrev pub IsFound : Universe N S → Rounds N S → Found → Type 0
   IsFound u r Answer = IsAnswering u r
   IsFound u r (Contradiction core) = IsCore (notes_of r).table core.items

@@ -14,14 +14,14 @@ module _ {D C N S : Type 0} where
   abbrev pub provider_in : Solver D C N S → D
   provider_in s = s.provider
 
-  -- how many clauses and learnt clauses there are; the clauses include the learnt ones
+  -- the number of clauses, and that of learnt clauses; the clauses include the learnt ones
   abbrev pub clause_count_in : Solver D C N S → ℕ
   clause_count_in s = s.clause_count
 
   abbrev pub learnt_count_in : Solver D C N S → ℕ
   learnt_count_in s = s.learnt_count
 
-  -- how many disjuncts are deferred
+  -- the number of deferred disjuncts
   abbrev pub deferred_count_in : Solver D C N S → ℕ
   deferred_count_in s = s.deferred_count
 
@@ -74,8 +74,8 @@ module _ {D C N S : Type 0} where
     pub learnt : s.learnt_count ≡ learnt_count_of (search_of r)
     pub deferred : s.deferred_count ≡ left_count (notes_of r)
 
-  -- One of the counts is at its limit. For the count of variables, the problem, with the soft requirements whose turns have begun, leads to as many
-  -- things as there may be variables.
+  -- One of the counts is at its limit. For the count of variables, the problem, with the soft requirements whose turns
+  -- have begun, leads to as many things as the limit allows variables.
   abbrev pub IsAtLimit : Universe N S → Demands → (List (SoftRequirement S) → Type 0) → Solver D C N S → Type 0
   IsAtLimit u root Begun s =
       ((s.variable_count ≡ s.variable_limit) × ((soft : List (SoftRequirement S)) × Begun soft × AreUsedUp u root soft s.variable_limit))

@@ -38,14 +38,14 @@ pub struct BlankMarks {
 }
 
 impl BlankMarks {
-    /// No marks yet.
+    /// Returns no marks.
     pub fn new(alloc: Global) -> Self {
         BlankMarks {
             marks: Vec::new(alloc),
         }
     }
 
-    /// Takes the marks, with one for each of `variables` variables.
+    /// Takes the marks out, one for each of `variables` variables.
     pub fn take(&mut self, alloc: Global, variables: usize) -> Result<Vec<bool>, AllocError>
         ensures { IfOk result (λ marks. (length marks.items ≡ variables) × IsUnmarked marks.items) }
     {
@@ -54,7 +54,7 @@ impl BlankMarks {
         Ok(marks)
     }
 
-    /// Returns the marks.
+    /// Puts the marks back.
     pub fn put(&mut self, marks: Vec<bool>)
         requires { IsUnmarked marks.items }
     {
@@ -128,7 +128,7 @@ pub fn unmark_all(marks: &mut Vec<bool>, marked: &[Variable])
     }
 }
 
-/// The level of a variable, or 0 if it has no value.
+/// Returns the level of a variable, or 0 if it has no value.
 pub fn level_at(trail: &Trail, variable: Variable) -> usize
     requires { variable < variable_count trail.now }
     ensures { result ≡ level_in trail.now variable }
@@ -139,7 +139,7 @@ pub fn level_at(trail: &Trail, variable: Variable) -> usize
     }
 }
 
-/// The highest level among the literals of the clause.
+/// Returns the highest level among the literals of the clause.
 pub fn highest_level(trail: &Trail, clause: &[Literal]) -> usize
     requires { IsBelow (variable_count trail.now) clause.now }
     ensures top { All (λ (literal : Literal). level_in trail.now literal.variable ≤ result) clause.now }
@@ -152,7 +152,7 @@ pub fn highest_level(trail: &Trail, clause: &[Literal]) -> usize
     level
 }
 
-/// The lower of `lowest` and the place of the variable, if the variable is of this level.
+/// Returns the lower of `lowest` and the place of the variable, if the variable is of this level.
 pub fn lower_place(trail: &Trail, variable: Variable, level: usize, lowest: usize) -> usize
     requires { variable < variable_count trail.now }
     ensures low { result ≤ lowest }
@@ -171,7 +171,7 @@ pub fn lower_place(trail: &Trail, variable: Variable, level: usize, lowest: usiz
     }
 }
 
-/// The lowest of `start` and the places of the clause's variables of this level.
+/// Returns the lowest of `start` and the places of the clause's variables of this level.
 pub fn lowest_place(trail: &Trail, clause: &[Literal], level: usize, start: usize) -> usize
     requires { IsBelow (variable_count trail.now) clause.now }
     ensures low { result ≤ start }
@@ -244,7 +244,7 @@ pub fn resolve(
     Ok(())
 }
 
-/// Whether the last marked variable, at this place, is the only marked one of the highest level.
+/// Returns whether the last marked variable, at this place, is the only marked one of the highest level.
 pub fn is_single(resolvent: &Resolvent, place: usize) -> bool
     ensures { MatchBool result ((0 < resolvent.now.level) × (place ≡ resolvent.now.lowest)) (0 < resolvent.now.level → place ≢ resolvent.now.lowest) }
 {
@@ -294,7 +294,7 @@ pub fn resolve_level(
     Ok(())
 }
 
-/// Whether all variables of a clause are marked.
+/// Returns whether all variables of a clause are marked.
 pub fn are_marked(marks: &[bool], clause: &[Literal]) -> bool
     requires { IsBelow (length marks.now) clause.now }
     ensures { MatchBool result (All (λ (literal : Literal). is_marked marks.now literal.variable ≡ true) clause.now)
@@ -367,7 +367,7 @@ pub fn minimize_at(
     }
 }
 
-/// The number of the clause that forced a variable, or `None` if none did.
+/// Returns the number of the clause that forced a variable, or `None` if none did.
 pub fn forced_by(trail: &Trail, variable: Variable) -> Option<usize>
     requires { variable < variable_count trail.now }
     ensures { IfSome result (IsReason trail.now variable) }
@@ -437,7 +437,7 @@ pub fn add_negation(
     }
 }
 
-/// The literals of the listed variables that are marked, each false on the trail.
+/// Returns the literals of the listed variables that are marked, each false on the trail.
 pub fn literals_of(
     alloc: Global,
     trail: &Trail,
@@ -455,7 +455,7 @@ pub fn literals_of(
     Ok(literals)
 }
 
-/// The highest level of the clause's literals, except for the asserted variable.
+/// Returns the highest level of the clause's literals, except for the asserted variable.
 pub fn backtrack_level(trail: &Trail, literals: &[Literal], asserted: Variable) -> usize
     requires { IsBelow (variable_count trail.now) literals.now }
     ensures top { All (λ (literal : Literal). (literal.variable ≡ asserted) ⊎ (level_in trail.now literal.variable ≤ result)) literals.now }
@@ -470,7 +470,7 @@ pub fn backtrack_level(trail: &Trail, literals: &[Literal], asserted: Variable) 
     level
 }
 
-/// The literal of the variable that is false on the trail.
+/// Returns the literal of the variable that is false on the trail.
 pub fn negation_of(trail: &Trail, variable: Variable) -> Literal
     requires { variable < variable_count trail.now }
     ensures { (slot : Slot) → slot_of trail.now variable ≡ Some slot → result ≡ record { variable = variable; positive = not slot.value } }
@@ -487,7 +487,7 @@ pub fn negation_of(trail: &Trail, variable: Variable) -> Literal
     }
 }
 
-/// The highest level of a learnt clause: the level of its asserting literal.
+/// Returns the highest level of a learnt clause: the level of its asserting literal.
 pub fn asserted_level(trail: &Trail, learnt: &Learnt) -> usize
     requires { learnt.now.literal.variable < variable_count trail.now }
     ensures { result ≡ level_in trail.now learnt.now.literal.variable }

@@ -1,4 +1,4 @@
-//! A search over clauses: it decides and propagates, learns from conflicts and jumps back.
+//! A search over clauses: it decides and propagates, learns from conflicts, and backtracks.
 
 ghost use Rattle.std.specs.Prelude.{◌<◌, ◌≡◌, ◌≤◌, ◌+◌, ◌++◌, ◌∷◌, ◌⊎◌, ◌-◌, [], ℕ, All, IfErr, IfNone, IfOk, IfSome, List, None, OnErr, OnOk, Vec, length};
 ghost use Rattle.std.specs.Prelude.{max};
@@ -34,23 +34,23 @@ use resolver_clause_store::{
 };
 use std::alloc::{AllocError, Global};
 
-/// What a search found.
+/// The result of a search.
 #[derive(Drop)]
 pub enum Outcome {
-    /// Values of variables, which the search's trail has: each has a reason, no clause is false or has a last literal to set,
-    /// and each requirement has a candidate or depends on what is not true.
+    /// The search's trail has values that leave nothing to do: each has a reason, no clause is false or forces a
+    /// literal, and each requirement has a true candidate or depends on a literal that is not true.
     Finished,
     /// The numbers of given clauses that no values make true.
     Contradiction(Vec<usize>),
-    /// A clause is false by the present assumption and what is held before it alone.
+    /// A clause is false by the present assumption and the values held before it alone.
     Refused,
 }
 
-/// A search over clauses that come as they are read.
+/// A search over clauses, which are loaded as they are read.
 ///
-/// Given clauses and learnt ones stand in one table, in the order in which they came. The clauses of requirements are known
-/// by their places in it. Each clause that has two different literals watches two of them, and stands in their lists, once in
-/// each, and in no other list.
+/// Given and learnt clauses share one table, in the order in which they were added. Requirement clauses are known by
+/// their places in it. Each clause with two different literals watches two of them, and is in the lists of just these
+/// two, once in each.
 #[derive(Drop)]
 pub struct ClauseSearch {
     trail: Trail,
@@ -61,11 +61,11 @@ pub struct ClauseSearch {
     /// The place of each given clause, by its number.
     places: Vec<u32>,
     learnt: usize,
-    /// How many first places of the trail are as they were when it was last bookmarked.
+    /// The number of first entries of the trail that have not changed since the trail was last bookmarked.
     kept: usize,
-    /// The level of the present assumption, and 0 where there is none.
+    /// The level of the present assumption, or 0 if there is none.
     base: usize,
-    /// How many first places of the trail are not undone in the present turn.
+    /// The number of first entries of the trail that are not undone in the present turn.
     held: usize,
     /// Marks of the variables, for the analysis of a conflict.
     marks: BlankMarks,
@@ -74,7 +74,7 @@ pub struct ClauseSearch {
     ghost in_lists: { ∥ AreInLists table.items propagator.watches ∥₁ },
 }
 
-/// Takes a choice: a level begins with its candidate.
+/// Takes a choice: begins a level with its candidate.
 pub fn take(trail: &mut Trail, table: &[Vec<Literal>], choice: Choice) -> Result<(), AllocError>
     requires below { AreBelow (variable_count trail.old) table.now }
     requires inside { choice.number < length table.now }
@@ -94,9 +94,10 @@ pub fn take(trail: &mut Trail, table: &[Vec<Literal>], choice: Choice) -> Result
     Ok(())
 }
 
-/// Propagates and decides until no requirement is left to decide, or a clause is false, whose number is answered.
+/// Propagates and decides until no requirement is left to decide or a clause is false. Returns the number of that
+/// clause.
 ///
-/// Before each propagation the provider may stop it.
+/// The provider may stop the search before each propagation.
 pub fn descend<D: DependencyProvider>(
     provider: &D,
     trail: &mut Trail,
@@ -141,7 +142,8 @@ pub fn descend<D: DependencyProvider>(
     }
 }
 
-/// The level to go back to where a clause is added: the base if the clause is false, and else the highest one.
+/// Returns the level to backtrack to when a clause is added: the base if the clause is false, and the highest level
+/// otherwise.
 fn level_for(trail: &Trail, literals: &[Literal], base: usize) -> usize
     requires { IsBelow (variable_count trail.now) literals.now }
     ensures falsified { IsFalsified trail.now literals.now → result ≡ base }
@@ -159,7 +161,7 @@ impl ClauseSearch {
     ghost use Rattle.resolvo.specs.ClauseSearches.{KeepsBookmark, KeepsTurn, OutcomeIs, base_of, clause_count_of, held_of, kept_of, learnt_count_of, numbers_of};
     ghost use Rattle.resolvo.specs.ClauseSearches.{trail_of};
 
-    /// A search without variables and clauses. Its scores grow and fade as the activity says.
+    /// Returns a search without variables and clauses. The activity has the parameters of its scores.
     pub fn new(alloc: Global, activity: Activity) -> Self
         ensures consistent { IsConsistent result }
         ensures loaded { IsLoaded [] [] result }
@@ -183,28 +185,28 @@ impl ClauseSearch {
         }
     }
 
-    /// The values that were found, with their levels and reasons.
+    /// Returns the trail, which has the values that were found, with their levels and reasons.
     pub fn trail(&self) -> &Trail
         ensures { result.now ≡ trail_of self.now }
     {
         &self.trail
     }
 
-    /// How many clauses were learnt.
+    /// Returns the number of learnt clauses.
     pub fn learnt_count(&self) -> usize
         ensures { result ≡ learnt_count_of self.now }
     {
         self.learnt
     }
 
-    /// How many clauses there are, given and learnt.
+    /// Returns the number of clauses, given and learnt.
     pub fn clause_count(&self) -> usize
         ensures { result ≡ clause_count_of self.now }
     {
         self.table.len()
     }
 
-    /// How many first places of the trail are as they were when it was last bookmarked.
+    /// Returns the number of first entries of the trail that have not changed since the trail was last bookmarked.
     pub fn kept(&self) -> usize
         ensures value { result ≡ kept_of self.now }
         ensures inside { IsConsistent self.now → result ≤ length_of (trail_of self.now) }
@@ -212,7 +214,7 @@ impl ClauseSearch {
         self.kept
     }
 
-    /// Marks the trail as it is.
+    /// Bookmarks the trail as it is.
     pub fn bookmark(&mut self)
         ensures consistent { IsConsistent self.old → IsConsistent self.new }
         ensures loaded { KeepsLoaded self.old self.new }
@@ -226,7 +228,8 @@ impl ClauseSearch {
         self.kept = self.trail.len();
     }
 
-    /// Begins a turn: assumes a literal at a level of its own, below which no jump goes. The whole trail before it is held.
+    /// Begins a turn: holds the whole trail, and assumes a literal at a level of its own. The search does not backtrack
+    /// below that level.
     pub fn assume(&mut self, literal: Literal) -> Result<(), AllocError>
         requires consistent { IsConsistent self.old }
         requires inside { literal.variable < variable_count (trail_of self.old) }
@@ -248,7 +251,7 @@ impl ClauseSearch {
         Ok(())
     }
 
-    /// Takes the turn back: the trail ends before the present assumption again, and is held as it is then.
+    /// Takes the turn back: cuts the trail to its end before the present assumption, and holds it.
     pub fn retract(&mut self) -> Result<(), AllocError>
         requires consistent { IsConsistent self.old }
         requires turn { 0 < base_of self.old }
@@ -274,7 +277,7 @@ impl ClauseSearch {
         Ok(())
     }
 
-    /// Holds the whole trail: nothing of it is undone from now on.
+    /// Holds the whole trail: none of it is undone from now on.
     pub fn hold(&mut self)
         requires consistent { IsConsistent self.old }
         requires bookmarked { kept_of self.old ≡ length_of (trail_of self.old) }
@@ -292,8 +295,10 @@ impl ClauseSearch {
         self.held = self.trail.len();
     }
 
-    /// Puts a given clause behind the others. A clause that is false takes the levels above the base away: if it is still
-    /// false then, the next run finds that.
+    /// Appends a given clause.
+    ///
+    /// If the clause is false, the levels above the base are undone. If it is still false then, the next run finds
+    /// that.
     fn load_clause(&mut self, literals: &[Literal]) -> Result<(), AllocError>
         requires consistent { IsConsistent self.old }
         requires below { IsBelow (variable_count (trail_of self.old)) literals.now }
@@ -320,7 +325,7 @@ impl ClauseSearch {
         Ok(())
     }
 
-    /// Loads the clauses behind those that were loaded.
+    /// Loads the clauses after those that are loaded.
     fn load_clauses(&mut self, clauses: &[Vec<Literal>]) -> Result<(), AllocError>
         requires consistent { IsConsistent self.old }
         requires below { AreBelow (variable_count (trail_of self.old)) clauses.now }
@@ -336,7 +341,7 @@ impl ClauseSearch {
         Ok(())
     }
 
-    /// Puts a requirement behind the others.
+    /// Appends a requirement.
     fn load_requirement(&mut self, requirement: &RequirementClause) -> Result<(), AllocError>
         requires consistent { IsConsistent self.old }
         requires inside { requirement.now.number < length self.old.places.items }
@@ -360,7 +365,7 @@ impl ClauseSearch {
         Ok(())
     }
 
-    /// Loads the requirements behind those that were loaded.
+    /// Loads the requirements after those that are loaded.
     fn load_requirements(&mut self, requirements: &[RequirementClause]) -> Result<(), AllocError>
         requires consistent { IsConsistent self.old }
         requires inside { All (λ (requirement : RequirementClause). requirement.number < length self.old.places.items) requirements.now }
@@ -375,10 +380,10 @@ impl ClauseSearch {
         Ok(())
     }
 
-    /// Loads what is behind what was loaded, of lists that only grow.
+    /// Loads the new part of these lists, which only grow.
     ///
-    /// The requirements' clauses are among the given ones. The owner of a variable is the number of its package, where it stands
-    /// for a solvable.
+    /// The requirement clauses are among the given ones. The owner of a variable is its package's number, if the
+    /// variable stands for a solvable.
     pub fn load(
         &mut self,
         variables: usize,
@@ -410,8 +415,9 @@ impl ClauseSearch {
         Ok(())
     }
 
-    /// Puts a learnt clause behind the others, jumps back to the highest level of all its literals but one, though not below
-    /// the base, and sets that one.
+    /// Appends a learnt clause, backtracks, and makes its asserting literal true.
+    ///
+    /// The search goes back to the backtrack level, but not below the base.
     fn backtrack(&mut self, learnt: Learnt) -> Result<(), AllocError>
         requires consistent { IsConsistent self.old }
         requires learnt { IsLearnt self.old.table.items self.old.trail learnt }
@@ -447,7 +453,7 @@ impl ClauseSearch {
         Ok(())
     }
 
-    /// Adds a learnt clause and jumps back, unless the clause is false at the base.
+    /// Adds a learnt clause and backtracks, unless the clause is false at the base.
     fn add_learnt(
         &mut self,
         learnt: Learnt,
@@ -475,8 +481,8 @@ impl ClauseSearch {
         Ok(None)
     }
 
-    /// Learns from a clause that is false, unless it ends the search: given clauses contradict each other, or no level
-    /// above the base is involved.
+    /// Learns from a false clause, unless it ends the search: given clauses contradict each other, or no level above
+    /// the base is involved.
     fn learn(
         &mut self,
         alloc: Global,
@@ -518,10 +524,11 @@ impl ClauseSearch {
         }
     }
 
-    /// Searches for values, or for given clauses that no values make true. Where there is an assumption, what is held of
-    /// the trail stays, and the search is refused where a clause is false by that alone.
+    /// Searches for values, or for given clauses that no values make true together.
     ///
-    /// `Ids` is answered where a clause is to be learnt and as many are learnt, or in the table, as the limits allow.
+    /// During a turn the held entries of the trail stay, and the search is refused if a clause is false by them and the
+    /// assumption alone. The error is `Ids` if the next learnt clause would exceed the limit of learnt clauses or the
+    /// limit of all clauses.
     pub fn run<D: DependencyProvider>(
         &mut self,
         alloc: Global,

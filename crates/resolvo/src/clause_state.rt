@@ -1,4 +1,4 @@
-//! What a clause is under a trail.
+//! The state of a clause under a trail.
 
 ghost use Rattle.resolver_clause_store.specs.Formula.{IsBelow};
 ghost use Rattle.resolver_clause_store.specs.TrailView.{variable_count};
@@ -6,7 +6,7 @@ ghost use Rattle.resolvo.specs.Propagation.{StateIs};
 
 use resolver_clause_store::{Literal, Trail};
 
-/// A clause under a trail.
+/// The state of a clause under a trail.
 #[derive(Clone, Copy)]
 pub enum State {
     Satisfied,
@@ -16,7 +16,7 @@ pub enum State {
     Open,
 }
 
-/// What a clause is under a trail.
+/// Returns the state of a clause under a trail.
 pub fn examine(trail: &Trail, clause: &[Literal]) -> State
     requires { IsBelow (variable_count trail.now) clause.now }
     ensures { StateIs trail.now clause.now result }

@@ -24,7 +24,7 @@ use resolver_report::{
 };
 use std::hash::Hash;
 
-/// How many clauses a search of [`Conflict::refined`] may learn.
+/// The number of clauses that a search of [`Conflict::refined`] may learn.
 const LEARNT_LIMIT: usize = 2000;
 
 /// Rules that no set of solvables obeys together.
@@ -39,7 +39,7 @@ pub struct Conflict<N, S> {
 impl<N, S> Conflict<N, S> {
     ghost use Rattle.resolvo.specs.Conflicts.{rules_in};
 
-    /// The rules. The provider or the problem states each of them.
+    /// Returns the rules. The provider or the problem states each of them.
     pub fn rules(&self) -> &[Rule<N, S>]
         ensures { result.now ≡ rules_in self.now }
     {
@@ -50,13 +50,14 @@ impl<N, S> Conflict<N, S> {
 impl<N: Copy + Eq + Ord + Hash + Drop, S: Copy + Eq + Ord + Hash + Drop> Conflict<N, S> {
     ghost use Rattle.resolvo.specs.Conflicts.{rules_in};
 
-    /// A conflict from which no rule can be left out: without any one of them, some set of solvables obeys the others.
+    /// Returns a conflict from which no rule can be left out: without any one of them, some set of solvables obeys the
+    /// others.
     ///
     /// Each rule has its turn, first to last. It is left out exactly if no set obeys those kept so far together with
     /// those that follow. The others keep their order. A smaller conflict of other rules may exist.
     ///
-    /// All this holds if no set obeys the rules, as for every conflict that `solve` returns. The error is
-    /// [`Exhausted::Memory`] alone. A turn takes at most one search over the clauses of the rules, and none if the last
+    /// All this holds if no set obeys the rules, as for every conflict that `solve` returns. The error is always
+    /// [`Exhausted::Memory`]. A turn takes at most one search over the clauses of the rules, and none if the last
     /// search failed without the rule.
     pub fn minimal(&self) -> Result<Conflict<N, S>, Exhausted>
         requires names { IsIdentity N.eq }
@@ -75,11 +76,13 @@ impl<N: Copy + Eq + Ord + Hash + Drop, S: Copy + Eq + Ord + Hash + Drop> Conflic
         Ok(Conflict { rules })
     }
 
-    /// A conflict of the rules that a new search over them uses, in their order. It often has fewer rules, and never
-    /// more, but nothing is promised about its size: [`Conflict::minimal`] leaves out every rule that can go, and takes
-    /// far longer. A search may learn 2,000 clauses here; [`Conflict::refined_within`] takes another limit.
+    /// Returns a conflict of the rules that a new search over them uses, in their order.
     ///
-    /// The error is [`Exhausted::Memory`] alone.
+    /// It often has fewer rules, and never more, but nothing is promised about its size: [`Conflict::minimal`] leaves
+    /// out every rule that can go, and takes far longer. A search may learn 2,000 clauses here;
+    /// [`Conflict::refined_within`] takes another limit.
+    ///
+    /// The error is always [`Exhausted::Memory`].
     pub fn refined(&self) -> Result<Conflict<N, S>, Exhausted>
         requires names { IsIdentity N.eq }
         requires solvables { IsIdentity S.eq }
@@ -93,11 +96,12 @@ impl<N: Copy + Eq + Ord + Hash + Drop, S: Copy + Eq + Ord + Hash + Drop> Conflic
         Ok(refined)
     }
 
-    /// A conflict of the rules that a new search over them uses, if that search learns no more clauses than the limit.
+    /// Returns a conflict of the rules that a new search over them uses, if that search learns no more clauses than the
+    /// limit.
     ///
     /// Up to three searches run, each over the rules that the one before used, as long as each drops at least a tenth
     /// of them. A search that would learn more clauses is given up, and the rules that the search before it used are
-    /// the result; if it is the first, all rules are. The error is [`Exhausted::Memory`] alone.
+    /// the result; if it is the first, all rules are. The error is always [`Exhausted::Memory`].
     pub fn refined_within(&self, learnt_limit: usize) -> Result<Conflict<N, S>, Exhausted>
         requires names { IsIdentity N.eq }
         requires solvables { IsIdentity S.eq }
@@ -114,7 +118,7 @@ impl<N: Copy + Eq + Ord + Hash + Drop, S: Copy + Eq + Ord + Hash + Drop> Conflic
         Ok(Conflict { rules })
     }
 
-    /// The graph of the rules. It depends on the rules alone, not on what the solver has done since.
+    /// Returns the graph of the rules. It depends on the rules alone, not on what the solver has done since.
     ///
     /// For a conflict that `solve` returns, each edge is true and each node is reached from the root, since its rules
     /// are true and about what they reach.
@@ -134,10 +138,10 @@ impl<N: Copy + Eq + Ord + Hash + Drop, S: Copy + Eq + Ord + Hash + Drop> Conflic
         Ok(graph)
     }
 
-    /// The message of the rules: a tree of lines that shows which packages are missing or incompatible. Its `Display`
-    /// writes it, in the texts of the solver's provider. It does not depend on what the solver has done since.
+    /// Returns the message of the rules: a tree of lines that shows which packages are missing or incompatible.
     ///
-    /// The error is [`Exhausted::Memory`] alone.
+    /// Its `Display` writes it, in the texts of the solver's provider. It does not depend on what the solver has done
+    /// since. The error is always [`Exhausted::Memory`].
     pub fn display_user_friendly<'a, D: DependencyProvider<NameId = N, SolvableId = S>>(
         &self,
         solver: &'a Solver<D>,

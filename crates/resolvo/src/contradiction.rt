@@ -20,7 +20,7 @@ pub enum Source {
     Learnt(Box<Vec<usize>>),
 }
 
-/// Makes `count` marks, none of them set.
+/// Returns `count` marks, none of them set.
 pub fn unmarked(alloc: Global, count: usize) -> Result<Vec<bool>, AllocError>
     ensures size { IfOk result (λ marks. length marks.items ≡ count) }
     ensures none { IfOk result (λ marks. (number : ℕ) → is_marked marks.items number ≡ false) }
@@ -54,7 +54,7 @@ pub fn replace(sources: &[Source], marks: &mut Vec<bool>, place: usize)
     }
 }
 
-/// The number of the given clause at a place of the table, or `None` if the clause there is learnt.
+/// Returns the number of the given clause at a place of the table, or `None` if the clause there is learnt.
 pub fn number_at(sources: &[Source], place: usize) -> Option<usize>
     requires { place < length sources.now }
     ensures { result ≡ given_at sources.now place }
@@ -88,7 +88,7 @@ pub fn add_marked(
     }
 }
 
-/// The numbers of the given clauses at marked places.
+/// Returns the numbers of the given clauses at marked places.
 pub fn marked(alloc: Global, sources: &[Source], marks: &[bool]) -> Result<Vec<usize>, AllocError>
     requires { length marks.now ≡ length sources.now }
     ensures stand { IfOk result (λ numbers. All (Stands sources.now) numbers.items) }
@@ -101,7 +101,7 @@ pub fn marked(alloc: Global, sources: &[Source], marks: &[bool]) -> Result<Vec<u
     Ok(numbers)
 }
 
-/// The given clauses from which the contradiction follows: an unsatisfiable core.
+/// Returns the given clauses from which the contradiction follows: an unsatisfiable core.
 pub fn core(
     alloc: Global,
     table: &[Vec<Literal>],

@@ -1,4 +1,4 @@
-//! Tests of the encoding, which keeps none itself, so that it is proved once.
+//! Tests of the encoding. They are here and not in its crate, so that it is proved only once.
 
 mod chosen;
 mod clauses;

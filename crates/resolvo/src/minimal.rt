@@ -65,7 +65,7 @@ fn add_copy<N: Copy + Drop, S: Copy + Drop>(
     Ok(())
 }
 
-/// The clauses of the rules, or `None` if there are more propositions than ids.
+/// Returns the clauses of the rules, or `None` if there are more propositions than ids.
 fn clauses_within<N: Copy + Eq + Hash + Drop, S: Copy + Eq + Hash + Drop>(
     alloc: Global,
     rules: &[Rule<N, S>],
@@ -174,7 +174,7 @@ struct Turns {
     needed: Vec<bool>,
 }
 
-/// The state before the first turn, when no rule is kept or known to be needed.
+/// Returns the state before the first turn, when no rule is kept or known to be needed.
 fn first_turns(alloc: Global, count: usize, core: Vec<bool>) -> Result<Turns, AllocError>
     ensures kept { IfOk result (λ turns. turns.kept.items ≡ []) }
     ensures core { IfOk result (λ turns. turns.core ≡ core) }
@@ -207,7 +207,7 @@ fn note_needed(
     Ok(())
 }
 
-/// Whether the rule that has its turn is known to be needed.
+/// Returns whether the rule that has its turn is known to be needed.
 fn is_needed(form: &Option<RuleClauses>, turns: &Turns) -> bool
     requires { length turns.now.kept.items < length turns.now.needed.items }
     ensures some { result ≡ true → IsSome form.now }
@@ -219,7 +219,7 @@ fn is_needed(form: &Option<RuleClauses>, turns: &Turns) -> bool
     }
 }
 
-/// The turn of the rule after `kept`: it is kept if some set obeys the others.
+/// Takes the turn of the rule after `kept`: it is kept if some set obeys the others.
 ///
 /// A rule outside the core is left out without a search, and a rule that is known to be needed is kept without one. The
 /// core stays valid until one of its rules is left out, which takes a search.

@@ -10,7 +10,8 @@ use resolver_clause_store::{
 use std::alloc::Global;
 use std::hash::Hash;
 
-/// The number of the package of each variable, where it stands for a solvable. Packages are numbered as they come.
+/// The number of each variable's package, if the variable stands for a solvable. Packages are numbered in the order of
+/// their variables.
 #[derive(Drop)]
 pub struct Owners<N: Copy + Eq + Hash + Drop> {
     names: IndexSet<N>,
@@ -18,7 +19,7 @@ pub struct Owners<N: Copy + Eq + Hash + Drop> {
 }
 
 impl<N: Copy + Eq + Hash + Drop> Owners<N> {
-    /// No variables.
+    /// Returns the owners of no variables.
     pub fn new(alloc: Global) -> Self {
         Owners {
             names: IndexSet::new(alloc),
@@ -26,12 +27,12 @@ impl<N: Copy + Eq + Hash + Drop> Owners<N> {
         }
     }
 
-    /// The owner of each variable.
+    /// Returns the owner of each variable.
     pub fn as_slice(&self) -> &[Owner] {
         self.owners.as_slice()
     }
 
-    /// The number of a package.
+    /// Returns the number of a package.
     fn number_of(&mut self, name: N) -> Result<usize, Exhausted>
         ensures memory { IfErr result (λ e. e ≡ Memory) }
     {
@@ -43,7 +44,7 @@ impl<N: Copy + Eq + Hash + Drop> Owners<N> {
         Ok(number)
     }
 
-    /// The owner of what a variable stands for.
+    /// Returns the owner of a variable with this origin.
     fn owner_of<S: Copy + Eq + Hash + Drop, D: DependencyProvider<NameId = N, SolvableId = S>>(
         &mut self,
         provider: &D,
@@ -68,7 +69,7 @@ impl<N: Copy + Eq + Hash + Drop> Owners<N> {
         }
     }
 
-    /// Adds the owner of a variable behind the others.
+    /// Appends the owner of a variable.
     fn follow_variable<
         S: Copy + Eq + Hash + Drop,
         D: DependencyProvider<NameId = N, SolvableId = S>,
@@ -84,7 +85,7 @@ impl<N: Copy + Eq + Hash + Drop> Owners<N> {
         Ok(())
     }
 
-    /// Adds the owners of the variables behind those that were followed.
+    /// Appends the owners of the variables that were not followed yet.
     pub fn follow<S: Copy + Eq + Hash + Drop, D: DependencyProvider<NameId = N, SolvableId = S>>(
         &mut self,
         provider: &D,

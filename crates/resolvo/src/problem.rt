@@ -28,7 +28,7 @@ impl<Id> Iterator for EmptySolvables<Id> {
     }
 }
 
-/// What an answer has to fulfil. A part that is not set requires nothing.
+/// The demands on an answer. A part that is not set demands nothing.
 ///
 /// `Id` names solvables. Soft requirements have their turns in order and are taken if they fit: first the solvables of
 /// the iterator `S`, then the list, which may mix solvables and version sets.
@@ -43,7 +43,7 @@ pub struct Problem<Id, S> {
 impl<Id> Problem<Id, EmptySolvables<Id>> {
     ghost use Rattle.resolvo.specs.Problems.{demands_in, list_in, soft_in};
 
-    /// A problem without requirements, constraints and soft requirements.
+    /// Returns a problem without requirements, constraints and soft requirements.
     pub fn new() -> Self
         ensures demands { demands_in result ≡ record { requirements = []; constraints = [] } }
         ensures soft { soft_in result ≡ None }
@@ -61,7 +61,7 @@ impl<Id> Problem<Id, EmptySolvables<Id>> {
 impl<Id> Default for Problem<Id, EmptySolvables<Id>> {
     ghost use Rattle.resolvo.specs.Problems.{demands_in, list_in, soft_in};
 
-    /// The same as `new`.
+    /// Returns the same as `new`.
     fn default() -> Self
         ensures demands { demands_in result ≡ record { requirements = []; constraints = [] } }
         ensures soft { soft_in result ≡ None }
@@ -129,7 +129,7 @@ impl<Id: Drop, S: Drop> Problem<Id, S> {
         }
     }
 
-    /// The requirements, none if they are not set.
+    /// Returns the requirements, none if they are not set.
     pub(crate) fn root_requirements(&self) -> &[ConditionalRequirement]
         ensures { result.now ≡ (demands_in self.now).requirements }
     {
@@ -139,7 +139,7 @@ impl<Id: Drop, S: Drop> Problem<Id, S> {
         }
     }
 
-    /// The constraints, none if they are not set.
+    /// Returns the constraints, none if they are not set.
     pub(crate) fn root_constraints(&self) -> &[VersionSetId]
         ensures { result.now ≡ (demands_in self.now).constraints }
     {
@@ -149,7 +149,7 @@ impl<Id: Drop, S: Drop> Problem<Id, S> {
         }
     }
 
-    /// The list of soft requirements, empty if it is not set.
+    /// Returns the list of soft requirements, empty if it is not set.
     pub(crate) fn listed_soft_requirements(&self) -> &[SoftRequirement<Id>]
         ensures { result.now ≡ list_in self.now }
     {

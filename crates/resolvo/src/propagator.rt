@@ -9,7 +9,7 @@ use resolver_clause_store::Watches;
 pub use returning::begins_level;
 pub use visiting::propagate;
 
-/// A clause that was satisfied when it was visited last, by a literal that may be undone before one of its watched
+/// A clause that was satisfied when it was last visited, by a literal that may be undone before one of its watched
 /// literals, which is false.
 #[derive(Clone, Copy, PartialEq, Eq)]
 pub struct Late {
@@ -26,7 +26,7 @@ pub struct Propagator {
     late: Vec<Late>,
     /// The numbers of the clauses that are pending: to be examined before anything is propagated.
     pending: Vec<u32>,
-    /// How many entries of the trail have been propagated.
+    /// The number of entries of the trail that have been propagated.
     head: usize,
 }
 

@@ -1,4 +1,4 @@
-//! Rounds of searching and reading: what a search chooses is read, until it is an answer.
+//! Rounds of searching and reading, until the chosen solvables are an answer.
 
 mod soft_turns;
 
@@ -34,26 +34,26 @@ use std::hash::Hash;
 /// The result of the rounds.
 #[derive(Drop)]
 pub enum Found {
-    /// What is chosen is an answer.
+    /// The chosen solvables are an answer.
     Answer,
     /// The numbers of the clauses in an unsatisfiable core.
     Contradiction(Vec<usize>),
-    /// The last assumption cannot be kept.
+    /// The last assumption fails.
     Refused,
 }
 
-/// The result of one round.
+/// The result of a round.
 #[derive(Drop)]
 pub enum Round {
     /// There is nothing left to search or to read.
     Last(Found),
-    /// Deferred disjuncts fired: their requirements got clauses. No solvable was read.
+    /// Deferred disjuncts were met: their requirements got clauses. No solvable was read.
     Fired,
     /// Solvables were read.
     Read,
 }
 
-/// The encoding of what was read so far, a search over its clauses, and what that has chosen.
+/// The encoding of what was read so far, a search over its clauses, and the solvables that it chose.
 #[derive(Drop)]
 pub struct Rounds<N: Copy + Eq + Hash + Drop, S: Copy + Eq + Hash + Drop> {
     alloc: Global,
@@ -71,8 +71,9 @@ impl<N: Copy + Eq + Hash + Drop, S: Copy + Eq + Hash + Drop> Rounds<N, S> {
     ghost use Rattle.resolvo.specs.RoundStates.{IsLedBy, KeepsEncoding, KeepsRead, KeepsRoom, LeadsOn, LeadsTurns, StaysLed};
     ghost use Rattle.resolvo.specs.RoundStates.{chosen_of, clause_limit_of, learnt_limit_of, notes_of, search_of};
 
-    /// Rounds before anything is read. The limits bound the variables, clauses and learnt clauses; the activity says
-    /// how scores grow and decay.
+    /// Returns rounds that have read nothing.
+    ///
+    /// The limits bound the variables, clauses and learnt clauses; the activity has the parameters of the scores.
     pub fn new(
         alloc: Global,
         variable_limit: usize,
@@ -98,14 +99,14 @@ impl<N: Copy + Eq + Hash + Drop, S: Copy + Eq + Hash + Drop> Rounds<N, S> {
         }
     }
 
-    /// The number of learnt clauses.
+    /// Returns the number of learnt clauses.
     pub fn learnt_count(&self) -> usize
         ensures { result ≡ learnt_count_of (search_of self.now) }
     {
         self.search.learnt_count()
     }
 
-    /// The number of clauses, those of what was read together with the learnt ones.
+    /// Returns the number of clauses, given and learnt.
     pub fn clause_count(&self) -> usize
         ensures read { length (notes_of self.now).kinds ≤ result }
         ensures searched { clause_count_of (search_of self.now) ≤ result }
@@ -214,7 +215,7 @@ impl<N: Copy + Eq + Hash + Drop, S: Copy + Eq + Hash + Drop> Rounds<N, S> {
         Ok(from)
     }
 
-    /// Reads what is chosen.
+    /// Reads the chosen solvables.
     fn read<D: DependencyProvider<NameId = N, SolvableId = S>>(
         &mut self,
         provider: &D,
@@ -240,7 +241,7 @@ impl<N: Copy + Eq + Hash + Drop, S: Copy + Eq + Hash + Drop> Rounds<N, S> {
         Ok(progress)
     }
 
-    /// Searches, and reads what is chosen.
+    /// Searches, and reads the chosen solvables.
     fn round<D: DependencyProvider<NameId = N, SolvableId = S>>(
         &mut self,
         provider: &D,
@@ -353,7 +354,7 @@ impl<N: Copy + Eq + Hash + Drop, S: Copy + Eq + Hash + Drop> Rounds<N, S> {
         Ok(())
     }
 
-    /// Runs rounds up to the last one. Returns whether what is chosen then is an answer.
+    /// Runs rounds up to the last one. Returns whether the chosen solvables are an answer then.
     fn is_answered<D: DependencyProvider<NameId = N, SolvableId = S>>(
         &mut self,
         provider: &D,
@@ -378,8 +379,8 @@ impl<N: Copy + Eq + Hash + Drop, S: Copy + Eq + Hash + Drop> Rounds<N, S> {
         }
     }
 
-    /// Tries a solvable without a value: assumes it, and keeps it if what is chosen then is an answer. Returns whether
-    /// it is kept.
+    /// Tries a solvable without a value: assumes it, and keeps it if the chosen solvables are an answer then. Returns
+    /// whether it is kept.
     fn attempt<D: DependencyProvider<NameId = N, SolvableId = S>>(
         &mut self,
         provider: &D,
@@ -420,7 +421,7 @@ impl<N: Copy + Eq + Hash + Drop, S: Copy + Eq + Hash + Drop> Rounds<N, S> {
         Ok(false)
     }
 
-    /// The turn of one solvable. If it has a value, it is skipped. Returns whether it is chosen now.
+    /// Takes the turn of one solvable, unless it has a value. Returns whether it is chosen now.
     fn turn<D: DependencyProvider<NameId = N, SolvableId = S>>(
         &mut self,
         provider: &D,
@@ -453,8 +454,8 @@ impl<N: Copy + Eq + Hash + Drop, S: Copy + Eq + Hash + Drop> Rounds<N, S> {
         }
     }
 
-    /// Reads and searches until what is chosen is an answer or there is none. After an answer, the soft requirements
-    /// have their turns.
+    /// Reads and searches until the chosen solvables are an answer or there is none. After an answer, the soft
+    /// requirements have their turns.
     pub fn find<D: DependencyProvider<NameId = N, SolvableId = S>, I: Iterator<Item = S> + Drop>(
         &mut self,
         provider: &D,

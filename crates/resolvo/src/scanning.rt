@@ -1,4 +1,4 @@
-//! Propagation and decisions by looking at every clause. Tests hold the search against them.
+//! Propagation and decisions by scanning every clause. Tests compare the search with them.
 
 ghost use Rattle.std.specs.Prelude.{◌<◌, ◌≡◌, All, length};
 ghost use Rattle.resolver_clause_store.specs.Formula.{AreBelow, IsBelow};
@@ -9,7 +9,7 @@ use crate::clause_state::{State, examine};
 use resolver_clause_store::{Literal, RequirementClause, Trail, clause};
 use std::alloc::AllocError;
 
-/// What a look at clauses did.
+/// The effect of a scan.
 #[derive(Clone, Copy)]
 pub enum Effect {
     Nothing,
@@ -19,7 +19,7 @@ pub enum Effect {
     Conflict(usize),
 }
 
-/// Sets the last literal of a clause whose others are false.
+/// Sets the last literal of a clause whose other literals are false.
 fn scan_one(trail: &mut Trail, table: &[Vec<Literal>], number: usize) -> Result<Effect, AllocError>
     requires inside { number < length table.now }
     requires below { AreBelow (variable_count trail.old) table.now }
@@ -35,7 +35,7 @@ fn scan_one(trail: &mut Trail, table: &[Vec<Literal>], number: usize) -> Result<
     }
 }
 
-/// Looks at every clause once, until one is false.
+/// Scans every clause once, until one is false.
 fn scan_all(trail: &mut Trail, table: &[Vec<Literal>]) -> Result<Effect, AllocError>
     requires below { AreBelow (variable_count trail.old) table.now }
     ensures size { variable_count trail.new ≡ variable_count trail.old }
@@ -51,7 +51,7 @@ fn scan_all(trail: &mut Trail, table: &[Vec<Literal>]) -> Result<Effect, AllocEr
     Ok(effect)
 }
 
-/// Sets every literal that is forced, until none is left or a clause is false, whose number is answered.
+/// Sets every literal that is forced, until none is left or a clause is false. Returns the number of that clause.
 pub fn propagate(trail: &mut Trail, table: &[Vec<Literal>]) -> Result<Option<usize>, AllocError>
     requires below { AreBelow (variable_count trail.old) table.now }
     ensures size { variable_count trail.new ≡ variable_count trail.old }
@@ -66,8 +66,10 @@ pub fn propagate(trail: &mut Trail, table: &[Vec<Literal>]) -> Result<Option<usi
     Ok(None)
 }
 
-/// A candidate of a requirement that has none yet, and what requirements are compared by: those of the root come first, then those with
-/// fewer candidates left in the version set, and then those with the lower number.
+/// A candidate of a requirement that is not met, and the criteria by which requirements are compared.
+///
+/// Those of the root come first, then those with fewer candidates left in the version set, and then those with the
+/// lower number.
 #[derive(Clone, Copy)]
 struct Candidate {
     number: usize,
@@ -88,7 +90,8 @@ impl Candidate {
     }
 }
 
-/// The place of the first literal with no value, where none is true and those with no value are positive.
+/// Returns the place of the first literal without a value, if no literal is true and those without a value are
+/// positive.
 fn first_open(trail: &Trail, clause: &[Literal]) -> Option<usize>
     requires { IsBelow (variable_count trail.now) clause.now }
 {
@@ -108,7 +111,7 @@ fn first_open(trail: &Trail, clause: &[Literal]) -> Option<usize>
     first
 }
 
-/// How many literals have no value, from a place on up to another.
+/// Returns the number of literals without a value from one place up to but not including another.
 fn open_between(trail: &Trail, clause: &[Literal], from: usize, to: usize) -> usize
     requires { IsBelow (variable_count trail.now) clause.now }
 {
@@ -121,7 +124,7 @@ fn open_between(trail: &Trail, clause: &[Literal], from: usize, to: usize) -> us
     count
 }
 
-/// The candidate that is next for a requirement, if it has to be decided.
+/// Returns the next candidate of a requirement, if it has to be decided.
 fn candidate_of(
     trail: &Trail,
     table: &[Vec<Literal>],
@@ -141,7 +144,7 @@ fn candidate_of(
     })
 }
 
-/// The one that comes first, if there is one.
+/// Returns the candidate that comes first, if there is one.
 fn first_of(one: Option<Candidate>, other: Option<Candidate>) -> Option<Candidate> {
     match (one, other) {
         (Some(left), Some(right)) => {
@@ -155,7 +158,7 @@ fn first_of(one: Option<Candidate>, other: Option<Candidate>) -> Option<Candidat
     }
 }
 
-/// The number of the clause whose requirement is decided next, and the place of its candidate in it.
+/// Returns the number of the requirement clause that is decided next, and the place of its candidate.
 pub fn decide(
     trail: &Trail,
     table: &[Vec<Literal>],

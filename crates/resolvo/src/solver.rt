@@ -44,7 +44,7 @@ pub enum UnsolvableOrCancelled<D: DependencyProvider> {
     Exhausted(Exhausted),
 }
 
-/// The rules of an unsatisfiable core, kept to those about what they reach.
+/// Returns the conflict of an unsatisfiable core: its rules that are about what they reach.
 fn explain<D: DependencyProvider>(
     alloc: Global,
     provider: &D,
@@ -88,8 +88,8 @@ pub struct Solver<D: DependencyProvider> {
 }
 
 impl<D: DependencyProvider> Solver<D> {
-    /// A solver that has not asked its provider anything, with room for 2,147,483,648 variables, as many clauses and as
-    /// many learnt clauses.
+    /// Returns a solver that has not asked its provider anything, with room for 2,147,483,648 variables, as many
+    /// clauses and as many learnt clauses.
     pub fn new(alloc: Global, provider: D) -> Self
         ensures provider { provider_in result ≡ provider }
         ensures no_clauses { clause_count_in result ≡ 0 }
@@ -117,8 +117,8 @@ impl<D: DependencyProvider> Solver<D> {
     }
 
     /// Sets the parameters of the scores: `add` is added to a package's score for each of its solvables in a learnt
-    /// clause, and `decay` is how many millionths of each score are left after that clause. The defaults are 1,000,000
-    /// and 950,000.
+    /// clause, and `decay` is the number of millionths of each score that are left after that clause. The defaults are
+    /// 1,000,000 and 950,000.
     ///
     /// Requirements of packages with high scores are decided early. Scores start at 0 in each call of `solve`.
     pub fn with_activity_params(mut self, add: u64, decay: u64) -> Self
@@ -133,38 +133,38 @@ impl<D: DependencyProvider> Solver<D> {
         self
     }
 
-    /// The provider that the solver was made with.
+    /// Returns the provider that the solver was made with.
     pub fn provider(&self) -> &D
         ensures { result.now ≡ provider_in self.now }
     {
         &self.provider
     }
 
-    /// The exempt solvables of the last answer, in the order in which they were accepted. Before the first call of
-    /// `solve`, and after a call without an answer, there are none.
+    /// Returns the exempt solvables of the last answer, in the order in which they were accepted. Before the first call
+    /// of `solve`, and after a call without an answer, there are none.
     pub fn exempt_solvables(&self) -> &[D::SolvableId]
         ensures { result.now ≡ exempt_in self.now }
     {
         &self.exempt
     }
 
-    /// The number of clauses when the last call of `solve` ended: those of the root and of the solvables that were
-    /// read, and the learnt ones. It is 0 before the first call.
+    /// Returns the number of clauses when the last call of `solve` ended: those of the root and of the solvables that
+    /// were read, and the learnt ones. It is 0 before the first call.
     pub fn clause_count(&self) -> usize
         ensures { result ≡ clause_count_in self.now }
     {
         self.clause_count
     }
 
-    /// The number of disjuncts that were still deferred when the last call of `solve` ended: no clause was made for
-    /// what they require. It is 0 before the first call.
+    /// Returns the number of disjuncts that were still deferred when the last call of `solve` ended: no clause was made
+    /// for what they require. It is 0 before the first call.
     pub fn deferred_requirements_count(&self) -> usize
         ensures { result ≡ deferred_count_in self.now }
     {
         self.deferred_count
     }
 
-    /// Takes the counts over from the rounds.
+    /// Takes over the counts of the rounds.
     fn count(&mut self, rounds: &Rounds<D::NameId, D::SolvableId>)
         ensures counted { HasCounted rounds.now self.new }
         ensures rest { KeepsAllButCounts self.old self.new }
@@ -200,7 +200,7 @@ impl<D: DependencyProvider> Solver<D> {
         }
     }
 
-    /// Returns what is chosen as the answer, and keeps what is exempt.
+    /// Returns the chosen solvables as the answer, and keeps the exempt ones.
     fn accept(
         &mut self,
         rounds: &Rounds<D::NameId, D::SolvableId>,

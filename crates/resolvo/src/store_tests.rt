@@ -1,4 +1,4 @@
-//! Tests of the store, which keeps none itself, so that it is proved once.
+//! Tests of the store. They are here and not in its crate, so that it is proved only once.
 
 mod cache;
 mod conditions;

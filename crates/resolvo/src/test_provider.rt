@@ -36,11 +36,11 @@ pub struct TestProvider {
     pub requirements: Vec<(u32, ConditionalRequirement)>,
     /// The constraints of each solvable.
     pub constraints: Vec<(u32, VersionSetId)>,
-    /// Which of the cancel checks to come stops the search: with 1 the next one, with 0 none.
+    /// The cancel check that stops the search: 1 for the next one, 0 for none.
     pub cancelling: Cell<u32>,
     /// The digits name the packages that were asked for their candidates, in order.
     pub log: Cell<u32>,
-    /// Whether there are packages as far as the ids go, with each older solvable requiring the next one.
+    /// Whether there is a package for every id, with each older solvable requiring the next one.
     pub endless: bool,
 }
 
@@ -51,14 +51,14 @@ impl TestProvider {
     }
 }
 
-/// How many packages there are.
+/// Returns the number of packages.
 fn package_count(endless: bool) -> u32
     ensures { result ≡ package_count_in endless }
 {
     if endless { 429_496_729 } else { 100 }
 }
 
-/// What a package hints about the dependencies of its solvables.
+/// Returns the hint of a package about the dependencies of its solvables.
 fn hint_of(name: u32) -> HintDependenciesAvailable<u32>
     ensures { hint_in result ≡ hint_by name }
 {
@@ -68,7 +68,7 @@ fn hint_of(name: u32) -> HintDependenciesAvailable<u32>
     HintDependenciesAvailable::None
 }
 
-/// The statements about a solvable.
+/// Returns the statements about a solvable.
 fn stated_by<T: Copy + Drop>(
     alloc: Global,
     statements: &[(u32, T)],
@@ -104,7 +104,7 @@ fn push_next(required: &mut Vec<ConditionalRequirement>, solvable: u32) -> Resul
     Ok(())
 }
 
-/// The requirements of a solvable.
+/// Returns the requirements of a solvable.
 fn required_by(
     alloc: Global,
     endless: bool,
@@ -122,7 +122,7 @@ fn required_by(
     Ok(required)
 }
 
-/// Whether a solvable of its package is in a version set.
+/// Returns whether a solvable of its package is in a version set.
 fn takes(version_set: VersionSetId, solvable: u32) -> bool
     ensures { result ≡ takes_in version_set solvable }
 {

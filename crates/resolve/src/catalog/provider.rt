@@ -1,4 +1,4 @@
-//! What the tables answer.
+//! The catalog as a provider.
 
 ghost use Rattle.std.specs.Prelude.{◌≡◌, IfOk, IfErr, string_bytes};
 
@@ -16,7 +16,7 @@ use std::convert::Infallible;
 impl Catalog {
     ghost use Rattle.resolve.specs.Catalogs.{merged_text_of, rising_versions, version_set_at};
 
-    /// A version set, or all versions of the first package where there is no such set.
+    /// Returns a version set; if there is none, all versions of the first package.
     fn version_set_of(&self, version_set: VersionSetId) -> VersionSet
         ensures { result ≡ version_set_at self.now.version_sets.keys version_set }
     {
@@ -29,7 +29,7 @@ impl Catalog {
         }
     }
 
-    /// The versions of solvables, lowest first.
+    /// Returns the versions of solvables, from the lowest on.
     fn rising_versions(&self, solvables: &[SolvableId]) -> Result<Vec<u32>, Exhausted>
         ensures versions { IfOk result (λ versions. versions.items ≡ rising_versions self.now.packages.versions.keys solvables.now) }
         ensures memory { IfErr result (λ e. e ≡ Exhausted.Memory) }
@@ -41,7 +41,7 @@ impl Catalog {
         Ok(versions.collect_vec(self.alloc)?)
     }
 
-    /// The name of the first, and all versions.
+    /// Returns the name of the first solvable, followed by the versions of all of them.
     fn merged_text(&self, solvables: &[SolvableId]) -> Result<String, Exhausted>
         ensures text { IfOk result (λ text. string_bytes text ≡ merged_text_of self.now.names.keys self.now.packages.versions.keys solvables.now) }
         ensures memory { IfErr result (λ e. e ≡ Exhausted.Memory) }

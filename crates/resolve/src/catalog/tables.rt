@@ -1,4 +1,4 @@
-//! Packages with their versions, and conditions.
+//! Tables of packages with their versions, and of conditions.
 
 ghost use Rattle.std.specs.Prelude.{◌≡◌, ◌<◌, ◌≤◌, ◌++◌, ◌∷◌, [], length, IfOk, IfErr, IfNone, IfSome, MatchBool, MatchOption, OnOk};
 ghost use Rattle.std.proofs.Props.{props};
@@ -18,7 +18,7 @@ use resolver_clause_store::{
 use std::alloc::Global;
 use std::cmp::Ordering;
 
-/// What a version of a package requires and constrains, and why nobody knows.
+/// The requirements and constraints of a version, and the reason for which they are unknown, if there is one.
 #[derive(Drop)]
 pub struct Solvable {
     pub requirements: Vec<ConditionalRequirement>,
@@ -36,7 +36,7 @@ pub struct Package {
     pub excluded: Vec<(SolvableId, StringId)>,
 }
 
-/// All packages and all their versions. There is a solvable for each version at its place.
+/// All packages and all their versions, with a solvable at the place of each version.
 #[derive(Drop)]
 pub struct PackageTable {
     pub packages: Vec<Package>,
@@ -46,7 +46,7 @@ pub struct PackageTable {
 }
 
 impl PackageTable {
-    /// A table without packages.
+    /// Returns a table without packages.
     pub fn new(alloc: Global) -> PackageTable
         ensures packages { result.packages.items ≡ [] }
         ensures versions { result.versions.keys ≡ [] }
@@ -59,7 +59,7 @@ impl PackageTable {
         }
     }
 
-    /// The package of a solvable, or the first one where there is no such solvable.
+    /// Returns the package of a solvable; the first package if there is no such solvable.
     pub fn name(&self, solvable: SolvableId) -> NameId
         ensures { result ≡ name_at self.now.versions.keys solvable }
     {
@@ -69,7 +69,7 @@ impl PackageTable {
         }
     }
 
-    /// The version of a solvable, or 0 where there is no such solvable.
+    /// Returns the version of a solvable; 0 if there is no such solvable.
     pub fn version(&self, solvable: SolvableId) -> u32
         ensures { result ≡ version_at self.now.versions.keys solvable }
     {
@@ -79,7 +79,7 @@ impl PackageTable {
         }
     }
 
-    /// Which of two solvables comes first.
+    /// Compares two solvables by preference: the preferred one is less.
     pub fn compare(&self, one: SolvableId, other: SolvableId) -> Ordering
         ensures { result ≡ preference self.now.versions.keys one other }
     {
@@ -87,7 +87,7 @@ impl PackageTable {
         by_version.then(one.0.cmp(&other.0))
     }
 
-    /// Sorts solvables, the higher versions first.
+    /// Sorts solvables by preference, from the highest version on.
     pub fn sort(&self, solvables: &mut Vec<SolvableId>)
         ensures { solvables.new.items ≡ sorted_by (preference self.now.versions.keys) solvables.old.items }
     {
@@ -112,7 +112,7 @@ impl PackageTable {
 
     /// Declares a version of a package, and lists it as the package's last candidate.
     ///
-    /// False if it was declared before, or if there is no such package.
+    /// Returns `false` if it was declared before, or if there is no such package.
     pub fn add_version(
         &mut self,
         alloc: Global,
@@ -144,7 +144,7 @@ impl PackageTable {
         Ok(true)
     }
 
-    /// Adds to what a solvable requires.
+    /// Adds a requirement to a solvable.
     pub fn add_requirement(
         &mut self,
         solvable: SolvableId,
@@ -164,7 +164,7 @@ impl PackageTable {
         Ok(())
     }
 
-    /// Adds to what a solvable constrains.
+    /// Adds a constraint to a solvable.
     pub fn add_constraint(
         &mut self,
         solvable: SolvableId,
@@ -184,9 +184,10 @@ impl PackageTable {
         Ok(())
     }
 
-    /// Says why nobody knows what a solvable needs. False if it has a reason already, or if there is no such solvable.
+    /// Makes the dependencies of a solvable unknown for a reason.
     ///
-    /// What it requires and constrains is then kept from the solver.
+    /// Its requirements and constraints are then hidden from the solver. Returns `false` if it has a reason already, or
+    /// if there is no such solvable.
     pub fn set_unknown(&mut self, solvable: SolvableId, reason: StringId) -> bool
         ensures unknown { MatchBool result (IsMadeUnknown self.old.solvables.items self.new.solvables.items solvable reason)
             (IsReasonRefused self.old.solvables.items self.new.solvables.items solvable) }
@@ -200,7 +201,7 @@ impl PackageTable {
         true
     }
 
-    /// Where the package of a solvable stands.
+    /// Returns the place of a solvable's package, if both are in the table.
     fn package_place(&self, solvable: SolvableId) -> Option<usize>
         ensures within { IfSome result (λ place. place < length self.now.packages.items) }
         ensures version { IfSome result (λ place. IsVersionOf self.now.versions.keys place solvable) }
@@ -214,7 +215,7 @@ impl PackageTable {
         Some(package)
     }
 
-    /// Favors a solvable. False if its package has a favored one already.
+    /// Favors a solvable. Returns `false` if its package has a favored solvable already, or does not exist.
     pub fn favor(&mut self, solvable: SolvableId) -> bool
         ensures favored { MatchBool result (IsFavored self.old.versions.keys self.old.packages.items self.new.packages.items solvable)
             (IsFavorRefused self.old.versions.keys self.old.packages.items self.new.packages.items solvable) }
@@ -230,7 +231,7 @@ impl PackageTable {
         true
     }
 
-    /// Locks the package of a solvable to it. False if the package is locked already.
+    /// Locks the package of a solvable to it. Returns `false` if the package is locked already, or does not exist.
     pub fn lock(&mut self, solvable: SolvableId) -> bool
         ensures locked { MatchBool result (IsLocked self.old.versions.keys self.old.packages.items self.new.packages.items solvable)
             (IsLockRefused self.old.versions.keys self.old.packages.items self.new.packages.items solvable) }
@@ -246,7 +247,7 @@ impl PackageTable {
         true
     }
 
-    /// Excludes a solvable for a reason. False if it was excluded before.
+    /// Excludes a solvable for a reason. Returns `false` if it is excluded already, or does not exist.
     pub fn exclude(&mut self, solvable: SolvableId, reason: StringId) -> Result<bool, Exhausted>
         ensures excluded { IfOk result (λ is_new.
             MatchBool is_new (IsExcluded self.old.versions.keys self.old.solvables.items self.new.solvables.items self.old.packages.items
@@ -269,7 +270,7 @@ impl PackageTable {
     }
 }
 
-/// All conditions. The parts of one stand before it.
+/// All conditions. The parts of a condition come before it.
 #[derive(Drop)]
 pub struct ConditionTable {
     pub conditions: Vec<Condition>,
@@ -277,7 +278,7 @@ pub struct ConditionTable {
 }
 
 impl ConditionTable {
-    /// A table without conditions.
+    /// Returns a table without conditions.
     pub fn new(alloc: Global) -> ConditionTable
         ensures { result.conditions.items ≡ [] }
     {
@@ -286,7 +287,7 @@ impl ConditionTable {
         }
     }
 
-    /// A condition, or one on the first version set where there is no such condition.
+    /// Returns a condition, or a condition on the first version set if there is no such condition.
     pub fn get(&self, condition: ConditionId) -> Condition
         ensures { result ≡ condition_at self.now.conditions.items condition }
     {
@@ -296,7 +297,7 @@ impl ConditionTable {
         }
     }
 
-    /// Adds a condition, which holds where a candidate of the version set is chosen.
+    /// Adds a condition that holds if a candidate of the version set is chosen.
     pub fn add_on(&mut self, version_set: VersionSetId) -> Result<ConditionId, Exhausted>
         ensures id { IfOk result (λ id. id.0 ≡ length self.old.conditions.items) }
         ensures added { OnOk result (self.new.conditions.items ≡ self.old.conditions.items ++ Condition.Requirement version_set ∷ []) }
@@ -307,7 +308,7 @@ impl ConditionTable {
         Ok(id)
     }
 
-    /// Adds a condition of two others. None if one of them does not stand in the table.
+    /// Adds a condition that joins two others. Returns `None` if one of them is not in the table.
     pub fn add_of(
         &mut self,
         operator: LogicalOperator,

@@ -1,6 +1,6 @@
 //! Each call on its happy path.
 //!
-//! One function owns a catalog. What a test wants of it goes in, and whether it is so comes out.
+//! A single function owns a catalog: it takes what a test expects, and returns whether the catalog gives it.
 
 use crate::catalog::Catalog;
 use crate::ids::{NameId, Range, SolvableId};
@@ -13,12 +13,12 @@ use std::test::Fail;
 
 const MIDDLE: Range = Range::Within { low: 2, high: 10 };
 
-/// What a catalog is to give that has versions 2, 10, 1 and 7 of package `a`, which is its first, in this order.
+/// What a catalog is expected to give whose first package `a` has versions 2, 10, 1 and 7, in this order.
 #[derive(Clone, Copy)]
 enum Wanted<'x> {
-    /// All versions in the order of choice.
+    /// All versions, sorted by preference.
     Sorted(&'x [SolvableId]),
-    /// The versions in a range, or with `true` those that are not.
+    /// The versions in a range, or, with `true`, the others.
     Filtered(Range, bool, &'x [SolvableId]),
     VersionSetText(Range, &'x str),
     MergedText(&'x [SolvableId], &'x str),
@@ -27,22 +27,22 @@ enum Wanted<'x> {
     /// The ids of a name, of another one, and of the first one again.
     Names([NameId; 3]),
     Reasons([StringId; 3]),
-    /// The ids of a range of a package, of another one, and of the first one again.
+    /// The ids of a range of a package, of another range, and of the first one again.
     VersionSets([VersionSetId; 3]),
-    /// The ids of a union, of its members the other way round, and of the first one again.
+    /// The ids of a union, of the union of its members in reverse order, and of the first one again.
     Unions([VersionSetUnionId; 3]),
-    /// The ids of two conditions and of either of them, and the last one.
+    /// The ids of two conditions and of their `or`, and this last condition.
     Conditions([ConditionId; 3], Condition),
-    /// Whether a version that is there is new, and whether another one is.
+    /// Whether a declared version is new, and whether another one is.
     Declared([bool; 2]),
     Found(&'x str, u32, Option<SolvableId>),
-    /// Whether each of five was new, and what is favored and locked then.
+    /// Whether each of five calls succeeded, and the favored and the locked solvable.
     FavoredAndLocked([bool; 5], [Option<SolvableId>; 2]),
-    /// Whether each of three was new, and what is excluded then.
+    /// Whether each of three exclusions was new, and the excluded solvables.
     Excluded([bool; 3], &'x [(SolvableId, StringId)]),
-    /// What solvable 0 requires and constrains.
+    /// The requirements and constraints of solvable 0.
     Needs(&'x [ConditionalRequirement], &'x [VersionSetId]),
-    /// Whether each of two reasons was new, and which keeps back what solvable 1 requires.
+    /// Whether each of two reasons was accepted, and the reason that hides the requirements of solvable 1.
     Unknown([bool; 2], StringId),
 }
 
@@ -204,7 +204,7 @@ fn always(version_set: u32) -> ConditionalRequirement {
     }
 }
 
-/// Solvable 0 requires and constrains, and so does solvable 1, of which nobody knows it.
+/// Gives solvable 0 a requirement and a constraint, and solvable 1 a requirement and two reasons.
 fn add_needs(catalog: &mut Catalog) -> Result<[bool; 2], Exhausted> {
     catalog.packages.add_requirement(SolvableId(0), always(5))?;
     catalog
@@ -268,7 +268,7 @@ fn declare_all(catalog: &mut Catalog, alloc: Global) -> Result<(), Exhausted> {
     Ok(())
 }
 
-/// Whether a catalog gives what is wanted.
+/// Returns whether a catalog gives what is expected.
 fn gives(alloc: Global, wanted: Wanted<'_>) -> Result<bool, Fail> {
     let mut catalog = Catalog::new(alloc);
     declare_all(&mut catalog, alloc)?;

@@ -9,7 +9,7 @@ use itertools::Itertools;
 use resolver_clause_store::Exhausted;
 use std::alloc::Global;
 
-/// A star, or the range's two ends.
+/// Returns the text of a range: a star, or its two bounds.
 pub fn range_text(alloc: Global, range: Range) -> Result<String, Exhausted>
     ensures text { IfOk result (λ text. string_bytes text ≡ range_text range) }
     ensures memory { IfErr result (λ e. e ≡ Exhausted.Memory) }
@@ -21,7 +21,7 @@ pub fn range_text(alloc: Global, range: Range) -> Result<String, Exhausted>
     Ok(text)
 }
 
-/// The versions, joined by bars.
+/// Returns the text of several versions, joined by bars.
 pub fn versions_text(alloc: Global, versions: &[u32]) -> Result<String, Exhausted>
     ensures text { IfOk result (λ text. string_bytes text ≡ versions_text versions.now) }
     ensures memory { IfErr result (λ e. e ≡ Exhausted.Memory) }

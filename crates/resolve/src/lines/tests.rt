@@ -1,6 +1,6 @@
 use super::{Line, Lines};
 
-/// Whether an input has these lines, numbered from 1, and no more.
+/// Returns whether an input has exactly these lines, numbered from 1.
 fn has_lines(input: &str, wanted: &[&str]) -> bool {
     let mut lines = Lines::new(input.as_bytes());
     for (index, text) in wanted.iter().enumerate() {

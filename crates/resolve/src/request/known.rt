@@ -1,4 +1,4 @@
-//! The statements of which most inputs consist, read by words that were read before.
+//! Fast reading of the most frequent statements, without parsing words again that came before.
 
 ghost use Rattle.std.specs.Prelude.{IfSome};
 ghost use Rattle.resolve.specs.Words.{StatesSolvable};
@@ -12,12 +12,12 @@ use resolver_clause_store::{ConditionalRequirement, Exhausted, Requirement, Vers
 use std::alloc::Global;
 use std::str;
 
-/// Words of the lines before, with what they stand for.
+/// Words of the lines before, and their ids.
 ///
-/// A word that stands for something stays so, and so it is not read again.
+/// A word keeps its id, so it is not parsed again.
 #[derive(Drop)]
 pub struct KnownWords<'a> {
-    /// The last solvable and its word.
+    /// The last solvable, and its word.
     last: Option<(&'a [u8], SolvableId)>,
     specs: IndexMap<&'a str, VersionSetId>,
 }
@@ -32,8 +32,9 @@ impl<'a> KnownWords<'a> {
 }
 
 impl Request {
-    /// Reads a line `package SOLV`, `requires SOLV UNION` or `constrains SOLV SPEC` whose words stand one space apart. False where the
-    /// line is another one, or a bad one.
+    /// Reads a line `package SOLV`, `requires SOLV UNION` or `constrains SOLV SPEC` whose words are one space apart.
+    ///
+    /// Returns `false` if the line is another one, or bad.
     pub fn read_short_line<'a>(
         &mut self,
         known: &mut KnownWords<'a>,
@@ -106,7 +107,7 @@ impl Request {
         Ok(true)
     }
 
-    /// The solvable of the first word, if it was declared, and what follows the space behind it.
+    /// Returns the solvable of the first word, if it was declared, and the rest after the space.
     fn known_solvable<'a>(
         &mut self,
         known: &mut KnownWords<'a>,
@@ -124,7 +125,7 @@ impl Request {
         Some((solvable, &words[end + 1..]))
     }
 
-    /// The requirement of a union, unless the words are none.
+    /// Returns the requirement of a union, if the words are a union.
     fn known_requirement<'a>(
         &mut self,
         known: &mut KnownWords<'a>,
@@ -140,7 +141,7 @@ impl Request {
         Ok(Some(Requirement::Union(self.catalog.union(members)?)))
     }
 
-    /// Adds the version sets of a union's specs. False where the words are no union.
+    /// Adds the version sets of a union's specs. Returns `false` if the words are no union.
     fn add_known_members<'a>(
         &mut self,
         known: &mut KnownWords<'a>,
@@ -162,7 +163,7 @@ impl Request {
         Ok(!wants_spec)
     }
 
-    /// The version set of a spec, unless the word is none.
+    /// Returns the version set of a spec, if the word is a spec.
     fn known_version_set<'a>(
         &mut self,
         known: &mut KnownWords<'a>,
@@ -183,7 +184,7 @@ impl Request {
     }
 }
 
-/// The solvable that a word names, unless it names none.
+/// Returns the solvable that a word names, if any.
 fn solvable_of(word: &[u8]) -> Option<SolvableText<'_>>
     ensures { IfSome result (λ solvable. StatesSolvable word.now solvable.name.now solvable.version) }
 {

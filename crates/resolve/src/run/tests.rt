@@ -1,4 +1,4 @@
-//! Whole inputs, and what comes of them.
+//! Whole inputs and their outcomes.
 
 mod decisions;
 mod examples;
@@ -14,7 +14,7 @@ use std::io::{Read, Write};
 use std::process::Abort;
 use std::test::Fail;
 
-/// Asserts what the program writes to both streams, and its status.
+/// Asserts the output, the errors and the status of the program.
 fn expect_run(rt: &impl Abort, alloc: Global, input: &str, output: &str, errors: &str, status: u8) {
     let mut written = Vec::new(alloc);
     let mut complaints = Vec::new(alloc);
@@ -107,8 +107,8 @@ fn a_constraint_on_its_own_package(rt: HostRuntime) {
     );
 }
 
-/// The search comes to each version of a by another requirement. The message is that of a search over what it used, which leaves out
-/// that version 2 needs b: then both are told of together.
+/// Each version of a is reached by another requirement. The message is that of a search over the rules of the conflict,
+/// which does not use that version 2 needs b, so it reports both versions together.
 #[test]
 fn what_a_search_over_the_conflict_leaves_out_is_not_told(rt: HostRuntime) {
     let input =
@@ -650,8 +650,8 @@ fn push_link(input: &mut String, number: u32) -> Result<(), Fail> {
     Ok(())
 }
 
-/// Two hundred packages in a row, of which the newest versions require each the next package, and the last one's a missing
-/// one.
+/// Returns the input of two hundred packages in a chain: the newest version of each requires the next package, and that
+/// of the last one a missing package.
 fn chain(alloc: Global) -> Result<String, Fail> {
     let mut input = String::new(alloc);
     for number in 0..199u32 {
@@ -661,7 +661,7 @@ fn chain(alloc: Global) -> Result<String, Fail> {
     Ok(input)
 }
 
-/// The names of the packages in a row, as an answer has them.
+/// Returns the names of the packages in the chain, in the order of an answer.
 fn names_in_chain(alloc: Global) -> Result<Vec<String>, Fail> {
     let mut names = Vec::new(alloc);
     for number in 0..200u32 {
@@ -671,7 +671,7 @@ fn names_in_chain(alloc: Global) -> Result<Vec<String>, Fail> {
     Ok(names)
 }
 
-/// Adds the version that is chosen of a package in a row: the newest one but of the last package.
+/// Adds the chosen version of a package in the chain: the newest one, except for the last package.
 fn push_chosen(output: &mut String, name: &str) -> Result<(), Fail> {
     use std::fmt::Write;
     let version = if name == "p199" { 1 } else { 2 };
@@ -679,7 +679,7 @@ fn push_chosen(output: &mut String, name: &str) -> Result<(), Fail> {
     Ok(())
 }
 
-/// The answer for the packages in a row.
+/// Returns the answer for the chain.
 fn chosen_in_chain(alloc: Global) -> Result<String, Fail> {
     let names = names_in_chain(alloc)?;
     let mut output = String::new(alloc);
@@ -697,7 +697,7 @@ fn two_hundred_packages_in_a_row(rt: HostRuntime) -> Result<(), Fail> {
     Ok(())
 }
 
-/// Adds a package with two versions, and that it is required.
+/// Adds a package with two versions, and a requirement of it.
 fn push_unneeded(input: &mut String, number: u32) -> Result<(), Fail> {
     use std::fmt::Write;
     write!(
@@ -707,7 +707,7 @@ fn push_unneeded(input: &mut String, number: u32) -> Result<(), Fail> {
     Ok(())
 }
 
-/// A clash after two hundred packages that have no part in it.
+/// Returns the input of a clash after two hundred packages that have no part in it.
 fn clash_after_others(alloc: Global) -> Result<String, Fail> {
     let mut input = String::new(alloc);
     for number in 0..200u32 {

@@ -41,12 +41,12 @@ const E: ConditionStep<'static> = Version(Spec {
     versions: Range::All,
 });
 
-/// The statement of a line that has one.
+/// Parses a line that has a statement.
 fn statement<'a>(alloc: Global, line: &'a str) -> Result<Statement<'a>, Fail> {
     Ok(parse_line(alloc, line.as_bytes())?.ok_or("no statement")?)
 }
 
-/// Whether a line states that the root or a solvable requires a union under a condition.
+/// Returns whether a line states that the root or a solvable requires a union under a condition.
 fn demands(
     alloc: Global,
     line: &str,
@@ -140,7 +140,7 @@ fn a_constraint_of_a_solvable(rt: HostRuntime) -> Result<(), Fail> {
     Ok(())
 }
 
-/// Whether a line states this.
+/// Returns whether a line has this statement.
 fn states(alloc: Global, line: &str, wanted: &Statement<'_>) -> Result<bool, Fail> {
     let stated = statement(alloc, line)?;
     let is_it = &stated == wanted;
@@ -422,7 +422,7 @@ fn bad_bytes(rt: HostRuntime) {
     }
 }
 
-/// `front`, then a text so many times, `middle`, and another text as often as is said.
+/// A text: `front`, the first of `texts` repeated, `middle`, and the first of `others` repeated.
 #[derive(Clone, Copy)]
 struct Repeated<'x> {
     front: &'x str,
@@ -446,7 +446,7 @@ fn line_of(alloc: Global, repeated: Repeated<'_>) -> Result<String, Fail> {
     Ok(line)
 }
 
-/// A parenthesis that opens so often, around one version set, and closes so often.
+/// Returns a condition with this many opening and closing parentheses around one version set.
 fn parentheses<'x>(open: usize, closed: usize) -> Repeated<'x> {
     Repeated {
         front: "require a if",
@@ -456,7 +456,7 @@ fn parentheses<'x>(open: usize, closed: usize) -> Repeated<'x> {
     }
 }
 
-/// The line with the text so many times behind its front, and then its end.
+/// Returns a line with a text 100,000 times between its front and its end.
 fn chain<'x>(front: &'x str, text: &'x str, end: &'x str) -> Repeated<'x> {
     Repeated {
         front,
@@ -472,7 +472,7 @@ fn is_bad(alloc: Global, repeated: Repeated<'_>) -> Result<bool, Fail> {
     Ok(answer.err() == Some(LineError::Bad))
 }
 
-/// Whether the root requires a union under a condition by this line.
+/// Returns whether a line states that the root requires a union under a condition.
 fn demands_so(
     alloc: Global,
     repeated: Repeated<'_>,
@@ -483,7 +483,7 @@ fn demands_so(
     demands(alloc, line.as_str(), None, union, condition)
 }
 
-/// Whether a line has so many steps in its condition, and these at the place 2 and at the end.
+/// Returns whether the condition of a line has this many steps, with these at place 2 and at the end.
 fn has_steps(
     alloc: Global,
     line: &str,
@@ -525,7 +525,7 @@ fn deep_parentheses(rt: HostRuntime) -> Result<(), Fail> {
     Ok(())
 }
 
-/// A step, and then 100,000 times the same one, each joined by `or`.
+/// Returns a step, followed 100,000 times by the same step and an `or`.
 fn steps<'x>(alloc: Global, step: ConditionStep<'x>) -> Result<Vec<ConditionStep<'x>>, Fail> {
     let mut steps = Vec::new(alloc);
     steps.push(step)?;

@@ -1,4 +1,4 @@
-//! Candidates that are met.
+//! Registration of candidates, and their codes.
 
 ghost use Rattle.std.specs.Prelude.{◌≡◌, ◌⊎◌, ◌<◌, ◌≤◌, ◌^◌, ℕ, All, Contains, IfErr, OnOk, Some, false, slice_get, ⊤};
 ghost use Rattle.resolver_clause_store.specs.declared.ClauseKind.TheVariants.{HasBit as HasBitKind};
@@ -20,7 +20,7 @@ use std::hash::Hash;
 impl<N: Copy + Eq + Hash + Drop, S: Copy + Eq + Hash + Drop> Encoding<N, S> {
     ghost use Rattle.resolver_encoding.specs.Notes.{IsBounded, KeepsRoom, notes_in};
 
-    /// Gives each of these a digit that is not set.
+    /// Adds a clause for each of these solvables: the new digit of its code is not set.
     fn open_digit<D: DependencyProvider<NameId = N, SolvableId = S>>(
         &mut self,
         provider: &D,
@@ -55,7 +55,7 @@ impl<N: Copy + Eq + Hash + Drop, S: Copy + Eq + Hash + Drop> Encoding<N, S> {
         Ok(())
     }
 
-    /// Gives those that were met under the name a new digit, if the number needs one that no smaller number has.
+    /// Adds a new digit to the codes of the solvables under a name, if the number is the first one that has it.
     fn begin_digit<D: DependencyProvider<NameId = N, SolvableId = S>>(
         &mut self,
         provider: &D,
@@ -86,7 +86,7 @@ impl<N: Copy + Eq + Hash + Drop, S: Copy + Eq + Hash + Drop> Encoding<N, S> {
         }
     }
 
-    /// Gives a solvable the digits of its number.
+    /// Adds the clauses of a solvable's code, which is its number in binary.
     fn add_code<D: DependencyProvider<NameId = N, SolvableId = S>>(
         &mut self,
         provider: &D,
@@ -118,7 +118,7 @@ impl<N: Copy + Eq + Hash + Drop, S: Copy + Eq + Hash + Drop> Encoding<N, S> {
         Ok(())
     }
 
-    /// Registers a candidate, and notes that it is to be read, if that is new.
+    /// Registers a candidate, if it is new: it gets a variable, a number under its name, and the clauses of its code.
     pub(super) fn see<D: DependencyProvider<NameId = N, SolvableId = S>>(
         &mut self,
         provider: &D,

@@ -1,4 +1,4 @@
-//! Constraints.
+//! Clauses of constraints.
 
 ghost use Rattle.std.specs.Prelude.{◌≡◌, [], ◌∷◌, All, Contains, IfErr, IfNone, IfSome, MatchBool, OnOk, ⊤};
 ghost use Rattle.resolver_clause_store.specs.Caches.{IsTrueCache};
@@ -19,10 +19,10 @@ use resolver_clause_store::{
 };
 use std::hash::Hash;
 
-/// From how many forbidden solvables on a constraint has a helper.
+/// A constraint that forbids at least this many solvables gets a helper.
 const CONSTRAINT_HELPER_THRESHOLD: usize = 4;
 
-/// Whether a solvable is in a list.
+/// Returns whether a solvable is in a list.
 fn is_listed<S: Copy + Eq>(list: &[S], solvable: S) -> bool
     requires { IsIdentity S.eq }
     ensures { MatchBool result (Contains list.now solvable) (Contains list.now solvable → ⊥) }
@@ -30,7 +30,7 @@ fn is_listed<S: Copy + Eq>(list: &[S], solvable: S) -> bool
     list.contains(&solvable)
 }
 
-/// The solvable that has a constraint, where it is one of the package that the constraint is on.
+/// Returns the solvable that has a constraint, if it is of the package that the constraint is on.
 fn own_parent<D: DependencyProvider>(
     provider: &D,
     by: By<D::SolvableId>,
@@ -54,7 +54,8 @@ fn own_parent<D: DependencyProvider>(
 impl<N: Copy + Eq + Hash + Drop, S: Copy + Eq + Hash + Drop> Encoding<N, S> {
     ghost use Rattle.resolver_encoding.specs.Notes.{IsBounded, KeepsRoom, notes_in};
 
-    /// Forbids a solvable beside the root or the solvable that constrains it; by itself where they are one.
+    /// Forbids a candidate together with the requirer of the constraint. If these are the same solvable, it is
+    /// forbidden alone.
     fn constrain<D: DependencyProvider<NameId = N, SolvableId = S>>(
         &mut self,
         provider: &D,
@@ -79,7 +80,7 @@ impl<N: Copy + Eq + Hash + Drop, S: Copy + Eq + Hash + Drop> Encoding<N, S> {
         Ok(())
     }
 
-    /// Forbids each of these beside the root or the solvable that constrains them.
+    /// Forbids each of these candidates together with the requirer of the constraint.
     fn constrain_each<D: DependencyProvider<NameId = N, SolvableId = S>>(
         &mut self,
         provider: &D,
@@ -102,7 +103,7 @@ impl<N: Copy + Eq + Hash + Drop, S: Copy + Eq + Hash + Drop> Encoding<N, S> {
         Ok(())
     }
 
-    /// The helper of a version set follows from each of those that it does not take.
+    /// Adds the clauses by which each solvable outside a version set implies its constraint helper.
     fn imply_helper<D: DependencyProvider<NameId = N, SolvableId = S>>(
         &mut self,
         provider: &D,
@@ -127,7 +128,7 @@ impl<N: Copy + Eq + Hash + Drop, S: Copy + Eq + Hash + Drop> Encoding<N, S> {
         Ok(())
     }
 
-    /// Makes the helper of a version set of a constraint, if it has none yet.
+    /// Makes the constraint helper of a version set, if it has none yet.
     fn make_helper<D: DependencyProvider<NameId = N, SolvableId = S>>(
         &mut self,
         provider: &D,
@@ -150,7 +151,7 @@ impl<N: Copy + Eq + Hash + Drop, S: Copy + Eq + Hash + Drop> Encoding<N, S> {
         Ok(())
     }
 
-    /// Keeps the root or a solvable that has a constraint apart from the constraint's helper.
+    /// Forbids the constraint helper of a version set together with the requirer of the constraint.
     fn forbid_helper<D: DependencyProvider<NameId = N, SolvableId = S>>(
         &mut self,
         provider: &D,
@@ -172,7 +173,7 @@ impl<N: Copy + Eq + Hash + Drop, S: Copy + Eq + Hash + Drop> Encoding<N, S> {
         Ok(())
     }
 
-    /// Forbids a solvable by itself where its own constraint does not take it.
+    /// Forbids a solvable that its own constraint excludes.
     fn forbid_itself<D: DependencyProvider<NameId = N, SolvableId = S>>(
         &mut self,
         provider: &D,
@@ -202,7 +203,7 @@ impl<N: Copy + Eq + Hash + Drop, S: Copy + Eq + Hash + Drop> Encoding<N, S> {
         }
     }
 
-    /// Forbids all that a version set does not take through its helper.
+    /// Forbids the solvables outside a version set by its constraint helper.
     fn constrain_by_helper<D: DependencyProvider<NameId = N, SolvableId = S>>(
         &mut self,
         provider: &D,
@@ -226,7 +227,8 @@ impl<N: Copy + Eq + Hash + Drop, S: Copy + Eq + Hash + Drop> Encoding<N, S> {
         Ok(())
     }
 
-    /// Reads a constraint of the root or of a solvable: its package, and what it forbids.
+    /// Reads a constraint of the root or of a solvable: asks its package, and forbids the solvables outside its version
+    /// set.
     pub(super) fn read_constraint<D: DependencyProvider<NameId = N, SolvableId = S>>(
         &mut self,
         provider: &D,

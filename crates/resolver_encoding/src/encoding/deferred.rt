@@ -1,4 +1,4 @@
-//! Disjuncts that are put off until they hold, and what they ask for then.
+//! Deferred disjuncts, and the clauses that they get once they are met.
 
 ghost use Rattle.std.specs.Prelude.{◌≡◌, IfErr, IfSome, IfNone, OnErr, OnOk, Some, slice_get, ◌≤◌, All, IfOk, MatchBool, drop, length, true, ⊤};
 ghost use Rattle.resolver_clause_store.specs.Variables.{AreDistinct};
@@ -21,7 +21,7 @@ use std::hash::Hash;
 impl<N: Copy + Eq + Hash + Drop, S: Copy + Eq + Hash + Drop> Encoding<N, S> {
     ghost use Rattle.resolver_encoding.specs.Notes.{IsBounded, KeepsRoom, entry_of, notes_in};
 
-    /// Notes the deferred disjunct with this number under the packages of these version sets.
+    /// Notes the number of a deferred disjunct under the packages of its version sets.
     fn index_each<D: DependencyProvider<NameId = N, SolvableId = S>>(
         &mut self,
         provider: &D,
@@ -42,7 +42,7 @@ impl<N: Copy + Eq + Hash + Drop, S: Copy + Eq + Hash + Drop> Encoding<N, S> {
         Ok(())
     }
 
-    /// Puts a disjunct off.
+    /// Defers a disjunct.
     pub(super) fn defer<D: DependencyProvider<NameId = N, SolvableId = S>>(
         &mut self,
         provider: &D,
@@ -70,7 +70,7 @@ impl<N: Copy + Eq + Hash + Drop, S: Copy + Eq + Hash + Drop> Encoding<N, S> {
         Ok(())
     }
 
-    /// Takes a disjunct out, if it is still put off.
+    /// Removes a disjunct and returns it, if it is still deferred.
     pub(super) fn take_out(&mut self, number: usize) -> Option<Entry<S>>
         requires bounded { IsBounded self.old }
         ensures room { KeepsRoom self.old self.new }
@@ -84,7 +84,7 @@ impl<N: Copy + Eq + Hash + Drop, S: Copy + Eq + Hash + Drop> Encoding<N, S> {
         self.deferred[number].take()
     }
 
-    /// How many disjuncts are put off.
+    /// Returns the number of deferred disjuncts.
     pub fn deferred_count(&self) -> usize
         ensures { result ≡ left_count (notes_in self.now) }
     {
@@ -101,7 +101,7 @@ impl<N: Copy + Eq + Hash + Drop, S: Copy + Eq + Hash + Drop> Encoding<N, S> {
 impl<N: Copy + Eq + Hash + Drop, S: Copy + Eq + Hash + Drop> Encoding<N, S> {
     ghost use Rattle.resolver_encoding.specs.Notes.{IsBounded, KeepsRoom, notes_in};
 
-    /// Whether a disjunct is put off and is met in the set.
+    /// Returns whether a disjunct is due: deferred, and met in the chosen set.
     fn is_due<D: DependencyProvider<NameId = N, SolvableId = S>>(
         &self,
         provider: &D,
@@ -126,7 +126,7 @@ impl<N: Copy + Eq + Hash + Drop, S: Copy + Eq + Hash + Drop> Encoding<N, S> {
         }
     }
 
-    /// Takes a disjunct out that is met in the set, and encodes its requirement.
+    /// Fires a disjunct that is due: removes it, and encodes its requirement.
     fn fire<D: DependencyProvider<NameId = N, SolvableId = S>>(
         &mut self,
         provider: &D,
@@ -161,7 +161,7 @@ impl<N: Copy + Eq + Hash + Drop, S: Copy + Eq + Hash + Drop> Encoding<N, S> {
         }
     }
 
-    /// Takes a disjunct out and encodes its requirement, if it is put off and met in the set. Answers whether it was.
+    /// Fires a disjunct if it is due. Returns whether it was.
     fn fire_if_due<D: DependencyProvider<NameId = N, SolvableId = S>>(
         &mut self,
         provider: &D,
@@ -188,7 +188,7 @@ impl<N: Copy + Eq + Hash + Drop, S: Copy + Eq + Hash + Drop> Encoding<N, S> {
         Ok(true)
     }
 
-    /// Fires each of these that is due. Answers whether there was one.
+    /// Fires each of these disjuncts that is due. Returns whether any disjunct was due.
     fn fire_each<D: DependencyProvider<NameId = N, SolvableId = S>>(
         &mut self,
         provider: &D,
@@ -215,7 +215,7 @@ impl<N: Copy + Eq + Hash + Drop, S: Copy + Eq + Hash + Drop> Encoding<N, S> {
         Ok(any)
     }
 
-    /// Fires each deferred disjunct that is noted under the package of a solvable and is due. Answers whether there was one.
+    /// Fires each due disjunct that is noted under the package of a solvable. Returns whether any disjunct was due.
     fn fire_named<D: DependencyProvider<NameId = N, SolvableId = S>>(
         &mut self,
         provider: &D,
@@ -242,7 +242,8 @@ impl<N: Copy + Eq + Hash + Drop, S: Copy + Eq + Hash + Drop> Encoding<N, S> {
         Ok(any)
     }
 
-    /// Fires each disjunct that is due because of a solvable from this place of the set on. Answers whether there was one.
+    /// Fires each disjunct that is due because of a chosen solvable from this place on. Returns whether any disjunct
+    /// was due.
     pub(super) fn fire_deferred<D: DependencyProvider<NameId = N, SolvableId = S>>(
         &mut self,
         provider: &D,

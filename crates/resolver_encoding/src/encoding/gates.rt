@@ -1,4 +1,4 @@
-//! Gates: one list of candidates for all the solvables that have a requirement.
+//! Gates: one list of candidates for all solvables that have the same requirement.
 
 ghost use Rattle.std.specs.Prelude.{◌≡◌, ◌⊎◌, ◌<◌, ◌^◌, All, Contains, IfErr, None, OnOk, ⊤};
 ghost use Rattle.resolver_clause_store.specs.Candidates.{requirement_candidates as candidates_of, version_sets};
@@ -48,7 +48,7 @@ impl<N: Copy + Eq + Hash + Drop, S: Copy + Eq + Hash + Drop> Encoding<N, S> {
         Ok(())
     }
 
-    /// The gate of a requirement follows from a solvable that asks for it.
+    /// Adds the clause by which a requirer implies the gate of its requirement.
     pub(super) fn imply_gate<D: DependencyProvider<NameId = N, SolvableId = S>>(
         &mut self,
         provider: &D,

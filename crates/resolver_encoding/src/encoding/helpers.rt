@@ -20,7 +20,7 @@ use std::hash::Hash;
 impl<N: Copy + Eq + Hash + Drop, S: Copy + Eq + Hash + Drop> Encoding<N, S> {
     ghost use Rattle.resolver_encoding.specs.Notes.{IsBounded, KeepsRoom, notes_in};
 
-    /// The helper of a version set follows from each of these.
+    /// Adds the clauses by which each of these candidates implies the condition helper of a version set.
     fn imply_each<D: DependencyProvider<NameId = N, SolvableId = S>>(
         &mut self,
         provider: &D,
@@ -45,7 +45,7 @@ impl<N: Copy + Eq + Hash + Drop, S: Copy + Eq + Hash + Drop> Encoding<N, S> {
         Ok(())
     }
 
-    /// Makes the helper of a version set of a condition, if it has none yet.
+    /// Makes the condition helper of a version set, if it has none yet.
     fn help<D: DependencyProvider<NameId = N, SolvableId = S>>(
         &mut self,
         provider: &D,
@@ -70,7 +70,7 @@ impl<N: Copy + Eq + Hash + Drop, S: Copy + Eq + Hash + Drop> Encoding<N, S> {
         Ok(())
     }
 
-    /// Makes the helper of each version set of a disjunct.
+    /// Makes the condition helper of each version set of a disjunct.
     pub(super) fn help_each<D: DependencyProvider<NameId = N, SolvableId = S>>(
         &mut self,
         provider: &D,

@@ -1,4 +1,4 @@
-//! Candidates that are read at once.
+//! Candidates that are read early, because their dependencies are available.
 
 ghost use Rattle.std.specs.Prelude.{◌≡◌, ◌<◌, ◌≤◌, ◌++◌, Contains, IfErr, IfOk, OnOk, length};
 ghost use Rattle.std.specs.Option.{option_to_list};
@@ -19,7 +19,7 @@ use indexmap::IndexSet;
 use resolver_clause_store::{Cache, DependencyProvider, Exhausted, Interner, Interrupted, Literal};
 use std::hash::Hash;
 
-/// Puts what was found behind the others.
+/// Appends the value that was found, if any.
 fn push_found<T: Drop>(list: &mut Vec<T>, found: Option<T>) -> Result<(), Exhausted>
     ensures pushed { OnOk result (list.new.items ≡ list.old.items ++ option_to_list found) }
     ensures memory { IfErr result (λ e. e ≡ Exhausted.Memory) }
@@ -36,7 +36,7 @@ fn push_found<T: Drop>(list: &mut Vec<T>, found: Option<T>) -> Result<(), Exhaus
 impl<N: Copy + Eq + Hash + Drop, S: Copy + Eq + Hash + Drop> Encoding<N, S> {
     ghost use Rattle.resolver_encoding.specs.Notes.{IsBounded, KeepsRoom, notes_in};
 
-    /// The solvable that a literal says is there, if it says so of one.
+    /// Returns the solvable that a positive literal stands for, if any.
     fn stated(&self, literal: Literal) -> Option<S>
         ensures { result ≡ stated_by (notes_in self.now).origins literal }
     {
@@ -46,7 +46,7 @@ impl<N: Copy + Eq + Hash + Drop, S: Copy + Eq + Hash + Drop> Encoding<N, S> {
         as_solvable(self.table.variables.origin(literal.variable))
     }
 
-    /// The literals of a clause, and none where there is no such clause.
+    /// Returns the literals of a clause, none if there is no such clause.
     fn clause(&self, number: usize) -> &[Literal]
         ensures { result.now ≡ clause_at (notes_in self.now).table number }
     {
@@ -56,7 +56,7 @@ impl<N: Copy + Eq + Hash + Drop, S: Copy + Eq + Hash + Drop> Encoding<N, S> {
         }
     }
 
-    /// The literals of the clause at a place of those that ask for candidates, and none where there is no such place.
+    /// Returns the literals of the requirement clause at a place, none if there is no such place.
     fn asking_literals(&self, place: usize) -> &[Literal]
         ensures { result.now ≡ literals_at (notes_in self.now) place }
     {
@@ -66,7 +66,7 @@ impl<N: Copy + Eq + Hash + Drop, S: Copy + Eq + Hash + Drop> Encoding<N, S> {
         }
     }
 
-    /// The candidates of the clause at a place of those that ask for candidates.
+    /// Returns the candidates of the requirement clause at a place.
     fn listed_candidates(&self, place: usize) -> Result<Vec<S>, Exhausted>
         ensures candidates { IfOk result (λ list. list.items ≡ candidates_at (notes_in self.now) place) }
         ensures memory { IfErr result (λ e. e ≡ Exhausted.Memory) }
@@ -78,14 +78,14 @@ impl<N: Copy + Eq + Hash + Drop, S: Copy + Eq + Hash + Drop> Encoding<N, S> {
         Ok(candidates)
     }
 
-    /// How many clauses ask for candidates.
+    /// Returns the number of requirement clauses.
     pub(super) fn requirement_count(&self) -> usize
         ensures { result ≡ length (notes_in self.now).requirements }
     {
         self.table.requirements().len()
     }
 
-    /// Reads a registered candidate if its dependencies are at hand, unless it was read before.
+    /// Reads a registered candidate if its dependencies are available, unless it was read before.
     fn read_if_at_hand<D: DependencyProvider<NameId = N, SolvableId = S>>(
         &mut self,
         provider: &D,
@@ -116,9 +116,9 @@ impl<N: Copy + Eq + Hash + Drop, S: Copy + Eq + Hash + Drop> Encoding<N, S> {
         Ok(())
     }
 
-    /// Reads a candidate of a clause if its dependencies are at hand, unless it was read before.
+    /// Reads a candidate of a clause if its dependencies are available, unless it was read before.
     ///
-    /// What its package lists was asked before, for the clause, and so what is hinted of it is known.
+    /// The candidate's package was asked for the sake of the clause, so its hints are known.
     fn read_candidate<D: DependencyProvider<NameId = N, SolvableId = S>>(
         &mut self,
         provider: &D,
@@ -146,7 +146,7 @@ impl<N: Copy + Eq + Hash + Drop, S: Copy + Eq + Hash + Drop> Encoding<N, S> {
         Ok(())
     }
 
-    /// Reads each of the candidates, of the clause at a place of those that ask for candidates, whose dependencies are at hand.
+    /// Reads those candidates of the requirement clause at a place whose dependencies are available.
     fn read_candidates<D: DependencyProvider<NameId = N, SolvableId = S>>(
         &mut self,
         provider: &D,
@@ -174,7 +174,7 @@ impl<N: Copy + Eq + Hash + Drop, S: Copy + Eq + Hash + Drop> Encoding<N, S> {
         Ok(())
     }
 
-    /// Reads each candidate of the clause at a place of those that ask for candidates whose dependencies are at hand.
+    /// Reads each candidate of the requirement clause at a place whose dependencies are available.
     fn read_hinted_at<D: DependencyProvider<NameId = N, SolvableId = S>>(
         &mut self,
         provider: &D,
@@ -199,8 +199,9 @@ impl<N: Copy + Eq + Hash + Drop, S: Copy + Eq + Hash + Drop> Encoding<N, S> {
         Ok(())
     }
 
-    /// Reads each candidate, of the clauses between two places, whose dependencies are at hand. Answers whether there was a new
-    /// one.
+    /// Reads each candidate of the requirement clauses between two places whose dependencies are available.
+    ///
+    /// Returns whether any candidate was new.
     fn read_hinted_each<D: DependencyProvider<NameId = N, SolvableId = S>>(
         &mut self,
         provider: &D,
@@ -232,10 +233,10 @@ impl<N: Copy + Eq + Hash + Drop, S: Copy + Eq + Hash + Drop> Encoding<N, S> {
         Ok(false)
     }
 
-    /// Reads each candidate, of the clauses from a place on, whose dependencies are at hand, and so on for the clauses that
-    /// this makes. Answers whether there was a new one.
+    /// Reads each candidate of the requirement clauses from a place on whose dependencies are available, and so on for
+    /// the clauses that this adds.
     ///
-    /// What comes first is read first.
+    /// Clauses are taken in their order. Returns whether any candidate was new.
     pub(super) fn read_hinted<D: DependencyProvider<NameId = N, SolvableId = S>>(
         &mut self,
         provider: &D,

@@ -1,4 +1,4 @@
-//! Packages that are asked.
+//! Packages that are asked, with their locks and exclusions.
 
 ghost use Rattle.std.specs.Prelude.{◌≡◌, ◌≢◌, ◌++◌, All, Contains, IfErr, OnOk, Some, ⊤};
 ghost use Rattle.resolver_clause_store.specs.Caches.{IsTrueCache};
@@ -20,7 +20,7 @@ use std::hash::Hash;
 impl<N: Copy + Eq + Hash + Drop, S: Copy + Eq + Hash + Drop> Encoding<N, S> {
     ghost use Rattle.resolver_encoding.specs.Notes.{IsBounded, KeepsRoom, notes_in};
 
-    /// Forbids a listed candidate of a package where another one is locked, unless it is exempt.
+    /// Forbids a listed candidate if another one is locked, unless it is exempt.
     pub(super) fn lock_out<D: DependencyProvider<NameId = N, SolvableId = S>>(
         &mut self,
         provider: &D,
@@ -55,7 +55,7 @@ impl<N: Copy + Eq + Hash + Drop, S: Copy + Eq + Hash + Drop> Encoding<N, S> {
         Ok(())
     }
 
-    /// Forbids the listed candidates of a package other than the locked one.
+    /// Forbids the listed candidates of a package other than the locked one, unless they are exempt.
     fn lock_out_others<D: DependencyProvider<NameId = N, SolvableId = S>>(
         &mut self,
         provider: &D,
@@ -111,7 +111,7 @@ impl<N: Copy + Eq + Hash + Drop, S: Copy + Eq + Hash + Drop> Encoding<N, S> {
         Ok(())
     }
 
-    /// Forbids what a package excludes.
+    /// Forbids the solvables that a package excludes, unless they are exempt.
     fn exclude_each<D: DependencyProvider<NameId = N, SolvableId = S>>(
         &mut self,
         provider: &D,
@@ -135,11 +135,10 @@ impl<N: Copy + Eq + Hash + Drop, S: Copy + Eq + Hash + Drop> Encoding<N, S> {
         Ok(())
     }
 
-    /// Asks a package, if it was not asked before: what it locks and excludes gets its clauses, and no solvable is read or
-    /// registered.
+    /// Asks a package, if it was not asked before, and adds the clauses of its lock and its exclusions.
     ///
-    /// Packages that a requirement or a constraint names are asked when that is read, without this call. It asks those that a
-    /// soft requirement names.
+    /// No solvable is read or registered. Packages that a requirement or a constraint names are asked when that is
+    /// read; this call is for packages that a soft requirement names.
     pub fn ask<D: DependencyProvider<NameId = N, SolvableId = S>>(
         &mut self,
         provider: &D,

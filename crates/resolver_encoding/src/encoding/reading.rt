@@ -1,4 +1,4 @@
-//! All that can be needed.
+//! Reading: the requirements and constraints of the root and of solvables become clauses.
 
 ghost use Rattle.std.specs.Prelude.{◌≡◌, ◌<◌, ◌≤◌, [], All, Contains, IfErr, IfOk, List, OnOk, Some, drop, length, take, ⊤};
 ghost use Rattle.resolver_clause_store.specs.Caches.{IsTrueCache};
@@ -30,7 +30,7 @@ use resolver_clause_store::{
 };
 use std::hash::Hash;
 
-/// What one more reading did.
+/// Returns what one more reading did.
 fn progress_of(read: bool, fired: bool) -> Progress
     ensures { result ≡ progress_by read fired }
 {
@@ -65,7 +65,7 @@ impl<N: Copy + Eq + Hash + Drop, S: Copy + Eq + Hash + Drop> Encoding<N, S> {
         Ok(())
     }
 
-    /// Asks the packages of a requirement without a condition.
+    /// Asks the packages of a requirement, if it has no condition.
     fn ask_plain<D: DependencyProvider<NameId = N, SolvableId = S>>(
         &mut self,
         provider: &D,
@@ -117,7 +117,7 @@ impl<N: Copy + Eq + Hash + Drop, S: Copy + Eq + Hash + Drop> Encoding<N, S> {
         Ok(())
     }
 
-    /// Reads requirements of the root or of a solvable.
+    /// Reads these requirements of the root or of a solvable.
     fn read_requirements<D: DependencyProvider<NameId = N, SolvableId = S>>(
         &mut self,
         provider: &D,
@@ -147,7 +147,7 @@ impl<N: Copy + Eq + Hash + Drop, S: Copy + Eq + Hash + Drop> Encoding<N, S> {
         Ok(())
     }
 
-    /// Reads constraints of the root or of a solvable.
+    /// Reads these constraints of the root or of a solvable.
     fn read_constraints<D: DependencyProvider<NameId = N, SolvableId = S>>(
         &mut self,
         provider: &D,
@@ -175,8 +175,9 @@ impl<N: Copy + Eq + Hash + Drop, S: Copy + Eq + Hash + Drop> Encoding<N, S> {
         Ok(())
     }
 
-    /// Reads what the root or a solvable asks for: first the packages of what stands there without a condition, then the
-    /// requirements, and then the constraints.
+    /// Reads the requirements and the constraints of the root or of a solvable.
+    ///
+    /// Before, it asks the packages of the constraints and of the requirements without a condition.
     fn read_demands<D: DependencyProvider<NameId = N, SolvableId = S>>(
         &mut self,
         provider: &D,
@@ -211,7 +212,7 @@ impl<N: Copy + Eq + Hash + Drop, S: Copy + Eq + Hash + Drop> Encoding<N, S> {
         Ok(())
     }
 
-    /// Reads what a solvable asks for, or that nobody knows it.
+    /// Reads the requirements and the constraints of a solvable, or forbids it if they are unknown.
     fn read_solvable<D: DependencyProvider<NameId = N, SolvableId = S>>(
         &mut self,
         provider: &D,
@@ -281,7 +282,7 @@ impl<N: Copy + Eq + Hash + Drop, S: Copy + Eq + Hash + Drop> Encoding<N, S> {
         Ok(())
     }
 
-    /// Reads each new solvable from this place of the set on. Answers whether there was one.
+    /// Reads each new chosen solvable from this place on. Returns whether any solvable was new.
     fn read_each<D: DependencyProvider<NameId = N, SolvableId = S>>(
         &mut self,
         provider: &D,
@@ -316,7 +317,7 @@ impl<N: Copy + Eq + Hash + Drop, S: Copy + Eq + Hash + Drop> Encoding<N, S> {
         Ok(false)
     }
 
-    /// Makes the root's variable, and the clause that it is there.
+    /// Adds the variable of the root, and the clause that makes it true.
     fn install_root<D: DependencyProvider<NameId = N, SolvableId = S>>(
         &mut self,
         provider: &D,
@@ -334,11 +335,11 @@ impl<N: Copy + Eq + Hash + Drop, S: Copy + Eq + Hash + Drop> Encoding<N, S> {
         Ok(())
     }
 
-    /// Reads the root: the clauses of what it asks for, and what is put off. Candidates whose dependencies are at hand are
-    /// read, too.
+    /// Reads the root: adds the clauses of its requirements and constraints, and defers the disjuncts of its
+    /// conditions.
     ///
-    /// Of the packages those are asked that constraints and requirements without a condition name, of the root or of what was
-    /// read, and no others.
+    /// It also reads candidates whose dependencies are available. The packages that it asks are exactly those that
+    /// constraints and requirements without a condition name, of the root or of a solvable that was read.
     pub fn read_root<D: DependencyProvider<NameId = N, SolvableId = S>>(
         &mut self,
         provider: &D,
@@ -373,10 +374,11 @@ impl<N: Copy + Eq + Hash + Drop, S: Copy + Eq + Hash + Drop> Encoding<N, S> {
         Ok(())
     }
 
-    /// Reads what was chosen from this place of the set on, and takes out what was put off and holds now.
+    /// Reads the chosen solvables from this place on, and encodes the deferred disjuncts that are now met.
     ///
-    /// Each new solvable is read, and each candidate of a new clause whose dependencies are at hand, and no other. Of the
-    /// packages those are asked that the root or what was read demands in this set, and no others.
+    /// It reads each new solvable, each candidate of a new requirement clause whose dependencies are available, and no
+    /// other. The packages that it asks are exactly those that the root or a solvable that was read demands in the
+    /// chosen set.
     pub fn read_chosen<D: DependencyProvider<NameId = N, SolvableId = S>>(
         &mut self,
         provider: &D,

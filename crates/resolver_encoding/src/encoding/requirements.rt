@@ -1,4 +1,4 @@
-//! Requirements.
+//! Clauses of requirements.
 
 ghost use Rattle.std.specs.Prelude.{◌≡◌, ◌⊎◌, ◌<◌, ◌^◌, [], ◌∷◌, ◌++◌, All, Contains, IfErr, IfOk, IfSome, None, OnOk, length, map, ⊤};
 ghost use Rattle.resolver_clause_store.specs.Caches.{IsTrueCache};
@@ -25,10 +25,11 @@ use resolver_clause_store::{
 use std::hash::Hash;
 use std::mem::replace;
 
-/// From how many candidates on a requirement of solvables stands on a gate.
+/// A requirement that a solvable has without a condition gets a gate if it has at least this many candidates.
 const GATE_THRESHOLD: usize = 4;
 
-/// The solvable whose requirement may stand on a gate: the root's may not, and none under a condition.
+/// Returns the solvable whose requirement may have a gate. Requirements of the root, and those with a condition, have
+/// none.
 fn plain_requirer<S: Copy>(by: By<S>, condition: Option<ConditionId>) -> Option<S>
     ensures { IfSome result (λ s. (by ≡ BySolvable s) × (condition ≡ None)) }
 {
@@ -44,7 +45,7 @@ fn plain_requirer<S: Copy>(by: By<S>, condition: Option<ConditionId>) -> Option<
 impl<N: Copy + Eq + Hash + Drop, S: Copy + Eq + Hash + Drop> Encoding<N, S> {
     ghost use Rattle.resolver_encoding.specs.Notes.{IsBounded, KeepsRoom, notes_in};
 
-    /// Encodes a requirement under a disjunct of its condition, with the candidates at hand.
+    /// Encodes a requirement under a disjunct of its condition, with candidates that are registered.
     fn encode_choices<D: DependencyProvider<NameId = N, SolvableId = S>>(
         &mut self,
         provider: &D,
@@ -81,7 +82,7 @@ impl<N: Copy + Eq + Hash + Drop, S: Copy + Eq + Hash + Drop> Encoding<N, S> {
         Ok(())
     }
 
-    /// The candidates of a requirement, after its packages were asked: from now on they are seen.
+    /// Asks the packages of a requirement, registers its candidates and returns them.
     fn choose<D: DependencyProvider<NameId = N, SolvableId = S>>(
         &mut self,
         provider: &D,
@@ -110,7 +111,7 @@ impl<N: Copy + Eq + Hash + Drop, S: Copy + Eq + Hash + Drop> Encoding<N, S> {
         Ok(choices)
     }
 
-    /// Encodes a requirement under a disjunct of its condition, after its packages were asked.
+    /// Asks the packages of a requirement, and encodes it under a disjunct of its condition.
     pub(super) fn encode_disjunct<D: DependencyProvider<NameId = N, SolvableId = S>>(
         &mut self,
         provider: &D,
@@ -138,7 +139,8 @@ impl<N: Copy + Eq + Hash + Drop, S: Copy + Eq + Hash + Drop> Encoding<N, S> {
         Ok(())
     }
 
-    /// Encodes a requirement under a disjunct of its condition that is met in the set, and puts off any other.
+    /// Encodes a requirement under a disjunct of its condition if that is met in the chosen set, and defers the
+    /// disjunct otherwise.
     fn read_disjunct<D: DependencyProvider<NameId = N, SolvableId = S>>(
         &mut self,
         provider: &D,
@@ -202,7 +204,7 @@ impl<N: Copy + Eq + Hash + Drop, S: Copy + Eq + Hash + Drop> Encoding<N, S> {
         Ok(())
     }
 
-    /// Reads a requirement with clauses of its own, and without a gate.
+    /// Reads a requirement with clauses of its own, without a gate.
     fn read_direct<D: DependencyProvider<NameId = N, SolvableId = S>>(
         &mut self,
         provider: &D,
@@ -229,7 +231,7 @@ impl<N: Copy + Eq + Hash + Drop, S: Copy + Eq + Hash + Drop> Encoding<N, S> {
         Ok(())
     }
 
-    /// Reads a requirement of a solvable that stands without a condition: on its gate, where there are many candidates.
+    /// Reads a requirement that a solvable has without a condition, by a gate if there are many candidates.
     fn read_plain<D: DependencyProvider<NameId = N, SolvableId = S>>(
         &mut self,
         provider: &D,
@@ -270,7 +272,7 @@ impl<N: Copy + Eq + Hash + Drop, S: Copy + Eq + Hash + Drop> Encoding<N, S> {
         Ok(())
     }
 
-    /// Reads a requirement of the root or of a solvable: its clauses, and what is put off of it.
+    /// Reads a requirement of the root or of a solvable: adds its clauses, and defers the disjuncts that are not met.
     pub(super) fn read_requirement<D: DependencyProvider<NameId = N, SolvableId = S>>(
         &mut self,
         provider: &D,

@@ -22,16 +22,16 @@ use std::hash::Hash;
 impl<N: Copy + Eq + Hash + Drop, S: Copy + Eq + Hash + Drop> Encoding<N, S> {
     ghost use Rattle.resolver_encoding.specs.Notes.{IsBounded, KeepsRoom, notes_in};
 
-    /// The solvables that are exempt from locks and exclusions, in the order in which they became so.
+    /// Returns the solvables that are exempt from locks and exclusions, in the order in which they became exempt.
     pub fn exempt(&self) -> &[S]
         ensures { result.now ≡ (notes_in self.now).exempt }
     {
         self.exempt.as_slice()
     }
 
-    /// Registers a solvable with those of its package, if that is new. Answers its variable.
+    /// Registers a solvable with those of its package, if it is new. Returns its variable.
     ///
-    /// Registered solvables of a package exclude each other.
+    /// At most one registered solvable of a package is true.
     pub fn register<D: DependencyProvider<NameId = N, SolvableId = S>>(
         &mut self,
         provider: &D,
@@ -51,9 +51,9 @@ impl<N: Copy + Eq + Hash + Drop, S: Copy + Eq + Hash + Drop> Encoding<N, S> {
         Ok(variable)
     }
 
-    /// Makes a soft solvable exempt from locks and exclusions if its package was not asked.
+    /// Makes a soft solvable exempt from locks and exclusions, unless its package was asked.
     ///
-    /// Where its package is asked later, it stays exempt.
+    /// It stays exempt if its package is asked later.
     pub fn begin_turn<D: DependencyProvider<NameId = N, SolvableId = S>>(
         &mut self,
         provider: &D,
@@ -79,7 +79,7 @@ impl<N: Copy + Eq + Hash + Drop, S: Copy + Eq + Hash + Drop> Encoding<N, S> {
         Ok(())
     }
 
-    /// Makes the lock's clause for a solvable that its package lists.
+    /// Adds the clause of the lock for a solvable, if its package lists it.
     fn restore_lock<D: DependencyProvider<NameId = N, SolvableId = S>>(
         &mut self,
         provider: &D,
@@ -111,7 +111,7 @@ impl<N: Copy + Eq + Hash + Drop, S: Copy + Eq + Hash + Drop> Encoding<N, S> {
         Ok(())
     }
 
-    /// Makes the clause of an exclusion if it is one of the solvable.
+    /// Adds the clause of an exclusion, if it excludes this solvable.
     fn restore_exclusion<D: DependencyProvider<NameId = N, SolvableId = S>>(
         &mut self,
         provider: &D,
@@ -139,7 +139,7 @@ impl<N: Copy + Eq + Hash + Drop, S: Copy + Eq + Hash + Drop> Encoding<N, S> {
         Ok(())
     }
 
-    /// Makes the clauses of a solvable's exclusions.
+    /// Adds the clauses of a solvable's exclusions.
     fn restore_exclusions<D: DependencyProvider<NameId = N, SolvableId = S>>(
         &mut self,
         provider: &D,
@@ -164,7 +164,7 @@ impl<N: Copy + Eq + Hash + Drop, S: Copy + Eq + Hash + Drop> Encoding<N, S> {
         Ok(())
     }
 
-    /// Makes the clauses that a solvable was spared, if its package was asked.
+    /// Adds the clauses that a solvable was spared, if its package was asked.
     fn restore<D: DependencyProvider<NameId = N, SolvableId = S>>(
         &mut self,
         provider: &D,
@@ -198,10 +198,11 @@ impl<N: Copy + Eq + Hash + Drop, S: Copy + Eq + Hash + Drop> Encoding<N, S> {
         Ok(())
     }
 
-    /// Ends the turn of a soft solvable that was refused: where it became exempt in this turn, it is so no longer, and
-    /// the clauses that it was spared are made.
+    /// Ends the turn of a soft solvable that was refused: withdraws its exemption, if it became exempt in this turn,
+    /// and adds the clauses that it was spared.
     ///
-    /// The number is how many were exempt before the turn. The turn of one that was accepted needs no such call.
+    /// `exempt_before` is the number of exempt solvables before the turn. The turn of an accepted solvable needs no
+    /// such call.
     pub fn end_turn<D: DependencyProvider<NameId = N, SolvableId = S>>(
         &mut self,
         provider: &D,

@@ -1,4 +1,4 @@
-//! What searches over clauses find.
+//! The results of searches over clauses.
 
 ghost use Rattle.std.specs.Prelude.{◌<◌, ◌≡◌, All, IfOk, IfSome, IsTrue};
 ghost use Rattle.resolver_clause_store.specs.Formula.{AreBelow, IsBelow};
@@ -15,7 +15,7 @@ use resolver_clause_store::{Reason, Slot, Variable};
 use std::cell::Cell;
 use std::test::Fail;
 
-/// Whether each variable of the clause is below the number.
+/// Returns whether each variable of the clause is below the number.
 fn is_below(clause: &[Literal], variables: usize) -> bool
     ensures { IsTrue result → IsBelow variables clause.now }
 {
@@ -24,7 +24,7 @@ fn is_below(clause: &[Literal], variables: usize) -> bool
         .all(|literal| literal.variable.index() < variables)
 }
 
-/// Whether each variable of each clause is below the number.
+/// Returns whether each variable of each clause is below the number.
 fn are_below(table: &[Vec<Literal>], variables: usize) -> bool
     ensures { IsTrue result → AreBelow variables table.now }
 {
@@ -36,7 +36,7 @@ fn are_below(table: &[Vec<Literal>], variables: usize) -> bool
     true
 }
 
-/// Whether each requirement's clause is one of the first ones.
+/// Returns whether each requirement clause is one of the first `count` clauses.
 fn are_inside(requirements: &[RequirementClause], count: usize) -> bool
     ensures { IsTrue result → All (λ (requirement : RequirementClause). requirement.number < count) requirements.now }
 {
@@ -45,7 +45,7 @@ fn are_inside(requirements: &[RequirementClause], count: usize) -> bool
         .all(|requirement| (requirement.number as usize) < count)
 }
 
-/// A variable for a positive number, counted from 1, and its negation for a negative one.
+/// Returns the variable of a positive number, counted from 1, or the negation of that of a negative one.
 fn literal(number: i32) -> Literal {
     Literal {
         variable: Variable::new(number.unsigned_abs().saturating_sub(1)),
@@ -69,7 +69,7 @@ fn table_of(alloc: Global, clauses: &[&[i32]]) -> Result<Vec<Vec<Literal>>, Allo
     Ok(table)
 }
 
-/// The number of a requirement's clause, whether it is one of the root, and the places where its version sets end.
+/// A requirement: the number of its clause, whether it is one of the root, and the places where its version sets end.
 type Required<'x> = (usize, bool, &'x [usize]);
 
 fn requirement_of(
@@ -100,7 +100,7 @@ fn requirements_of(
     Ok(requirements)
 }
 
-/// So many clauses as requirements of the root.
+/// Returns this many clauses as requirements of the root.
 fn all_required(alloc: Global, count: usize) -> Result<Vec<RequirementClause>, AllocError> {
     let mut requirements = Vec::new(alloc);
     for number in 0..count {
@@ -109,10 +109,10 @@ fn all_required(alloc: Global, count: usize) -> Result<Vec<RequirementClause>, A
     Ok(requirements)
 }
 
-/// A clause's number, and the place of the candidate in it that is decided.
+/// A decision: the number of a clause, and the place of the candidate in it.
 type Decision = Option<(usize, usize)>;
 
-/// What scanning all requirements decides first.
+/// Returns the first decision by scanning all requirements.
 fn first_by_scanning(
     alloc: Global,
     table: &[Vec<Literal>],
@@ -128,7 +128,7 @@ fn first_by_scanning(
     }
 }
 
-/// A provider of nothing.
+/// Returns a provider that states nothing.
 fn provider_of_nothing(alloc: Global) -> TestProvider {
     TestProvider {
         alloc,
@@ -140,7 +140,7 @@ fn provider_of_nothing(alloc: Global) -> TestProvider {
     }
 }
 
-/// Loads these clauses and requirements, with the packages of variables, and tells whether they could be loaded.
+/// Loads these clauses and requirements, with the packages of variables. Returns whether they could be loaded.
 fn load_given(
     search: &mut ClauseSearch,
     clauses: &[Vec<Literal>],
@@ -164,7 +164,7 @@ fn load_given(
     loaded.is_ok()
 }
 
-/// Loads these clauses, all of them as requirements, and tells whether they could be loaded.
+/// Loads these clauses, all of them as requirements. Returns whether they could be loaded.
 fn load_all(
     alloc: Global,
     search: &mut ClauseSearch,
@@ -179,7 +179,7 @@ fn load_all(
     Ok(loaded)
 }
 
-/// Whether a run finds values.
+/// Returns whether a run finds values.
 fn finishes(alloc: Global, search: &mut ClauseSearch, provider: &TestProvider) -> bool
     requires { IsConsistent search.old }
     ensures { IsTrue result → IsConsistent search.new }
@@ -192,10 +192,10 @@ fn finishes(alloc: Global, search: &mut ClauseSearch, provider: &TestProvider) -
     }
 }
 
-/// What a run ends with.
+/// The end of a run.
 type Ended = Result<Outcome, Interrupted<u8>>;
 
-/// Whether what a run found is that these clauses contradict each other.
+/// Returns whether the run found that these clauses contradict each other.
 fn is_core(found: &Ended, wanted: &[usize]) -> bool {
     match found {
         Ok(Outcome::Contradiction(core)) => core.as_slice() == wanted,
@@ -203,7 +203,7 @@ fn is_core(found: &Ended, wanted: &[usize]) -> bool {
     }
 }
 
-/// Whether what a run found is that so many clauses contradict each other.
+/// Returns whether the run found that this many clauses contradict each other.
 fn is_core_of(found: &Ended, count: usize) -> bool {
     match found {
         Ok(Outcome::Contradiction(core)) => core.len() == count,
@@ -211,8 +211,8 @@ fn is_core_of(found: &Ended, count: usize) -> bool {
     }
 }
 
-/// Whether a run over clauses of 30 variables finds that so many, which are all of them, contradict each other, and
-/// learns some for it.
+/// Returns whether a run over clauses of 30 variables finds that all of them, which are this many, contradict each
+/// other, and learns some clauses for it.
 fn refutes_all(
     alloc: Global,
     search: &mut ClauseSearch,
@@ -234,7 +234,7 @@ fn refutes_all(
     )
 }
 
-/// Whether a run finds that these clauses contradict each other.
+/// Returns whether a run finds that these clauses contradict each other.
 fn refutes(
     alloc: Global,
     search: &mut ClauseSearch,
@@ -247,13 +247,13 @@ fn refutes(
     is_core(&found, wanted)
 }
 
-/// Whether ids ran out.
+/// Returns whether ids ran out.
 fn is_out_of_ids(ended: &Ended) -> bool {
     matches!(ended, Err(Interrupted::Exhausted(Exhausted::Ids)))
 }
 
-/// Whether ids run out over clauses of 30 variables under these limits for learnt clauses and for all, with so many
-/// learnt then.
+/// Returns whether ids run out over clauses of 30 variables under these limits for learnt clauses and for all, with
+/// this many learnt by then.
 fn ends_at(
     alloc: Global,
     search: &mut ClauseSearch,
@@ -271,7 +271,7 @@ fn ends_at(
     Ok(is_out_of_ids(&ended) & (search.learnt_count() == learnt))
 }
 
-/// Whether the provider stopped the search, unless memory or ids ran out.
+/// Returns whether the provider stopped the search, and `None` if memory or ids ran out.
 fn was_cancelled(ended: &Ended) -> Option<bool> {
     match ended {
         Ok(_) => Some(false),
@@ -280,8 +280,8 @@ fn was_cancelled(ended: &Ended) -> Option<bool> {
     }
 }
 
-/// Whether a run over clauses of two variables is cancelled by the check with this number, unless memory or ids run
-/// out.
+/// Returns whether a run over clauses of two variables is cancelled by the check with this number, and `None` if memory
+/// or ids run out.
 fn is_cancelled(
     alloc: Global,
     search: &mut ClauseSearch,
@@ -299,7 +299,7 @@ fn is_cancelled(
     Ok(was_cancelled(&ended))
 }
 
-/// The first clauses, so many.
+/// Returns the first `count` clauses.
 fn beginning(table: &[Vec<Literal>], count: usize) -> &[Vec<Literal>] {
     if table.len() < count {
         return table;
@@ -307,8 +307,8 @@ fn beginning(table: &[Vec<Literal>], count: usize) -> &[Vec<Literal>] {
     &table[..count]
 }
 
-/// Whether a first run over four clauses learns so many, and a second one over all finds that these contradict each
-/// other.
+/// Returns whether a first run over four clauses learns this many, and a second one over all finds that the wanted ones
+/// contradict each other.
 fn refutes_through_learnt(
     alloc: Global,
     search: &mut ClauseSearch,
@@ -334,11 +334,11 @@ fn refutes_through_learnt(
     Ok(refutes(alloc, search, provider, wanted))
 }
 
-/// The places of a search's trail: how many were bookmarked, how many of them and how many in all are left when more
-/// clauses have come, and how many of the bookmarked ones after the next run.
+/// Numbers of entries of a search's trail: those that were bookmarked; of these, those that are left after more clauses
+/// were loaded; all that are left then; and the bookmarked ones that are left after the next run.
 type Places = (usize, usize, usize, usize);
 
-/// The places of a search that decides 1 and then 3 by the first two clauses, before the others come.
+/// Returns the places of a search that decides 1 and then 3 by the first two clauses, before the others are loaded.
 fn places_through(
     alloc: Global,
     search: &mut ClauseSearch,
@@ -366,7 +366,7 @@ fn places_through(
     Ok(Some((bookmarked, kept, length, search.kept())))
 }
 
-/// The place of a variable in the clause with this number.
+/// Returns the place of a variable in the clause with this number.
 fn place_in(table: &[Vec<Literal>], number: usize, variable: Variable) -> Option<usize> {
     match table.get(number) {
         Some(literals) => literals
@@ -376,7 +376,7 @@ fn place_in(table: &[Vec<Literal>], number: usize, variable: Variable) -> Option
     }
 }
 
-/// The decision that stands first on a trail.
+/// Returns the first decision on a trail.
 fn first_on(trail: &Trail, table: &[Vec<Literal>]) -> Decision {
     'places: for place in 0..trail.len() {
         let variable = trail.variable_at(place);
@@ -390,7 +390,7 @@ fn first_on(trail: &Trail, table: &[Vec<Literal>]) -> Decision {
     None
 }
 
-/// What a search decides first, where it has no conflict.
+/// Returns the first decision of a search without conflicts.
 fn first_by_searching(
     alloc: Global,
     search: &mut ClauseSearch,
@@ -409,7 +409,7 @@ fn first_by_searching(
     first_on(search.trail(), table)
 }
 
-/// Marks the trail and assumes a literal, unless its variable has a value or is none of the trail's.
+/// Bookmarks the trail and assumes a literal, if its variable is one of the trail's and has no value.
 fn assumes(search: &mut ClauseSearch, wanted: Literal) -> Result<bool, AllocError>
     requires { IsConsistent search.old }
     ensures consistent { IfOk result (λ assumed. IsConsistent search.new) }
@@ -426,7 +426,7 @@ fn assumes(search: &mut ClauseSearch, wanted: Literal) -> Result<bool, AllocErro
     Ok(true)
 }
 
-/// What a run in a turn ends with: whether what was assumed is accepted.
+/// Returns whether a run in a turn accepts the assumption.
 fn is_accepted(alloc: Global, search: &mut ClauseSearch, provider: &TestProvider) -> Option<bool>
     requires { IsConsistent search.old }
     ensures consistent { IfSome result (λ accepted. IsConsistent search.new) }
@@ -440,7 +440,7 @@ fn is_accepted(alloc: Global, search: &mut ClauseSearch, provider: &TestProvider
     }
 }
 
-/// One turn: whether the literal is accepted. Where it is refused, it is assumed to be false.
+/// Takes one turn, and returns whether its literal is accepted. A refused literal is assumed to be false.
 fn takes(
     alloc: Global,
     search: &mut ClauseSearch,
@@ -479,10 +479,10 @@ fn slot_of(search: &ClauseSearch, number: i32) -> Option<Slot> {
     None
 }
 
-/// Whether what two turns assumed was accepted, and the slots of three variables after them.
+/// Whether the assumptions of two turns were accepted, and the slots of three variables after them.
 type Turns = (bool, Option<bool>, Option<Slot>, Option<Slot>, Option<Slot>);
 
-/// What two turns, with these literals, accept over clauses of 8 variables, and the slots of three variables then.
+/// Takes two turns over clauses of 8 variables, and returns their results and the slots of three variables after them.
 fn two_turns(
     alloc: Global,
     search: &mut ClauseSearch,
@@ -515,26 +515,27 @@ fn two_turns(
     }
 }
 
-/// What is done with a search over a table of clauses, and what comes of it.
+/// A task for a search over a table of clauses, and its expected result.
 #[derive(Clone, Copy)]
 enum Task<'x> {
-    /// All clauses, so many, contradict each other, and something is learnt for that.
+    /// All clauses, which are this many, contradict each other, and some clauses are learnt for that.
     Refute(usize),
-    /// Ids run out under limits for learnt clauses and for all, with so many learnt then.
+    /// Ids run out under limits for learnt clauses and for all, with this many learnt by then.
     Limit((usize, usize), usize),
-    /// With these requirements, this is decided first.
+    /// With these requirements, this is the first decision.
     First(&'x [RequirementClause], (usize, usize)),
-    /// The first four clauses have values, and so many are learnt for that. These of all contradict each other.
+    /// The first four clauses have values, for which this many clauses are learnt. These clauses of all contradict each
+    /// other.
     Core(usize, &'x [usize]),
-    /// The first two clauses are decided before the others come. Then these places are left.
+    /// The first two clauses are decided before the others are loaded. Then these places are left.
     Keep(Places),
     /// Whether the cancel check with this number, counted from 1, stops the search.
     Cancel(u32, bool),
-    /// Two literals are assumed in turn. This comes of it, with the slots of these variables.
+    /// Two literals are assumed in turn, with these results and slots of these variables.
     Assume(i32, i32, (i32, i32, i32), Turns),
 }
 
-/// Does a task in a new search, and says whether it comes to what is wanted.
+/// Does a task in a new search, and returns whether it has the expected result.
 fn does(
     alloc: Global,
     search: &mut ClauseSearch,
@@ -569,23 +570,23 @@ fn does(
     }
 }
 
-/// Whether a new search over a table does a task.
+/// Returns whether a task in a new search over a table has the expected result.
 ///
-/// This alone owns a search and a provider: the tests own nothing, since the prover takes long for each exit of what
-/// owns one.
+/// Only this function owns a search and a provider, because the prover takes long for each exit of a function that owns
+/// one.
 fn is_done(alloc: Global, table: &[Vec<Literal>], task: &Task<'_>) -> Result<bool, AllocError> {
     let provider = provider_of_nothing(alloc);
     let mut search = ClauseSearch::new(alloc, Activity::standard());
     does(alloc, &mut search, &provider, table, task)
 }
 
-/// Whether a new search over these clauses does a task.
+/// Returns whether a task in a new search over these clauses has the expected result.
 fn finds(alloc: Global, clauses: &[&[i32]], task: &Task<'_>) -> Result<bool, AllocError> {
     let table = table_of(alloc, clauses)?;
     is_done(alloc, table.as_slice(), task)
 }
 
-/// One pigeon more than holes: each pigeon has a hole, and no hole has two.
+/// Returns the clauses for one pigeon more than holes: each pigeon has a hole, and no hole has two pigeons.
 fn pigeons(alloc: Global, holes: u32) -> Result<Vec<Vec<Literal>>, AllocError>
     requires { holes < 1000 }
 {
@@ -610,7 +611,7 @@ fn pigeons(alloc: Global, holes: u32) -> Result<Vec<Vec<Literal>>, AllocError>
     Ok(clauses)
 }
 
-/// Whether a pigeon is in a hole.
+/// Returns the literal that a pigeon is in a hole, or its negation.
 fn seat(holes: u32, pigeon: u32, hole: u32, positive: bool) -> Literal {
     Literal {
         variable: Variable::new(pigeon.wrapping_mul(holes).wrapping_add(hole)),
@@ -618,7 +619,7 @@ fn seat(holes: u32, pigeon: u32, hole: u32, positive: bool) -> Literal {
     }
 }
 
-/// Whether a new search does a task with six pigeons and five holes.
+/// Returns whether a task in a new search over six pigeons and five holes has the expected result.
 fn finds_with_pigeons(alloc: Global, task: &Task<'_>) -> Result<bool, AllocError> {
     let table = pigeons(alloc, 5)?;
     is_done(alloc, table.as_slice(), task)
@@ -637,7 +638,7 @@ fn the_limits_stand(rt: HostRuntime) -> Result<(), Fail> {
     Ok(())
 }
 
-/// Whether scanning and searching both decide this first.
+/// Returns whether this is the first decision, both by scanning and by searching.
 fn is_first<'x>(
     alloc: Global,
     table: &'x [Vec<Literal>],
@@ -649,7 +650,7 @@ fn is_first<'x>(
     Ok(scanned == Some(wanted) && searched)
 }
 
-/// Whether this is decided first over these clauses, with these requirements.
+/// Returns whether this is the first decision over these clauses, with these requirements.
 fn decides(
     alloc: Global,
     clauses: &[&[i32]],

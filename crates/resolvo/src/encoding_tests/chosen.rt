@@ -1,4 +1,4 @@
-//! What is chosen while a small trail grows, is cut back, and grows otherwise.
+//! The chosen solvables of a small trail that grows, is cut, and grows in another way.
 
 ghost use Rattle.std.specs.Prelude.{◌≡◌, IfOk, OnOk, length};
 ghost use Rattle.resolver_clause_store.specs.TrailView.{variable_count};
@@ -11,7 +11,7 @@ use resolver_encoding::Chosen;
 use std::alloc::Global;
 use std::test::Fail;
 
-/// Variables of the root, of three solvables, and of a gate between them.
+/// Returns the variables of the root, of three solvables, and of a gate between them.
 fn variables(alloc: Global) -> Result<Variables<u32, u32>, Exhausted>
     ensures distinct { IfOk result (λ v. AreDistinct (origins_in v)) }
 {
@@ -37,7 +37,7 @@ fn add(trail: &mut Trail, number: u32, positive: bool) -> Result<(), Exhausted>
     Ok(())
 }
 
-/// Takes the last two values away, if there are so many.
+/// Takes back the last two values, if there are two.
 fn undo_two(trail: &mut Trail)
     ensures { variable_count trail.new ≡ variable_count trail.old }
 {
@@ -48,13 +48,14 @@ fn undo_two(trail: &mut Trail)
     trail.undo_last();
 }
 
-/// Whether these are chosen, in order.
+/// Returns whether these solvables are chosen, in order.
 fn lists(alloc: Global, chosen: &Chosen<u32>, wanted: &[u32]) -> Result<bool, Exhausted> {
     let found = chosen.to_vec(alloc)?;
     Ok(found.as_slice() == wanted)
 }
 
-/// Whether these are chosen after the trail grew, these after it was cut and grew otherwise, and these after one more cut.
+/// Returns whether the chosen solvables are as wanted at three times: after the trail grew, after it was cut and grew
+/// in another way, and after one more cut.
 fn goes(
     alloc: Global,
     chosen: &mut Chosen<u32>,
@@ -82,7 +83,7 @@ fn goes(
     Ok(first & second & third)
 }
 
-/// Whether that goes as wanted over a trail of these variables.
+/// Returns whether they are as wanted over a trail of these variables.
 fn is_followed(alloc: Global, wanted: [&[u32]; 3]) -> Result<bool, Fail> {
     let variables = variables(alloc)?;
     let mut trail = Trail::new(alloc, variables.len())?;

@@ -59,7 +59,7 @@ fn helper(version_set: u32, positive: bool) -> (Origin<u32, u32>, bool) {
     (Origin::ConditionHelper(VersionSetId(version_set)), positive)
 }
 
-/// A provider of which solvables require version sets, and constrain version sets.
+/// Returns a provider whose solvables require and constrain version sets.
 fn provider_of(
     alloc: Global,
     required: &[(u32, u32)],
@@ -83,7 +83,7 @@ fn provider_of(
     })
 }
 
-/// Makes a solvable exempt, if one is given: its turn begins before any package was asked.
+/// Makes a solvable exempt, if one is given, by a turn that begins before any package was asked.
 fn spare<
     N: Copy + Eq + Hash + Drop,
     S: Copy + Eq + Hash + Drop,
@@ -104,8 +104,8 @@ fn spare<
     }
 }
 
-/// What there is after a round of reading: what it did, how many clauses and how many deferred disjuncts there are, how
-/// many packages were asked, and the provider's log of the packages whose candidates it gave.
+/// The state after a round of reading: its progress, the number of clauses, the number of deferred disjuncts, the
+/// number of asked packages, and the provider's log of the packages whose candidates it gave.
 type Round = (Progress, usize, usize, usize, u32);
 
 /// Appends the solvable that a variable stands for, if it stands for one. Returns whether there is such a variable.
@@ -134,7 +134,7 @@ fn push_registered<N: Copy + Eq + Hash + Drop, S: Copy + Eq + Hash + Drop>(
     }
 }
 
-/// The solvables that have variables, in the order of these.
+/// Returns the solvables that have variables, in the order of the variables.
 fn registered<N: Copy + Eq + Hash + Drop, S: Copy + Eq + Hash + Drop>(
     alloc: Global,
     variables: &Variables<N, S>,
@@ -151,7 +151,7 @@ fn registered<N: Copy + Eq + Hash + Drop, S: Copy + Eq + Hash + Drop>(
     Ok(list)
 }
 
-/// Puts a solvable into the set, if it is among those that are known.
+/// Adds a solvable to the set, if it is among the known ones.
 fn choose_known<N: Copy + Eq + Hash + Drop, S: Copy + Eq + Hash + Drop>(
     variables: &Variables<N, S>,
     known: &[S],
@@ -174,7 +174,7 @@ fn choose_known<N: Copy + Eq + Hash + Drop, S: Copy + Eq + Hash + Drop>(
     Ok(())
 }
 
-/// The set of those of these that have variables.
+/// Returns the set of those solvables that have variables.
 fn chosen_of<N: Copy + Eq + Hash + Drop, S: Copy + Eq + Hash + Drop>(
     alloc: Global,
     variables: &Variables<N, S>,
@@ -192,7 +192,7 @@ fn chosen_of<N: Copy + Eq + Hash + Drop, S: Copy + Eq + Hash + Drop>(
     Ok(chosen)
 }
 
-/// Reads those of these that have variables, as if they were all that is chosen.
+/// Reads those solvables that have variables, as if they were the chosen ones.
 fn read_given<
     N: Copy + Eq + Hash + Drop,
     S: Copy + Eq + Hash + Drop,
@@ -216,7 +216,7 @@ fn read_given<
     Ok(progress)
 }
 
-/// Reads all that has variables, as if it were chosen.
+/// Reads all solvables that have variables, as if they were the chosen ones.
 fn read_known<
     N: Copy + Eq + Hash + Drop,
     S: Copy + Eq + Hash + Drop,
@@ -239,7 +239,7 @@ fn read_known<
     Ok(progress)
 }
 
-/// Reads the root, where a solvable may be exempt, and then four times all that has variables by then.
+/// Reads the root, possibly with an exempt solvable, and then four times all solvables that have variables by then.
 fn read<
     N: Copy + Eq + Hash + Drop,
     S: Copy + Eq + Hash + Drop,
@@ -265,8 +265,9 @@ fn read<
     Ok(())
 }
 
-/// Whether the package of a solvable was asked. If it was not, the turn of the solvable makes it exempt. That turn is
-/// ended at once, so the encoding is as before.
+/// Returns whether the package of a solvable was asked.
+///
+/// If it was not, the turn of the solvable makes it exempt. That turn is ended at once, so the encoding is as before.
 fn is_asked<
     N: Copy + Eq + Hash + Drop,
     S: Copy + Eq + Hash + Drop,
@@ -291,7 +292,7 @@ fn is_asked<
     Ok(is_asked)
 }
 
-/// How many packages were asked, of those that the provider has.
+/// Returns the number of packages that were asked, of those that the provider has.
 fn asked_count(
     encoding: &mut Encoding<u32, u32>,
     provider: &TestProvider,
@@ -314,7 +315,7 @@ fn asked_count(
     Ok(count)
 }
 
-/// Reads the root, and then each of these in turn, as if it were all that is chosen.
+/// Reads the root, and then each of these sets in turn, as if it were the chosen one.
 fn rounds_of(
     encoding: &mut Encoding<u32, u32>,
     provider: &TestProvider,
@@ -339,7 +340,7 @@ fn rounds_of(
     Ok(rounds)
 }
 
-/// Registers these in turn.
+/// Registers these solvables in turn.
 fn register_all<
     N: Copy + Eq + Hash + Drop,
     S: Copy + Eq + Hash + Drop,
@@ -354,7 +355,7 @@ fn register_all<
     Ok(())
 }
 
-/// Whether the literals of a clause are these, in order.
+/// Returns whether a clause has these literals, in order.
 fn is_clause(encoding: &Encoding<u32, u32>, number: usize, wanted: Literals<'_>) -> bool {
     let Some(literals) = encoding.literals().get(number) else {
         return false;
@@ -373,7 +374,7 @@ fn is_clause(encoding: &Encoding<u32, u32>, number: usize, wanted: Literals<'_>)
     true
 }
 
-/// Whether each of these clauses stands at its place.
+/// Returns whether each of these clauses has its number.
 fn are_clauses(encoding: &Encoding<u32, u32>, wanted: &[(usize, Literals<'_>)]) -> bool {
     for (number, literals) in wanted {
         if !is_clause(encoding, *number, literals) {
@@ -383,48 +384,49 @@ fn are_clauses(encoding: &Encoding<u32, u32>, wanted: &[(usize, Literals<'_>)]) 
     true
 }
 
-/// What an encoding has when the turn of a solvable has begun, and when it was refused: how many clauses, and how many
-/// exempt ones.
+/// The numbers of clauses and of exempt solvables when the turn of a solvable has begun, and the same after it was
+/// refused.
 type Turn = (usize, usize, usize, usize);
 
-/// What is done with an encoding.
+/// The steps of a test with an encoding.
 #[derive(Clone, Copy)]
 enum Steps<'a> {
     /// The root is read.
     Root,
-    /// The root is read, and then four times all that has variables by then.
+    /// The root is read, and then four times all solvables that have variables by then.
     Known,
-    /// The same, and ids run out at so many variables.
+    /// The same, and ids run out at this many variables.
     Ids(usize),
-    /// The root is read, and then each of the first ones in turn, as if it were all that is chosen. That comes to these rounds.
+    /// The root is read, and then each of these sets in turn, as if it were the chosen one, with these rounds.
     Rounds(&'a [&'a [u32]], &'a [Round]),
-    /// These are registered.
+    /// These solvables are registered.
     Registered(&'a [u32]),
-    /// The turn of a solvable begins behind the root's, these are read, and it is refused. That comes to this.
+    /// The turn of a solvable begins after the root was read, these solvables are read, and it is refused, with this
+    /// result.
     Refused(u32, &'a [u32], Turn),
 }
 
-/// What is done with an encoding, and what is there then.
+/// The steps of a test, and the expected state after them.
 #[derive(Clone, Copy)]
 struct Case<'a> {
-    /// A solvable that is exempt. Only `Known` and `Ids` heed it.
+    /// A solvable that is exempt. It matters only to `Known` and `Ids`.
     exempt: Option<u32>,
     requirements: &'a [ConditionalRequirement],
     steps: Steps<'a>,
-    /// How many clauses there are, if that is judged.
+    /// The number of clauses, if it is checked.
     count: Option<usize>,
-    /// Some of the clauses, by number, if any are judged.
+    /// Some of the clauses by number, if any are checked.
     clauses: Option<&'a [(usize, Literals<'a>)]>,
-    /// The requirements that are read, if these are judged.
+    /// The requirement clauses, if they are checked.
     asked: Option<&'a [(usize, bool, usize)]>,
 }
 
-/// Whether ids ran out.
+/// Returns whether ids ran out.
 fn is_out_of_ids(outcome: &Result<(), Interrupted<u8>>) -> bool {
     matches!(outcome, Err(Interrupted::Exhausted(Exhausted::Ids)))
 }
 
-/// Whether the rounds are these, in order.
+/// Returns whether the rounds are these, in order.
 fn are_rounds(outcome: &Result<Vec<Round>, Interrupted<u8>>, wanted: &[Round]) -> bool {
     match outcome {
         Ok(rounds) => rounds.as_slice() == wanted,
@@ -432,7 +434,7 @@ fn are_rounds(outcome: &Result<Vec<Round>, Interrupted<u8>>, wanted: &[Round]) -
     }
 }
 
-/// Does the steps, and says whether they come to what is wanted.
+/// Takes the steps, and returns whether they have the expected result.
 fn are_done(
     encoding: &mut Encoding<u32, u32>,
     provider: &TestProvider,
@@ -488,7 +490,7 @@ fn are_done(
     }
 }
 
-/// Whether what is wanted is there.
+/// Returns whether the encoding has the expected state.
 fn is_there_then(encoding: &Encoding<u32, u32>, case: &Case<'_>) -> bool {
     let count = match case.count {
         Some(count) => encoding.clause_count() == count,
@@ -505,9 +507,9 @@ fn is_there_then(encoding: &Encoding<u32, u32>, case: &Case<'_>) -> bool {
     count & asked & clauses
 }
 
-/// Whether a case comes out as wanted in an encoding with these limits.
+/// Returns whether a test succeeds with an encoding within these limits.
 ///
-/// This alone owns an encoding: a function that owns one takes the prover a minute.
+/// Only this function owns an encoding, because the prover takes a minute for a function that owns one.
 fn holds_within(
     alloc: Global,
     limits: (usize, usize),
@@ -523,7 +525,7 @@ fn holds_within(
     are_done(&mut encoding, provider, cache, case) & is_there_then(&encoding, case)
 }
 
-/// Whether a case comes out as wanted, within these limits.
+/// Returns whether a test succeeds, within these limits.
 fn holds(alloc: Global, limits: (usize, usize), provider: &TestProvider, case: &Case<'_>) -> bool
     requires { limits.0 ≤ 2 ^ 31 }
 {
@@ -531,7 +533,8 @@ fn holds(alloc: Global, limits: (usize, usize), provider: &TestProvider, case: &
     holds_within(alloc, limits, provider, &mut cache, case)
 }
 
-/// Whether so many clauses come of these requirements, where one solvable may be exempt, and these are among them.
+/// Returns whether these requirements give this many clauses, possibly with an exempt solvable, and these are among
+/// them.
 fn states<'x>(
     alloc: Global,
     provider: TestProvider,
@@ -577,7 +580,7 @@ fn candidates_of_a_package_are_kept_apart(rt: HostRuntime) -> Result<(), Fail> {
     Ok(())
 }
 
-/// Whether there are so many clauses once these were registered, and these are among them.
+/// Returns whether there are this many clauses after these solvables were registered, and these are among them.
 fn has_registered<'x>(
     alloc: Global,
     solvables: &'x [u32],
@@ -618,7 +621,8 @@ fn a_third_solvable_brings_a_digit(rt: HostRuntime) -> Result<(), Fail> {
     Ok(())
 }
 
-/// Whether the requirements are for these clauses, of the root or not, and so many ends of version sets are noted for each.
+/// Returns whether the requirements have these clauses, are of the root or not, and have this many ends of version sets
+/// each.
 fn are_requirements(found: &[RequirementClause], wanted: &[(usize, bool, usize)]) -> bool {
     if found.len() != wanted.len() {
         return false;
@@ -634,7 +638,7 @@ fn are_requirements(found: &[RequirementClause], wanted: &[(usize, bool, usize)]
     true
 }
 
-/// Whether the requirements that are read are these.
+/// Returns whether exactly these requirement clauses are read.
 fn asks<'x>(
     alloc: Global,
     provider: TestProvider,
@@ -714,14 +718,14 @@ fn a_condition_has_helpers(rt: HostRuntime) -> Result<(), Fail> {
     Ok(())
 }
 
-/// A provider of which solvable 11 requires version set 44 under a condition.
+/// Returns a provider whose solvable 11 requires version set 44 under a condition.
 fn provider_when(alloc: Global, condition: u32) -> Result<TestProvider, Fail> {
     let mut provider = provider_of(alloc, &[], &[])?;
     provider.requirements.push((11, when(condition, 44)))?;
     Ok(provider)
 }
 
-/// Whether reading these in turn goes as wanted, and the clauses are there at the end.
+/// Returns whether reading these sets in turn has these rounds, and the clauses are there at the end.
 fn goes<'x>(
     alloc: Global,
     provider: TestProvider,
@@ -870,7 +874,7 @@ fn others_are_read_when_they_are_chosen(rt: HostRuntime) -> Result<(), Fail> {
     Ok(())
 }
 
-/// A provider of which solvable 161 requires version set 174 under a condition.
+/// Returns a provider whose solvable 161 requires version set 174 under a condition.
 fn provider_hinted_when(alloc: Global) -> Result<TestProvider, Fail> {
     let mut provider = provider_of(alloc, &[], &[])?;
     provider.requirements.push((161, when(164, 174)))?;
@@ -889,7 +893,8 @@ fn a_hint_does_not_make_a_condition_hold(rt: HostRuntime) -> Result<(), Fail> {
     Ok(())
 }
 
-/// Whether reading the root has these clauses, where an encoding before read these in turn too and had as many.
+/// Returns whether reading the root gives these clauses, after another encoding read these sets in turn and had as many
+/// clauses.
 fn is_read_again<'x>(
     alloc: Global,
     provider: TestProvider,
@@ -968,7 +973,7 @@ fn a_disjunct_names_each_version_set_once(rt: HostRuntime) -> Result<(), Fail> {
     Ok(())
 }
 
-/// Whether ids run out under these limits, at so many variables and clauses.
+/// Returns whether ids run out under these limits, at this many variables and clauses.
 fn ends_at<'x>(
     alloc: Global,
     provider: TestProvider,

@@ -16,7 +16,7 @@ type Kind = ClauseKind<u32, u32>;
 
 const BOTH: Requirement = Requirement::Single(VersionSetId(20));
 
-/// The rules of a core over a provider that states nothing.
+/// Returns the rules of a core over a provider that states nothing.
 fn rules_of(
     alloc: Global,
     kinds: &[Kind],
@@ -36,7 +36,7 @@ fn rules_of(
     rules_of_clauses(alloc, &provider, &mut cache, kinds, core)
 }
 
-/// Whether the rule is a requirement of both versions of package 2 without a condition.
+/// Returns whether the rule is a requirement of both versions of package 2 without a condition.
 fn is_required(rule: Option<&Rule<u32, u32>>, requirer: u32) -> bool {
     match rule {
         Some(
@@ -56,7 +56,7 @@ fn is_required(rule: Option<&Rule<u32, u32>>, requirer: u32) -> bool {
     }
 }
 
-/// Whether the rule is this constraint on one candidate.
+/// Returns whether the rule is this constraint on one candidate.
 fn is_constrained(
     rule: Option<&Rule<u32, u32>>,
     parent: By<u32>,
@@ -75,7 +75,7 @@ fn is_constrained(
     }
 }
 
-/// Whether the rule lists this instance of package 2.
+/// Returns whether the rule lists this instance of package 2.
 fn is_marked(rule: Option<&Rule<u32, u32>>, marked: u32) -> bool {
     match rule {
         Some(Rule::OnePerPackage { name, instance }) => *name == 2 && *instance == marked,

@@ -127,7 +127,7 @@ pub fn marks_of(
     Ok(marks)
 }
 
-/// Whether the variable with this number is true.
+/// Returns whether the variable with this number is true.
 fn is_set(trail: &Trail, number: usize) -> bool
     requires { number < variable_count trail.now }
 {
@@ -143,7 +143,7 @@ fn is_set(trail: &Trail, number: usize) -> bool
     }
 }
 
-/// The values of the first variables. A variable without a value counts as false.
+/// Returns the values of the first variables. A variable without a value counts as false.
 fn values_of(alloc: Global, trail: &Trail, variables: usize) -> Result<Vec<bool>, AllocError>
     requires { variables ≤ variable_count trail.now }
 {

@@ -14,15 +14,15 @@ use std::alloc::Global;
 use std::hash::Hash;
 use std::mem::drop;
 
-/// How many searches run at most, each over the rules that the one before used.
+/// The greatest number of searches, each over the rules that the one before used.
 const SEARCHES: usize = 3;
 
-/// How many rules are marked.
+/// Returns the number of marked rules.
 fn marked_count(marks: &[bool]) -> usize {
     marks.iter().filter(|mark| **mark).count()
 }
 
-/// Whether at least a tenth of the marks is gone.
+/// Returns whether at least a tenth of the marks is gone.
 fn are_far_fewer(before: &[bool], after: &[bool]) -> bool {
     let count = marked_count(before);
     count.saturating_sub(marked_count(after)).saturating_mul(10) >= count

@@ -19,7 +19,7 @@ struct NearModel {
     rule: usize,
 }
 
-/// Whether a literal is true. A variable without a value is false.
+/// Returns whether a literal is true. A variable without a value is false.
 fn is_true(values: &[bool], literal: Literal) -> bool
     ensures { result ≡ literal_true (value_at values.now) literal }
 {
@@ -29,7 +29,7 @@ fn is_true(values: &[bool], literal: Literal) -> bool
     }
 }
 
-/// Whether a literal of the clause is true.
+/// Returns whether a literal of the clause is true.
 fn is_satisfied(values: &[bool], literals: &[Literal]) -> bool
     ensures { result ≡ true → clause_true (value_at values.now) literals.now ≡ true }
 {
@@ -41,7 +41,7 @@ fn is_satisfied(values: &[bool], literals: &[Literal]) -> bool
     false
 }
 
-/// Whether a rule remains: it was kept, or its turn is still to come.
+/// Returns whether a rule remains: it was kept, or its turn is still to come.
 fn is_there(kept: &[bool], rule: usize) -> bool
     ensures { result ≡ slice_index_or kept.now rule true }
 {
@@ -51,7 +51,7 @@ fn is_there(kept: &[bool], rule: usize) -> bool
     }
 }
 
-/// Whether a clause is false and its rule remains.
+/// Returns whether a clause is false and its rule remains.
 fn is_broken(clause: &RuleClause, kept: &[bool], values: &[bool]) -> bool
     ensures { result ≡ false → IsStillThere kept.now clause.now.rule → clause_true (value_at values.now) clause.now.literals.items ≡ true }
 {
@@ -64,7 +64,7 @@ fn is_broken(clause: &RuleClause, kept: &[bool], values: &[bool]) -> bool
     true
 }
 
-/// The only remaining rule with a false clause, or `None` if there is no such rule or more than one.
+/// Returns the only remaining rule with a false clause, or `None` if there is no such rule or more than one.
 fn only_broken(clauses: &[RuleClause], kept: &[bool], values: &[bool]) -> Option<usize>
     ensures { IfSome result (λ rule. MakesOthersTrue (value_at values.now) kept.now rule clauses.now) }
 {
@@ -85,7 +85,7 @@ fn only_broken(clauses: &[RuleClause], kept: &[bool], values: &[bool]) -> Option
     broken
 }
 
-/// The length of the rule's longest false clause.
+/// Returns the length of the rule's longest false clause.
 fn width_of(clauses: &[RuleClause], near: &NearModel) -> usize {
     let mut width = 0;
     for clause in clauses {
@@ -107,7 +107,7 @@ fn make_true(values: &mut Vec<bool>, literal: Literal) {
     }
 }
 
-/// The values after the literal at this position of each false clause of the rule is made true.
+/// Returns the values after the literal at this position of each false clause of the rule is made true.
 fn flipped(
     alloc: Global,
     clauses: &[RuleClause],

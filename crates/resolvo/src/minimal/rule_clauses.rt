@@ -48,6 +48,8 @@ pub struct RuleClause {
 }
 
 /// The clauses of rules decide whether a set obeys some of the rules.
+///
+/// The call does nothing: its contract is the law.
 fn clauses_decide_rules<N: Eq, S: Eq>()
     requires names { IsIdentity N.eq }
     requires solvables { IsIdentity S.eq }
@@ -63,7 +65,7 @@ pub struct RuleClauses {
     pub clauses: Vec<RuleClause>,
 }
 
-/// The variable of a proposition, which is made if it does not exist yet.
+/// Returns the variable of a proposition, which is added if it is new.
 fn intern<N: Copy + Eq + Hash + Drop, S: Copy + Eq + Hash + Drop>(
     propositions: &mut IndexSet<Proposition<N, S>>,
     proposition: Proposition<N, S>,
@@ -80,7 +82,7 @@ fn intern<N: Copy + Eq + Hash + Drop, S: Copy + Eq + Hash + Drop>(
     Ok(Variable::new(place as u32))
 }
 
-/// The number of variables.
+/// Returns the number of variables.
 fn variable_count<N: Copy + Eq + Hash + Drop, S: Copy + Eq + Hash + Drop>(
     propositions: &IndexSet<Proposition<N, S>>,
 ) -> usize
@@ -92,7 +94,7 @@ fn variable_count<N: Copy + Eq + Hash + Drop, S: Copy + Eq + Hash + Drop>(
     count_of(propositions)
 }
 
-/// The literal of an atom.
+/// Returns the literal of an atom.
 fn literal_of<N: Copy + Eq + Hash + Drop, S: Copy + Eq + Hash + Drop>(
     propositions: &mut IndexSet<Proposition<N, S>>,
     atom: Atom<N, S>,
@@ -109,7 +111,7 @@ fn literal_of<N: Copy + Eq + Hash + Drop, S: Copy + Eq + Hash + Drop>(
     })
 }
 
-/// The literals of atoms.
+/// Returns the literals of atoms.
 fn literals_of<N: Copy + Eq + Hash + Drop, S: Copy + Eq + Hash + Drop>(
     alloc: Global,
     propositions: &mut IndexSet<Proposition<N, S>>,
@@ -312,8 +314,8 @@ fn push_candidates<N: Copy, S: Copy>(
     Ok(())
 }
 
-/// The atoms of a requirement's clause: the requirer is not in the set, a list of the condition has no member there, or
-/// a candidate is there.
+/// Returns the atoms of a requirement's clause: the requirer is not in the set, a list of the condition has no member
+/// there, or a candidate is there.
 fn requirement_atoms<N: Copy, S: Copy>(
     alloc: Global,
     rule: usize,
@@ -472,7 +474,7 @@ fn add_rules<N: Copy + Eq + Hash + Drop, S: Copy + Eq + Hash + Drop>(
     Ok(())
 }
 
-/// The clauses of the rules, over these propositions and new ones.
+/// Returns the clauses of the rules, over these propositions and new ones.
 fn clauses_over<N: Copy + Eq + Hash + Drop, S: Copy + Eq + Hash + Drop>(
     alloc: Global,
     propositions: &mut IndexSet<Proposition<N, S>>,
@@ -490,7 +492,7 @@ fn clauses_over<N: Copy + Eq + Hash + Drop, S: Copy + Eq + Hash + Drop>(
     Ok(RuleClauses { variables, clauses })
 }
 
-/// The clauses of a list of rules, which decide whether a set obeys some of the rules.
+/// Returns the clauses of a list of rules, which decide whether a set obeys some of the rules.
 ///
 /// The error is `Ids` if there would be more variables than a `u32` can number.
 pub fn clauses_of<N: Copy + Eq + Hash + Drop, S: Copy + Eq + Hash + Drop>(

@@ -22,7 +22,7 @@ pub(crate) struct Codes {
     pub(crate) width: u32,
 }
 
-/// The place of a member, which is appended if it is not there yet.
+/// Returns the place of a member, which is appended if it is not there yet.
 pub(crate) fn place_among<T: Copy + Eq + Hash + Drop>(
     set: &mut IndexSet<T>,
     member: T,
@@ -41,7 +41,7 @@ pub(crate) fn place_among<T: Copy + Eq + Hash + Drop>(
     }
 }
 
-/// The number of members.
+/// Returns the number of members.
 pub(crate) fn count_of<T: Copy + Eq + Hash + Drop>(set: &IndexSet<T>) -> usize
     requires { IsIdentity T.eq }
     ensures len { result ≡ length set.now.keys }
@@ -50,7 +50,7 @@ pub(crate) fn count_of<T: Copy + Eq + Hash + Drop>(set: &IndexSet<T>) -> usize
     set.len()
 }
 
-/// The code of a rule: for an instance, its place.
+/// Returns the code of a rule: for an instance, its place.
 fn code_of<N, S: Copy + Eq + Hash + Drop>(
     instances: &mut IndexSet<S>,
     rule: &Rule<N, S>,
@@ -71,7 +71,7 @@ fn code_of<N, S: Copy + Eq + Hash + Drop>(
     }
 }
 
-/// The codes of the rules. Collects the instances that they list.
+/// Returns the codes of the rules, and collects the instances that they list.
 fn codes_among<N, S: Copy + Eq + Hash + Drop>(
     alloc: Global,
     instances: &mut IndexSet<S>,
@@ -87,7 +87,7 @@ fn codes_among<N, S: Copy + Eq + Hash + Drop>(
     Ok(codes)
 }
 
-/// The codes of the rules.
+/// Returns the codes of the rules.
 pub(crate) fn codes_of<N, S: Copy + Eq + Hash + Drop>(
     alloc: Global,
     rules: &[Rule<N, S>],

@@ -1,4 +1,4 @@
-//! Minimal conflicts of worked lists of rules, and of random lists, which the plain search checks.
+//! Minimal conflicts of lists of rules worked out by hand, and of random lists, which the plain search checks.
 
 ghost use Rattle.std.specs.Prelude.{◌<◌, length};
 
@@ -10,7 +10,7 @@ use resolver_report::find;
 use std::alloc::{AllocError, Global};
 use std::test::Fail;
 
-/// What a rule states, except for the number of its place, which stands for its origin.
+/// The statement of a rule, without the number of its place, which stands for its source.
 #[derive(Clone, Copy)]
 enum Stated<'x> {
     /// The requirer, the candidates, and the lists of the condition.
@@ -54,7 +54,7 @@ fn rule_of(alloc: Global, place: u32, stated: Stated<'_>) -> Result<Rule<u32, u3
     }
 }
 
-/// The number of a place.
+/// Returns the number of a place.
 fn number_of(place: usize) -> u32 {
     match u32::try_from(place) {
         Ok(number) => number,
@@ -70,7 +70,7 @@ fn rules_of(alloc: Global, stated: &[Stated<'_>]) -> Result<Vec<Rule<u32, u32>>,
     Ok(rules)
 }
 
-/// Whether the rule copies the one at this place.
+/// Returns whether the rule copies the one at this place.
 fn is_copy(rule: &Rule<u32, u32>, place: u32, stated: Stated<'_>) -> bool {
     match rule {
         Rule::Requires {
@@ -89,7 +89,7 @@ fn is_copy(rule: &Rule<u32, u32>, place: u32, stated: Stated<'_>) -> bool {
     }
 }
 
-/// Whether the rules copy those at these places, in order.
+/// Returns whether the rules copy those at these places, in order.
 fn are_copies(rules: &[Rule<u32, u32>], stated: &[Stated<'_>], places: &[usize]) -> bool {
     if rules.len() != places.len() {
         return false;
@@ -103,7 +103,7 @@ fn are_copies(rules: &[Rule<u32, u32>], stated: &[Stated<'_>], places: &[usize])
     true
 }
 
-/// Whether the minimal conflict of the rules has those at these places.
+/// Returns whether the minimal conflict of the rules has those at these places.
 fn leaves(alloc: Global, stated: &[Stated<'_>], places: &[usize]) -> Result<bool, Fail> {
     let conflict = Conflict {
         rules: rules_of(alloc, stated)?,
@@ -177,7 +177,7 @@ fn each_kind_of_rule_can_be_needed(rt: HostRuntime) -> Result<(), Fail> {
     Ok(())
 }
 
-/// The next number, below 65536.
+/// Draws the next number, below 65536.
 fn draw(state: &mut u32) -> u32 {
     *state = state.wrapping_mul(1_664_525).wrapping_add(1_013_904_223);
     state.wrapping_shr(16)
@@ -254,7 +254,7 @@ fn draw_rules(alloc: Global, seed: u32) -> Result<Vec<Rule<u32, u32>>, AllocErro
     Ok(rules)
 }
 
-/// Whether the plain search finds a set that obeys all rules except this one.
+/// Returns whether the plain search finds a set that obeys all rules except this one.
 fn is_needed(alloc: Global, rules: &[Rule<u32, u32>], place: usize) -> Result<bool, Exhausted>
     requires { place < length rules.now }
 {
@@ -264,7 +264,7 @@ fn is_needed(alloc: Global, rules: &[Rule<u32, u32>], place: usize) -> Result<bo
     Ok(find(alloc, &copies)?.is_some())
 }
 
-/// Whether the plain search finds no set that obeys the rules, and finds one without any one of them.
+/// Returns whether the plain search finds no set that obeys the rules, and finds one without any one of them.
 fn is_irreducible(alloc: Global, rules: &[Rule<u32, u32>]) -> Result<bool, Exhausted> {
     for place in 0..rules.len() {
         if !is_needed(alloc, rules, place)? {
@@ -274,7 +274,7 @@ fn is_irreducible(alloc: Global, rules: &[Rule<u32, u32>]) -> Result<bool, Exhau
     Ok(find(alloc, rules)?.is_none())
 }
 
-/// Whether the clause search, over rules that some set obeys, finds that one does.
+/// Returns whether the clause search finds that some set obeys the rules. One does.
 fn is_seen_obeyed(alloc: Global, rules: &[Rule<u32, u32>]) -> Result<bool, Exhausted> {
     let form = clauses_within(alloc, rules)?;
     let all = vec![in alloc; true; rules.len()]?;
@@ -285,9 +285,9 @@ fn is_seen_obeyed(alloc: Global, rules: &[Rule<u32, u32>]) -> Result<bool, Exhau
 /// The result for random rules.
 #[derive(Clone, Copy, PartialEq)]
 enum Tried {
-    /// Some set obeys them, and the search over their clauses says so.
+    /// Some set obeys them, and the search over their clauses finds this.
     Obeyed,
-    /// No set obeys them, and what is left is irreducible and the same as by the plain search.
+    /// No set obeys them, and the rules that are left are irreducible and the same as by the plain search.
     Minimal,
     Wrong,
 }
@@ -308,7 +308,7 @@ fn try_rules(alloc: Global, rules: &[Rule<u32, u32>]) -> Result<Tried, Exhausted
     Ok(if right { Tried::Minimal } else { Tried::Wrong })
 }
 
-/// How many lists of random rules have an irreducible minimal conflict, and how many results are wrong.
+/// Returns how many lists of random rules have an irreducible minimal conflict, and how many results are wrong.
 fn counts(alloc: Global) -> Result<(u32, u32), Exhausted> {
     let mut minimal: u32 = 0;
     let mut wrong: u32 = 0;
@@ -335,7 +335,7 @@ fn random_conflicts_become_irreducible(rt: HostRuntime) -> Result<(), Fail> {
     Ok(())
 }
 
-/// How many rules the refined conflict has, if the plain search confirms that no set obeys them.
+/// Returns the number of rules in the refined conflict, if the plain search confirms that no set obeys them.
 fn refined_count(alloc: Global, rules: Vec<Rule<u32, u32>>) -> Result<Option<usize>, Exhausted> {
     let conflict = Conflict { rules };
     let refined = conflict.refined()?;
@@ -389,7 +389,7 @@ fn refine_rules(alloc: Global, rules: Vec<Rule<u32, u32>>) -> Result<Refined, Ex
     }
 }
 
-/// How many lists of random rules lose rules, and how many results are wrong.
+/// Returns how many lists of random rules lose rules, and how many results are wrong.
 fn refined_counts(alloc: Global) -> Result<(u32, u32), Exhausted> {
     let mut fewer: u32 = 0;
     let mut wrong: u32 = 0;

@@ -22,7 +22,7 @@ use resolver_clause_store::{Literal, Trail, WatchedPair, Watches, clause, narrow
 use std::alloc::{AllocError, Global};
 
 impl Propagator {
-    /// A propagator without clauses.
+    /// Returns a propagator without clauses.
     pub fn empty(alloc: Global) -> Self
         ensures { (trail : Trail) → variable_count trail ≡ 0 → IsPropagator [] trail result }
     {
@@ -146,7 +146,7 @@ impl Propagator {
     }
 }
 
-/// Whether a literal is not false, or became false at the highest level.
+/// Returns whether a literal is not false, or became false at the highest level.
 fn is_high(trail: &Trail, literal: Literal) -> bool
     requires { literal.variable < variable_count trail.now }
     ensures { result ≡ true → IsHigh trail.now literal }
@@ -157,7 +157,7 @@ fn is_high(trail: &Trail, literal: Literal) -> bool
     }
 }
 
-/// Whether the clause watches two literals, each not false or false only at the highest level.
+/// Returns whether the clause watches two literals, each not false or false only at the highest level.
 fn are_high(trail: &Trail, first: Option<Literal>, second: Option<Literal>) -> bool
     requires { (literal : Literal) → (first ≡ Some literal) ⊎ (second ≡ Some literal) → literal.variable < variable_count trail.now }
     ensures { result ≡ true → IsHighPair trail.now (record { first = first; second = second }) }
@@ -171,7 +171,7 @@ fn are_high(trail: &Trail, first: Option<Literal>, second: Option<Literal>) -> b
     is_high(trail, one) && is_high(trail, other)
 }
 
-/// The place at which a literal became false, or the end of the trail if it is not false.
+/// Returns the place at which a literal became false, or the end of the trail if it is not false.
 fn false_place(trail: &Trail, watched: Option<Literal>) -> usize
     requires { (literal : Literal) → watched ≡ Some literal → literal.variable < variable_count trail.now }
     ensures { (literal : Literal) → watched ≡ Some literal → IsNotBefore trail.now result literal }
@@ -188,7 +188,7 @@ fn false_place(trail: &Trail, watched: Option<Literal>) -> usize
     slot.place as usize
 }
 
-/// Whether the literal at `place` differs from the one at `other`, if that is given.
+/// Returns whether the literal at `place` differs from the one at `other`, if that is given.
 fn is_other(literals: &[Literal], other: Option<usize>, place: usize) -> bool
     requires inside { place < length literals.now }
     requires other { (given : ℕ) → other ≡ Some given → given < length literals.now }
@@ -200,8 +200,9 @@ fn is_other(literals: &[Literal], other: Option<usize>, place: usize) -> bool
     }
 }
 
-/// The better of the place found so far and this one to watch. A literal that is not false is best, then the one that
-/// became false last.
+/// Returns the better place to watch: the one found so far, or this one.
+///
+/// A literal that is not false is best, then the one that became false last.
 fn better(
     trail: &Trail,
     literals: &[Literal],
@@ -231,7 +232,7 @@ fn better(
     }
 }
 
-/// The place of the best literal to watch, which has to differ from the one at `other`, if that is given.
+/// Returns the place of the best literal to watch, which has to differ from the one at `other`, if that is given.
 fn best(trail: &Trail, literals: &[Literal], other: Option<usize>) -> Option<usize>
     requires below { IsBelow (variable_count trail.now) literals.now }
     requires other { (given : ℕ) → other ≡ Some given → given < length literals.now }
@@ -244,8 +245,9 @@ fn best(trail: &Trail, literals: &[Literal], other: Option<usize>) -> Option<usi
     found
 }
 
-/// Two different literals of a clause to watch, if it has two: preferably not false, otherwise those that became false
-/// last.
+/// Returns two different literals of a clause to watch, if it has two.
+///
+/// Literals that are not false are preferred, then those that became false last.
 fn pair_of(trail: &Trail, literals: &[Literal]) -> Option<(Literal, Literal)>
     requires { IsBelow (variable_count trail.now) literals.now }
     ensures { MatchOption result (IsConstant literals.now) (λ pair. AreApart literals.now pair.0 pair.1) }

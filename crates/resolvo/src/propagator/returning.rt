@@ -12,7 +12,7 @@ use super::Propagator;
 use resolver_clause_store::{Reason, Trail};
 use std::alloc::AllocError;
 
-/// Whether the entry at a place is a decision or an assumption, which begins a level.
+/// Returns whether the entry at a place is a decision or an assumption, which begins a level.
 pub fn begins_level(trail: &Trail, place: usize) -> bool
     requires { place < length_of trail.now }
     ensures { result ≡ true → BeginsLevel trail.now place }

@@ -15,7 +15,7 @@ use resolver_clause_store::{Literal, Trail, Variable, clause};
 use std::alloc::{AllocError, Global};
 use std::test::Fail;
 
-/// Whether each variable of the clause is below `variables`.
+/// Returns whether each variable of the clause is below `variables`.
 fn is_below(clause: &[Literal], variables: usize) -> bool
     ensures { IsTrue result → IsBelow variables clause.now }
 {
@@ -24,7 +24,7 @@ fn is_below(clause: &[Literal], variables: usize) -> bool
         .all(|literal| literal.variable.index() < variables)
 }
 
-/// Whether each variable of each clause is below `variables`.
+/// Returns whether each variable of each clause is below `variables`.
 fn are_below(table: &[Vec<Literal>], variables: usize) -> bool
     ensures { IsTrue result → AreBelow variables table.now }
 {
@@ -36,13 +36,13 @@ fn are_below(table: &[Vec<Literal>], variables: usize) -> bool
     true
 }
 
-/// The next number of a pseudorandom sequence.
+/// Returns the next number of a pseudorandom sequence.
 fn next(seed: u64) -> u64 {
     seed.wrapping_mul(6364136223846793005)
         .wrapping_add(1442695040888963407)
 }
 
-/// A literal of one of 10 variables.
+/// Returns a literal of one of 10 variables.
 fn literal(number: u64, positive: bool) -> Literal {
     Literal {
         variable: Variable::new((number % 10) as u32),
@@ -50,7 +50,7 @@ fn literal(number: u64, positive: bool) -> Literal {
     }
 }
 
-/// A clause of two or three literals with different variables.
+/// Returns a clause of two or three literals with different variables.
 fn random_clause(alloc: Global, seed: u64) -> Result<Vec<Literal>, AllocError> {
     let first = (seed >> 20) % 10;
     let second = first + 1 + (seed >> 27) % 4;
@@ -64,7 +64,7 @@ fn random_clause(alloc: Global, seed: u64) -> Result<Vec<Literal>, AllocError> {
     Ok(literals)
 }
 
-/// 10 to 29 clauses.
+/// Returns 10 to 29 random clauses.
 fn random(alloc: Global, start: u64) -> Result<Vec<Vec<Literal>>, AllocError> {
     let mut clauses = Vec::new(alloc);
     let mut seed = next(next(start));
@@ -75,7 +75,7 @@ fn random(alloc: Global, start: u64) -> Result<Vec<Vec<Literal>>, AllocError> {
     Ok(clauses)
 }
 
-/// A propagator that has attached all clauses.
+/// Returns a propagator that has attached all clauses.
 fn begin(
     alloc: Global,
     trail: &mut Trail,
@@ -135,7 +135,7 @@ fn set(trail: &mut Trail, literal: Literal) -> Result<(), AllocError>
     }
 }
 
-/// The value of a variable, if it has one.
+/// Returns the value of a variable, if it has one.
 fn value(trail: &Trail, number: u32) -> Option<bool> {
     let variable = Variable::new(number);
     if variable.index() >= trail.variable_count() {
@@ -147,7 +147,7 @@ fn value(trail: &Trail, number: u32) -> Option<bool> {
     }
 }
 
-/// Whether the variables below 10 have the same values.
+/// Returns whether the variables below 10 have the same values.
 fn are_same(one: &Trail, other: &Trail) -> bool {
     for number in 0..10u32 {
         if value(one, number) != value(other, number) {
@@ -217,7 +217,7 @@ fn compare(alloc: Global, table: &[Vec<Literal>], seed: u64) -> Result<Outcome, 
     Ok(Outcome::SameValues)
 }
 
-/// How many of 300 lists of clauses ended with equal values, and how many with a false clause.
+/// Returns how many of 300 lists of clauses ended with equal values, and how many with a false clause.
 fn compare_all(alloc: Global) -> Result<(u32, u32), AllocError> {
     let mut same = 0u32;
     let mut both_false = 0u32;

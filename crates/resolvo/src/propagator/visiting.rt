@@ -45,7 +45,7 @@ pub enum WatchOutcome {
     Conflict(usize),
 }
 
-/// The other literal that the clause watches.
+/// Returns the other literal that the clause watches.
 fn other_watched(pair: &WatchedPair, literal: &Literal) -> Literal
     ensures { (other : Literal) → literal.now ≢ other → IsPair pair.now literal.now other → result ≡ other }
 {
@@ -61,7 +61,7 @@ fn other_watched(pair: &WatchedPair, literal: &Literal) -> Literal
     }
 }
 
-/// A literal of the clause that is not false, other than `other`.
+/// Returns a literal of the clause that is not false, other than `other`.
 fn replacement(trail: &Trail, clause: &[Literal], other: &Literal) -> Option<Literal>
     requires { IsBelow (variable_count trail.now) clause.now }
     ensures { MatchOption result (IsUnit trail.now other.now clause.now) (Replaces trail.now clause.now other.now) }
@@ -78,7 +78,7 @@ impl Propagator {
     ghost use Rattle.resolvo.specs.Propagators.{attached_of, head_of, late_of};
     ghost use Rattle.resolvo.specs.Visits.{watchers_of};
 
-    /// The literal that became false by the entry at the head.
+    /// Returns the literal that became false by the entry at the head.
     fn false_literal(&self, trail: &Trail) -> FalseLiteral
         requires { head_of self.now < length_of trail.now }
         ensures fails { FailsAt trail.now (head_of self.now) result }

@@ -22,7 +22,7 @@ use resolver_clause_store::{
 };
 use std::hash::Hash;
 
-/// Whether an element of the list is in the set.
+/// Returns whether an element of the list is in the set.
 fn has_any<T: Eq + Hash>(set: &IndexSet<T>, list: &[T]) -> bool
     requires { IsIdentity T.eq }
     ensures { MatchBool result (Meets list.now set.now.keys) (Meets list.now set.now.keys → ⊥) }
@@ -72,7 +72,7 @@ impl<N: Copy + Eq + Hash + Drop, S: Copy + Eq + Hash + Drop> Rounds<N, S> {
         Ok(false)
     }
 
-    /// Asks the package of a version set, and loads the clauses for what it locks out and excludes.
+    /// Asks the package of a version set, and loads the clauses of its lock and its exclusions.
     fn ask<D: DependencyProvider<NameId = N, SolvableId = S>>(
         &mut self,
         provider: &D,
@@ -103,7 +103,8 @@ impl<N: Copy + Eq + Hash + Drop, S: Copy + Eq + Hash + Drop> Rounds<N, S> {
         Ok(())
     }
 
-    /// The turn of a version set: takes the first of its candidates that fits. If one is chosen already, does nothing.
+    /// Takes the turn of a version set: accepts the first of its candidates that fits, unless a candidate is chosen
+    /// already.
     fn version_set_turn<D: DependencyProvider<NameId = N, SolvableId = S>>(
         &mut self,
         provider: &D,
@@ -133,7 +134,7 @@ impl<N: Copy + Eq + Hash + Drop, S: Copy + Eq + Hash + Drop> Rounds<N, S> {
         Ok(())
     }
 
-    /// The turn of one soft requirement.
+    /// Takes the turn of one soft requirement.
     fn soft_turn<D: DependencyProvider<NameId = N, SolvableId = S>>(
         &mut self,
         provider: &D,
@@ -166,7 +167,7 @@ impl<N: Copy + Eq + Hash + Drop, S: Copy + Eq + Hash + Drop> Rounds<N, S> {
         }
     }
 
-    /// The turns of the soft requirements that are solvables, in order.
+    /// Takes the turns of the soft requirements that are solvables, in order.
     fn solvable_turns<
         D: DependencyProvider<NameId = N, SolvableId = S>,
         I: Iterator<Item = S> + Drop,
@@ -203,7 +204,7 @@ impl<N: Copy + Eq + Hash + Drop, S: Copy + Eq + Hash + Drop> Rounds<N, S> {
         Ok(())
     }
 
-    /// The turns of the soft requirements in a list, in order.
+    /// Takes the turns of the soft requirements in a list, in order.
     fn list_turns<D: DependencyProvider<NameId = N, SolvableId = S>>(
         &mut self,
         provider: &D,
@@ -231,7 +232,7 @@ impl<N: Copy + Eq + Hash + Drop, S: Copy + Eq + Hash + Drop> Rounds<N, S> {
         Ok(())
     }
 
-    /// The turns of the soft requirements that are solvables, if there are any.
+    /// Takes the turns of the soft requirements that are solvables, if there are any.
     fn given_turns<D: DependencyProvider<NameId = N, SolvableId = S>, I: Iterator<Item = S> + Drop>(
         &mut self,
         provider: &D,
@@ -268,7 +269,7 @@ impl<N: Copy + Eq + Hash + Drop, S: Copy + Eq + Hash + Drop> Rounds<N, S> {
         }
     }
 
-    /// The turns of all soft requirements: first the given solvables, then the list.
+    /// Takes the turns of all soft requirements: first the given solvables, then the list.
     pub(super) fn soft_turns<
         D: DependencyProvider<NameId = N, SolvableId = S>,
         I: Iterator<Item = S> + Drop,

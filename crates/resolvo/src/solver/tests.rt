@@ -40,63 +40,63 @@ struct Stated<'x> {
     required: &'x [(u32, ConditionalRequirement)],
     /// The constraints of each solvable.
     constrained: &'x [(u32, VersionSetId)],
-    /// Whether there are packages as far as the ids go.
+    /// Whether there is a package for every id.
     endless: bool,
 }
 
 /// The parts of a problem.
 #[derive(Clone, Copy)]
 enum Asked<'x> {
-    /// Nothing, as `new` makes it.
+    /// No parts, as `new` makes it.
     Nothing,
-    /// Nothing, as `default` makes it.
+    /// No parts, as `default` makes it.
     Unset,
-    /// This is required.
+    /// These requirements.
     Required(&'x [ConditionalRequirement]),
-    /// This is required, and constrained.
+    /// These requirements and constraints.
     Constrained(&'x [ConditionalRequirement], &'x [VersionSetId]),
-    /// The same, where 14 was required and 24 constrained before that was replaced.
+    /// The same, after requirement 14 and constraint 24 were replaced.
     Replaced(&'x [ConditionalRequirement], &'x [VersionSetId]),
 }
 
-/// The wanted result of a problem.
+/// The expected result of a problem.
 #[derive(Clone, Copy)]
 enum Wanted<'x> {
-    /// This is chosen.
+    /// These solvables are chosen.
     Chosen(&'x [u32]),
-    /// The same, and so many disjuncts are deferred.
+    /// The same, and this many disjuncts are deferred.
     Deferred(&'x [u32], usize),
-    /// The same, and there are so many clauses, and so many disjuncts are deferred.
+    /// The same, with this many clauses and deferred disjuncts.
     Counted(&'x [u32], usize, usize),
-    /// The same, and just these packages were asked for their candidates: the digits name them in order.
+    /// The same, and exactly these packages were asked for their candidates: the digits name them in order.
     Asking(&'x [u32], usize, usize, u32),
     /// The provider stops the search.
     Stopped,
     /// Ids run out.
     Ids,
-    /// The same, and there are so many clauses.
+    /// The same, with this many clauses.
     IdsBehind(usize),
-    /// There is a conflict whose rules no set obeys, by trying all sets and by the plain search.
+    /// There is a conflict whose rules no set obeys, both by trying all sets and by the plain search.
     Refuted,
 }
 
-/// What is done with a solver.
+/// A step of a test with a solver.
 #[derive(Clone, Copy)]
 enum Step<'x> {
-    /// Its provider is told which of the cancel checks to come stops the search.
+    /// Its provider is told which of the next cancel checks stops the search.
     StopAt(u32),
-    /// It is told how many variables, clauses or learnt clauses there may be.
+    /// The limits of variables, clauses and learnt clauses are set.
     Room(u16),
     RoomForClauses(u16),
     RoomForLearning(u16),
-    /// It solves a problem, which ends with this.
+    /// It solves a problem, with this result.
     Solve(Asked<'x>, Wanted<'x>),
-    /// It solves a problem, and then another one, for which this is chosen. The graph of the first one's conflict is
-    /// right then.
+    /// It solves a problem, and then another one, for which these solvables are chosen. After that, the graph of the
+    /// first one's conflict is right.
     Graph(Asked<'x>, Asked<'x>, &'x [u32]),
 }
 
-/// A provider that states nothing yet.
+/// Returns a provider that states nothing yet.
 fn provider_of_nothing(alloc: Global, endless: bool) -> TestProvider {
     TestProvider {
         alloc,
@@ -108,7 +108,7 @@ fn provider_of_nothing(alloc: Global, endless: bool) -> TestProvider {
     }
 }
 
-/// Has a provider state what solvables require and constrain.
+/// Makes a provider state the requirements and constraints of solvables.
 fn state(provider: &mut TestProvider, stated: &Stated<'_>) -> Result<(), AllocError> {
     provider.requirements = Vec::from_slice(provider.alloc, stated.required)?;
     provider.constraints = Vec::from_slice(provider.alloc, stated.constrained)?;
@@ -133,7 +133,7 @@ fn constraining(
     Ok(problem.constraints(constraints))
 }
 
-/// A problem whose parts were set twice.
+/// Returns a problem whose parts were set twice.
 fn replacing(
     alloc: Global,
     required: &[ConditionalRequirement],
@@ -169,7 +169,7 @@ fn has_no_ids(outcome: &Outcome) -> bool {
     )
 }
 
-/// Whether the last problem ended with this.
+/// Returns whether the last problem had this result.
 fn is_wanted(solver: &Solver<TestProvider>, outcome: &Outcome, wanted: &Wanted<'_>) -> bool {
     match wanted {
         Wanted::Chosen(chosen) => is_answer(outcome, chosen),
@@ -194,7 +194,7 @@ fn is_wanted(solver: &Solver<TestProvider>, outcome: &Outcome, wanted: &Wanted<'
     }
 }
 
-/// Whether a problem ends with this.
+/// Returns whether a problem has this result.
 fn ends_with(solver: &mut Solver<TestProvider>, problem: TestProblem, wanted: &Wanted<'_>) -> bool
     requires { IsSound (test_universe (provider_in solver.old).endless (provider_in solver.old).requirements.items
         (provider_in solver.old).constraints.items) solver.old }
@@ -205,7 +205,7 @@ fn ends_with(solver: &mut Solver<TestProvider>, problem: TestProblem, wanted: &W
     is_wanted(solver, &outcome, wanted)
 }
 
-/// Whether the problem with these parts ends with that.
+/// Returns whether the problem with these parts has this result.
 fn solves(solver: &mut Solver<TestProvider>, asked: &Asked<'_>, wanted: &Wanted<'_>) -> bool
     requires { IsSound (test_universe (provider_in solver.old).endless (provider_in solver.old).requirements.items
         (provider_in solver.old).constraints.items) solver.old }
@@ -218,7 +218,7 @@ fn solves(solver: &mut Solver<TestProvider>, asked: &Asked<'_>, wanted: &Wanted<
     }
 }
 
-/// Sets how many variables there may be.
+/// Sets the limit of variables.
 fn limit_variables(solver: &mut Solver<TestProvider>, limit: u16)
     requires { IsSound (test_universe (provider_in solver.old).endless (provider_in solver.old).requirements.items
         (provider_in solver.old).constraints.items) solver.old }
@@ -228,7 +228,7 @@ fn limit_variables(solver: &mut Solver<TestProvider>, limit: u16)
     solver.variable_limit = limit as usize;
 }
 
-/// Sets how many clauses there may be.
+/// Sets the limit of clauses.
 fn limit_clauses(solver: &mut Solver<TestProvider>, limit: u16)
     requires { IsSound (test_universe (provider_in solver.old).endless (provider_in solver.old).requirements.items
         (provider_in solver.old).constraints.items) solver.old }
@@ -238,7 +238,7 @@ fn limit_clauses(solver: &mut Solver<TestProvider>, limit: u16)
     solver.clause_limit = limit as usize;
 }
 
-/// Sets how many learnt clauses there may be.
+/// Sets the limit of learnt clauses.
 fn limit_learning(solver: &mut Solver<TestProvider>, limit: u16)
     requires { IsSound (test_universe (provider_in solver.old).endless (provider_in solver.old).requirements.items
         (provider_in solver.old).constraints.items) solver.old }
@@ -248,7 +248,7 @@ fn limit_learning(solver: &mut Solver<TestProvider>, limit: u16)
     solver.learnt_limit = limit as usize;
 }
 
-/// The conflict of a problem, where it has one.
+/// Returns the conflict of a problem, if it has one.
 fn conflict_in(
     solver: &mut Solver<TestProvider>,
     problem: TestProblem,
@@ -264,7 +264,7 @@ fn conflict_in(
     }
 }
 
-/// The conflict of the problem with these parts, if it has one.
+/// Returns the conflict of the problem with these parts, if it has one.
 fn conflict_of(solver: &mut Solver<TestProvider>, asked: &Asked<'_>) -> Option<Conflict<u32, u32>>
     requires { IsSound (test_universe (provider_in solver.old).endless (provider_in solver.old).requirements.items
         (provider_in solver.old).constraints.items) solver.old }
@@ -277,7 +277,8 @@ fn conflict_of(solver: &mut Solver<TestProvider>, asked: &Asked<'_>) -> Option<C
     }
 }
 
-/// Whether the graph of the first problem's conflict is right after this was chosen for the second one.
+/// Returns whether the graph of the first problem's conflict is right after these solvables were chosen for the second
+/// one.
 fn has_graph_afterwards(
     solver: &mut Solver<TestProvider>,
     first: &Asked<'_>,
@@ -293,7 +294,7 @@ fn has_graph_afterwards(
     solves(solver, second, &Wanted::Chosen(chosen)) & is_graph_right(solver, &conflict)
 }
 
-/// Takes a step, and says whether it comes to what is wanted.
+/// Takes a step, and returns whether it has the expected result.
 fn goes(solver: &mut Solver<TestProvider>, step: &Step<'_>) -> bool
     requires { IsSound (test_universe (provider_in solver.old).endless (provider_in solver.old).requirements.items
         (provider_in solver.old).constraints.items) solver.old }
@@ -322,7 +323,7 @@ fn goes(solver: &mut Solver<TestProvider>, step: &Step<'_>) -> bool
     }
 }
 
-/// Takes one step after another, and says whether each comes to what is wanted.
+/// Takes one step after another, and returns whether each has the expected result.
 fn all_go(solver: &mut Solver<TestProvider>, steps: &[Step<'_>]) -> bool
     requires { IsSound (test_universe (provider_in solver.old).endless (provider_in solver.old).requirements.items
         (provider_in solver.old).constraints.items) solver.old }
@@ -337,7 +338,7 @@ fn all_go(solver: &mut Solver<TestProvider>, steps: &[Step<'_>]) -> bool
     true
 }
 
-/// Whether a new solver has no clauses, and after these steps, each of which goes well, still what is stated.
+/// Returns whether a new solver has no clauses, all steps succeed, and its provider still makes the same statements.
 fn goes_through(solver: &mut Solver<TestProvider>, stated: &Stated<'_>, steps: &[Step<'_>]) -> bool
     requires { IsSound (test_universe (provider_in solver.old).endless (provider_in solver.old).requirements.items
         (provider_in solver.old).constraints.items) solver.old }
@@ -348,9 +349,9 @@ fn goes_through(solver: &mut Solver<TestProvider>, stated: &Stated<'_>, steps: &
         & (solver.provider().requirements.len() == stated.required.len())
 }
 
-/// Whether these steps go well with a solver over a provider that states this.
+/// Returns whether these steps succeed with a solver over a provider of these statements.
 ///
-/// This alone owns a solver: the tests own nothing, since the prover takes long for each exit of what owns one.
+/// Only this function owns a solver, because the prover takes long for each exit of a function that owns one.
 fn holds(alloc: Global, stated: &Stated<'_>, steps: &[Step<'_>]) -> bool {
     let mut provider = provider_of_nothing(alloc, stated.endless);
     let has_room = state(&mut provider, stated).is_ok();
@@ -358,7 +359,7 @@ fn holds(alloc: Global, stated: &Stated<'_>, steps: &[Step<'_>]) -> bool {
     has_room & goes_through(&mut solver, stated, steps)
 }
 
-/// Whether steps go well with a solver over a provider of which solvables require and constrain this.
+/// Returns whether steps succeed with a solver over a provider of these requirements and constraints.
 fn goes_over<'x>(
     alloc: Global,
     required: &'x [(u32, ConditionalRequirement)],
@@ -373,7 +374,7 @@ fn goes_over<'x>(
     holds(alloc, &stated, steps)
 }
 
-/// Whether this is chosen for a problem, with so many clauses and nothing deferred.
+/// Returns whether these solvables are chosen for a problem, with this many clauses and no deferred disjunct.
 fn chooses<'x>(
     alloc: Global,
     required: &'x [(u32, ConditionalRequirement)],
@@ -426,8 +427,8 @@ fn constraints_are_kept(rt: HostRuntime) -> Result<(), Fail> {
     Ok(())
 }
 
-/// Whether a version set, and 34 under a condition, have this answer, with so many clauses and deferred disjuncts, and
-/// these packages are asked for their candidates.
+/// Returns whether the requirement of a version set, and of 34 under a condition, has this answer, with these numbers
+/// of clauses and deferred disjuncts, and exactly these packages are asked for their candidates.
 fn chooses_under_condition(
     alloc: Global,
     version_set: u32,
@@ -507,7 +508,7 @@ fn learnt_clauses_run_out_at_the_limit(rt: HostRuntime) -> Result<(), Fail> {
     Ok(())
 }
 
-/// Whether fifty variables are enough for both steps in an endless universe.
+/// Returns whether both steps succeed with fifty variables in an endless universe.
 fn goes_in_endless<'x>(alloc: Global, first: Step<'x>, second: Step<'x>) -> bool {
     let stated = Stated {
         required: &[],
@@ -534,7 +535,7 @@ fn what_is_set_again_is_replaced(rt: HostRuntime) -> Result<(), Fail> {
     Ok(())
 }
 
-/// Whether two steps go well, and a problem without requirements then has an empty answer.
+/// Returns whether two steps succeed, and a problem without requirements then has an empty answer.
 fn goes_afresh<'x>(
     alloc: Global,
     required: &'x [(u32, ConditionalRequirement)],
@@ -555,7 +556,7 @@ fn each_problem_starts_afresh(rt: HostRuntime) -> Result<(), Fail> {
     Ok(())
 }
 
-/// Whether two equal problems have this answer, with nothing deferred.
+/// Returns whether two equal problems both have this answer, with no deferred disjunct.
 fn answers_twice<'x>(
     alloc: Global,
     required: &'x [(u32, ConditionalRequirement)],
@@ -590,7 +591,8 @@ fn hints_and_cached_answers_change_no_answer(rt: HostRuntime) -> Result<(), Fail
     Ok(())
 }
 
-/// Whether the first requirement alone leaves two disjuncts deferred, and a candidate is chosen once one of them holds.
+/// Returns whether the first requirement alone leaves two disjuncts deferred, and a candidate is chosen once one of
+/// them is met.
 fn answers_once_met<'x>(
     alloc: Global,
     required: &'x [(u32, ConditionalRequirement)],
@@ -653,7 +655,7 @@ fn obeys_alone(rule: &Rule<u32, u32>, set: &[u32]) -> bool {
     }
 }
 
-/// Whether two listed instances of this name are in the set.
+/// Returns whether two listed instances of this name are in the set.
 fn has_two(rules: &[Rule<u32, u32>], wanted: u32, set: &[u32]) -> bool {
     let mut first = None;
     for rule in rules {
@@ -683,7 +685,7 @@ fn obeys(rules: &[Rule<u32, u32>], set: &[u32]) -> bool {
     true
 }
 
-/// Whether a set of the six solvables, by the digits of a number, obeys the rules.
+/// Returns whether a set of the six solvables, by the digits of a number, obeys the rules.
 fn obeys_by_digits(rules: &[Rule<u32, u32>], digits: u32) -> bool {
     let six = [31, 34, 41, 44, 51, 54];
     let mut set = [0; 6];
@@ -695,7 +697,7 @@ fn obeys_by_digits(rules: &[Rule<u32, u32>], digits: u32) -> bool {
     obeys(rules, &set)
 }
 
-/// Whether no set of the six solvables obeys the rules, though some obey one of them.
+/// Returns whether no set of the six solvables obeys the rules, while some obey one of them.
 fn is_refuted(rules: &[Rule<u32, u32>]) -> bool {
     for digits in 0..64u32 {
         if obeys_by_digits(rules, digits) {
@@ -705,7 +707,7 @@ fn is_refuted(rules: &[Rule<u32, u32>]) -> bool {
     rules.iter().any(|rule| obeys_alone(rule, &[31]))
 }
 
-/// Whether there is a conflict whose rules no set obeys, by trying all sets and by the plain search.
+/// Returns whether there is a conflict whose rules no set obeys, both by trying all sets and by the plain search.
 fn is_explained(solver: &Solver<TestProvider>, outcome: &Outcome) -> bool {
     match outcome {
         Err(UnsolvableOrCancelled::Unsolvable(conflict)) => {
@@ -731,7 +733,7 @@ fn no_set_obeys_the_rules_of_a_conflict(rt: HostRuntime) -> Result<(), Fail> {
     Ok(())
 }
 
-/// Whether a graph has the root, what is missing, and one edge from the one to the other.
+/// Returns whether a graph has just the root, the missing node, and one edge from the first to the second.
 fn is_missing_alone(conflict: &ConflictGraph<u32>) -> bool {
     let nodes = [ConflictNode::Root, ConflictNode::UnresolvedDependency];
     match conflict.graph.edges() {
@@ -744,7 +746,7 @@ fn is_missing_alone(conflict: &ConflictGraph<u32>) -> bool {
     }
 }
 
-/// Whether there is a conflict, and its graph is right.
+/// Returns whether there is a conflict, and its graph is right.
 fn is_graph_right(solver: &Solver<TestProvider>, conflict: &Option<Conflict<u32, u32>>) -> bool {
     match conflict {
         Some(conflict) => match &conflict.graph(solver) {
@@ -755,7 +757,8 @@ fn is_graph_right(solver: &Solver<TestProvider>, conflict: &Option<Conflict<u32,
     }
 }
 
-/// Whether the graph of the first problem's conflict is right after this was chosen for the second one.
+/// Returns whether the graph of the first problem's conflict is right after these solvables were chosen for the second
+/// one.
 fn has_graph<'x>(alloc: Global, first: Asked<'x>, second: Asked<'x>, chosen: &'x [u32]) -> bool {
     goes_over(alloc, &[], &[], &[Step::Graph(first, second, chosen)])
 }

@@ -1,4 +1,4 @@
-//! What a cache asks the provider, and what it returns.
+//! The calls of a cache to the provider, and its answers.
 
 ghost use Rattle.resolver_clause_store.specs.Caches.{IsTrueCache};
 ghost use Rattle.resolvo.specs.NotingProvider.{test_universe};

@@ -13,7 +13,7 @@ use resolver_clause_store::{
 };
 use std::test::Fail;
 
-/// The conditions below 3 join the two below them in a tree, the first by And, the others by Or.
+/// A provider of conditions: those below 3 join the two below them in a tree, the first by And, the others by Or.
 struct Tree;
 
 impl Interner for Tree {

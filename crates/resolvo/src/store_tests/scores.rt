@@ -4,7 +4,7 @@ use resolver_clause_store::{Activity, Scores};
 use std::alloc::Global;
 use std::test::Fail;
 
-/// The score of a package of which one solvable stands in each of so many learnt clauses.
+/// Returns the score of a package after this many learnt clauses, each with one of its solvables.
 fn score_after(alloc: Global, activity: Activity, times: u64) -> Result<u64, Fail> {
     let mut scores = Scores::new(alloc, activity);
     for learnt in 0..times {

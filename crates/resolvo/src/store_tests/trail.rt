@@ -1,4 +1,4 @@
-//! What a trail returns.
+//! The values that a trail returns.
 
 use resolver_clause_store::{Literal, Reason, Slot, Trail, Variable};
 use std::alloc::AllocError;

@@ -1,12 +1,12 @@
-//! How many clauses the solver counts.
+//! The number of clauses that the solver reports.
 
 use super::solving::{Asked, solve};
 use std::alloc::Global;
 use std::fmt::Write;
 use std::test::Fail;
 
-/// How many clauses and how many disjuncts that are put off the solver counts after the problem of an input, and the set
-/// that it chose, if it did.
+/// The numbers of clauses and of deferred disjuncts that the solver reports after the problem of an input, and the
+/// chosen set, if there is an answer.
 #[derive(Clone, Copy, Debug, PartialEq, Eq)]
 pub struct Counts {
     pub clauses: usize,
@@ -23,7 +23,7 @@ pub fn counts_of(alloc: Global, input: &str) -> Result<Counts, Fail> {
     })
 }
 
-/// Counts of a problem that has an answer.
+/// Returns the counts of a problem that has an answer.
 pub fn answered(clauses: usize, deferred: usize, chosen: u32) -> Counts {
     Counts {
         clauses,
@@ -106,7 +106,7 @@ fn requirers_of_four_versions_share_a_gate(rt: HostRuntime) -> Result<(), Fail> 
     Ok(())
 }
 
-/// Requires a package that has these versions, from the first one on.
+/// Returns an input that requires a package with this many versions, from 0 on.
 fn versions_of_z(alloc: Global, count: u32) -> Result<String, Fail> {
     let mut input = String::new(alloc);
     for version in 0..count {

@@ -1,4 +1,4 @@
-//! What a conflict gives: its graph, a copy of that, the groups of alike versions, and the message as it is formatted.
+//! The graph of a conflict, a copy of it, its groups of alike versions, and its formatted message.
 //!
 //! `./refusals` refuses each allocation of these tests in turn.
 
@@ -11,7 +11,7 @@ use resolvo::{Conflict, Exhausted, Problem, Solver, UnsolvableOrCancelled};
 use std::alloc::Global;
 use std::test::Fail;
 
-/// Whether a copy of a conflict's graph has so many grouped versions, and its message, formatted, is the text of the conflict's.
+/// Returns whether a copy of a conflict's graph has this many grouped versions, and the conflict's text as its message.
 fn is_copied(
     alloc: Global,
     solver: &Solver<Catalog>,
@@ -25,7 +25,7 @@ fn is_copied(
     Ok(found == grouped && message.as_str() == text.as_str())
 }
 
-/// The same of what a solver answered, which has to be a conflict.
+/// The same for a solver's answer, which has to be a conflict.
 fn is_told(
     alloc: Global,
     solver: &Solver<Catalog>,
@@ -42,7 +42,7 @@ fn is_told(
     }
 }
 
-/// The same of a request.
+/// The same for a request.
 fn is_conflict(alloc: Global, request: Request, grouped: usize) -> Result<bool, Exhausted> {
     let problem = Problem::new()
         .requirements(request.requirements)

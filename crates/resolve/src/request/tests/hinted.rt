@@ -1,4 +1,5 @@
-//! A solver whose provider calls the dependencies of all candidates cheap to ask for, so that each candidate is read at once.
+//! A solver whose provider hints that the dependencies of all candidates are available, so that each candidate is read
+//! early.
 
 use super::super::Request;
 use super::counts::{Counts, answered, counts_of};
@@ -9,7 +10,7 @@ use resolvo::{EmptySolvables, Problem, Solver};
 use std::alloc::Global;
 use std::test::Fail;
 
-/// What a solver counts after a request, and the set that it chose, if it did.
+/// Returns the counts of a solver after a request, and the chosen set, if there is an answer.
 fn counts_in(alloc: Global, request: Request) -> Counts {
     let problem = Problem::<SolvableId, EmptySolvables<SolvableId>>::new()
         .requirements(request.requirements)

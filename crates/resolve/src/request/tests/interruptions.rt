@@ -1,4 +1,4 @@
-//! Each check that may stop a search does, and each answer of a provider is refused, one after another.
+//! Each check that may stop a search does so in turn, and each answer of a provider is refused in turn.
 
 use super::solving::{request, set_of};
 use super::wrapped::{Behaviour, Wrapped};
@@ -11,7 +11,7 @@ use resolvo::{
 use std::alloc::{AllocError, Global};
 use std::test::Fail;
 
-/// What a call ended with: the chosen set, how many rules the conflict has, the value, or what ran out.
+/// The end of a call: the chosen set, the number of a conflict's rules, the cancel value, or the resource that ran out.
 #[derive(Clone, Copy, PartialEq)]
 enum Ended {
     Chosen(u32),
@@ -20,7 +20,7 @@ enum Ended {
     Exhausted(Exhausted),
 }
 
-/// What two calls for the same problem ended with, one after the other, and what was exempt and how many clauses there were after the
+/// The ends of two successive calls for the same problem, and the exempt solvables and the number of clauses after the
 /// first one.
 #[derive(Clone, Copy)]
 struct Twice {
@@ -43,7 +43,7 @@ fn ending_of(outcome: &Result<Vec<SolvableId>, UnsolvableOrCancelled<Wrapped<Cat
 
 type InputProblem = Problem<SolvableId, EmptySolvables<SolvableId>>;
 
-/// A problem with copies of these parts.
+/// Returns a problem with copies of these parts.
 fn problem_of(
     alloc: Global,
     requirements: &[ConditionalRequirement],
@@ -82,7 +82,7 @@ fn solve_both(
     }
 }
 
-/// Solves the problem of an input twice, with a provider that behaves otherwise in one way.
+/// Solves the problem of an input twice, with a provider of this behaviour.
 fn solve_twice(alloc: Global, input: &str, behaviour: Behaviour) -> Result<Twice, Fail> {
     let request = request(alloc, input)?;
     let first = problem_of(
@@ -101,8 +101,9 @@ fn solve_twice(alloc: Global, input: &str, behaviour: Behaviour) -> Result<Twice
     Ok(solve_both(alloc, provider, first, second))
 }
 
-/// Stops the search at one check after another, up to the first one that it does not come to. Answers the number of that one. The later
-/// the check, the more clauses are counted.
+/// Stops the search at each check in turn, and returns the number of the first check that it does not reach.
+///
+/// The later the check, the more clauses are counted.
 fn stop_at_each_check(alloc: Global, input: &str) -> Result<u64, Fail> {
     let undisturbed = solve_twice(alloc, input, Behaviour::Same)?;
     let mut clauses = 0;
@@ -125,7 +126,8 @@ fn stop_at_each_check(alloc: Global, input: &str) -> Result<u64, Fail> {
     Err(Fail::from("cancelled each time"))
 }
 
-/// Refuses one answer of the provider after another, up to the first one that is not asked for. Answers the number of that one.
+/// Refuses each answer of the provider in turn, and returns the number of the first answer that the search does not
+/// need.
 fn refuse_each_answer(alloc: Global, input: &str) -> Result<u64, Fail> {
     let undisturbed = solve_twice(alloc, input, Behaviour::Same)?;
     let mut clauses = 0;
@@ -148,8 +150,8 @@ fn refuse_each_answer(alloc: Global, input: &str) -> Result<u64, Fail> {
     Err(Fail::from("refused each time"))
 }
 
-/// One requirement, soft requirements of all kinds, a shared requirement, a clash, and a condition that does not hold and one
-/// that does.
+/// One requirement, soft requirements of all kinds, a shared requirement, a clash, a condition that does not hold, and
+/// one that does.
 const INPUTS: [&str; 6] = [
     "package asdf=1\npackage efgh=4\npackage dummy=6\nrequires asdf=1 efgh\nrequire asdf\n",
     "package a=1\npackage b=1\npackage b=2\npackage c=1\npackage d=1\npackage e=1\npackage locked=1\npackage locked=2\npackage unknown-deps=1\nrequires a=1 b@0..10\nrequires e=1 d\nlock locked=2\nunknown unknown-deps=1 no data\nrequire a@0..10\nconstrain b@1..2\nconstrain c\nsoft b=2\nsoft c=1\nsoft e=1\nsoft locked=1\nsoft unknown-deps=1\n",
@@ -177,7 +179,8 @@ fn each_answer_of_the_provider_may_be_refused(rt: HostRuntime) -> Result<(), Fai
     Ok(())
 }
 
-/// Whether an answer comes of an input with a provider that stops the search once more than three packages were asked for.
+/// Returns whether an input has an answer with a provider that stops the search once more than three packages were
+/// asked.
 fn asks_for_three(alloc: Global, input: &str) -> Result<bool, Fail> {
     let twice = solve_twice(alloc, input, Behaviour::StoppedBeyond(3))?;
     Ok(matches!(twice.first, Ended::Chosen(_)))

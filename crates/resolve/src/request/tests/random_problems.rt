@@ -1,18 +1,18 @@
-//! Problems that are drawn from a seed, each as an input and as statements about sets.
+//! Problems drawn from a seed, each as an input and as statements about sets.
 //!
-//! A set of solvables is a number that has a binary digit for each. The solvables of an input stand in the order of
-//! their places, and each has its place as its version. One more has the place after them: no package lists it, and a
-//! catalog takes an id that it does not know for one of the first package.
+//! A set of solvables is a number with a binary digit for each solvable. The solvables of an input are in the order of
+//! their places, and the version of each is its place. One more solvable has the place after them: no package lists it,
+//! and a catalog takes an unknown id for a version of the first package.
 
 use super::solving::digit;
 use std::alloc::Global;
 use std::fmt::Write;
 use std::test::Fail;
 
-/// Names of packages. The last one never has a version.
+/// Names of packages. The last one has no versions.
 const NAMES: [&str; 5] = ["a", "b", "c", "d", "m"];
 
-/// When a requirement asks for something: where a set meets these.
+/// The condition of a requirement: the sets that the chosen one has to meet.
 #[derive(Clone, Copy)]
 pub enum When {
     Always,
@@ -36,25 +36,25 @@ impl When {
     }
 }
 
-/// What is stated of sets. The root asks where `by` is empty. Packages are digits, too.
+/// A statement about sets. It is the root's if `by` is empty. Sets of packages are numbers, too.
 #[derive(Clone, Copy)]
 pub enum Statement {
-    /// With all of `by`, one of `candidates` is wanted.
+    /// If all of `by` is chosen, one of `candidates` has to be.
     Requires {
         by: u32,
         packages: u32,
         candidates: u32,
         when: When,
     },
-    /// With all of `by`, nothing of `forbidden` may be chosen.
+    /// If all of `by` is chosen, nothing of `forbidden` may be.
     Constrains {
         by: u32,
         packages: u32,
         forbidden: u32,
     },
-    /// These are never chosen.
+    /// None of these is ever chosen.
     Unknown(u32),
-    /// These are not chosen, unless they are exempt.
+    /// None of these is chosen, unless it is exempt.
     LockedOutOrExcluded(u32),
     /// At most one of these is chosen.
     OnePackage(u32),
@@ -67,7 +67,7 @@ struct Random {
 }
 
 impl Random {
-    /// A number below the bound.
+    /// Draws a number below the bound.
     fn below(&mut self, bound: u32) -> u32 {
         let multiplied = self.state.wrapping_mul(6_364_136_223_846_793_005);
         self.state = multiplied.wrapping_add(1_442_695_040_888_963_407);
@@ -76,31 +76,31 @@ impl Random {
     }
 }
 
-/// What a union takes, and the packages that it names.
+/// The solvables that a union matches, and the packages that it names.
 #[derive(Clone, Copy)]
 struct Taken {
     packages: u32,
     set: u32,
 }
 
-/// A soft requirement: a solvable by its place, or the versions of a package from one up to but not including another.
+/// A soft requirement: the solvable at a place, or the versions of a package from `low` up to but not including `high`.
 #[derive(Clone, Copy)]
 pub enum Soft {
     Solvable(u32),
     Versions { package: u32, low: u32, high: u32 },
 }
 
-/// A problem, and what is still to be drawn.
+/// A problem that is being drawn.
 #[derive(Drop)]
 pub struct RandomProblem {
     random: Random,
     pub input: String,
     pub statements: Vec<Statement>,
-    /// How many solvables are listed.
+    /// The number of listed solvables.
     count: u32,
     /// The package of each of them.
     packages: Vec<u32>,
-    /// The solvables of which nobody knows what they need.
+    /// The solvables whose needs are unknown.
     unknown: u32,
 }
 
@@ -130,7 +130,7 @@ impl RandomProblem {
         Ok(())
     }
 
-    /// The place after the listed ones is of the first package.
+    /// Returns the package of a place. The place after the listed ones is of the first package.
     pub fn package(&self, place: u32) -> u32 {
         match self.packages.get(place as usize) {
             None => 0,
@@ -138,7 +138,7 @@ impl RandomProblem {
         }
     }
 
-    /// A soft requirement: some versions of a package, or a solvable, in some cases the one after the listed ones.
+    /// Draws a soft requirement: some versions of a package, or a solvable, possibly the unlisted one.
     pub fn soft_requirement(&mut self) -> Soft {
         let count = self.count.wrapping_add(1);
         if self.random.below(3) == 0 {
@@ -150,7 +150,7 @@ impl RandomProblem {
         Soft::Solvable(self.random.below(count))
     }
 
-    /// The solvables of which one meets a soft requirement.
+    /// Returns the solvables that meet a soft requirement.
     pub fn options(&self, soft: Soft) -> u32 {
         match soft {
             Soft::Solvable(place) => digit(place),
@@ -158,7 +158,7 @@ impl RandomProblem {
         }
     }
 
-    /// The listed solvables of these packages with a place from one up to but not including another.
+    /// Returns the listed solvables of these packages with places from `low` up to but not including `high`.
     fn listed(&self, packages: u32, low: u32, high: u32) -> u32 {
         let mut set = 0;
         for place in 0..self.count {
@@ -169,7 +169,7 @@ impl RandomProblem {
         set
     }
 
-    /// The name of a package.
+    /// Returns the name of a package.
     pub fn name(package: u32) -> &'static str {
         match NAMES.get(package as usize) {
             None => "m",
@@ -177,7 +177,7 @@ impl RandomProblem {
         }
     }
 
-    /// One to seven solvables of up to four packages, the first one of the first package.
+    /// Declares one to seven solvables of up to four packages, of which the first one is of the first package.
     fn declare_all(&mut self) -> Result<(), Fail> {
         self.count = self.random.below(7).wrapping_add(1);
         for place in 0..self.count {
@@ -197,7 +197,7 @@ impl RandomProblem {
         Ok(())
     }
 
-    /// Solvables that are excluded, or of which nobody knows what they need.
+    /// Excludes some solvables, or makes their needs unknown.
     fn restrict_all(&mut self) -> Result<(), Fail> {
         for place in 0..self.count {
             self.restrict(place)?;
@@ -223,7 +223,7 @@ impl RandomProblem {
         Ok(())
     }
 
-    /// Locks some packages to one of their versions.
+    /// Locks a package to one of its versions, in some cases.
     fn lock(&mut self, package: u32) -> Result<(), Fail> {
         let place = self.random.below(8);
         let locked = self.listed(digit(package), place, place.wrapping_add(1));
@@ -286,7 +286,7 @@ impl RandomProblem {
         Ok(Taken { packages, set })
     }
 
-    /// Writes a condition, or none.
+    /// Writes a condition, in some cases.
     fn condition(&mut self) -> Result<When, Fail> {
         let form = self.random.below(8);
         if 4 <= form {
@@ -315,7 +315,7 @@ impl RandomProblem {
         }
     }
 
-    /// Writes who asks: the root, or a solvable.
+    /// Writes the keyword of a statement, and the solvable if it is not the root's.
     fn asker(&mut self, root_asks: &str, solvable_asks: &str) -> Result<u32, Fail> {
         let count = self.count;
         let place = self.random.below(count.wrapping_add(2));
@@ -328,7 +328,7 @@ impl RandomProblem {
         Ok(digit(place))
     }
 
-    /// Adds a statement, unless one asks of whom nobody knows what it needs.
+    /// Adds a statement, unless it is of a solvable whose needs are unknown.
     fn state(&mut self, by: u32, statement: Statement) -> Result<(), Fail> {
         if by & self.unknown == 0 {
             self.statements.push(statement)?;

@@ -1,7 +1,7 @@
 //! Each turn of the soft requirements of random problems, judged by trying all sets.
 //!
-//! The turns of a problem are seen by solving it with the first of its soft requirements, then with the first two, and
-//! so on: a solver takes the same turns each time.
+//! To see the turns of a problem, it is solved with the first of its soft requirements, then with the first two, and so
+//! on: a solver takes the same turns each time.
 
 use super::random_problems::{RandomProblem, Soft, Statement};
 use super::solving;
@@ -10,17 +10,17 @@ use resolvo::UnsolvableOrCancelled;
 use std::alloc::Global;
 use std::test::Fail;
 
-/// How many problems are drawn.
+/// The number of problems that are drawn.
 const PROBLEMS: u64 = 500;
 
-/// What is chosen, and what of it is exempt.
+/// The chosen set, and the exempt part of it.
 #[derive(Clone, Copy)]
 struct Answer {
     chosen: u32,
     exempt: u32,
 }
 
-/// What a turn came to.
+/// The outcome of a turn.
 #[derive(Clone, Copy)]
 enum Turn {
     Wrong,
@@ -33,7 +33,7 @@ enum Turn {
     Unmatched,
 }
 
-/// How often each came, and a problem of which something is wrong.
+/// The number of each outcome, and the seed of a problem with a wrong one.
 #[derive(Clone, Copy)]
 struct Counts {
     wrong: Option<u64>,
@@ -46,17 +46,17 @@ struct Counts {
     unmatched: u32,
 }
 
-/// A run over soft requirements: what it chose, from which ones it has come, and which of them it accepted.
+/// A run over soft requirements: its answer, the solvables that were tried, and those that were accepted.
 #[derive(Clone, Copy)]
 struct Run {
     answer: Answer,
     tried: u32,
     accepted: u32,
-    /// Packages of version sets that had their turns.
+    /// The packages of version sets that had their turns.
     asked: u32,
 }
 
-/// What a turn tries: one of these solvables of a package, which may be exempt unless a version set names them.
+/// The options of a turn: solvables of a package, which may become exempt unless a version set names them.
 #[derive(Clone, Copy)]
 struct Tried {
     options: u32,
@@ -64,7 +64,7 @@ struct Tried {
     may_be_exempt: bool,
 }
 
-/// What was chosen, if there is an answer.
+/// Returns the answer of a solver, if there is one.
 fn answer_of(solved: &Solved) -> Result<Option<Answer>, Fail> {
     match &solved.outcome {
         Ok(chosen) => Ok(Some(Answer {
@@ -76,7 +76,7 @@ fn answer_of(solved: &Solved) -> Result<Option<Answer>, Fail> {
     }
 }
 
-/// What the solver chooses for an input with these soft requirements, if there is an answer.
+/// Solves an input with these soft requirements, and returns the answer, if there is one.
 fn solve(alloc: Global, input: &str, soft: &[Soft]) -> Result<Option<Answer>, Fail> {
     let asked = Asked {
         soft,
@@ -114,7 +114,7 @@ fn is_valid(statements: &[Statement], set: u32, exempt: u32) -> bool {
     true
 }
 
-/// Whether a valid set of at most eight solvables holds a part.
+/// Returns whether a valid set of at most eight solvables contains a part.
 fn fits(statements: &[Statement], part: u32, exempt: u32) -> bool {
     for set in 0..256u32 {
         if is_within(part, set) && is_valid(statements, set, exempt) {
@@ -124,7 +124,8 @@ fn fits(statements: &[Statement], part: u32, exempt: u32) -> bool {
     false
 }
 
-/// The members, and those candidates in bounds that they and the root require where the conditions hold in a set.
+/// Returns the members, with the candidates in bounds that they and the root require under conditions that hold in a
+/// set.
 fn with_required(statements: &[Statement], members: u32, set: u32, bounds: u32) -> u32 {
     let mut grown = members;
     for statement in statements {
@@ -143,7 +144,7 @@ fn with_required(statements: &[Statement], members: u32, set: u32, bounds: u32) 
     grown
 }
 
-/// What is needed of a set, from the root and these members of it on.
+/// Returns the part of a set that is reached from the root and these seeds.
 fn needed(statements: &[Statement], set: u32, seeds: u32) -> u32 {
     let mut members = seeds & set;
     for _ in 0..9u32 {
@@ -152,7 +153,7 @@ fn needed(statements: &[Statement], set: u32, seeds: u32) -> u32 {
     members
 }
 
-/// All that reading may come to, from the root and these on.
+/// Returns all solvables that reading may come to from the root and these seeds.
 fn near(statements: &[Statement], seeds: u32) -> u32 {
     let mut members = seeds;
     for _ in 0..9u32 {
@@ -161,7 +162,7 @@ fn near(statements: &[Statement], seeds: u32) -> u32 {
     members
 }
 
-/// The packages that the root and members of a set name.
+/// Returns the packages that the root and the members of a set name.
 fn named(statements: &[Statement], set: u32) -> u32 {
     let mut packages = 0;
     for statement in statements {
@@ -191,13 +192,15 @@ fn named_by(statement: Statement, set: u32) -> u32 {
     }
 }
 
-/// The packages that may have been asked.
+/// Returns the packages that may have been asked.
 fn may_be_asked(statements: &[Statement], run: Run) -> u32 {
     named(statements, near(statements, run.tried)) | run.asked
 }
 
-/// Whether a solvable is exempt as it may be: not where its package was certainly asked or a version set names it, and
-/// surely where its package cannot have been asked.
+/// Returns whether the new exemptions of a turn are right.
+///
+/// A solvable is not exempt if its package was certainly asked or a version set names it, and it is exempt if its
+/// package cannot have been asked.
 fn is_exempt_rightly(statements: &[Statement], run: Run, tried: Tried, newly: u32) -> bool {
     if !tried.may_be_exempt {
         return newly == 0;
@@ -208,7 +211,7 @@ fn is_exempt_rightly(statements: &[Statement], run: Run, tried: Tried, newly: u3
     may_be_asked(statements, run) & tried.package != 0
 }
 
-/// Whether an accepted solvable led from one answer to a next one that may follow.
+/// Returns whether an answer may follow another one after a solvable was accepted.
 fn is_accepted(
     statements: &[Statement],
     run: Run,
@@ -230,7 +233,7 @@ fn is_accepted(
     needed(statements, after.chosen, run.accepted | taken) == after.chosen
 }
 
-/// Whether no valid set holds what was chosen and one of the options, with these exemptions.
+/// Returns whether no valid set contains the chosen set and one of the options, with these exemptions.
 fn none_fits(statements: &[Statement], chosen: u32, options: u32, exempt: u32) -> bool {
     for place in 0..8u32 {
         let option = digit(place) & options;
@@ -241,8 +244,9 @@ fn none_fits(statements: &[Statement], chosen: u32, options: u32, exempt: u32) -
     true
 }
 
-/// Whether no valid set holds what was chosen and what was tried, with the exemptions of its turn. Where its package may
-/// have been asked or not, it is taken as asked.
+/// Returns whether no valid set contains the chosen set and an option, with the exemptions of its turn.
+///
+/// If the package may or may not have been asked, it is taken as asked.
 fn is_refused(statements: &[Statement], run: Run, tried: Tried) -> bool {
     let before = run.answer;
     if !tried.may_be_exempt || may_be_asked(statements, run) & tried.package != 0 {
@@ -256,7 +260,7 @@ fn is_refused(statements: &[Statement], run: Run, tried: Tried) -> bool {
     )
 }
 
-/// What the turn of a version set came to: the newest version that fits is taken.
+/// Judges the turn of a version set, which has to take the newest version that fits.
 fn judge_matching(statements: &[Statement], run: Run, tried: Tried, taken: u32) -> Turn {
     let newer = tried.options & !taken & !taken.wrapping_sub(1);
     if none_fits(statements, run.answer.chosen, newer, run.answer.exempt) {
@@ -266,7 +270,7 @@ fn judge_matching(statements: &[Statement], run: Run, tried: Tried, taken: u32) 
     }
 }
 
-/// What a turn came to that refused what it tried.
+/// Judges a turn that refused its options.
 fn judge_refused(statements: &[Statement], run: Run, tried: Tried) -> Turn {
     if !is_refused(statements, run, tried) {
         return Turn::Wrong;
@@ -278,7 +282,7 @@ fn judge_refused(statements: &[Statement], run: Run, tried: Tried) -> Turn {
     }
 }
 
-/// What a turn came to, after which there is this answer.
+/// Judges a turn by the answer after it.
 fn judge_turn(statements: &[Statement], run: Run, tried: Tried, after: Answer) -> Turn {
     let before = run.answer;
     let is_same = after.chosen == before.chosen && after.exempt == before.exempt;
@@ -318,7 +322,7 @@ fn count(counts: &mut Counts, seed: u64, turn: Turn) {
     }
 }
 
-/// Whether an answer without soft requirements is one, and whether there is none where none is given.
+/// Returns whether the answer without soft requirements is right, or there is rightly none.
 fn is_first(statements: &[Statement], answer: Option<Answer>) -> bool {
     match answer {
         None => !fits(statements, 0, 0),
@@ -330,7 +334,7 @@ fn is_first(statements: &[Statement], answer: Option<Answer>) -> bool {
     }
 }
 
-/// What a soft requirement of a problem tries.
+/// Returns the options of a soft requirement of a problem.
 fn tried_by(problem: &RandomProblem, soft: Soft) -> Tried {
     let options = problem.options(soft);
     match soft {
@@ -392,7 +396,7 @@ fn take_turns(
     Ok(())
 }
 
-/// Judges all that comes of a problem.
+/// Judges the answer and the turns of a problem.
 fn judge_problem(
     alloc: Global,
     problem: &mut RandomProblem,
@@ -415,7 +419,7 @@ fn judge_problem(
     }
 }
 
-/// Judges all that comes of the problem of a seed.
+/// Judges the problem of a seed.
 fn judge(alloc: Global, seed: u64, counts: &mut Counts) -> Result<(), Fail> {
     let mut problem = RandomProblem::new(alloc, seed)?;
     judge_problem(alloc, &mut problem, seed, counts)

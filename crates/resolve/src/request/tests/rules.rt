@@ -10,20 +10,20 @@ use std::alloc::Global;
 use std::fmt::Write;
 use std::test::Fail;
 
-/// What is wanted of the rules of a conflict.
+/// A property of a conflict's rules.
 #[derive(Clone, Copy)]
 enum Wanted {
     /// The first reason excludes the first solvable, and the root requires something.
     Excluded,
     /// The root requires the first solvable alone, which forbids itself.
     ForbiddenByItself,
-    /// At least eight rules, which name no solvable but those from one number up to another.
+    /// There are at least eight rules, and they name only solvables from one number up to another.
     Between(u32, u32),
-    /// The plain search finds no set.
+    /// The plain search finds no set that obeys them.
     Refuted,
-    /// The first solvable requires four others, and the second forbids each of the four.
+    /// The first solvable requires four others, and the second one forbids each of the four.
     GateAndHelper,
-    /// No set of the first six solvables obeys the rules, and their first one alone breaks some.
+    /// No set of the first six solvables obeys the rules, while the set of the first one alone obeys one of them.
     NoSet,
     /// The root requires the second solvable or the first one, in this order, and both are excluded.
     BothExcluded,
@@ -41,7 +41,7 @@ fn are_exclusion_and_requirement(rules: &[Rule<NameId, SolvableId>]) -> bool {
         && matches!(&rules[1], Rule::Requires { by: By::Root, .. })
 }
 
-/// Whether the root requires the first solvable, and nothing else would do.
+/// Returns whether a rule states that the root requires the first solvable, without alternatives.
 fn requires_first_alone(rule: &Rule<NameId, SolvableId>) -> bool {
     match rule {
         Rule::Requires {
@@ -67,7 +67,7 @@ fn are_requirement_and_constraint(rules: &[Rule<NameId, SolvableId>]) -> bool {
         )
 }
 
-/// Whether a rule names no solvable but those from one number up to another.
+/// Returns whether a rule names only solvables from one number up to another.
 fn is_between(rule: &Rule<NameId, SolvableId>, low: u32, high: u32) -> bool {
     let named = |solvable: SolvableId| low <= solvable.0 && solvable.0 < high;
     match rule {
@@ -163,7 +163,7 @@ fn are_as(alloc: Global, rules: &[Rule<NameId, SolvableId>], wanted: Wanted) -> 
     }
 }
 
-/// Whether an input has a conflict, and its rules are as wanted.
+/// Returns whether an input has a conflict whose rules have a property.
 fn has_rules(alloc: Global, input: &str, wanted: Wanted) -> Result<bool, Fail> {
     let solved = solve(alloc, Asked::new(input))?;
     match &solved.outcome {
@@ -199,7 +199,7 @@ fn a_constraint_on_its_own_package_gives_two_rules(rt: HostRuntime) -> Result<()
 const CLASH: &str =
     "package p=1\npackage p=2\npackage q=1\npackage q=2\npackage r=1\npackage r=2\nrequires p=1 r@1\nrequires p=2 r@1\nrequires q=1 r@2\nrequires q=2 r@2\nrequire p\nrequire q\n";
 
-/// A clash after packages that have no part in it, each with two versions.
+/// Returns an input with a clash after packages that have no part in it, each with two versions.
 fn clash_after(alloc: Global, packages: u32) -> Result<String, Fail> {
     let mut input = String::new(alloc);
     for number in 0..packages {
@@ -224,7 +224,7 @@ fn packages_without_part_in_a_conflict_are_not_named(rt: HostRuntime) -> Result<
     Ok(())
 }
 
-/// A clash, and behind it a package that the root requires and that has no part in it.
+/// A clash, followed by a package that the root requires and that has no part in it.
 const CLASH_BEFORE_W: &str =
     "package p=1\npackage p=2\npackage q=1\npackage q=2\npackage r=1\npackage r=2\nrequires p=1 r@1\nrequires p=2 r@1\nrequires q=1 r@2\nrequires q=2 r@2\nrequire p\nrequire q\npackage w=1\nrequire w\n";
 
@@ -285,7 +285,7 @@ fn a_union_that_overlaps_itself_lists_each_candidate_once(rt: HostRuntime) -> Re
     Ok(())
 }
 
-/// What a rule says.
+/// The kind of a rule.
 #[derive(Clone, Copy, PartialEq)]
 enum Kind {
     RootRequires,
@@ -307,7 +307,7 @@ fn count_of(rules: &[Rule<NameId, SolvableId>], kind: Kind) -> usize {
     rules.iter().filter(|rule| kind_of(rule) == kind).count()
 }
 
-/// How many rules there are, and how many of three kinds.
+/// The number of all rules, and of the rules of three kinds.
 #[derive(Clone, Copy, PartialEq)]
 struct Counts {
     of_root: usize,
@@ -325,7 +325,7 @@ fn counts_of(rules: &[Rule<NameId, SolvableId>]) -> Counts {
     }
 }
 
-/// Whether the plain search finds a set that obeys the rules but this one.
+/// Returns whether the plain search finds a set that obeys all rules except this one.
 fn is_needed(
     alloc: Global,
     rules: &[Rule<NameId, SolvableId>],
@@ -340,7 +340,7 @@ fn is_needed(
     Ok(find(alloc, &others)?.is_some())
 }
 
-/// Whether the plain search finds no set that obeys the rules, and finds one without any one of them.
+/// Returns whether the plain search finds no set that obeys the rules, but finds one without any one of them.
 fn are_irreducible(alloc: Global, rules: &[Rule<NameId, SolvableId>]) -> Result<bool, Exhausted> {
     for place in 0..rules.len() {
         if !is_needed(alloc, rules, place)? {
@@ -350,7 +350,7 @@ fn are_irreducible(alloc: Global, rules: &[Rule<NameId, SolvableId>]) -> Result<
     Ok(are_refuted(alloc, rules))
 }
 
-/// How many rules are left of an input's conflict where none can be left out, if the plain search agrees.
+/// Returns the number of rules in the minimal conflict of an input, if the plain search agrees that it is minimal.
 fn minimal_counts(alloc: Global, input: &str) -> Result<Counts, Fail> {
     let solved = solve(alloc, Asked::new(input))?;
     let Err(UnsolvableOrCancelled::Unsolvable(conflict)) = &solved.outcome else {
@@ -366,7 +366,7 @@ fn minimal_counts(alloc: Global, input: &str) -> Result<Counts, Fail> {
     }
 }
 
-/// The same for a clash behind so many packages without part in it.
+/// The same for a clash after this many packages without part in it.
 fn minimal_counts_after(alloc: Global, packages: u32) -> Result<Counts, Fail> {
     let input = clash_after(alloc, packages)?;
     minimal_counts(alloc, &input)

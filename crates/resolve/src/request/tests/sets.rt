@@ -1,4 +1,4 @@
-//! Sets that rules leave. A set is a number that has a binary digit for each solvable.
+//! The sets that rules leave. A set is a number with a binary digit for each solvable.
 
 use super::solving::{digit, set_of};
 use crate::ids::{NameId, SolvableId};
@@ -11,7 +11,7 @@ fn is_there(by: &By<SolvableId>, set: u32) -> bool {
     }
 }
 
-/// Whether a set obeys a rule. A mark by itself asks for nothing.
+/// Returns whether a set obeys a rule by itself. A mark by itself demands nothing.
 fn obeys_alone(rule: &Rule<NameId, SolvableId>, set: u32) -> bool {
     match rule {
         Rule::Requires {
@@ -32,7 +32,7 @@ fn obeys_alone(rule: &Rule<NameId, SolvableId>, set: u32) -> bool {
     }
 }
 
-/// The marked instances of this name.
+/// Returns the marked instances of a name.
 fn marked(rules: &[Rule<NameId, SolvableId>], wanted: NameId) -> u32 {
     let mut instances = 0;
     for rule in rules {
@@ -45,7 +45,7 @@ fn marked(rules: &[Rule<NameId, SolvableId>], wanted: NameId) -> u32 {
     instances
 }
 
-/// Whether a set has two marked instances of a name.
+/// Returns whether a set has two marked instances of a name.
 fn has_two(rules: &[Rule<NameId, SolvableId>], set: u32) -> bool {
     for rule in rules {
         if let Rule::OnePerPackage { name, .. } = rule {
@@ -61,7 +61,7 @@ fn obeys(rules: &[Rule<NameId, SolvableId>], set: u32) -> bool {
     !has_two(rules, set) && rules.iter().all(|rule| obeys_alone(rule, set))
 }
 
-/// Whether no set below a number obeys the rules, though the set of the first solvable obeys one of them.
+/// Returns whether no set below `bound` obeys the rules, while the set of the first solvable alone obeys one of them.
 pub fn leave_no_set(rules: &[Rule<NameId, SolvableId>], bound: u32) -> bool {
     for set in 0..bound {
         if obeys(rules, set) {

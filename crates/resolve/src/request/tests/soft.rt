@@ -39,13 +39,13 @@ fn exempts_in(alloc: Global, request: Request, wanted: &[SolvableId]) -> bool {
     outcome.is_ok() & (solver.exempt_solvables() == wanted)
 }
 
-/// Whether an input has an answer, of which just these are exempt, in this order.
+/// Returns whether an input has an answer with exactly these exempt solvables, in this order.
 fn exempts(alloc: Global, input: &str, wanted: &[SolvableId]) -> Result<bool, Fail> {
     let request = request(alloc, input)?;
     Ok(exempts_in(alloc, request, wanted))
 }
 
-/// Whether these soft lines, behind other lines, have just these exempt.
+/// Returns whether soft lines after other lines have an answer with exactly these exempt solvables.
 fn exempt_behind(
     alloc: Global,
     lines: &str,

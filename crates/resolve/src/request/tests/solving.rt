@@ -1,4 +1,4 @@
-//! A solver for the problem of an input. One function owns it, and the tests see what it leaves.
+//! A solver for the problem of an input. One function owns it, and the tests see its results.
 
 use super::super::{InputError, Request, read_request};
 use super::random_problems::{RandomProblem, Soft};
@@ -9,7 +9,7 @@ use resolvo::{Problem, SoftRequirement, Solver, UnsolvableOrCancelled, VersionSe
 use std::alloc::Global;
 use std::test::Fail;
 
-/// An input, and the soft requirements in place of its own.
+/// An input, and soft requirements that replace its own.
 #[derive(Clone, Copy)]
 pub struct Asked<'x> {
     pub input: &'x str,
@@ -17,13 +17,13 @@ pub struct Asked<'x> {
 }
 
 impl<'x> Asked<'x> {
-    /// Without soft requirements.
+    /// Returns an input without soft requirements.
     pub fn new(input: &'x str) -> Asked<'x> {
         Asked { input, soft: &[] }
     }
 }
 
-/// What came of it, and what the solver says afterwards.
+/// The outcome of a call, and the counts of the solver after it.
 #[derive(Drop)]
 pub struct Solved {
     pub outcome: Result<Vec<SolvableId>, UnsolvableOrCancelled<Catalog>>,
@@ -33,7 +33,7 @@ pub struct Solved {
 }
 
 impl Solved {
-    /// The set that was chosen, if there is an answer.
+    /// Returns the chosen set, if there is an answer.
     pub fn chosen(&self) -> Option<u32> {
         match &self.outcome {
             Ok(chosen) => Some(set_of(chosen)),
@@ -42,7 +42,7 @@ impl Solved {
     }
 }
 
-/// The set of one place. A set of solvables is a number that has a binary digit for each of the first 32.
+/// Returns the set of one place. A set of solvables is a number with a binary digit for each of the first 32.
 pub fn digit(place: u32) -> u32 {
     1u32.wrapping_shl(place)
 }
@@ -66,7 +66,7 @@ pub fn request(alloc: Global, input: &str) -> Result<Request, Fail> {
     }
 }
 
-/// Soft requirements: first solvables, and then a list of any.
+/// Soft requirements: first solvables, and then a list of any kind.
 #[derive(Drop)]
 struct SoftParts {
     first: Vec<SolvableId>,
@@ -74,7 +74,7 @@ struct SoftParts {
 }
 
 impl SoftParts {
-    /// Adds one. Solvables before the first version set are not in the list.
+    /// Adds a soft requirement. Solvables before the first version set are not in the list.
     fn add(&mut self, alloc: Global, request: &mut Request, soft: Soft) -> Result<(), Fail> {
         match soft {
             Soft::Solvable(place) => {
@@ -106,7 +106,7 @@ fn version_set(request: &mut Request, spec: &str) -> Result<VersionSetId, Fail> 
     }
 }
 
-/// Solves what a request states, with these soft requirements.
+/// Solves the problem of a request with these soft requirements.
 fn solve_request(alloc: Global, request: Request, soft: SoftParts) -> Solved {
     let problem = Problem::new()
         .requirements(request.requirements)

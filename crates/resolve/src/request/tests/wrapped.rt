@@ -1,4 +1,5 @@
-//! A provider over another one, which behaves otherwise in one way: it hints at all candidates, stops a search, or wants for memory.
+//! A provider that wraps another one and behaves differently in one way: it hints at all candidates, stops a search, or
+//! refuses an answer for lack of memory.
 
 ghost use Rattle.std.specs.Prelude.{◌≡◌, IfErr, true};
 ghost use Rattle.resolver_clause_store.specs.Universe.{package_of};
@@ -11,32 +12,32 @@ use resolver_clause_store::{
 use std::alloc::Global;
 use std::cell::Cell;
 
-/// What a provider does otherwise.
+/// The way in which the provider behaves differently.
 #[derive(Clone, Copy)]
 pub enum Behaviour {
-    /// Nothing.
+    /// It does not.
     Same,
-    /// The dependencies of all candidates are cheap to ask for, so that each candidate is read at once.
+    /// The dependencies of all candidates are available, so that each candidate is read early.
     Hinting,
     /// The cancel check with this number, counted from 1, stops the search with the number.
     StoppedAt(u64),
-    /// The answer with this number, counted from 1, is refused for want of memory.
+    /// The answer with this number, counted from 1, is refused for lack of memory.
     RefusedAt(u64),
-    /// The search is stopped once more than so many packages were asked for.
+    /// The search is stopped once more than this many packages were asked.
     StoppedBeyond(u64),
 }
 
-/// Another provider, which behaves otherwise in one way.
+/// Another provider, which behaves differently in one way.
 #[derive(Drop)]
 pub struct Wrapped<P> {
     alloc: Global,
     inner: P,
     hints_all: bool,
-    /// The check that stops the search, or 0, and the value that it is stopped with.
+    /// The number of the check that stops the search, or 0. It is also the cancel value.
     stopping: u64,
-    /// The answer that is refused, or 0.
+    /// The number of the answer that is refused, or 0.
     refusing: u64,
-    /// So many packages may be asked for.
+    /// The number of packages that may be asked.
     most: u64,
     checks: Cell<u64>,
     answers: Cell<u64>,
@@ -65,7 +66,7 @@ impl<P: Drop> Wrapped<P> {
         }
     }
 
-    /// Counts an answer, and refuses it if it is the one.
+    /// Counts an answer, and refuses it if its turn has come.
     fn count(&self) -> Result<(), Exhausted>
         ensures memory { IfErr result (λ e. e ≡ Exhausted.Memory) }
     {
@@ -78,7 +79,7 @@ impl<P: Drop> Wrapped<P> {
     }
 }
 
-/// The same candidates, with dependencies that are all cheap to ask for.
+/// Returns the same candidates, with a hint that all their dependencies are available.
 fn hinted<S: Drop>(alloc: Global, found: Option<Candidates<S>>) -> Option<Candidates<S>>
     ensures { package_of result ≡ with_hint true (package_of found) }
 {

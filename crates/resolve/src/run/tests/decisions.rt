@@ -1,7 +1,8 @@
-//! Which requirement is decided first: those of the root, then those of the package with the higher score, then those with
-//! fewer candidates.
+//! Which requirement is decided first: first those of the root, then those whose package has the higher score, then
+//! those with fewer candidates.
 //!
-//! Version 3 of tool and version 2 of data exclude each other, so whichever requirement is decided first gets its newest version.
+//! Version 3 of tool and version 2 of data exclude each other, so the requirement that is decided first gets its newest
+//! version.
 
 use super::expect_answer;
 

@@ -1,4 +1,4 @@
-//! The inputs of the folder `examples`, and what comes of them.
+//! The inputs of the folder `examples` and their outcomes.
 
 use super::{expect_answer, expect_conflict};
 

@@ -6,7 +6,7 @@ use std::io;
 use std::io::{Read, Write};
 use std::test::Fail;
 
-/// Gives an input byte by byte, for so many reads, and then fails.
+/// A reader that gives an input byte by byte, and fails after this many reads.
 #[derive(Drop)]
 struct FailingReader<'x> {
     left: &'x [u8],
@@ -28,7 +28,7 @@ impl Read for FailingReader<'_> {
     }
 }
 
-/// Takes so many bytes, one by one, and then fails.
+/// A writer that takes this many bytes, one by one, and then fails.
 #[derive(Drop)]
 struct FailingWriter {
     writes: u32,
@@ -57,7 +57,7 @@ const OUTPUT: &str = "a=1\nb=2\n";
 
 const CLASH: &str = "package a=1\nrequires a=1 b\nrequire a\n";
 
-/// What a run came to: the status, and what it wrote and complained of.
+/// The end of a run: its status, its output and its errors.
 type Ended = (u8, Vec<u8>, Vec<u8>);
 
 fn run_with_reads(alloc: Global, reads: u32) -> Ended {
@@ -71,7 +71,7 @@ fn run_with_reads(alloc: Global, reads: u32) -> Ended {
     (status, written, complaints)
 }
 
-/// Whether a run that fails at a read says so, and writes nothing.
+/// Returns whether a run that fails at a read reports this, and writes nothing else.
 fn is_unread(ended: &Ended) -> bool {
     (ended.0 == 3)
         & ended.1.is_empty()
@@ -92,15 +92,15 @@ fn each_read_may_fail(rt: HostRuntime) -> Result<(), Fail> {
     Ok(())
 }
 
-/// The status of a run whose output takes so many bytes.
+/// Returns the status of a run whose output takes this many bytes.
 fn status_with_writes(alloc: Global, input: &str, writes: u32) -> u8 {
     let mut complaints: Vec<u8> = Vec::new(alloc);
     let mut output = FailingWriter { writes };
     run(alloc, input.as_bytes(), &mut output, &mut complaints)
 }
 
-/// How many writes a run with this input needs before it ends with another status than that of an output which cannot be
-/// written, and that status.
+/// Returns the number of writes that a run needs to end with another status than that of unwritable output, and that
+/// status.
 fn writes_needed(alloc: Global, input: &str) -> Option<(u32, u8)> {
     for writes in 0..2000u32 {
         let status = status_with_writes(alloc, input, writes);

@@ -1,4 +1,4 @@
-//! Words that come again, and the lines in which they do.
+//! Lines with words that came before.
 
 use super::{expect_answer, expect_run};
 

@@ -1,4 +1,4 @@
-//! Inputs of which the answers have the same lines where no score ever grows.
+//! Inputs whose answers are the same if no score ever grows.
 
 use super::super::{Fault, Outcome, outcome_of};
 use crate::request::{Request, read_request};
@@ -6,7 +6,7 @@ use resolvo::{Problem, Solver};
 use std::alloc::Global;
 use std::test::Fail;
 
-/// What a request comes to where no score ever grows.
+/// Returns the outcome of a request if no score ever grows.
 fn solve_without_scores(alloc: Global, request: Request) -> Result<Outcome, Fault> {
     let problem = Problem::new()
         .requirements(request.requirements)
@@ -21,7 +21,7 @@ fn solve_without_scores(alloc: Global, request: Request) -> Result<Outcome, Faul
     outcome
 }
 
-/// Whether these are the lines of an answer.
+/// Returns whether an outcome is an answer with these lines.
 fn are_lines(outcome: &Result<Outcome, Fault>, wanted: &str) -> bool {
     match outcome {
         Ok(outcome) => match outcome {
@@ -32,7 +32,7 @@ fn are_lines(outcome: &Result<Outcome, Fault>, wanted: &str) -> bool {
     }
 }
 
-/// Whether an input has an answer of these lines where no score ever grows.
+/// Returns whether an input has an answer with these lines if no score ever grows.
 fn answers(alloc: Global, input: &str, wanted: &str) -> bool {
     match read_request(alloc, input.as_bytes()) {
         Ok(request) => are_lines(&solve_without_scores(alloc, request), wanted),

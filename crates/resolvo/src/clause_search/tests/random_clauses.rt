@@ -1,4 +1,4 @@
-//! Random clauses, and what all values say of them.
+//! Random clauses, checked against all values of their variables.
 
 ghost use Rattle.resolvo.specs.ClauseSearches.{IsConsistent};
 
@@ -9,13 +9,13 @@ use resolver_clause_store::{Activity, Literal, Variable};
 use std::alloc::{AllocError, Global};
 use std::test::Fail;
 
-/// How many variables there are.
+/// The number of variables.
 const VARIABLES: u32 = 8;
 
 /// A literal: the number of its variable, and whether it is positive.
 type Drawn = (u32, bool);
 
-/// What came of a list of clauses.
+/// The result for a list of clauses.
 #[derive(Clone, Copy, PartialEq)]
 enum Verdict {
     /// The values that were found make each clause true.
@@ -26,13 +26,13 @@ enum Verdict {
     Wrong,
 }
 
-/// The next number, below 65536.
+/// Draws the next number, below 65536.
 fn draw(state: &mut u32) -> u32 {
     *state = state.wrapping_mul(1_664_525).wrapping_add(1_013_904_223);
     state.wrapping_shr(16)
 }
 
-/// Three literals.
+/// Draws a clause of three literals.
 fn draw_clause(alloc: Global, state: &mut u32) -> Result<Vec<Drawn>, AllocError> {
     let mut clause = Vec::new(alloc);
     for _ in 0..3 {
@@ -71,12 +71,12 @@ fn table_of(alloc: Global, clauses: &[Vec<Drawn>]) -> Result<Vec<Vec<Literal>>, 
     Ok(table)
 }
 
-/// The binary digit of a variable.
+/// Returns the binary digit of a variable.
 fn digit(variable: u32) -> u32 {
     1u32.wrapping_shl(variable)
 }
 
-/// Whether a clause is true where the variables with these digits are.
+/// Returns whether a clause is true if exactly the variables with these digits are.
 fn is_true(clause: &[Drawn], digits: u32) -> bool {
     for (variable, positive) in clause {
         if (digits & digit(*variable) != 0) == *positive {
@@ -95,7 +95,7 @@ fn are_true(clauses: &[Vec<Drawn>], digits: u32) -> bool {
     true
 }
 
-/// Whether the search found that a variable is true. One without a value counts as false.
+/// Returns whether the search found that a variable is true. A variable without a value counts as false.
 fn is_found_true(search: &ClauseSearch, variable: Variable) -> bool {
     if variable.index() >= search.trail().variable_count() {
         return false;
@@ -106,7 +106,7 @@ fn is_found_true(search: &ClauseSearch, variable: Variable) -> bool {
     }
 }
 
-/// The digits of the variables that are true.
+/// Returns the digits of the variables that are true.
 fn digits_of(search: &ClauseSearch) -> u32 {
     let mut digits = 0;
     for number in 0..VARIABLES {
@@ -117,7 +117,7 @@ fn digits_of(search: &ClauseSearch) -> u32 {
     digits
 }
 
-/// Whether a clause of the core is false where the variables with these digits are true.
+/// Returns whether a clause of the core is false if exactly the variables with these digits are true.
 fn is_some_false(clauses: &[Vec<Drawn>], core: &[usize], digits: u32) -> bool {
     for number in core {
         if let Some(clause) = clauses.get(*number) {
@@ -129,7 +129,7 @@ fn is_some_false(clauses: &[Vec<Drawn>], core: &[usize], digits: u32) -> bool {
     false
 }
 
-/// Whether no values make all clauses of the core true.
+/// Returns whether no values make all clauses of the core true.
 fn is_refuted(clauses: &[Vec<Drawn>], core: &[usize]) -> bool {
     for digits in 0..digit(VARIABLES) {
         if !is_some_false(clauses, core, digits) {
@@ -139,7 +139,7 @@ fn is_refuted(clauses: &[Vec<Drawn>], core: &[usize]) -> bool {
     true
 }
 
-/// What a run over the clauses, all of them requirements, comes to.
+/// Returns the result of a run over the clauses, all of them as requirements.
 fn verdict_of(
     alloc: Global,
     search: &mut ClauseSearch,
@@ -163,7 +163,7 @@ fn verdict_of(
     Ok(found)
 }
 
-/// What came of so many clauses.
+/// Returns the result for this many random clauses.
 fn search_drawn(alloc: Global, seed: u32, count: u32) -> Result<Verdict, AllocError> {
     let clauses = draw_clauses(alloc, seed, count)?;
     let table = table_of(alloc, &clauses)?;
@@ -174,7 +174,7 @@ fn search_drawn(alloc: Global, seed: u32, count: u32) -> Result<Verdict, AllocEr
     found
 }
 
-/// How many of 200 lists of clauses are satisfied, and how many are refuted.
+/// Returns how many of 200 lists of clauses are satisfied, and how many are refuted.
 fn counts(alloc: Global) -> Result<(u32, u32), AllocError> {
     let (mut satisfied, mut refuted) = (0u32, 0u32);
     for seed in 0..200u32 {

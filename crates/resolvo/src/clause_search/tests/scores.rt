@@ -1,4 +1,4 @@
-//! Scores that grow with what a search learns, and the decisions that they lead to.
+//! Scores that grow with learnt clauses, and the decisions that they lead to.
 
 ghost use Rattle.resolvo.specs.ClauseSearches.{IsConsistent};
 
@@ -12,19 +12,20 @@ use std::test::Fail;
 /// A package whose requirement has three candidates.
 const WIDE: usize = 0;
 
-/// A package whose requirement has two candidates, and comes later.
+/// A package whose requirement has two candidates, and comes later than that of `WIDE`.
 const NARROW: usize = 1;
 
-/// A package that nothing requires in the end.
+/// A package that no requirement has in the end.
 const OTHER: usize = 2;
 
-/// The packages whose candidates a learnt clause has, and how many such clauses are learnt, one after the other.
+/// The packages whose candidates are in a learnt clause, and the number of such clauses, which are learnt one after the
+/// other.
 type Learnt<'x> = (&'x [usize], usize);
 
-/// What a search over the clauses of two requirements has come to.
+/// The result of a search over the clauses of two requirements.
 #[derive(Clone, Copy, PartialEq, Eq)]
 struct Seen {
-    /// How many clauses it learnt, and how many of them have just one solvable of the first package.
+    /// The number of clauses that it learnt, and the number of those with just one solvable of the first package.
     learnt: usize,
     with_one: usize,
     /// The score of the first package by these clauses.
@@ -33,7 +34,7 @@ struct Seen {
     wide_first: bool,
 }
 
-/// Clauses, with their requirements, and the package of each variable.
+/// Clauses with their requirements, and the package of each variable.
 #[derive(Drop)]
 struct Given {
     alloc: Global,
@@ -55,7 +56,7 @@ impl Given {
         }
     }
 
-    /// The number of a new variable with this owner.
+    /// Adds a variable with this owner, and returns its number.
     fn add_variable(&mut self, owner: Owner) -> Result<u32, AllocError> {
         let number = self.next;
         self.owners.push(owner)?;
@@ -79,7 +80,7 @@ impl Given {
         Ok(())
     }
 
-    /// Adds a requirement of a requirer for one of so many candidates of a package.
+    /// Adds a requirement of a requirer with this many candidates of a package.
     fn require(&mut self, requirer: u32, package: usize, count: usize) -> Result<(), AllocError> {
         let mut clause = vec![in self.alloc; is_false(requirer)]?;
         for _ in 0..count {
@@ -89,7 +90,7 @@ impl Given {
         Ok(())
     }
 
-    /// Adds a requirement of the root, of which a candidate of a package is tried first. Answers that candidate.
+    /// Adds a requirement of the root that tries a candidate of a package first. Returns that candidate.
     fn require_one(&mut self, package: usize) -> Result<u32, AllocError> {
         let tried = self.add_variable(Owner::package(package)?)?;
         let left = self.add_variable(Owner::none())?;
@@ -99,8 +100,9 @@ impl Given {
         Ok(tried)
     }
 
-    /// Adds requirements of the root of which the candidates that are tried first, one of each package, contradict each
-    /// other. So a search learns the clause that not all of them are chosen.
+    /// Adds requirements of the root whose first candidates, one of each package, contradict each other.
+    ///
+    /// A search then learns the clause that not all of them are chosen.
     fn add_clash(&mut self, packages: &[usize]) -> Result<(), AllocError> {
         let mut tried = Vec::new(self.alloc);
         for package in packages {
@@ -112,7 +114,7 @@ impl Given {
         Ok(())
     }
 
-    /// Adds what leads to so many learnt clauses.
+    /// Adds requirements that lead to this many learnt clauses.
     fn add_clashes(&mut self, learnt: &Learnt<'_>) -> Result<(), AllocError> {
         for _ in 0..learnt.1 {
             self.add_clash(learnt.0)?;
@@ -135,8 +137,10 @@ fn is_false(number: u32) -> Literal {
     }
 }
 
-/// A solvable that is chosen, which requires the first package and the second one, and what leads to learnt clauses. The first
-/// candidates of the two packages are the literals 2 and 5.
+/// Returns the clauses of a chosen solvable that requires the first package and the second one, and those that lead to
+/// learnt clauses.
+///
+/// The first candidates of the two packages are the literals 2 and 5.
 fn given_for(alloc: Global, learnt: &[Learnt<'_>]) -> Result<Given, AllocError> {
     let mut given = Given::new(alloc);
     let requirer = given.add_variable(Owner::none())?;
@@ -149,7 +153,7 @@ fn given_for(alloc: Global, learnt: &[Learnt<'_>]) -> Result<Given, AllocError> 
     Ok(given)
 }
 
-/// The clauses behind the given ones.
+/// Returns the clauses after the given ones.
 fn learnt_in(search: &ClauseSearch, count: usize) -> &[Vec<Literal>] {
     if search.table.len() < count {
         return &[];
@@ -157,7 +161,7 @@ fn learnt_in(search: &ClauseSearch, count: usize) -> &[Vec<Literal>] {
     &search.table[count..]
 }
 
-/// How many literals of a clause are of solvables of the first package.
+/// Returns the number of a clause's literals that are of solvables of the first package.
 fn count_in(clause: &[Literal], owners: &[Owner]) -> usize {
     let mut count = 0usize;
     for literal in clause {
@@ -170,7 +174,7 @@ fn count_in(clause: &[Literal], owners: &[Owner]) -> usize {
     count
 }
 
-/// How many clauses have just one solvable of the first package.
+/// Returns the number of clauses with just one solvable of the first package.
 fn clauses_with_one(clauses: &[Vec<Literal>], owners: &[Owner]) -> usize {
     let mut count = 0usize;
     for clause in clauses {
@@ -181,7 +185,8 @@ fn clauses_with_one(clauses: &[Vec<Literal>], owners: &[Owner]) -> usize {
     count
 }
 
-/// The score of the first package by learnt clauses: each solvable of it in one adds to the score, which then fades.
+/// Returns the score of the first package by learnt clauses: each of its solvables in a clause adds to the score, which
+/// then decays.
 fn score_by(
     alloc: Global,
     activity: Activity,
@@ -199,7 +204,7 @@ fn score_by(
     Ok(scores.read(WIDE, learnt))
 }
 
-/// Whether the first candidate of the first package was decided before that of the second one.
+/// Returns whether the first candidate of the first package was decided before that of the second one.
 fn is_wide_first(search: &ClauseSearch) -> bool {
     match (slot_of(search, 2), slot_of(search, 5)) {
         (Some(wide), Some(narrow)) => wide.value && narrow.value && wide.place < narrow.place,
@@ -207,7 +212,7 @@ fn is_wide_first(search: &ClauseSearch) -> bool {
     }
 }
 
-/// What a search comes to, where it finds values.
+/// Returns the result of a search, if it finds values.
 fn seen_in(
     alloc: Global,
     search: &mut ClauseSearch,
@@ -239,9 +244,9 @@ fn seen_in(
     }))
 }
 
-/// What a new search comes to that learns clauses with candidates of these packages.
+/// Returns the result of a new search that learns clauses with candidates of these packages.
 ///
-/// This alone owns a search.
+/// Only this function owns a search.
 fn seen_after(
     alloc: Global,
     activity: Activity,
@@ -255,7 +260,7 @@ fn seen_after(
     seen
 }
 
-/// Whether a new search decides the requirement with three candidates first.
+/// Returns whether a new search decides the requirement with three candidates first.
 fn prefers_wide(
     alloc: Global,
     activity: Activity,

@@ -6,7 +6,7 @@ ghost use Rattle.resolver_encoding.specs.Notes.{IsBounded, notes_in};
 
 use super::*;
 
-/// Begins the turn of a solvable behind the root's, and reads these, as if they were all that is chosen.
+/// Reads the root, begins the turn of a solvable, and reads these solvables, as if they were the chosen ones.
 fn begin<
     N: Copy + Eq + Hash + Drop,
     S: Copy + Eq + Hash + Drop,
@@ -33,7 +33,7 @@ fn begin<
     Ok(())
 }
 
-/// The turn of a solvable that is refused.
+/// Takes the turn of a solvable that is refused, and returns the counts.
 pub fn refused<
     N: Copy + Eq + Hash + Drop,
     S: Copy + Eq + Hash + Drop,
@@ -72,7 +72,7 @@ pub fn refused<
     ))
 }
 
-/// Whether the turn came to this.
+/// Returns whether the turn had this result.
 pub fn is_turn(outcome: &Result<Turn, Interrupted<u8>>, wanted: Turn) -> bool {
     match outcome {
         Ok(turn) => *turn == wanted,
@@ -80,7 +80,7 @@ pub fn is_turn(outcome: &Result<Turn, Interrupted<u8>>, wanted: Turn) -> bool {
     }
 }
 
-/// Whether the turn of a solvable that is refused comes to this, and the clauses are there at its end.
+/// Returns whether the refused turn of a solvable has this result, and the clauses are there at its end.
 fn comes_to<'x>(
     alloc: Global,
     provider: TestProvider,

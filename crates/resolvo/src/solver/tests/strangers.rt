@@ -15,8 +15,8 @@ use resolver_clause_store::{
 use std::alloc::{AllocError, Global};
 use std::test::Fail;
 
-/// Package n, below 4294967295, has the one candidate n, the only member of version set n. It is made when the package
-/// is asked.
+/// A provider of packages in a row: package n, below 4294967295, has only the candidate n, which is the only member of
+/// version set n. It is made when the package is asked.
 #[derive(Drop)]
 struct Chain {
     alloc: Global,
@@ -24,10 +24,10 @@ struct Chain {
     reach: u32,
 }
 
-/// Has the name of package 0, and is listed by no package.
+/// A solvable with the name of package 0, which no package lists.
 const STRANGER: u32 = 4_294_967_295;
 
-/// The requirements of a solvable.
+/// Returns the requirements of a solvable.
 fn required_by(
     alloc: Global,
     reach: u32,
@@ -162,10 +162,10 @@ struct Asked<'x> {
     soft: &'x [u32],
 }
 
-/// The wanted result of a problem.
+/// The expected result of a problem.
 #[derive(Clone, Copy)]
 enum Wanted<'x> {
-    /// These are chosen, and of them these are exempt.
+    /// The first solvables are chosen, and of these the second ones are exempt.
     Answer(&'x [u32], &'x [u32]),
     /// Ids run out.
     Ids,
@@ -198,7 +198,7 @@ fn is_wanted(solver: &Solver<Chain>, outcome: &Outcome, wanted: &Wanted<'_>) -> 
     }
 }
 
-/// Whether a problem with these parts ends with this.
+/// Returns whether a problem with these parts has this result.
 fn ends_with(
     solver: &mut Solver<Chain>,
     required: Vec<ConditionalRequirement>,
@@ -216,7 +216,7 @@ fn ends_with(
     is_wanted(solver, &outcome, wanted)
 }
 
-/// Whether the problem with these parts ends with that.
+/// Returns whether the problem with these parts has this result.
 fn solves(
     solver: &mut Solver<Chain>,
     asked: &Asked<'_>,
@@ -230,7 +230,7 @@ fn solves(
     Ok(ends_with(solver, required, constrained, soft, wanted))
 }
 
-/// The same with room for so many variables.
+/// The same with room for this many variables.
 fn solves_within(
     solver: &mut Solver<Chain>,
     room: u16,
@@ -243,7 +243,7 @@ fn solves_within(
     solves(solver, asked, wanted)
 }
 
-/// Whether these are chosen, and of them these exempt, where no candidate requires anything.
+/// Returns whether these solvables are chosen and these exempt, if no candidate requires anything.
 fn chooses<'x>(
     alloc: Global,
     asked: Asked<'x>,
@@ -289,7 +289,7 @@ fn one_beside_what_is_chosen_of_its_package_is_refused(rt: HostRuntime) -> Resul
     Ok(())
 }
 
-/// Whether ids run out in a universe without end, with room for so many variables.
+/// Returns whether ids run out in an endless universe with room for this many variables.
 fn runs_out(alloc: Global, room: u16) -> Result<bool, AllocError> {
     let asked = Asked {
         required: &[FIRST],
