@@ -159,7 +159,8 @@ module _ {N S : Type 0} (u : Universe N S) where
   -- the package of one more version set
   pub IsIndexing-more : (number : ℕ) (list : List VersionSetId) (i : ℕ) (d : VersionSetId) (old mid new : Notes N S) (n : N) →
       n ≡ u.version_set_name (get_or list i d) → i < length list → IsIndexing u number (take i list) old mid →
-      (AreGroups mid.deferred_by_name → AddsNamed mid.deferred_by_name new.deferred_by_name n number) → new ≡ record mid { deferred_by_name = new.deferred_by_name } →
+      (AreGroups mid.deferred_by_name → AddsNamed mid.deferred_by_name new.deferred_by_name n number) →
+      new ≡ record mid { deferred_by_name = new.deferred_by_name } →
       IsIndexing u number (take (i + 1) list) old new
   IsIndexing-more number list i d old mid new n named below before adds is =
       let same : mid.deferred_by_name ≡ before.deferred_by_name = ap (λ (m : Notes N S). m.deferred_by_name) before.is in
@@ -172,7 +173,8 @@ module _ {N S : Type 0} (u : Universe N S) where
         is = is ∙ ap (λ (m : Notes N S). record m { deferred_by_name = new.deferred_by_name }) before.is;
         sound = λ h. (adds (ready h)).sound;
         earlier = λ h m k at. let Is : Groups N ℕ → Type 0 = λ g. IsNamed g m k in (adds (ready h)).earlier m k (subst Is (sym same) (before.earlier h m k at));
-        here = λ h. All-grown_at (λ v. IsNamed mid.deferred_by_name (u.version_set_name v) number) (λ v. IsNamed new.deferred_by_name (u.version_set_name v) number) list i d
+        here = λ h. All-grown_at (λ v. IsNamed mid.deferred_by_name (u.version_set_name v) number)
+            (λ v. IsNamed new.deferred_by_name (u.version_set_name v) number) list i d
             (λ v at. (adds (ready h)).earlier (u.version_set_name v) number at) below (subst Here (sym same) (before.here h))
             (subst Named named (adds (ready h)).here);
       }
@@ -324,8 +326,8 @@ module _ {N S : Type 0} (u : Universe N S) where
       }
 
       -- all of a group are
-      pub IsQuietUnder-all : (n : N) (numbers : List ℕ) → ((i : ℕ) → IsNamed old.deferred_by_name n i → Contains numbers i) → All (IsQuietAt u set new) numbers →
-          IsQuietUnder u set new n
+      pub IsQuietUnder-all : (n : N) (numbers : List ℕ) → ((i : ℕ) → IsNamed old.deferred_by_name n i → Contains numbers i) →
+          All (IsQuietAt u set new) numbers → IsQuietUnder u set new n
       IsQuietUnder-all n numbers every quiet =
           record {
             quiet = λ i named. let Named : Groups N ℕ → Type 0 = λ g. IsNamed g n i in

@@ -20,8 +20,8 @@ use Rattle.resolver_clause_store.specs.declared.Origin.TheVariants.{Gate}
 use Rattle.resolver_clause_store.specs.declared.Requirement.{Requirement}
 use Rattle.resolver_clause_store.specs.declared.VersionSetId.{VersionSetId}
 use Rattle.resolver_encoding.specs.Called.{Call, IsCalledBy, IsCalledByEach, IsNamedBy, IsPlainlyNamed, IsSeeingEach, IsWantedBy, to_ask, to_see}
-use Rattle.resolver_encoding.specs.Encodings.{AreDisjuncts, HasRequirement, HasConstraint, IsAskStep, IsConstraintRead, IsDisjunctRead, IsEncodingOf, IsLeft, IsReadStep}
-use Rattle.resolver_encoding.specs.Encodings.{IsStep, Notes}
+use Rattle.resolver_encoding.specs.Encodings.{AreDisjuncts, HasRequirement, HasConstraint, IsAskStep, IsConstraintRead, IsDisjunctRead, IsEncodingOf}
+use Rattle.resolver_encoding.specs.Encodings.{IsLeft, IsReadStep, IsStep, Notes}
 use Rattle.resolver_encoding.specs.Read.{IsForbidden, forbidden_helped}
 use Rattle.resolver_encoding.specs.ReadState.{Deferred, HasClause, has_gate, IsReadRequirement}
 use Rattle.resolver_clause_store.specs.Statements.{AllMeet}
@@ -230,7 +230,8 @@ module _ {N S : Type 0} (u : Universe N S) where
       has_gate s refl refl implied (now.encoding.gated r gate)
 
   -- a constraint of the root or of a solvable that is apart from its helper
-  pub constraint_read : (old new : Notes N S) (by : By S) (v : VersionSetId) → IsEncodingOf u (HasConstraint u by v) old → IsStep u (HasConstraint u by v) old new →
+  pub constraint_read : (old new : Notes N S) (by : By S) (v : VersionSetId) → IsEncodingOf u (HasConstraint u by v) old →
+      IsStep u (HasConstraint u by v) old new →
       Contains new.constrained v → Contains new.kinds (ConstrainsParent by v) → IsConstraintRead u new.kinds by v
   constraint_read old new by v before step helped parent =
       let now = IsEncodingOf-step u (HasConstraint u by v) old new before step in

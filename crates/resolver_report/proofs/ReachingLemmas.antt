@@ -144,8 +144,8 @@ module _ {S : Type 0} (same : S → S → Bool) (identity : IsIdentity same) (la
         let found = gathered_from (candidates_for same u) rules s inside in
         Contains-all_candidates rules found.0 s found.1 (listed_candidate u found.0 s found.2)
 
-    candidates_itself : (u : S) (requirement : Requirement) (candidates : Vec S Global) (when : Vec (Vec S Global) Global) (s : S) → Contains candidates.items s →
-        Contains (candidates_for {N = N} same u (Requires (Solvable u) requirement candidates when)) s
+    candidates_itself : (u : S) (requirement : Requirement) (candidates : Vec S Global) (when : Vec (Vec S Global) Global) (s : S) →
+        Contains candidates.items s → Contains (candidates_for {N = N} same u (Requires (Solvable u) requirement candidates when)) s
     candidates_itself u requirement candidates when s inside =
         let Listed : Bool → Type 0 = λ b. Contains (items_if b candidates.items) s in
         subst Listed (sym (identity.itself u)) inside
@@ -191,7 +191,8 @@ module _ {S : Type 0} (same : S → S → Bool) (identity : IsIdentity same) (la
           sound : (s : S) → Contains new s → IsReachedBy rules s
           sound s inside =
               let Has : List S → Type 0 = λ set. Contains set s in
-              all_sound (IsReachedBy rules) old (flat_map (candidates_for same u) rules) h.sound (candidates_reached u (h.sound u there)) s (subst Has told inside)
+              all_sound (IsReachedBy rules) old (flat_map (candidates_for same u) rules) h.sound
+              (candidates_reached u (h.sound u there)) s (subst Has told inside)
 
           at_place : (k : ℕ) (v : S) → slice_get old k ≡ Some v → (k < next) ⊎ (k ≡ next) → IsWithin (flat_map (candidates_for same v) rules) new
           at_place k v e (inl below) = λ s inside. within_new s (h.followed k v below e s inside)

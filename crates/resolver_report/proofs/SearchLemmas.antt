@@ -16,9 +16,9 @@ use Rattle.resolver_clause_store.specs.declared.Rule.TheVariants.{Requires, Cons
 use Rattle.resolver_clause_store.specs.Statements.{lists_of, statement_of, AllMeet, IsPresent, ObeysAlone}
 use Rattle.resolver_clause_store.specs.Rules.{AllNeeded, IsNeeded, by_root, by_needed, Obeys}
 use Rattle.resolver_report.specs.Searching.{all_candidates, candidates_in, count_outside}
-use Rattle.resolver_report.specs.Plain.{BreaksSome, Clashes, HasTwo, IsAllowed, IsOnlyInstance, IsForbidden, IsMet, IsOpen, IsRefutedFrom, IsUnmet, HasNoOtherInstance}
+use Rattle.resolver_report.specs.Plain.{BreaksSome, Clashes, HasTwo, IsAllowed, IsOnlyInstance, IsForbidden, IsMet, IsOpen, IsRefutedFrom, IsUnmet}
 use Rattle.resolver_clause_store.proofs.ListLemmas.{Contains-map}
-use Rattle.resolver_report.specs.Plain.{HasOtherInstance}
+use Rattle.resolver_report.specs.Plain.{HasNoOtherInstance, HasOtherInstance}
 
 -- what is there in a set is there in a larger one
 

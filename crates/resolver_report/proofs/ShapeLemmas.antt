@@ -19,8 +19,8 @@ use Rattle.resolver_clause_store.specs.declared.Rule.{Rule}
 use Rattle.resolver_clause_store.specs.declared.Rule.TheVariants.{Requires, Constrains, Lock, Excluded, OnePerPackage}
 use Rattle.resolver_report.specs.Same.{same_node}
 use Rattle.resolver_report.specs.Shapes.{IsShape}
-use Rattle.resolver_report.specs.Graphs.{node_by, mentioned, mentions, first_mentions, requirement_link, requirement_links, last_instance, instance_links, links_of}
-use Rattle.resolver_report.specs.Graphs.{links_after, links, is_entered, place_in, edge_in}
+use Rattle.resolver_report.specs.Graphs.{node_by, mentioned, mentions, first_mentions, requirement_link, requirement_links, last_instance, instance_links}
+use Rattle.resolver_report.specs.Graphs.{links_of, links_after, links, is_entered, place_in, edge_in}
 use Rattle.resolver_report.proofs.GraphLemmas.{IsFinding, finding, same_node_is_identity, has-without_repeats, without_repeats_once}
 
 -- A list with its element at 1 gone and its last one in that place.
@@ -130,7 +130,8 @@ module _ {S : Type 0} (same : S → S → Bool) (identity : IsIdentity same) whe
   last_is_mentioned same_name ms n (Lock locked forbidden ∷ earlier) h = last_is_mentioned same_name ms n earlier h.1
   last_is_mentioned same_name ms n (Excluded solvable reason ∷ earlier) h = last_is_mentioned same_name ms n earlier h.1
 
-  instance_ends : (ms : List (ConflictNode S)) (o : Option S) (s : S) → HasInstance ms o → Has ms (Solvable s) → AllByRecursion (HasEnds ms) (instance_links o s)
+  instance_ends : (ms : List (ConflictNode S)) (o : Option S) (s : S) → HasInstance ms o → Has ms (Solvable s) →
+      AllByRecursion (HasEnds ms) (instance_links o s)
   instance_ends ms None s h k = tt
   instance_ends ms (Some t) s h k = ((h, inl k, λ e. cc), tt)
 

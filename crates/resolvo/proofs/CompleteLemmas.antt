@@ -21,8 +21,8 @@ use Rattle.resolvo.proofs.LineLemmas.{some_at, kept_here, kept_there, kept_cases
 use Rattle.resolvo.proofs.LineLemmas.{bit_line_in, member_line, member_line_in, line_in, rule_of_line}
 use Rattle.resolver_encoding.specs.Codes.{bit}
 use Rattle.resolvo.specs.Minimal.{marked}
-use Rattle.resolvo.specs.RuleClauses.{Line, atom, plain, requirement_line, requirer_atoms, list_atoms, candidate_atoms, condition_lines, lines_of, all_lines, IsLiteralOf}
-use Rattle.resolvo.specs.RuleClauses.{IsClauseOf, HasCode, AreClausesOf, MakesMarkedTrue}
+use Rattle.resolvo.specs.RuleClauses.{Line, atom, plain, requirement_line, requirer_atoms, list_atoms, candidate_atoms, condition_lines, lines_of}
+use Rattle.resolvo.specs.RuleClauses.{all_lines, IsLiteralOf, IsClauseOf, HasCode, AreClausesOf, MakesMarkedTrue}
 use Rattle.resolvo.specs.declared.minimal.rule_clauses.Atom.{Atom}
 use Rattle.resolvo.specs.declared.minimal.rule_clauses.Proposition.{Proposition}
 use Rattle.resolvo.specs.declared.minimal.rule_clauses.Proposition.TheVariants.{Member, Listed, Bit}

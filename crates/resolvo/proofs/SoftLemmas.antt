@@ -189,8 +189,8 @@ module _ {N S : Type 0} where
         variables = omega (arith, rounds.variables, longer);
         bookmark = record {
           base = bookmark.base;
-          follows = follows_still (notes_of old).origins (notes_in encoding).origins bookmark.base bookmark.base (length_of bookmark.base) adds.origins bookmark.known
-              (keeps_itself bookmark.base (length_of bookmark.base) (omega arith)) old.chosen bookmark.follows;
+          follows = follows_still (notes_of old).origins (notes_in encoding).origins bookmark.base bookmark.base (length_of bookmark.base)
+              adds.origins bookmark.known (keeps_itself bookmark.base (length_of bookmark.base) (omega arith)) old.chosen bookmark.follows;
           kept = bookmark.kept;
           known = omega (arith, bookmark.known, longer);
         };

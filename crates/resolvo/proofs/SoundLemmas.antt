@@ -22,8 +22,8 @@ use Rattle.resolver_clause_store.specs.declared.Rule.TheVariants.{Requires, Cons
 use Rattle.resolvo.proofs.LineLemmas.{All-each, marked_in, zip_left, zip_both, bit_line_from, member_line_from, line_from, rule_of_line}
 use Rattle.resolver_encoding.specs.Codes.{bit}
 use Rattle.resolvo.specs.Minimal.{marked}
-use Rattle.resolvo.specs.RuleClauses.{Line, atom, plain, requirement_line, requirer_atoms, list_atoms, candidate_atoms, condition_lines, lines_of, all_lines, IsLiteralOf}
-use Rattle.resolvo.specs.RuleClauses.{IsClauseOf, HasCode, AreClausesOf, MakesMarkedTrue}
+use Rattle.resolvo.specs.RuleClauses.{Line, atom, plain, requirement_line, requirer_atoms, list_atoms, candidate_atoms, condition_lines, lines_of}
+use Rattle.resolvo.specs.RuleClauses.{all_lines, IsLiteralOf, IsClauseOf, HasCode, AreClausesOf, MakesMarkedTrue}
 use Rattle.resolvo.specs.declared.minimal.rule_clauses.Atom.{Atom}
 use Rattle.resolvo.specs.declared.minimal.rule_clauses.Proposition.{Proposition}
 use Rattle.resolvo.specs.declared.minimal.rule_clauses.Proposition.TheVariants.{Member, Listed, Bit}
@@ -243,7 +243,8 @@ module _ {N S : Type 0} (names : N → N → Bool) (solvables : S → S → Bool
         (λ (none : Contains [] line). none_in line none)
         (cons_cases only [] line inside)
 
-    requirement_line_is : (by : By S) (candidates : Vec S Global) (lists : List (Vec S Global)) → ((j : ℕ) → value (Listed place j) ≡ passes (slice_get lists j)) →
+    requirement_line_is : (by : By S) (candidates : Vec S Global) (lists : List (Vec S Global)) →
+        ((j : ℕ) → value (Listed place j) ≡ passes (slice_get lists j)) →
         (IsPresent by set → AllMeet set (lists_of lists) → Meets candidates.items set) →
         None_true (requirer_atoms by ++ (list_atoms place (length lists) ++ candidate_atoms candidates.items)) → ⊥
     requirement_line_is by candidates lists is alone wrong =
