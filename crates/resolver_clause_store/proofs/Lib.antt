@@ -10,7 +10,6 @@ pub mod RequirementLemmas
 pub mod NearLemmas
 pub mod FirstChoiceLemmas
 pub mod SoftRunLemmas
-pub mod ValidLemmas
 pub mod CacheLemmas
 pub mod TableLemmas
 pub mod VersionSetLemmas

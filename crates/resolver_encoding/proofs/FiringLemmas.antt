@@ -1,7 +1,7 @@
 -- Disjuncts that are put off, taken out and fired.
 use Rattle.std.proofs.Common.{◌≡◌, ◌≢◌, ◌⊎◌, ℕ, zero, suc, ◌+◌, ◌-◌, ◌<◌, ◌≤◌, Bool, true, false, MatchBool, List, [], ◌∷◌, ◌++◌, length, get_or, take, drop}
 use Rattle.std.proofs.Common.{map, refl, ap, sym, ◌∙◌, subst, ⊎_elim, inl, inr, arith, Contains, All, cond}
-use Rattle.std.specs.Prelude.{⊤, Option, Some, None, IfSome, IfNone, count_by, is_some, slice_get, slice_set, ◌||◌}
+use Rattle.std.specs.Prelude.{Option, Some, None, IfSome, IfNone, count_by, is_some, slice_get, slice_set, ◌||◌}
 use Rattle.std.specs.Option.{option_map}
 use Rattle.std.proofs.lemmas.Bool.{cases_eq, cases_lt}
 use Rattle.std.proofs.lemmas.List.{get_or-drop, length-drop, length-map, map-append}
@@ -14,7 +14,7 @@ use Rattle.resolver_clause_store.specs.Candidates.{matching}
 use Rattle.resolver_clause_store.specs.declared.VersionSetId.{VersionSetId}
 use Rattle.resolver_clause_store.proofs.PlaceLemmas.{Keeps-trans, place_cases, place_of_member}
 use Rattle.resolver_encoding.specs.Called.{Call, IsWantedBy}
-use Rattle.resolver_encoding.specs.Encodings.{IsAskStep, IsEncoding, IsEncodingOf, IsFollowed, IsLeft, IsReadStep, IsTrueEntry, IsTrueUnder, Notes}
+use Rattle.resolver_encoding.specs.Encodings.{IsAskStep, IsEncoding, IsFollowed, IsLeft, IsReadStep, IsTrueEntry, IsTrueUnder, Notes}
 use Rattle.resolver_encoding.specs.Groups.{AddsNamed, AreGroups, IsNamed}
 use Rattle.resolver_encoding.specs.Notes.{entry_of}
 use Rattle.resolver_encoding.specs.ReadState.{Deferred, HasClause}
@@ -26,22 +26,14 @@ use Rattle.resolver_encoding.proofs.EncodingLemmas.{Extends-push, Extends-trans,
 use Rattle.resolver_encoding.proofs.NoteLemmas.{All-grown_at}
 use Rattle.resolver_clause_store.proofs.ListLemmas.{Contains-at as place_in, Contains-map}
 use Rattle.resolver_encoding.proofs.ReadLemmas.{HasClause-within}
-
--- what a test says that answers yes, or no
-match_true : (P Q : Type 0) (b : Bool) → b ≡ true → MatchBool b P Q → P
-match_true P Q true is fact = fact
-match_true P Q false is fact = absurd cc
-
-match_false : (P Q : Type 0) (b : Bool) → b ≡ false → MatchBool b P Q → Q
-match_false P Q true is fact = absurd cc
-match_false P Q false is fact = fact
+use Rattle.resolver_encoding.proofs.RequirementLemmas.{fails_if, holds_if}
 
 pub met_if : {S : Type 0} (candidates set : List S) (b : Bool) → b ≡ true → MatchBool b (Meets candidates set) (Meets candidates set → ⊥) → Meets candidates set
-met_if candidates set b is fact = match_true (Meets candidates set) (Meets candidates set → ⊥) b is fact
+met_if candidates set b is fact = holds_if b (Meets candidates set) (Meets candidates set → ⊥) is fact
 
 pub unmet_if : {S : Type 0} (candidates set : List S) (b : Bool) → b ≡ false → MatchBool b (Meets candidates set) (Meets candidates set → ⊥) →
     Meets candidates set → ⊥
-unmet_if candidates set b is fact = match_false (Meets candidates set) (Meets candidates set → ⊥) b is fact
+unmet_if candidates set b is fact = fails_if b (Meets candidates set) (Meets candidates set → ⊥) is fact
 
 -- a version set that is not met
 pub unmet_at : {N S : Type 0} (u : Universe N S) (set : List S) (list : List VersionSetId) (i : ℕ) (d : VersionSetId) → i < length list →
@@ -336,9 +328,6 @@ module _ {N S : Type 0} (u : Universe N S) where
 
       pub groups_kept : AreGroups old.deferred_by_name → AreGroups new.deferred_by_name
       groups_kept sound = let Sound : Groups N ℕ → Type 0 = λ g. AreGroups g in subst Sound (sym firing.deferred_by_name) sound
-
-      pub IsEncodingOf-fired : IsEncodingOf u (λ root. ⊤) old → IsEncodingOf u (λ root. ⊤) new
-      IsEncodingOf-fired before = record { root = before.root; premise = tt; encoding = firing.keeps before.root before.encoding }
 
   -- all that wait for the package of a solvable between these places
   pub record AreQuiet (set : List S) (notes : Notes N S) (from place : ℕ) : Type 0 where

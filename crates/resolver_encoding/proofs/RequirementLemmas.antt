@@ -95,9 +95,6 @@ module _ {N S : Type 0} (u : Universe N S) where
   disjunct_met set (Some c) lists are holds = disjunct_holds u (Contains set) c lists are holds
 
   module _ (notes : Notes N S) (by : By S) (requirement : Requirement) where
-    abbrev Given : List VersionSetId → Type 0
-    Given list = IsDisjunctRead notes by requirement list
-
     -- the disjuncts of the clauses, and those that are put off
     abbrev chosen : (lists : List (List VersionSetId)) → All (IsDisjunctRead notes by requirement) lists → List (List VersionSetId)
     chosen [] all = []
@@ -208,12 +205,6 @@ module _ {N S : Type 0} (u : Universe N S) where
       (IsAskStep-weaker u (IsWantedBy u r.requirement) (IsCalledBy u set r) (λ call wanted. (subst Holds (sym none) tt, wanted))
       (HasRequirement u (BySolvable requirer) (record { condition = None; requirement = r.requirement })) (HasRequirement u by r) (λ root asks.
       subst (λ q. Asks (BySolvable requirer) q root) plain (subst (λ b. Asks b r root) same asks)) old new step)
-
-  -- a condition holds where a disjunct of it is met
-  pub active_where : (set : List S) (when : List (List S)) (c : Option ConditionId) → Implies u when c → AllMeet set when →
-      OptionalConditionHolds u (Contains set) c
-  active_where set when None implies met = tt
-  active_where set when (Some c) implies met = implies set met
 
   -- a gate follows from a solvable that asks for its requirement
   pub gate_follows : (codes : N → ℕ → S → Bool) (s : S) (r : Requirement) →

@@ -1,13 +1,12 @@
 -- Why following what is reached ends, and with just what is reached.
 use Rattle.std.proofs.Common.{◌≡◌, ◌⊎◌, ℕ, zero, suc, ◌+◌, ◌-◌, ◌<◌, ◌≤◌, Bool, true, false, List, [], ◌∷◌, ◌++◌, length, append_assoc, length-append, refl}
-use Rattle.std.proofs.Common.{sym, ◌∙◌, ap, subst, true≢false, inl, inr, arith, Contains, MatchBool, Vec, Global}
+use Rattle.std.proofs.Common.{sym, ◌∙◌, ap, subst, inl, inr, arith, Contains, MatchBool, Vec, Global}
 use Rattle.std.specs.Cmp.{IsEquivalence}
 use Rattle.std.specs.List.{flat_map, list_any, items_where_true}
 use Rattle.std.specs.List.Retain.{IsFiltered, ReturnsInTurn}
 use Rattle.std.specs.Prelude.{if◌then◌else◌, Some, slice_get}
 use Rattle.std.proofs.lemmas.List.{append-nil}
 use Rattle.std.proofs.lemmas.List.Elements.{All-cons, All-nil, Contains-append_left, Contains-push_cases, All-weaker}
-use Rattle.std.proofs.lemmas.Map.Views.{list_any-from_Contains, Contains-from_any}
 use Rattle.std.proofs.lemmas.Option.{get_or_from_slice_get, slice_get-get_or, slice_get_within}
 use Rattle.indexmap.proofs.CallerLemmas.{Contains-insert_key}
 use Rattle.indexmap.specs.IndexSet.{insert_all, insert_key}
@@ -27,6 +26,7 @@ use Rattle.resolver_report.proofs.CandidateListLemmas.{gathered, gathered_from, 
 use Rattle.resolver_report.specs.Searching.{all_candidates, candidates_in, count_outside}
 use Rattle.resolver_clause_store.proofs.ListLemmas.{Contains-here as head_in, Contains-none as none_in, slice_get-append_left, Contains-there}
 use Rattle.resolver_report.proofs.SearchLemmas.{Contains-all_candidates, count_outside-lt, list_any-outside}
+use Rattle.resolver_clause_store.proofs.MemberLemmas.{list_any-member}
 
 module _ {S : Type 0} (same : S → S → Bool) where
   -- solvables of one list were added at the end, each of which was not there
@@ -58,11 +58,6 @@ pub record IsUnderway {N S : Type 0} (same : S → S → Bool) (rules : List (Ru
   pub followed : (k : ℕ) (u : S) → k < next → slice_get set k ≡ Some u → IsWithin (flat_map (candidates_for same u) rules) set
 
 module _ {S : Type 0} (same : S → S → Bool) (identity : IsIdentity same) (laws : IsEquivalence same) where
-  -- the search finds just the members
-  pub list_any-member : (ks : List S) (q : S) (b : Bool) → b ≡ list_any (same q) ks → MatchBool b (Contains ks q) (Contains ks q → ⊥)
-  list_any-member ks q true e = Contains-from_any identity.alone q ks (sym e)
-  list_any-member ks q false e = λ h. true≢false (sym (list_any-from_Contains laws q ks h) ∙ sym e)
-
   Growth-key : (all old : List S) (k : S) → Contains all k → IsGrowth same all old (insert_key same old k)
   Growth-key all old k inside = by (list_any (same k) old) refl
     where
@@ -70,7 +65,7 @@ module _ {S : Type 0} (same : S → S → Bool) (identity : IsIdentity same) (la
       by true e = Growth-none same all old
       by false e =
           let fewer : count_outside same (old ++ k ∷ []) all < count_outside same old all =
-          count_outside-lt same old k all inside (list_any-outside same identity old k (list_any-member old k false e)) (identity.itself k) in
+          count_outside-lt same old k all inside (list_any-outside same identity old k (list_any-member identity laws old k false e)) (identity.itself k) in
           record { more = k ∷ []; is = refl; counts = simp length-append (omega (arith, fewer)) }
 
   Growth-all : (all old : List S) (cs : List S) → IsWithin cs all → IsGrowth same all old (insert_all same old cs)
@@ -163,9 +158,6 @@ module _ {S : Type 0} (same : S → S → Bool) (identity : IsIdentity same) (la
 
     module _ (old new : List S) (next : ℕ) (u : S) (at_next : slice_get old next ≡ Some u)
         (told : new ≡ insert_all same old (flat_map (candidates_for same u) rules)) where
-      listed_there : List S
-      listed_there = flat_map (candidates_for same u) rules
-
       growth : IsGrowth same (all_candidates rules) old new
       growth = let Grown : List S → Type 0 = λ set. IsGrowth same (all_candidates rules) old set in
           subst Grown (sym told) (Growth-all (all_candidates rules) old (flat_map (candidates_for same u) rules) (candidates_within u))

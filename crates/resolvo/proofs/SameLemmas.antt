@@ -1,5 +1,5 @@
 -- What rules that state the same have in common.
-use Rattle.std.proofs.Common.{◌≡◌, ℕ, zero, suc, List, [], ◌∷◌, ◌++◌, get_or, take, drop, arith, refl, sym, subst, Contains, All}
+use Rattle.std.proofs.Common.{◌≡◌, ℕ, zero, suc, List, [], ◌∷◌, get_or, take, drop, arith, sym, subst, Contains, All}
 use Rattle.std.specs.Prelude.{remove}
 use Rattle.std.specs.List.{AllZip}
 use Rattle.std.proofs.lemmas.List.Elements.{All-contains, Contains-get_or, length_all_zip}
@@ -8,8 +8,9 @@ use Rattle.resolver_clause_store.specs.Statements.{ObeysAlone, StatesTheSame, on
 use Rattle.resolver_clause_store.specs.Rules.{Obeys, IsRefuted, IsIrreducible}
 use Rattle.resolver_clause_store.specs.TrueRules.{IsTrueRule, IsTrueStatement}
 use Rattle.resolver_clause_store.specs.declared.Rule.{Rule}
-use Rattle.resolver_clause_store.proofs.ListLemmas.{Contains-there as further}
+use Rattle.resolver_clause_store.proofs.ListLemmas.{AllZip-append}
 use Rattle.resolver_clause_store.specs.declared.Rule.TheVariants.{Requires, Constrains, Lock, Excluded, OnePerPackage}
+use Rattle.resolvo.proofs.LineLemmas.{zip_left}
 
 pub StatesTheSame-flip : {N S : Type 0} (rule other : Rule N S) → StatesTheSame rule other → StatesTheSame other rule
 StatesTheSame-flip rule other same = sym same
@@ -23,25 +24,11 @@ pub IsTrueRule-same : {N S : Type 0} (u : Universe N S) (root : Demands) (rule o
     IsTrueRule u root other
 IsTrueRule-same u root rule other same h = subst (IsTrueStatement u root) same h
 
--- one of two lists that agree element by element has, for each element, one of the other
-pub zip_left : {X : Type 0} (R : X → X → Type 0) (xs ys : List X) → AllZip R xs ys → (x : X) → Contains xs x → (y : X) × Contains ys y × R x y
-zip_left R [] ys h x inside = absurd (omega (arith, inside.1))
-zip_left R (x ∷ xs) [] h z inside = absurd h
-zip_left {X} R (x ∷ xs) (y ∷ ys) (here, rest) z (zero, below, is) = let At : X → Type 0 = λ q. R q y in (y, (zero, omega arith, refl), subst At is here)
-zip_left R (x ∷ xs) (y ∷ ys) (here, rest) z (suc k, below, is) = let w = zip_left R xs ys rest z (k, omega (arith, below), is) in
-    (w.0, further y ys w.0 w.1, w.2)
-
 pub zip_flip : {X : Type 0} (R : X → X → Type 0) → ((x y : X) → R x y → R y x) → (xs ys : List X) → AllZip R xs ys → AllZip R ys xs
 zip_flip R flip [] [] h = tt
 zip_flip R flip [] (y ∷ ys) h = absurd h
 zip_flip R flip (x ∷ xs) [] h = absurd h
 zip_flip R flip (x ∷ xs) (y ∷ ys) (here, rest) = (flip x y here, zip_flip R flip xs ys rest)
-
-pub zip_append : {X : Type 0} (R : X → X → Type 0) (xs ys zs ws : List X) → AllZip R xs ys → AllZip R zs ws → AllZip R (xs ++ zs) (ys ++ ws)
-zip_append R [] [] zs ws h k = k
-zip_append R [] (y ∷ ys) zs ws h k = absurd h
-zip_append R (x ∷ xs) [] zs ws h k = absurd h
-zip_append R (x ∷ xs) (y ∷ ys) zs ws (here, rest) k = (here, zip_append R xs ys zs ws rest k)
 
 zip_take : {X : Type 0} (R : X → X → Type 0) (n : ℕ) (xs ys : List X) → AllZip R xs ys → AllZip R (take n xs) (take n ys)
 zip_take R zero xs ys h = tt
@@ -58,7 +45,7 @@ zip_drop R (suc n) (x ∷ xs) [] h = absurd h
 zip_drop R (suc n) (x ∷ xs) (y ∷ ys) (here, rest) = zip_drop R n xs ys rest
 
 pub zip_remove : {X : Type 0} (R : X → X → Type 0) (xs ys : List X) (k : ℕ) → AllZip R xs ys → AllZip R (remove xs k) (remove ys k)
-zip_remove R xs ys k h = zip_append R (take k xs) (take k ys) (drop (suc k) xs) (drop (suc k) ys) (zip_take R k xs ys h) (zip_drop R (suc k) xs ys h)
+zip_remove R xs ys k h = AllZip-append R (take k xs) (drop (suc k) xs) (take k ys) (drop (suc k) ys) (zip_take R k xs ys h) (zip_drop R (suc k) xs ys h)
 
 -- the rule that states a mark is that mark
 is_mark : {N S : Type 0} (rule : Rule N S) (name : N) (instance : S) → one_per_package name instance ≡ statement_of rule → OnePerPackage name instance ≡ rule
