@@ -7,6 +7,7 @@ pub mod ConditionLemmas
 pub mod DisjunctLemmas
 pub mod PartialLemmas
 pub mod RequirementLemmas
+pub mod SameRequirementLemmas
 pub mod NearLemmas
 pub mod FirstChoiceLemmas
 pub mod SoftRunLemmas

@@ -18,7 +18,8 @@ use Rattle.resolver_encoding.specs.Truth.{follows, IsTrueClause}
 use Rattle.resolver_encoding.specs.Core.{same_helper, says_implies, implied_in}
 use Rattle.resolver_clause_store.proofs.BoolLemmas.{and_left, and_right}
 use Rattle.resolver_clause_store.proofs.ListLemmas.{list_any-contains, list_any-witness}
-use Rattle.resolver_encoding.proofs.Sound.{same_requirement-true, same_requirement-same, nat_same}
+use Rattle.resolver_clause_store.proofs.SameRequirementLemmas.{same_requirement-true, same_requirement-same}
+use Rattle.resolver_encoding.proofs.Sound.{nat_same}
 
 module _ {N S : Type 0} (u : Universe N S) (same_name : N → N → Bool) (names : IsIdentity same_name) (same : IsIdentity u.same_solvable) where
   same_helper-same : (o : Origin N S) → IsHelper o → same_helper same_name o o ≡ true

@@ -31,7 +31,7 @@ use Rattle.resolver_encoding.proofs.EncodingLemmas.{IsAskStep-weaker, IsEncoding
 use Rattle.resolver_encoding.proofs.ReadLemmas.{HasClause-within}
 use Rattle.resolver_clause_store.proofs.ListLemmas.{Contains-cons_cases as cons_cases, Contains-here as here, Contains-none as none_in, Contains-there as there}
 use Rattle.resolver_clause_store.proofs.ListLemmas.{list_any-contains}
-use Rattle.resolver_encoding.proofs.Sound.{same_requirement-same}
+use Rattle.resolver_clause_store.proofs.SameRequirementLemmas.{same_requirement-same}
 
 -- what holds of each image holds of each element
 pub All-unmap : {X Y : Type 0} (P : Y → Type 0) (f : X → Y) (xs : List X) → All P (map f xs) → All (λ x. P (f x)) xs

@@ -6,9 +6,8 @@ use Rattle.std.proofs.lemmas.Bool.{false≢true, and_from}
 use Rattle.std.proofs.lemmas.List.Sums.{sum_by-cons}
 use lib.Pointwise.{pointwise}
 use Rattle.resolver_clause_store.specs.declared.Requirement.{Requirement}
-use Rattle.resolver_clause_store.specs.declared.Requirement.TheVariants.{Single, Union}
 use Rattle.resolver_report.specs.declared.graph.Side.{Side}
-use Rattle.resolver_report.specs.Same.{same_requirement}
+use Rattle.resolver_clause_store.proofs.SameRequirementLemmas.{same_requirement-true}
 use Rattle.resolver_report.specs.Merging.{same_required, same_side, has_count, same_counts, same_texts, Key, are_alike, are_alike_if_there, class_in}
 use Rattle.resolver_clause_store.proofs.BoolLemmas.{and_left, and_right}
 use Rattle.resolver_report.specs.Merging.{first_of_two}
@@ -24,14 +23,8 @@ same_numbers m n e = search (rules, e)
 pub itself_number : (m : ℕ) → (m == m) ≡ true
 itself_number m = search rules
 
-pub requirement_alone : (r q : Requirement) → same_requirement r q ≡ true → r ≡ q
-requirement_alone (Single v) (Single w) e = ap (λ n. Single (record { 0 = n })) (same_numbers v.0 w.0 e)
-requirement_alone (Union v) (Union w) e = ap (λ n. Union (record { 0 = n })) (same_numbers v.0 w.0 e)
-requirement_alone (Single v) (Union w) e = absurd (false≢true e)
-requirement_alone (Union v) (Single w) e = absurd (false≢true e)
-
 required_alone : (a b : Option Requirement) → same_required a b ≡ true → a ≡ b
-required_alone (Some r) (Some q) e = ap Some (requirement_alone r q e)
+required_alone (Some r) (Some q) e = ap Some (same_requirement-true r q e)
 required_alone None None e = refl
 required_alone (Some r) None e = absurd (false≢true e)
 required_alone None (Some q) e = absurd (false≢true e)

@@ -18,13 +18,12 @@ use Rattle.std.proofs.lemmas.Option.{slice_get-map, slice_get_past, slice_get-ge
 use Rattle.resolver_clause_store.specs.Laws.{IsIdentity}
 use Rattle.resolver_clause_store.specs.Universe.{Universe}
 use Rattle.resolver_clause_store.specs.declared.Requirement.{Requirement}
-use Rattle.resolver_clause_store.specs.declared.Requirement.TheVariants.{Single, Union}
 use Rattle.resolver_report.specs.declared.keys.NodeKey.{NodeKey}
 use Rattle.resolver_report.specs.declared.graph.Side.{Side}
 use Rattle.resolver_report.specs.Classes.{has_key, places_of_key}
 use Rattle.resolver_report.specs.Keys.{AreKeysOf, IsInOrder, IsKeyOf, IsOrderedKey, same_key}
 use Rattle.resolver_report.specs.Merging.{same_required, same_side, same_counts, same_texts, Key, are_alike, are_alike_if_there, class_in, key_of, keys}
-use Rattle.resolver_report.specs.Same.{same_requirement}
+use Rattle.resolver_clause_store.proofs.SameRequirementLemmas.{same_requirement-same}
 use Rattle.resolver_report.specs.Shapes.{Shape}
 use Rattle.resolver_report.specs.Listed.{items_if}
 use Rattle.resolver_report.specs.Shapes.{places}
@@ -34,13 +33,9 @@ use Rattle.resolver_report.proofs.AlikeLemmas.{texts_pointwise}
 use Rattle.resolver_clause_store.proofs.BoolLemmas.{and_left, and_right}
 use Rattle.resolver_report.proofs.OrderedLemmas.{sorted_same}
 
-requirement_itself : (r : Requirement) → same_requirement r r ≡ true
-requirement_itself (Single v) = itself_number v.0
-requirement_itself (Union v) = itself_number v.0
-
 required_itself : (o : Option Requirement) → same_required o o ≡ true
 required_itself None = refl
-required_itself (Some r) = requirement_itself r
+required_itself (Some r) = same_requirement-same r
 
 side_itself : (a : Side) → same_side a a ≡ true
 side_itself a = and_from (same_required a.required a.required) (a.other.0 == a.other.0) (required_itself a.required) (itself_number a.other.0)

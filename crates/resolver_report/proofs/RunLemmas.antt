@@ -7,10 +7,10 @@ use Rattle.resolver_report.specs.declared.graph.ConflictEdge.{ConflictEdge}
 use Rattle.resolver_report.specs.declared.graph.ConflictEdge.TheVariants.{Requires, Conflict}
 use Rattle.resolver_report.specs.declared.graph.Edge.{Edge}
 use Rattle.resolver_report.specs.declared.runs.EdgeRun.{EdgeRun}
-use Rattle.resolver_report.specs.Same.{same_requirement}
+use Rattle.resolver_clause_store.specs.SameRequirements.{same_requirement}
 use Rattle.resolver_report.specs.Runs.{Run, joined, with_edge, runs_of}
 use Rattle.resolver_report.specs.EdgeRuns.{run_view, and_then, new_run}
-use Rattle.resolver_report.proofs.AlikeLemmas.{requirement_alone}
+use Rattle.resolver_clause_store.proofs.SameRequirementLemmas.{same_requirement-true}
 
 -- putting an edge in front and one at the end
 joined_and_then : (q : Requirement) (m : NodeId) (r : Requirement) (n : NodeId) (runs : List Run) →
@@ -23,8 +23,8 @@ joined_and_then q m r n (run ∷ []) = one (same_requirement q run.requirement) 
     one : (a b : Bool) → same_requirement q run.requirement ≡ a → same_requirement run.requirement r ≡ b →
         joined q m (cond b (new_run run.requirement (run.targets ++ n ∷ []) ∷ []) (run ∷ new_run r (n ∷ []) ∷ [])) ≡ and_then r n
         (cond a (new_run q (m ∷ run.targets) ∷ []) (new_run q (m ∷ []) ∷ run ∷ []))
-    one true true e f = let same : same_requirement q r ≡ true = rw (requirement_alone q run.requirement e) f in rw (e, same) refl
-    one true false e f = let same : same_requirement q r ≡ false = rw (requirement_alone q run.requirement e) f in rw (e, same) refl
+    one true true e f = let same : same_requirement q r ≡ true = rw (same_requirement-true q run.requirement e) f in rw (e, same) refl
+    one true false e f = let same : same_requirement q r ≡ false = rw (same_requirement-true q run.requirement e) f in rw (e, same) refl
     one false true e f = rw (e, f) refl
     one false false e f = rw (e, f) refl
 joined_and_then q m r n (run ∷ next ∷ runs) =
