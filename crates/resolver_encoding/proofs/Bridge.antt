@@ -49,7 +49,7 @@ use Rattle.resolver_encoding.proofs.Extended.{values_by, values_by-origin, table
 use Rattle.resolver_clause_store.proofs.BoolLemmas.{beq-false, beq-true}
 use Rattle.resolver_clause_store.proofs.KeptLemmas.{slot_at}
 use Rattle.resolver_clause_store.proofs.ListLemmas.{Contains-cons_cases as cons_cases, Contains-here as here, Contains-map, Contains-map_back, Contains-at}
-use Rattle.resolver_clause_store.proofs.ListLemmas.{Contains-none as none_in, Contains-there as there, list_any-contains, list_any-witness}
+use Rattle.resolver_clause_store.proofs.ListLemmas.{Contains-none as none_in, Contains-there as there, list_any-contains, list_any-witness, AllZip-right}
 use Rattle.resolver_clause_store.proofs.WatchListLemmas.{literal-same}
 use Rattle.resolver_encoding.proofs.ReadLemmas.{so_far_read}
 
@@ -73,15 +73,6 @@ literal_open None slot q e at = absurd cc
 literal_open (Some s) slot q e at = absurd cc
 
 -- two lists that agree element by element
-zip_has : {A B : Type 0} (R : A → B → Type 0) (xs : List A) (ys : List B) (y : B) → AllZip R xs ys → Contains ys y → (x : A) × Contains xs x × R x y
-zip_has R [] [] y h inside = absurd (none_in y inside)
-zip_has R [] (z ∷ zs) y h inside = absurd h
-zip_has R (x ∷ xs) [] y h inside = absurd h
-zip_has {A} {B} R (x ∷ xs) (z ∷ zs) y h inside = ⊎_elim
-    (λ e. let At : B → Type 0 = λ q. R x q in (x, here x xs, subst At e h.0))
-    (λ t. let w = zip_has R xs zs y h.1 t in (w.0, there x xs w.0 w.1, w.2))
-    (cons_cases z zs y inside)
-
 record Halves {A B : Type 0} (R : A → B → Type 0) (before : List A) (x : A) (ys : List B) : Type 0 where
   first : List B
   middle : B
@@ -231,7 +222,7 @@ module _ {N S : Type 0} (origins : List (Origin N S)) (trail : Trail) (size : va
   zip_negation : (n : ℕ) (before : List Literal) (first : List (Atom N S)) → AllZip (IsAtom origins) before first → All (IsFalseBefore trail n) before →
       (a : Atom N S) → Contains first a → Contains (atoms_before origins trail n) (atom a.origin (not a.positive))
   zip_negation n before first zip falses a inside =
-      let w = zip_has (IsAtom origins) before first a zip inside in
+      let w = AllZip-right (IsAtom origins) before first zip a inside in
       let f = All-contains (IsFalseBefore trail n) before w.0 falses w.1 in
       let o : origin_at origins w.0.variable ≡ a.origin = origin_is w.0.variable a.origin w.2.origin (false_in_range n w.0 f) in
       let P : Origin N S → Bool → Type 0 = λ x b. Contains (atoms_before origins trail n) (atom x (not b)) in

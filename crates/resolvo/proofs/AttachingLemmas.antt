@@ -1,5 +1,5 @@
 -- What attaching clauses, cutting a trail and more variables keep of what propagation keeps.
-use Rattle.std.proofs.Common.{◌≡◌, ◌≢◌, ℕ, zero, suc, ◌+◌, ◌*◌, ◌-◌, ◌<◌, ◌≤◌, ◌⊎◌, List, [], ◌∷◌, ◌++◌, length, get_or, take, min, Some, None, Option}
+use Rattle.std.proofs.Common.{◌≡◌, ◌≢◌, ℕ, ◌+◌, ◌*◌, ◌-◌, ◌<◌, ◌≤◌, ◌⊎◌, List, [], ◌∷◌, ◌++◌, length, get_or, take, min, Some, None, Option}
 use Rattle.std.proofs.Common.{true, append_assoc, arith, inl, inr, refl, sym, ap, ◌∙◌, subst, ⊎_elim, length-append}
 use Rattle.std.specs.Prelude.{Vec, slice_get}
 use Rattle.std.specs.Bool.{beq}
@@ -36,14 +36,10 @@ use Rattle.resolver_clause_store.specs.Watches.{HasBlockers, IsWatching, list_at
 use Rattle.resolver_clause_store.specs.WatchesView.{lists_of, pairs_of}
 use Rattle.resolvo.proofs.PropagatorLemmas.{any-map, covers-kept, late-kept}
 use Rattle.resolver_clause_store.proofs.BoolLemmas.{beq-itself as beq-same}
-use Rattle.resolver_clause_store.proofs.ListLemmas.{All-front as all-left, slice_get-last as place_last}
+use Rattle.resolver_clause_store.proofs.ListLemmas.{All-front as all-left, slice_get-last as place_last, Contains-one}
 use Rattle.resolver_clause_store.proofs.WatchListLemmas.{pair_at-before as pair-before, watching-number as watching-inside}
 use Rattle.resolvo.proofs.JustifiedLemmas.{extends-gains, justified-gains}
 use Rattle.resolvo.proofs.VisitLemmas.{late-pushed}
-
-contains-one : {X : Type 0} (x y : X) → Contains (x ∷ []) y → x ≡ y
-contains-one x y (zero, below, is) = is
-contains-one x y (suc k, below, is) = absurd (omega arith)
 
 pair-last : (pairs : List WatchedPair) (pair : WatchedPair) (number : ℕ) → length pairs ≡ number → pair_at (pairs ++ pair ∷ []) number ≡ pair
 pair-last pairs pair number end = get_or_push pairs pair unwatched number end
@@ -212,7 +208,7 @@ noted-last late last pending number noted = ⊎_elim
     (λ (one : Any (λ (l : Late). l.number ≡ number) (late ++ last ∷ [])). ⊎_elim
     (λ (early : Contains late one.1). inl (early.0, one.1, early.1, early.2, one.4))
     (λ (end : Contains (last ∷ []) one.1).
-    let here : last.number ≡ number = ap (λ (l : Late). l.number) (contains-one last one.1 end) ∙ one.4 in
+    let here : last.number ≡ number = ap (λ (l : Late). l.number) (Contains-one last one.1 end) ∙ one.4 in
     let Has : ℕ → Type 0 = λ n. Contains (pending ++ last.number ∷ []) n in
     inr (subst Has here (Contains-append_right pending (last.number ∷ []) last.number (0, omega arith, refl))))
     (Contains-append_cases late (last ∷ []) one.1 (one.0, one.2, one.3)))
@@ -262,7 +258,7 @@ noted-fewer late rest number other differ noted = ⊎_elim
     (λ (one : Any (λ (l : Late). l.number ≡ other) late). inl one)
     (λ (again : Contains (rest ++ number ∷ []) other). ⊎_elim
     (λ (early : Contains rest other). inr early)
-    (λ (end : Contains (number ∷ []) other). absurd (differ (sym (contains-one number other end))))
+    (λ (end : Contains (number ∷ []) other). absurd (differ (sym (Contains-one number other end))))
     (Contains-append_cases rest (number ∷ []) other again))
     noted
 

@@ -8,9 +8,8 @@ use Rattle.resolver_clause_store.specs.Statements.{ObeysAlone, StatesTheSame, on
 use Rattle.resolver_clause_store.specs.Rules.{Obeys, IsRefuted, IsIrreducible}
 use Rattle.resolver_clause_store.specs.TrueRules.{IsTrueRule, IsTrueStatement}
 use Rattle.resolver_clause_store.specs.declared.Rule.{Rule}
-use Rattle.resolver_clause_store.proofs.ListLemmas.{AllZip-append}
+use Rattle.resolver_clause_store.proofs.ListLemmas.{AllZip-append, AllZip-left}
 use Rattle.resolver_clause_store.specs.declared.Rule.TheVariants.{Requires, Constrains, Lock, Excluded, OnePerPackage}
-use Rattle.resolvo.proofs.LineLemmas.{zip_left}
 
 pub StatesTheSame-flip : {N S : Type 0} (rule other : Rule N S) → StatesTheSame rule other → StatesTheSame other rule
 StatesTheSame-flip rule other same = sym same
@@ -64,11 +63,11 @@ marked_too {N} {S} rules name instance other same inside = let Has : Rule N S �
 pub Obeys-same : {N S : Type 0} (rules others : List (Rule N S)) → AllZip StatesTheSame rules others → (set : List S) → Obeys set others → Obeys set rules
 Obeys-same {N} {S} rules others same set obeys = record {
   each = λ rule inside.
-      let w = zip_left StatesTheSame rules others same rule inside in
+      let w = AllZip-left StatesTheSame rules others same rule inside in
       ObeysAlone-same set w.0 rule (StatesTheSame-flip rule w.0 w.2) (obeys.each w.0 w.1);
   one_each = λ n s t first second.
-      let v = zip_left StatesTheSame rules others same (OnePerPackage n s) first in
-      let w = zip_left StatesTheSame rules others same (OnePerPackage n t) second in
+      let v = AllZip-left StatesTheSame rules others same (OnePerPackage n s) first in
+      let w = AllZip-left StatesTheSame rules others same (OnePerPackage n t) second in
       obeys.one_each n s t (marked_too others n s v.0 v.2 v.1) (marked_too others n t w.0 w.2 w.1);
 }
 
@@ -89,5 +88,5 @@ IsIrreducible-same rules others same (refuted, needed) = (
 pub AllTrue-same : {N S : Type 0} (u : Universe N S) (root : Demands) (rules others : List (Rule N S)) → AllZip StatesTheSame rules others →
     All (IsTrueRule u root) rules → All (IsTrueRule u root) others
 AllTrue-same u root rules others same all = λ k d below.
-    let w = zip_left StatesTheSame others rules (same_flipped rules others same) (get_or others k d) (Contains-get_or others k d below) in
+    let w = AllZip-left StatesTheSame others rules (same_flipped rules others same) (get_or others k d) (Contains-get_or others k d below) in
     IsTrueRule-same u root w.0 (get_or others k d) (StatesTheSame-flip (get_or others k d) w.0 w.2) (All-contains (IsTrueRule u root) rules w.0 all w.1)

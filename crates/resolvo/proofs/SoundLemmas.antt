@@ -19,7 +19,7 @@ use Rattle.resolver_clause_store.specs.declared.By.TheVariants.{Root, Solvable}
 use Rattle.resolver_clause_store.specs.declared.Literal.{Literal}
 use Rattle.resolver_clause_store.specs.declared.Rule.{Rule}
 use Rattle.resolver_clause_store.specs.declared.Rule.TheVariants.{Requires, Constrains, Lock, Excluded, OnePerPackage}
-use Rattle.resolvo.proofs.LineLemmas.{All-each, marked_in, zip_left, zip_both, bit_line_from, member_line_from, line_from, rule_of_line}
+use Rattle.resolvo.proofs.LineLemmas.{All-each, marked_in, zip_both, bit_line_from, member_line_from, line_from, rule_of_line}
 use Rattle.resolver_encoding.specs.Codes.{bit}
 use Rattle.resolvo.specs.Minimal.{marked}
 use Rattle.resolvo.specs.RuleClauses.{Line, atom, plain, requirement_line, requirer_atoms, list_atoms, candidate_atoms, condition_lines, lines_of}
@@ -28,7 +28,7 @@ use Rattle.resolvo.specs.declared.minimal.rule_clauses.Atom.{Atom}
 use Rattle.resolvo.specs.declared.minimal.rule_clauses.Proposition.{Proposition}
 use Rattle.resolvo.specs.declared.minimal.rule_clauses.Proposition.TheVariants.{Member, Listed, Bit}
 use Rattle.resolver_clause_store.proofs.BoolLemmas.{beq-false as other_value}
-use Rattle.resolver_clause_store.proofs.ListLemmas.{Contains-cons_cases as cons_cases, Contains-none as none_in, list_any-contains as any_of}
+use Rattle.resolver_clause_store.proofs.ListLemmas.{Contains-cons_cases as cons_cases, Contains-none as none_in, list_any-contains as any_of, AllZip-left}
 use Rattle.resolver_clause_store.proofs.ListLemmas.{list_any-witness as any_from}
 use Rattle.resolvo.specs.declared.minimal.rule_clauses.RuleClause.{RuleClause}
 
@@ -319,7 +319,7 @@ module _ {N S : Type 0} (names : N → N → Bool) (solvables : S → S → Bool
     values_of value propositions,
     All-each (λ (clause : RuleClause).
         slice_index_or marks clause.rule false ≡ true → clause_true (values_of value propositions) clause.literals.items ≡ true) clauses (λ clause inside mark.
-        let w = zip_left (IsClauseOf propositions) clauses (all_lines are.width 0 rules are.codes) are.lines clause inside in
+        let w = AllZip-left (IsClauseOf propositions) clauses (all_lines are.width 0 rules are.codes) are.lines clause inside in
         let at = line_from are.width 0 rules are.codes w.0 w.1 in
         let same : 0 + at.index ≡ at.index = omega arith in
         let Has : ℕ → Type 0 = λ p. Contains (lines_of are.width p at.code at.rule) w.0 in
