@@ -1,5 +1,5 @@
--- A promise that is kept: the provider that writes down its questions, and a root with a requirement for one version set, whose first candidate is the
--- favored one.
+-- A promise that is kept: the provider that writes down its questions, and a root with a requirement for one version set, whose first candidate is
+-- the favored one.
 use Rattle.std.proofs.Common.{◌≡◌, ℕ, [], ◌∷◌, Some, None, Contains, inl, inr, refl, sym, ap, ◌∙◌, subst}
 use Rattle.std.proofs.lemmas.Option.{none-some, same_Some}
 use Rattle.std.proofs.lemmas.List.Elements.{All-contains, All-cons, All-nil}
