@@ -11,7 +11,7 @@ use Rattle.std.specs.Prelude.{String, Vec, string_bytes, ◌==◌, ◌&&◌}
 use Rattle.std.specs.Global.{Global}
 use Rattle.std.specs.String.{string_eq}
 use Rattle.std.specs.Cmp.Lexicographic.{pointwise}
-use Rattle.std.proofs.lemmas.Bool.{cases_lt, eqb-true, eq-eqb, lt-ltb}
+use Rattle.std.proofs.lemmas.Bool.{cases_lt, eqb-true, eq-eqb, lt-ltb, and_from}
 use Rattle.std.proofs.lemmas.List.Sums.{fails_before_first}
 use Rattle.std.proofs.lemmas.Bool.Decides.{Decides-eqb}
 use Rattle.std.proofs.lemmas.Slice.Eq.{slice_eq-Decides}
@@ -29,7 +29,9 @@ use Rattle.std.proofs.lemmas.Slice.Eq.{bytes_eq-Decides}
 use Rattle.resolve.specs.declared.ids.Version.{Version}
 use Rattle.resolve.specs.contracts.ids.VersionPartialEq.TheImpl.{eq-value as version-eq}
 use Rattle.resolve.specs.Additions.{IsInterned}
-use Rattle.resolve.proofs.PackageLemmas.{slice_get-push, slice_get-push_cases}
+use Rattle.resolver_clause_store.proofs.ListLemmas.{slice_get-append_left}
+use Rattle.resolver_clause_store.proofs.PlaceLemmas.{place_cases}
+use Rattle.std.proofs.lemmas.List.{map_push}
 
 all-at : {T : Type 0} (P : T → Type 0) (xs : List T) → AllByRecursion P xs → (j : ℕ) (b : T) → slice_get xs j ≡ Some b → P b
 all-at P [] h j b e = absurd cc
@@ -54,22 +56,18 @@ unmapped : {T X : Type 0} (v : T → X) (o : Option T) (y : X) → option_map v 
 unmapped v None y e = absurd cc
 unmapped v (Some a) y e = (a, refl, same_Some (v a) y e)
 
-map-push : {T X : Type 0} (v : T → X) (xs : List T) (t : T) → map v (xs ++ t ∷ []) ≡ map v xs ++ v t ∷ []
-map-push v [] t = refl
-map-push v (x ∷ xs) t = ap (λ ys. v x ∷ ys) (map-push v xs t)
-
 kept-at : {T X : Type 0} (v : T → X) (b : Bool) (old new : List T) (t : T) → new ≡ cond b old (old ++ t ∷ []) → (k : ℕ) (y : X) →
     slice_get (map v old) k ≡ Some y → slice_get (map v new) k ≡ Some y
 kept-at v true old new t e k y at = ap (λ xs. slice_get (map v xs) k) e ∙ at
 kept-at v false old new t e k y at = ap (λ xs. slice_get (map v xs) k) e ∙
-    (ap (λ ys. slice_get ys k) (map-push v old t) ∙ (slice_get-push (map v old) (v t) k (slice_get_within (map v old) k y at) ∙ at))
+    (ap (λ ys. slice_get ys k) (map_push v old t) ∙ (slice_get-append_left (map v old) (v t ∷ []) k (slice_get_within (map v old) k y at) ∙ at))
 
 only-at : {T X : Type 0} (v : T → X) (b : Bool) (old new : List T) (t : T) → new ≡ cond b old (old ++ t ∷ []) → (k : ℕ) (y : X) →
     slice_get (map v new) k ≡ Some y → (slice_get (map v old) k ≡ Some y) ⊎ (v t ≡ y)
 only-at v true old new t e k y at = inl (sym (ap (λ xs. slice_get (map v xs) k) e) ∙ at)
 only-at v false old new t e k y at =
     ⊎_elim (λ l. inl l) (λ r. inr r.1)
-    (slice_get-push_cases (map v old) (v t) k y (sym (ap (λ ys. slice_get ys k) (map-push v old t)) ∙ (sym (ap (λ xs. slice_get (map v xs) k) e) ∙ at)))
+    (place_cases (map v old) (v t) k y (sym (ap (λ ys. slice_get ys k) (map_push v old t)) ∙ (sym (ap (λ xs. slice_get (map v xs) k) e) ∙ at)))
 
 pub interned : {T X : Type 0} (v : T → X) (eq : T → T → Bool) (same : (a b : T) → Decides (eq a b) (v a ≡ v b)) (old new : List T) (t : T) (place : ℕ) →
     new ≡ cond (list_any (eq t) old) old (old ++ t ∷ []) → (k : T) × (slice_get new place ≡ Some k) × (eq t k ≡ true) → IsDistinct eq new →
@@ -105,16 +103,12 @@ both-of : (p q : Bool) → (p && q) ≡ true → (p ≡ true) × (q ≡ true)
 both-of true q e = (refl, e)
 both-of false q e = absurd cc
 
-both-and : (p q : Bool) → p ≡ true → q ≡ true → (p && q) ≡ true
-both-and true q e f = f
-both-and false q e f = absurd cc
-
 version_sets-by_range : (n m : NameId) (r s : Range) →
     Decides (eq-value.it (record { name = n; range = r }) (record { name = m; range = s }))
     (◌≡◌ {A = VersionSet} (record { name = n; range = r }) (record { name = m; range = s }))
 version_sets-by_range n m All All = (
   λ e. ap (λ (k : ℕ). let v : VersionSet = record { name = record { 0 = k }; range = All } in v) (eqb-true n.0 m.0 (both-of (n.0 == m.0) true e).0),
-  λ e. both-and (n.0 == m.0) true (eq-eqb n.0 m.0 (ap (λ (v : VersionSet). v.name.0) e)) refl,
+  λ e. and_from (n.0 == m.0) true (eq-eqb n.0 m.0 (ap (λ (v : VersionSet). v.name.0) e)) refl,
 )
 version_sets-by_range n m All (Within l h) = (
   λ e. absurd (let no : false ≡ true = (both-of (n.0 == m.0) false e).1 in cc),
@@ -135,8 +129,8 @@ version_sets-by_range n m (Within l h) (Within l' h') = (
       let ranges : Within l h ≡ Within l' h' = ap (λ (v : VersionSet). v.range) e in
       let low : l ≡ l' = cc in
       let high : h ≡ h' = cc in
-      both-and (n.0 == m.0) ((l == l') && (h == h')) (eq-eqb n.0 m.0 (ap (λ (v : VersionSet). v.name.0) e))
-      (both-and (l == l') (h == h') (eq-eqb l l' low) (eq-eqb h h' high)),
+      and_from (n.0 == m.0) ((l == l') && (h == h')) (eq-eqb n.0 m.0 (ap (λ (v : VersionSet). v.name.0) e))
+      (and_from (l == l') (h == h') (eq-eqb l l' low) (eq-eqb h h' high)),
 )
 
 pub version_sets-Decides : (a b : VersionSet) → Decides (eq-value.it a b) (a ≡ b)
@@ -228,7 +222,7 @@ no_text keys text place k is none at small =
     (subst Out is none)
 
 version-itself : (v : Version) → version-eq.it v v ≡ true
-version-itself v = both-and (v.name.0 == v.name.0) (v.number == v.number) (eq-eqb v.name.0 v.name.0 refl) (eq-eqb v.number v.number refl)
+version-itself v = and_from (v.name.0 == v.name.0) (v.number == v.number) (eq-eqb v.name.0 v.name.0 refl) (eq-eqb v.number v.number refl)
 
 -- the version under the name that is at this place, which no other place has
 pub no_version : (names : List (String Global)) (text : List ℕ) → IsDistinct string_eq names → (n : ℕ) → slice_get (map string_bytes names) n ≡ Some text →

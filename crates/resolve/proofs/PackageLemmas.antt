@@ -9,22 +9,8 @@ use Rattle.resolve.specs.declared.ids.SolvableId.{SolvableId}
 use Rattle.resolve.specs.declared.ids.Version.{Version}
 use Rattle.resolve.specs.declared.catalog.tables.Package.{Package}
 use Rattle.resolve.specs.Packages.{candidates_of, IsDeclared, name_of, IsVersionOf, IsPackageOf, ArePackagesOf}
-
-pub slice_get-push : {X : Type 0} (xs : List X) (y : X) (k : ℕ) → k < length xs → slice_get (xs ++ y ∷ []) k ≡ slice_get xs k
-slice_get-push [] y k h = absurd (omega arith)
-slice_get-push (x ∷ xs) y zero h = refl
-slice_get-push (x ∷ xs) y (suc k) h = slice_get-push xs y k (omega arith)
-
-pub slice_get-end : {X : Type 0} (xs : List X) (y : X) → slice_get (xs ++ y ∷ []) (length xs) ≡ Some y
-slice_get-end [] y = refl
-slice_get-end (x ∷ xs) y = slice_get-end xs y
-
-pub slice_get-push_cases : {X : Type 0} (xs : List X) (y : X) (k : ℕ) (z : X) → slice_get (xs ++ y ∷ []) k ≡ Some z → (slice_get xs k ≡ Some z) ⊎
-    ((k ≡ length xs) × (y ≡ z))
-slice_get-push_cases [] y zero z e = inr (refl, same_Some y z e)
-slice_get-push_cases [] y (suc k) z e = absurd cc
-slice_get-push_cases (x ∷ xs) y zero z e = inl e
-slice_get-push_cases (x ∷ xs) y (suc k) z e = ⊎_elim (λ l. inl l) (λ r. inr (ap suc r.0, r.1)) (slice_get-push_cases xs y k z e)
+use Rattle.resolver_clause_store.proofs.ListLemmas.{slice_get-append_left, slice_get-last}
+use Rattle.resolver_clause_store.proofs.PlaceLemmas.{place_cases}
 
 slice_get-set_cases : {X : Type 0} (xs : List X) (i : ℕ) (y : X) (k : ℕ) (z : X) → slice_get (set xs i y) k ≡ Some z → (slice_get xs k ≡ Some z) ⊎
     ((k ≡ i) × (y ≡ z))
@@ -54,7 +40,7 @@ IsKept-refl xs = record { declared = omega arith; named = λ k h. refl }
 pub IsKept-push : (xs : List Version) (y : Version) → IsKept xs (xs ++ y ∷ [])
 IsKept-push xs y = record {
   declared = omega (arith, length-append xs (y ∷ []));
-  named = λ k h. ap (λ (o : Option Version). (name_of o).0) (slice_get-push xs y k h);
+  named = λ k h. ap (λ (o : Option Version). (name_of o).0) (slice_get-append_left xs (y ∷ []) k h);
 }
 
 pub IsVersionOf-kept : (xs ys : List Version) → IsKept xs ys → (n : ℕ) (s : SolvableId) → IsVersionOf xs n s → IsVersionOf ys n s
@@ -77,7 +63,7 @@ pub ArePackagesOf-pushed : (b : Bool) (xs : List Version) (ps qs : List Package)
 ArePackagesOf-pushed true xs ps qs q e h new = let Q : List Package → Type 0 = λ rs. ArePackagesOf xs rs in
     subst Q (sym e) (λ n p at. ⊎_elim (λ old. h n p old) (λ here.
     let R : ℕ → Type 0 = λ k. IsPackageOf xs k p in let S : Package → Type 0 = λ r. IsPackageOf xs (length ps) r in subst R (sym here.0) (subst S here.1 new))
-    (slice_get-push_cases ps q n p at))
+    (place_cases ps q n p at))
 ArePackagesOf-pushed false xs ps qs q e h new = let Q : List Package → Type 0 = λ rs. ArePackagesOf xs rs in subst Q (sym e) h
 
 pub ArePackagesOf-set : (xs : List Version) (ps : List Package) (i : ℕ) (q : Package) → ArePackagesOf xs ps → IsPackageOf xs i q → ArePackagesOf xs (set ps i q)
@@ -95,7 +81,7 @@ pub IsVersionOf-end : (xs ys : List Version) (y : Version) (s : SolvableId) → 
 IsVersionOf-end xs ys y s e at = record {
   declared = omega (arith, ap length e, length-append xs (y ∷ []));
   named = ap (λ (k : ℕ). (name_of (slice_get ys k)).0) at ∙ ap (λ (zs : List Version). (name_of (slice_get zs (length xs))).0) e ∙
-      ap (λ (o : Option Version). (name_of o).0) (slice_get-end xs y);
+      ap (λ (o : Option Version). (name_of o).0) (slice_get-last xs y);
 }
 
 -- the candidates of a package once a version of it was declared, and pushed to them or not

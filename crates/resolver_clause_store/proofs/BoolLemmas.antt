@@ -24,10 +24,6 @@ pub not_same : (b : Bool) → b ≡ not b → ⊥
 not_same true e = false≢true (sym e)
 not_same false e = false≢true e
 
-pub and_both : (a b : Bool) → a ≡ true → b ≡ true → (a && b) ≡ true
-and_both true b e f = f
-and_both false b e f = cc
-
 pub and_left : (a b : Bool) → (a && b) ≡ true → a ≡ true
 and_left true b e = refl
 and_left false b e = cc

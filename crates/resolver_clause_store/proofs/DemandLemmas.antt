@@ -3,6 +3,7 @@ use Rattle.std.proofs.Common.{◌≡◌, List, inl, inr, subst, Contains}
 use Rattle.std.specs.Prelude.{Option, Some, None}
 use Rattle.resolver_clause_store.specs.Universe.{Universe, Demands, Needs, unknown}
 use Rattle.resolver_clause_store.specs.Conditions.{OptionalConditionHolds}
+use Rattle.resolver_clause_store.specs.Lists.{IsWithin}
 use Rattle.resolver_clause_store.specs.Valid as valid
 use Rattle.resolver_clause_store.specs.Valid.{IsKnown}
 use Rattle.resolver_clause_store.specs.Statements.{AllMeet, IsPresent}
@@ -12,6 +13,11 @@ use Rattle.resolver_clause_store.specs.declared.ids.VersionSetId.{VersionSetId}
 use Rattle.resolver_clause_store.specs.declared.data.ConditionalRequirement.{ConditionalRequirement}
 use Rattle.resolver_clause_store.specs.declared.data.By.{By}
 use Rattle.resolver_clause_store.specs.declared.data.By.TheVariants.{Root as ByRoot, Solvable as BySolvable}
+
+-- what a set has, a larger set has
+pub IsPresent-within : {S : Type 0} (by : By S) (xs ys : List S) → IsWithin xs ys → IsPresent by xs → IsPresent by ys
+IsPresent-within ByRoot xs ys within h = tt
+IsPresent-within (BySolvable s) xs ys within h = within s h
 
 pub requires_by : {N S : Type 0} (u : Universe N S) (root : Demands) (set : List S) (by : By S) (r : ConditionalRequirement) → IsPresent by set →
     Contains (demands_by u root by).requirements r → valid.Requires u root (Contains set) r

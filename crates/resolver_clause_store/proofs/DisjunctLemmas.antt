@@ -9,10 +9,10 @@ use Rattle.resolver_clause_store.specs.Conditions.{ConditionHolds, matched, both
 use Rattle.resolver_clause_store.specs.Disjuncts.{joined, IsDisjunctive, of_version_set, of_or, of_and, IsTaken, SomeHolds}
 use Rattle.resolver_clause_store.specs.declared.ids.VersionSetId.{VersionSetId}
 use Rattle.resolver_clause_store.specs.declared.ids.ConditionId.{ConditionId}
-use Rattle.resolver_clause_store.specs.declared.data.LogicalOperator.TheVariants.{And, Or}
+use Rattle.resolver_clause_store.proofs.ConditionLemmas.{both_hold, either_holds}
 use Rattle.resolver_clause_store.proofs.ListLemmas.{All-front, Contains-cons_cases, Contains-here, Contains-map, Contains-map_back, Contains-none}
 use Rattle.resolver_clause_store.proofs.ListLemmas.{Contains-there}
-use Rattle.resolver_clause_store.specs.declared.data.Condition.TheVariants.{Requirement as Matched, Binary}
+use Rattle.resolver_clause_store.specs.declared.data.Condition.TheVariants.{Requirement as Matched}
 
 -- members of the joined lists
 Contains-joined : {X : Type 0} (xs ys : List (List X)) (x y : List X) → Contains xs x → Contains ys y → Contains (joined xs ys) (x ++ y)
@@ -122,34 +122,15 @@ module _ {N S : Type 0} (u : Universe N S) (Has : S → Type 0) where
   matched_taken c v e (left a b is h) = absurd cc
   matched_taken c v e (right a b is h) = absurd cc
 
-  both_parts : (c a b : ConditionId) → u.condition c ≡ Binary And a b → Holds c → Holds a × Holds b
-  both_parts c a b e (matched w s is listed inside) = absurd cc
-  both_parts c a b e (both x y is h k) =
-      let same : x ≡ a = cc in
-      let also : y ≡ b = cc in
-      (subst Holds same h, subst Holds also k)
-  both_parts c a b e (left x y is h) = absurd cc
-  both_parts c a b e (right x y is h) = absurd cc
-
-  either_part : (c a b : ConditionId) → u.condition c ≡ Binary Or a b → Holds c → Holds a ⊎ Holds b
-  either_part c a b e (matched w s is listed inside) = absurd cc
-  either_part c a b e (both x y is h k) = absurd cc
-  either_part c a b e (left x y is h) =
-      let same : x ≡ a = cc in
-      inl (subst Holds same h)
-  either_part c a b e (right x y is h) =
-      let same : y ≡ b = cc in
-      inr (subst Holds same h)
-
   -- where the condition holds, some disjunct does
   pub disjunct_holds : (c : ConditionId) (lists : List (List VersionSetId)) → IsDisjunctive u c lists → Holds c → Some lists
   disjunct_holds c lists (of_version_set v is) h = one_holds v (matched_taken c v is h)
   disjunct_holds c lists (of_or {lefts = lefts} {rights = rights} a b is p q) h = ⊎_elim
       (λ x. left_holds lefts rights (disjunct_holds a lefts p x))
       (λ y. right_holds lefts rights (disjunct_holds b rights q y))
-      (either_part c a b is h)
+      (either_holds u Has c a b is h)
   disjunct_holds c lists (of_and {lefts = lefts} {rights = rights} a b is p q) h =
-      let parts = both_parts c a b is h in
+      let parts = both_hold u Has c a b is h in
       joined_holds lefts rights (disjunct_holds a lefts p parts.0) (disjunct_holds b rights q parts.1)
 
   -- where some disjunct holds, the condition does

@@ -7,10 +7,10 @@ pub mod ConditionLemmas
 pub mod DisjunctLemmas
 pub mod PartialLemmas
 pub mod RequirementLemmas
+pub mod SameRequirementLemmas
 pub mod NearLemmas
 pub mod FirstChoiceLemmas
 pub mod SoftRunLemmas
-pub mod ValidLemmas
 pub mod CacheLemmas
 pub mod TableLemmas
 pub mod VersionSetLemmas

@@ -22,6 +22,9 @@ Contains-cons_cases y xs x (suc k, below, is) = inr (k, omega arith, is)
 pub Contains-none : {X : Type 0} (x : X) → Contains [] x → ⊥
 Contains-none x h = absurd (omega (arith, h.1))
 
+pub Contains-one : {X : Type 0} (x y : X) → Contains (x ∷ []) y → x ≡ y
+Contains-one x y h = ⊎_elim (λ is. is) (λ t. absurd (Contains-none y t)) (Contains-cons_cases x [] y h)
+
 pub Contains-map : {X Y : Type 0} (f : X → Y) (xs : List X) (x : X) → Contains xs x → Contains (map f xs) (f x)
 Contains-map f [] x h = absurd (Contains-none x h)
 Contains-map f (y ∷ ys) x h = ⊎_elim
@@ -68,6 +71,25 @@ AllZip-append R [] xs' [] ys' h k = k
 AllZip-append R [] xs' (z ∷ zs) ys' h k = absurd h
 AllZip-append R (z ∷ zs) xs' [] ys' h k = absurd h
 AllZip-append R (z ∷ zs) xs' (w ∷ ws) ys' h k = (h.0, AllZip-append R zs xs' ws ys' h.1 k)
+
+-- lists that agree element by element: what one has, the other has too
+pub AllZip-left : {A B : Type 0} (R : A → B → Type 0) (xs : List A) (ys : List B) → AllZip R xs ys → (x : A) → Contains xs x → (y : B) ×
+    Contains ys y × R x y
+AllZip-left R [] ys h x inside = absurd (Contains-none x inside)
+AllZip-left R (x ∷ xs) [] h z inside = absurd h
+AllZip-left {A} {B} R (x ∷ xs) (y ∷ ys) (first, rest) z inside = ⊎_elim
+    (λ (same : x ≡ z). let At : A → Type 0 = λ q. R q y in (y, Contains-here y ys, subst At same first))
+    (λ (later : Contains xs z). let w = AllZip-left R xs ys rest z later in (w.0, Contains-there y ys w.0 w.1, w.2))
+    (Contains-cons_cases x xs z inside)
+
+pub AllZip-right : {A B : Type 0} (R : A → B → Type 0) (xs : List A) (ys : List B) → AllZip R xs ys → (y : B) → Contains ys y → (x : A) ×
+    Contains xs x × R x y
+AllZip-right R xs [] h y inside = absurd (Contains-none y inside)
+AllZip-right R [] (y ∷ ys) h z inside = absurd h
+AllZip-right {A} {B} R (x ∷ xs) (y ∷ ys) (first, rest) z inside = ⊎_elim
+    (λ (same : y ≡ z). (x, Contains-here x xs, subst (R x) same first))
+    (λ (later : Contains ys z). let w = AllZip-right R xs ys rest z later in (w.0, Contains-there x xs w.0 w.1, w.2))
+    (Contains-cons_cases y ys z inside)
 
 pub slice_get-inside : {X : Type 0} (xs : List X) (n : ℕ) (x : X) → slice_get xs n ≡ Some x → n < length xs
 slice_get-inside xs n x e = slice_get_within xs n x e

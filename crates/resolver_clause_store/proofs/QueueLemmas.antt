@@ -94,8 +94,8 @@ queued-cut old new before after table requirements active inactive met followed 
         sym (keeps.variables place below);
   };
   each = λ index d below. rw (active, inactive, met, followed)
-      (held-cut old.active.items old.inactive old.met old.followed.items before after old.kept new.kept _ index less it.following.reached it.following.same keeps
-      (it.each index d below));
+      (held-cut old.active.items old.inactive old.met old.followed.items before after old.kept new.kept _ index less it.following.reached
+      it.following.same keeps (it.each index d below));
 }
 
 -- the same, for a queue that does not change

@@ -3,6 +3,7 @@ pub mod Universe
 pub mod Laws
 pub mod Texts
 pub mod Candidates
+pub mod SameRequirements
 pub mod Conditions
 pub mod Valid
 pub mod Reached

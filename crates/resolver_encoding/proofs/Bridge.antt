@@ -8,17 +8,15 @@ use Rattle.std.specs.Bool.{beq}
 use Rattle.std.proofs.lemmas.Bool.{cases_Bool, cases_lt, false≢true}
 use Rattle.std.proofs.lemmas.Option.{same_Some, slice_get-get_or}
 use Rattle.std.proofs.lemmas.List.Elements.{All-contains, All-nil, Contains-get_or, Contains-append_cases, Contains-append_left, Contains-append_right}
-use Rattle.resolver_clause_store.specs.Candidates.{others, requirement_candidates, version_sets}
+use Rattle.resolver_clause_store.specs.Candidates.{others, requirement_candidates}
 use Rattle.resolver_clause_store.specs.Formula.{clause_at}
 use Rattle.resolver_clause_store.specs.Laws.{HasLawfulPackages}
 use Rattle.resolver_clause_store.specs.Lists.{HasNoRepeats}
 use Rattle.resolver_clause_store.specs.Outcomes.{IsFalseBefore, IsImplied, IsChosen, IsForced, IsMet, IsFinished}
 use Rattle.resolver_clause_store.specs.TrailView.{slot_of, variable_at, variable_count, length_of, literal_value}
-use Rattle.resolver_clause_store.specs.Universe.{Universe, Demands, Needs, known, unknown}
-use Rattle.resolver_clause_store.specs.Valid.{demands_of}
+use Rattle.resolver_clause_store.specs.Universe.{Universe, Demands}
 use Rattle.resolver_clause_store.specs.Variables.{AreDistinct}
 use Rattle.resolver_clause_store.specs.declared.By.{By}
-use Rattle.resolver_clause_store.specs.declared.By.TheVariants.{Root as ByRoot, Solvable as BySolvable}
 use Rattle.resolver_clause_store.specs.declared.ClauseKind.{ClauseKind}
 use Rattle.resolver_clause_store.specs.declared.ClauseKind.TheVariants.{InstallRoot, Requires, GateRequires}
 use Rattle.resolver_clause_store.specs.declared.Literal.{Literal}
@@ -32,10 +30,10 @@ use Rattle.resolver_clause_store.specs.declared.Trail.{Trail}
 use Rattle.resolver_clause_store.specs.declared.VersionSetId.{VersionSetId}
 use Rattle.resolver_clause_store.proofs.SlotLemmas.{slot-within}
 use Rattle.resolver_encoding.specs.Atoms.{Atom, atom, origin_by, atoms_of}
-use Rattle.resolver_encoding.specs.Encodings.{AreDemandsRead, AreNeedsRead, IsRequirementKind, IsConstraintRead, IsEncoding, IsLeft, Notes}
-use Rattle.resolver_encoding.specs.Read.{IsForbidden, IsSettled}
-use Rattle.resolver_encoding.specs.ReadState.{AreSeeds, HasClause, has_direct, has_gate, IsRead, IsReadRequirement}
-use Rattle.resolver_encoding.specs.SoFar.{IsHalfRead, IsReadSoFar}
+use Rattle.resolver_encoding.specs.Encodings.{IsRequirementKind, IsEncoding, IsLeft, Notes}
+use Rattle.resolver_encoding.specs.Read.{IsSettled}
+use Rattle.resolver_encoding.specs.ReadState.{AreSeeds}
+use Rattle.resolver_encoding.specs.SoFar.{IsReadSoFar}
 use Rattle.resolver_encoding.specs.Truth.{HasLawfulSolvables}
 use Rattle.resolver_encoding.specs.TrailAtoms.{CoversReached, IsAnswerBy, IsChosen as IsChosenBy, Takes, IsEntailed, IsFirstOpen, IsBecause, needed}
 use Rattle.resolver_encoding.specs.TrailAtoms.{needed_gate, seeded, left_out, forced, IsTrail, begun, went_on}
@@ -44,18 +42,16 @@ use Rattle.resolver_encoding.specs.Values.{IsAtom, AreInOrder}
 use Rattle.std.proofs.lemmas.List.{get_or_default}
 use Rattle.std.proofs.lemmas.List.Quantifiers.{all_pairs_push}
 use Rattle.std.proofs.Common.{append-nil}
-use Rattle.resolver_clause_store.specs.Statements.{IsPresent}
-use Rattle.resolver_clause_store.specs.TrueRules.{demands_by}
-use Rattle.resolver_encoding.proofs.CodeLemmas.{apart_of_digits}
 use Rattle.resolver_encoding.proofs.Reached.{finished_is_answer}
 use Rattle.resolver_encoding.proofs.Reading.{covers_reached}
 use Rattle.resolver_encoding.proofs.Spared.{Spares-further}
 use Rattle.resolver_encoding.proofs.Extended.{values_by, values_by-origin, table_by_kinds}
 use Rattle.resolver_clause_store.proofs.BoolLemmas.{beq-false, beq-true}
-use Rattle.resolver_clause_store.proofs.KeptLemmas.{slot_placed}
+use Rattle.resolver_clause_store.proofs.KeptLemmas.{slot_at}
 use Rattle.resolver_clause_store.proofs.ListLemmas.{Contains-cons_cases as cons_cases, Contains-here as here, Contains-map, Contains-map_back, Contains-at}
-use Rattle.resolver_clause_store.proofs.ListLemmas.{Contains-none as none_in, Contains-there as there, list_any-contains, list_any-witness}
+use Rattle.resolver_clause_store.proofs.ListLemmas.{Contains-none as none_in, Contains-there as there, list_any-contains, list_any-witness, AllZip-right}
 use Rattle.resolver_clause_store.proofs.WatchListLemmas.{literal-same}
+use Rattle.resolver_encoding.proofs.ReadLemmas.{so_far_read}
 
 pub below_or : (n k : ℕ) → k ≤ n → (k < n) ⊎ (k ≡ n)
 below_or n k h = ⊎_elim (λ (l : k < n). inl l) (λ (g : n ≤ k). inr (omega arith)) (cases_lt k n)
@@ -77,15 +73,6 @@ literal_open None slot q e at = absurd cc
 literal_open (Some s) slot q e at = absurd cc
 
 -- two lists that agree element by element
-zip_has : {A B : Type 0} (R : A → B → Type 0) (xs : List A) (ys : List B) (y : B) → AllZip R xs ys → Contains ys y → (x : A) × Contains xs x × R x y
-zip_has R [] [] y h inside = absurd (none_in y inside)
-zip_has R [] (z ∷ zs) y h inside = absurd h
-zip_has R (x ∷ xs) [] y h inside = absurd h
-zip_has {A} {B} R (x ∷ xs) (z ∷ zs) y h inside = ⊎_elim
-    (λ e. let At : B → Type 0 = λ q. R x q in (x, here x xs, subst At e h.0))
-    (λ t. let w = zip_has R xs zs y h.1 t in (w.0, there x xs w.0 w.1, w.2))
-    (cons_cases z zs y inside)
-
 record Halves {A B : Type 0} (R : A → B → Type 0) (before : List A) (x : A) (ys : List B) : Type 0 where
   first : List B
   middle : B
@@ -200,9 +187,6 @@ module _ {N S : Type 0} (origins : List (Origin N S)) (trail : Trail) (size : va
       let Valued : Bool → Atom N S = λ b. atom (origin_at origins x) b in
       ap Entry (trail.listed x slot at).1 ∙ ap Valued (ap (λ o. option_map_or (λ (s : Slot). s.value) o false) at)
 
-  pub slot_at : (k : ℕ) → k < length_of trail → (slot : Slot) × (slot_of trail (variable_at trail k) ≡ Some slot) × (slot.place ≡ k)
-  slot_at k below = slot_placed _ k (trail.placed k below)
-
   pub Contains-before : (n k : ℕ) → k < n → Contains (atoms_before origins trail n) (entry_at origins trail k)
   Contains-before zero k below = absurd (omega arith)
   Contains-before (suc n) k below = ⊎_elim
@@ -238,7 +222,7 @@ module _ {N S : Type 0} (origins : List (Origin N S)) (trail : Trail) (size : va
   zip_negation : (n : ℕ) (before : List Literal) (first : List (Atom N S)) → AllZip (IsAtom origins) before first → All (IsFalseBefore trail n) before →
       (a : Atom N S) → Contains first a → Contains (atoms_before origins trail n) (atom a.origin (not a.positive))
   zip_negation n before first zip falses a inside =
-      let w = zip_has (IsAtom origins) before first a zip inside in
+      let w = AllZip-right (IsAtom origins) before first zip a inside in
       let f = All-contains (IsFalseBefore trail n) before w.0 falses w.1 in
       let o : origin_at origins w.0.variable ≡ a.origin = origin_is w.0.variable a.origin w.2.origin (false_in_range n w.0 f) in
       let P : Origin N S → Bool → Type 0 = λ x b. Contains (atoms_before origins trail n) (atom x (not b)) in
@@ -389,7 +373,7 @@ module _ {N S : Type 0} (u : Universe N S) (root : Demands) (notes : Notes N S) 
 
   because_at : (k : ℕ) → k < length_of trail → IsBecause u notes.kinds seeds refused (before k) (entry_at notes.origins trail k)
   because_at k below =
-      let w = slot_at notes.origins trail size k below in
+      let w = slot_at trail k below in
       let x : ℕ = variable_at trail k in
       let At : ℕ → Type 0 = λ n. IsBecause u notes.kinds seeds refused (before n) (atom (origin_at notes.origins x) w.0.value) in
       let Entry : Bool → Type 0 = λ b. IsBecause u notes.kinds seeds refused (before k) (atom (origin_at notes.origins x) b) in
@@ -407,7 +391,7 @@ module _ {N S : Type 0} (u : Universe N S) (root : Demands) (notes : Notes N S) 
       (slot_of trail x ≡ Some slot) × (slice_get notes.origins x ≡ Some o) × (slot.value ≡ b) × (slot.place < n)
   variable_of n o b h inside =
       let w = before-back notes.origins trail size n (atom o b) inside in
-      let s = slot_at notes.origins trail size w.0 (omega (arith, w.1)) in
+      let s = slot_at trail w.0 (omega (arith, w.1)) in
       let x : ℕ = variable_at trail w.0 in
       let origin : origin_at notes.origins x ≡ o = ap (λ (a : Atom N S). a.origin) w.2 in
       let value : value_of trail x ≡ b = ap (λ (a : Atom N S). a.positive) w.2 in (
@@ -594,8 +578,8 @@ module _ {N S : Type 0} (origins : List (Origin N S)) (trail : Trail) where
     one_place : (j k : ℕ) (s : S) → j < length_of trail → k < length_of trail → entry_at origins trail j ≡ atom (Solvable s) true →
         entry_at origins trail k ≡ atom (Solvable s) true → j ≡ k
     one_place j k s below_j below_k ej ek =
-        let a = slot_at origins trail size j below_j in
-        let b = slot_at origins trail size k below_k in
+        let a = slot_at trail j below_j in
+        let b = slot_at trail k below_k in
         let x : ℕ = variable_at trail j in
         let y : ℕ = variable_at trail k in
         let ox : slice_get origins x ≡ Some (Solvable s) = stands origins trail size x (in_range origins trail size x a.0 a.1) ∙
@@ -624,46 +608,6 @@ module _ {N S : Type 0} (origins : List (Origin N S)) (trail : Trail) where
 
     pub chosen_once : HasNoRepeats (solvables_before origins trail (length_of trail))
     chosen_once = once_before (length_of trail) (omega arith)
-
--- the clauses are all that the rules ask of the root and of what was read, but for what is put off
-module _ {N S : Type 0} (u : Universe N S) (root : Demands) (notes : Notes N S) (half : IsHalfRead u root notes) where
-  needs_read : (s : S) (needs : Needs) → AreNeedsRead u notes s needs → AreDemandsRead u notes (BySolvable s) (demands_of needs)
-  needs_read s (known d) h = h
-  needs_read s (unknown reason) h = record {
-    requirements = All-nil (IsReadRequirement u notes.kinds (IsLeft notes) (BySolvable s));
-    constraints = All-nil (IsConstraintRead u notes.kinds (BySolvable s));
-    packages = All-nil (λ v. Contains notes.asked (u.version_set_name v));
-  }
-
-  demands_read : (by : By S) → IsPresent by notes.read → AreDemandsRead u notes by (demands_by u root by)
-  demands_read ByRoot present = half.root_read
-  demands_read (BySolvable s) present = needs_read s (u.needs s) (half.each_read s present)
-
-  clause_packages : (by : By S) (list : List VersionSetId) (r : Requirement) → HasClause notes.kinds by list r → (v : VersionSetId) →
-      Contains (version_sets u r) v → Contains notes.asked (u.version_set_name v)
-  clause_packages by list r (has_direct disjunct is h) v k = half.encoding.packages by disjunct r h v k
-  clause_packages by list r (has_gate s is none h g) v k = half.encoding.gate_packages r g v k
-
-  clause_candidates : (by : By S) (list : List VersionSetId) (r : Requirement) → HasClause notes.kinds by list r → (s : S) →
-      Contains (requirement_candidates u r) s → Contains notes.seen s
-  clause_candidates by list r (has_direct disjunct is h) s k = half.encoding.candidates by disjunct r h s k
-  clause_candidates by list r (has_gate t is none h g) s k = half.encoding.gate_candidates r g s k
-
-  pub so_far_read : IsRead u root notes.kinds (IsLeft notes) notes.read notes.asked notes.seen notes.exempt
-  so_far_read = record {
-    installs = half.encoding.installs;
-    requirements = λ by r present asks. All-contains (IsReadRequirement u notes.kinds (IsLeft notes) by) (demands_by u root by).requirements r
-        (demands_read by present).requirements asks;
-    constraints = λ by v s present asks other. All-contains (IsForbidden notes.kinds by v) (others u v) s
-        (All-contains (IsConstraintRead u notes.kinds by) (demands_by u root by).constraints v (demands_read by present).constraints asks) other;
-    unknowns = λ s reason h is. let NeedsRead : Needs → Type 0 = λ n. AreNeedsRead u notes s n in subst NeedsRead is (half.each_read s h);
-    helpers = λ by disjunct r h v k s m. half.encoding.follow v (half.encoding.helpers by disjunct r h v k) s m;
-    packages = clause_packages;
-    candidates = clause_candidates;
-    locks = half.encoding.locks;
-    exclusions = half.encoding.exclusions;
-    instances = apart_of_digits u root notes half.encoding;
-  }
 
 -- a finished search over what was read so far is an answer, where all that it chose was read
 pub finished_is_valid : {N S : Type 0} (u : Universe N S) (root : Demands) (notes : Notes N S) (requirements : List RequirementClause) (trail : Trail)

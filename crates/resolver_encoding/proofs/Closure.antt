@@ -8,7 +8,7 @@ use Rattle.std.proofs.lemmas.Map.Views.{Contains-from_any}
 use Rattle.resolver_clause_store.specs.Lists.{Meets, IsWithin}
 use Rattle.resolver_clause_store.specs.Universe.{Universe, Demands}
 use Rattle.resolver_clause_store.specs.Candidates.{matching, requirement_candidates}
-use Rattle.resolver_clause_store.specs.Conditions.{ConditionHolds, matched, both, left, right, OptionalConditionHolds, IsActive}
+use Rattle.resolver_clause_store.specs.Conditions.{ConditionHolds, both, left, right, OptionalConditionHolds, IsActive}
 use Rattle.resolver_clause_store.specs.Reached.{IsReached, by_seed, by_root, by_reached}
 use Rattle.resolver_clause_store.specs.Valid.{demands_of}
 use Rattle.resolver_clause_store.specs.declared.ConditionId.{ConditionId}
@@ -19,19 +19,6 @@ use Rattle.resolver_clause_store.specs.declared.LogicalOperator.TheVariants.{And
 use Rattle.resolver_clause_store.proofs.ListLemmas.{Contains-cons_cases as cons_cases, Contains-here as here, Contains-none as none_in, Contains-there as there}
 use Rattle.resolver_clause_store.proofs.ListLemmas.{list_any-contains}
 use Rattle.resolver_clause_store.proofs.ConditionLemmas.{holds_matched, matched_holds, both_hold, either_holds}
-
--- a larger set makes more conditions hold
-pub holds_more : {N S : Type 0} (u : Universe N S) (Has More : S → Type 0) → ((s : S) → Has s → More s) → (c : ConditionId) → ConditionHolds u Has c →
-    ConditionHolds u More c
-holds_more u Has More more c (matched v s is listed inside) = matched v s is listed (more s inside)
-holds_more u Has More more c (both a b is h k) = both a b is (holds_more u Has More more a h) (holds_more u Has More more b k)
-holds_more u Has More more c (left a b is h) = left a b is (holds_more u Has More more a h)
-holds_more u Has More more c (right a b is h) = right a b is (holds_more u Has More more b h)
-
-pub active_more : {N S : Type 0} (u : Universe N S) (Has More : S → Type 0) → ((s : S) → Has s → More s) → (c : Option ConditionId) →
-    OptionalConditionHolds u Has c → OptionalConditionHolds u More c
-active_more u Has More more None h = tt
-active_more u Has More more (Some c) h = holds_more u Has More more c h
 
 module _ {N S : Type 0} (u : Universe N S) (root : Demands) (lawful : HasLawfulSolvables u) (chosen seeds : List S) where
   contains_or : (xs : List S) (s : S) → Contains xs s ⊎ (Contains xs s → ⊥)
@@ -65,15 +52,15 @@ module _ {N S : Type 0} (u : Universe N S) (root : Demands) (lawful : HasLawfulS
   by_kind n c (Binary And a b) is below = ⊎_elim
       (λ h. ⊎_elim
       (λ k. inl (both a b is h k))
-      (λ none. inr (λ w. none (both_hold u chosen c a b is w).1))
+      (λ none. inr (λ w. none (both_hold u (Contains chosen) c a b is w).1))
       (below b (lawful.ids.right_lower c a b And is)))
-      (λ none. inr (λ w. none (both_hold u chosen c a b is w).0))
+      (λ none. inr (λ w. none (both_hold u (Contains chosen) c a b is w).0))
       (below a (lawful.ids.left_lower c a b And is))
   by_kind n c (Binary Or a b) is below = ⊎_elim
       (λ h. inl (left a b is h))
       (λ none. ⊎_elim
       (λ k. inl (right a b is k))
-      (λ neither. inr (λ w. ⊎_elim none neither (either_holds u chosen c a b is w)))
+      (λ neither. inr (λ w. ⊎_elim none neither (either_holds u (Contains chosen) c a b is w)))
       (below b (lawful.ids.right_lower c a b Or is)))
       (below a (lawful.ids.left_lower c a b Or is))
 

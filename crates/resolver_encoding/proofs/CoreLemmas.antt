@@ -1,7 +1,7 @@
 -- What a core's clauses imply fits them.
 use Rattle.std.proofs.Common.{◌≡◌, ◌⊎◌, inl, inr, ℕ, List, Bool, true, false, sym, ap, ◌∙◌, subst, ⊎_elim, Contains, All}
 use Rattle.std.specs.Prelude.{◌&&◌, nat_eq}
-use Rattle.std.proofs.lemmas.Bool.{cases_Bool, both_ways, false≢true, eqb-true}
+use Rattle.std.proofs.lemmas.Bool.{cases_Bool, both_ways, false≢true, eqb-true, and_from}
 use Rattle.std.proofs.lemmas.List.Elements.{All-contains}
 use Rattle.std.proofs.lemmas.Map.Views.{Contains-from_any}
 use Rattle.resolver_clause_store.specs.Laws.{IsIdentity}
@@ -16,15 +16,16 @@ use Rattle.resolver_clause_store.specs.declared.ClauseKind.TheVariants.{AnyOf, C
 use Rattle.resolver_encoding.specs.Atoms.{IsHelper, Defines}
 use Rattle.resolver_encoding.specs.Truth.{follows, IsTrueClause}
 use Rattle.resolver_encoding.specs.Core.{same_helper, says_implies, implied_in}
-use Rattle.resolver_clause_store.proofs.BoolLemmas.{and_both, and_left, and_right}
+use Rattle.resolver_clause_store.proofs.BoolLemmas.{and_left, and_right}
 use Rattle.resolver_clause_store.proofs.ListLemmas.{list_any-contains, list_any-witness}
-use Rattle.resolver_encoding.proofs.Sound.{same_requirement-true, same_requirement-same, nat_same}
+use Rattle.resolver_clause_store.proofs.SameRequirementLemmas.{same_requirement-true, same_requirement-same}
+use Rattle.resolver_encoding.proofs.Sound.{nat_same}
 
 module _ {N S : Type 0} (u : Universe N S) (same_name : N → N → Bool) (names : IsIdentity same_name) (same : IsIdentity u.same_solvable) where
   same_helper-same : (o : Origin N S) → IsHelper o → same_helper same_name o o ≡ true
   same_helper-same Root h = absurd h
   same_helper-same (Solvable s) h = absurd h
-  same_helper-same (Bit n i) h = and_both _ _ (names.itself n) (nat_same i)
+  same_helper-same (Bit n i) h = and_from _ _ (names.itself n) (nat_same i)
   same_helper-same (Gate r) h = same_requirement-same r
   same_helper-same (ConstraintHelper v) h = nat_same v.0
   same_helper-same (ConditionHelper v) h = nat_same v.0
@@ -99,11 +100,11 @@ module _ {N S : Type 0} (u : Universe N S) (same_name : N → N → Bool) (names
     -- a helper follows from the solvables of which the clauses say so
     pub implied-any : (o : Origin N S) (s : S) → IsHelper o → Contains kinds (AnyOf o s) → implied_in u same_name kinds o s ≡ true
     implied-any o s helper inside =
-        list_any-contains (says_implies u same_name o s) kinds (AnyOf o s) inside (and_both _ _ (same_helper-same o helper) (same.itself s))
+        list_any-contains (says_implies u same_name o s) kinds (AnyOf o s) inside (and_from _ _ (same_helper-same o helper) (same.itself s))
 
     pub implied-excluded : (v : VersionSetId) (s : S) → Contains kinds (ConstrainsExcluded s v) → implied_in u same_name kinds (ConstraintHelper v) s ≡ true
     implied-excluded v s inside = list_any-contains (says_implies u same_name (ConstraintHelper v) s) kinds (ConstrainsExcluded s v) inside
-        (and_both _ _ (nat_same v.0) (same.itself s))
+        (and_from _ _ (nat_same v.0) (same.itself s))
 
   module _ (codes : N → ℕ → S → Bool) (root : Demands) (kinds : List (ClauseKind N S)) (are_true : All (IsTrueClause u codes root) kinds) where
     truth : (kind : ClauseKind N S) → Contains kinds kind → IsTrueClause u codes root kind
@@ -129,7 +130,7 @@ module _ {N S : Type 0} (u : Universe N S) (same_name : N → N → Bool) (names
 
     coded : (n : N) (s : S) (i : ℕ) (b : Bool) → Contains kinds (HasBit n s i b) → implies (Bit n i) s ≡ b
     coded n s i true inside = list_any-contains (says_implies u same_name (Bit n i) s) kinds (HasBit n s i true) inside
-        (and_both _ _ (and_both _ _ (names.itself n) (nat_same i)) (same.itself s))
+        (and_from _ _ (and_from _ _ (names.itself n) (nat_same i)) (same.itself s))
     coded n s i false inside = ⊎_elim
         (λ e. absurd (both_ways _ (truth (HasBit n s i false) inside).1 (implied-follows (Bit n i) s e)))
         (λ e. e)

@@ -1,10 +1,10 @@
 -- What an encoding's clauses are for a search.
-use Rattle.std.proofs.Common.{◌≡◌, ℕ, zero, suc, ◌<◌, ◌≤◌, List, [], ◌∷◌, length, get_or, None, arith, refl, sym, ap, subst, ⊎_elim, Contains, All, Vec}
+use Rattle.std.proofs.Common.{◌≡◌, ℕ, ◌<◌, ◌≤◌, List, [], length, get_or, arith, sym, ap, subst, ⊎_elim, Contains, All, Vec}
 use Rattle.std.proofs.Common.{Global}
-use Rattle.std.specs.Prelude.{map, slice_get}
+use Rattle.std.specs.Prelude.{map}
 use Rattle.std.specs.Option.{option_map_or}
 use Rattle.std.proofs.lemmas.Bool.{cases_lt}
-use Rattle.std.proofs.lemmas.Option.{slice_get-get_or}
+use Rattle.std.proofs.lemmas.Option.{slice_get-get_or, slice_get_past}
 use Rattle.std.proofs.lemmas.List.Elements.{Contains-get_or}
 use Rattle.resolver_clause_store.specs.Formula.{AreBelow, IsBelow, clause_at}
 use Rattle.resolver_clause_store.specs.Universe.{Universe, Demands}
@@ -14,11 +14,6 @@ use Rattle.resolver_clause_store.specs.declared.Literal.{Literal}
 use Rattle.resolver_clause_store.specs.declared.RequirementClause.{RequirementClause}
 use Rattle.resolver_clause_store.proofs.ListLemmas.{Contains-map, slice_get-inside as slice_below}
 use Rattle.resolver_encoding.specs.Encodings.{IsEncoding, Notes}
-
-slice_none : {X : Type 0} (xs : List X) (n : ℕ) → length xs ≤ n → slice_get xs n ≡ None
-slice_none [] n h = refl
-slice_none (y ∷ ys) zero h = absurd (omega arith)
-slice_none (y ∷ ys) (suc n) h = slice_none ys n (omega arith)
 
 module _ {N S : Type 0} (u : Universe N S) (root : Demands) (notes : Notes N S) (encoding : IsEncoding u root notes) where
   -- each variable of each clause stands for something
@@ -32,7 +27,7 @@ module _ {N S : Type 0} (u : Universe N S) (root : Demands) (notes : Notes N S) 
       slice_below notes.origins l.variable a.0.origin a.2.origin)
       (λ (more : length notes.kinds ≤ number).
       let none : clause_at notes.table number ≡ [] =
-      ap (λ o. option_map_or (λ (c : Vec Literal Global). c.items) o []) (slice_none notes.table number (omega (arith, more, encoding.encoded.count))) in
+      ap (λ o. option_map_or (λ (c : Vec Literal Global). c.items) o []) (slice_get_past notes.table number (omega (arith, more, encoding.encoded.count))) in
       let Below : List Literal → Type 0 = λ c. IsBelow (length notes.origins) c in
       subst Below (sym none) (λ k d below. absurd (omega arith)))
       (cases_lt number (length notes.kinds))

@@ -1,7 +1,7 @@
 -- Disjuncts that are put off, taken out and fired.
 use Rattle.std.proofs.Common.{◌≡◌, ◌≢◌, ◌⊎◌, ℕ, zero, suc, ◌+◌, ◌-◌, ◌<◌, ◌≤◌, Bool, true, false, MatchBool, List, [], ◌∷◌, ◌++◌, length, get_or, take, drop}
 use Rattle.std.proofs.Common.{map, refl, ap, sym, ◌∙◌, subst, ⊎_elim, inl, inr, arith, Contains, All, cond}
-use Rattle.std.specs.Prelude.{⊤, Option, Some, None, IfSome, IfNone, count_by, is_some, slice_get, slice_set, ◌||◌}
+use Rattle.std.specs.Prelude.{Option, Some, None, IfSome, IfNone, count_by, is_some, slice_get, slice_set, ◌||◌}
 use Rattle.std.specs.Option.{option_map}
 use Rattle.std.proofs.lemmas.Bool.{cases_eq, cases_lt}
 use Rattle.std.proofs.lemmas.List.{get_or-drop, length-drop, length-map, map-append}
@@ -14,7 +14,7 @@ use Rattle.resolver_clause_store.specs.Candidates.{matching}
 use Rattle.resolver_clause_store.specs.declared.VersionSetId.{VersionSetId}
 use Rattle.resolver_clause_store.proofs.PlaceLemmas.{Keeps-trans, place_cases, place_of_member}
 use Rattle.resolver_encoding.specs.Called.{Call, IsWantedBy}
-use Rattle.resolver_encoding.specs.Encodings.{IsAskStep, IsEncoding, IsEncodingOf, IsFollowed, IsLeft, IsReadStep, IsTrueEntry, IsTrueUnder, Notes}
+use Rattle.resolver_encoding.specs.Encodings.{IsAskStep, IsEncoding, IsFollowed, IsLeft, IsReadStep, IsTrueEntry, IsTrueUnder, Notes}
 use Rattle.resolver_encoding.specs.Groups.{AddsNamed, AreGroups, IsNamed}
 use Rattle.resolver_encoding.specs.Notes.{entry_of}
 use Rattle.resolver_encoding.specs.ReadState.{Deferred, HasClause}
@@ -26,22 +26,14 @@ use Rattle.resolver_encoding.proofs.EncodingLemmas.{Extends-push, Extends-trans,
 use Rattle.resolver_encoding.proofs.NoteLemmas.{All-grown_at}
 use Rattle.resolver_clause_store.proofs.ListLemmas.{Contains-at as place_in, Contains-map}
 use Rattle.resolver_encoding.proofs.ReadLemmas.{HasClause-within}
-
--- what a test says that answers yes, or no
-match_true : (P Q : Type 0) (b : Bool) → b ≡ true → MatchBool b P Q → P
-match_true P Q true is fact = fact
-match_true P Q false is fact = absurd cc
-
-match_false : (P Q : Type 0) (b : Bool) → b ≡ false → MatchBool b P Q → Q
-match_false P Q true is fact = absurd cc
-match_false P Q false is fact = fact
+use Rattle.resolver_encoding.proofs.RequirementLemmas.{fails_if, holds_if}
 
 pub met_if : {S : Type 0} (candidates set : List S) (b : Bool) → b ≡ true → MatchBool b (Meets candidates set) (Meets candidates set → ⊥) → Meets candidates set
-met_if candidates set b is fact = match_true (Meets candidates set) (Meets candidates set → ⊥) b is fact
+met_if candidates set b is fact = holds_if b (Meets candidates set) (Meets candidates set → ⊥) is fact
 
 pub unmet_if : {S : Type 0} (candidates set : List S) (b : Bool) → b ≡ false → MatchBool b (Meets candidates set) (Meets candidates set → ⊥) →
     Meets candidates set → ⊥
-unmet_if candidates set b is fact = match_false (Meets candidates set) (Meets candidates set → ⊥) b is fact
+unmet_if candidates set b is fact = fails_if b (Meets candidates set) (Meets candidates set → ⊥) is fact
 
 -- a version set that is not met
 pub unmet_at : {N S : Type 0} (u : Universe N S) (set : List S) (list : List VersionSetId) (i : ℕ) (d : VersionSetId) → i < length list →
@@ -159,7 +151,8 @@ module _ {N S : Type 0} (u : Universe N S) where
   -- the package of one more version set
   pub IsIndexing-more : (number : ℕ) (list : List VersionSetId) (i : ℕ) (d : VersionSetId) (old mid new : Notes N S) (n : N) →
       n ≡ u.version_set_name (get_or list i d) → i < length list → IsIndexing u number (take i list) old mid →
-      (AreGroups mid.deferred_by_name → AddsNamed mid.deferred_by_name new.deferred_by_name n number) → new ≡ record mid { deferred_by_name = new.deferred_by_name } →
+      (AreGroups mid.deferred_by_name → AddsNamed mid.deferred_by_name new.deferred_by_name n number) →
+      new ≡ record mid { deferred_by_name = new.deferred_by_name } →
       IsIndexing u number (take (i + 1) list) old new
   IsIndexing-more number list i d old mid new n named below before adds is =
       let same : mid.deferred_by_name ≡ before.deferred_by_name = ap (λ (m : Notes N S). m.deferred_by_name) before.is in
@@ -172,7 +165,8 @@ module _ {N S : Type 0} (u : Universe N S) where
         is = is ∙ ap (λ (m : Notes N S). record m { deferred_by_name = new.deferred_by_name }) before.is;
         sound = λ h. (adds (ready h)).sound;
         earlier = λ h m k at. let Is : Groups N ℕ → Type 0 = λ g. IsNamed g m k in (adds (ready h)).earlier m k (subst Is (sym same) (before.earlier h m k at));
-        here = λ h. All-grown_at (λ v. IsNamed mid.deferred_by_name (u.version_set_name v) number) (λ v. IsNamed new.deferred_by_name (u.version_set_name v) number) list i d
+        here = λ h. All-grown_at (λ v. IsNamed mid.deferred_by_name (u.version_set_name v) number)
+            (λ v. IsNamed new.deferred_by_name (u.version_set_name v) number) list i d
             (λ v at. (adds (ready h)).earlier (u.version_set_name v) number at) below (subst Here (sym same) (before.here h))
             (subst Named named (adds (ready h)).here);
       }
@@ -324,8 +318,8 @@ module _ {N S : Type 0} (u : Universe N S) where
       }
 
       -- all of a group are
-      pub IsQuietUnder-all : (n : N) (numbers : List ℕ) → ((i : ℕ) → IsNamed old.deferred_by_name n i → Contains numbers i) → All (IsQuietAt u set new) numbers →
-          IsQuietUnder u set new n
+      pub IsQuietUnder-all : (n : N) (numbers : List ℕ) → ((i : ℕ) → IsNamed old.deferred_by_name n i → Contains numbers i) →
+          All (IsQuietAt u set new) numbers → IsQuietUnder u set new n
       IsQuietUnder-all n numbers every quiet =
           record {
             quiet = λ i named. let Named : Groups N ℕ → Type 0 = λ g. IsNamed g n i in
@@ -334,9 +328,6 @@ module _ {N S : Type 0} (u : Universe N S) where
 
       pub groups_kept : AreGroups old.deferred_by_name → AreGroups new.deferred_by_name
       groups_kept sound = let Sound : Groups N ℕ → Type 0 = λ g. AreGroups g in subst Sound (sym firing.deferred_by_name) sound
-
-      pub IsEncodingOf-fired : IsEncodingOf u (λ root. ⊤) old → IsEncodingOf u (λ root. ⊤) new
-      IsEncodingOf-fired before = record { root = before.root; premise = tt; encoding = firing.keeps before.root before.encoding }
 
   -- all that wait for the package of a solvable between these places
   pub record AreQuiet (set : List S) (notes : Notes N S) (from place : ℕ) : Type 0 where

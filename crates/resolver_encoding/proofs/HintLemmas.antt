@@ -28,7 +28,8 @@ use Rattle.resolver_encoding.proofs.EncodingLemmas.{Extends-trans, Extends-withi
 use Rattle.resolver_encoding.proofs.ReachLemmas.{near_read, positives_seen}
 use Rattle.resolver_clause_store.proofs.ListLemmas.{Contains-at as place_in, Contains-cons_cases as cons_cases, Contains-here as here, Contains-none as none_in}
 use Rattle.resolver_clause_store.proofs.ListLemmas.{Contains-there as there, slice_get-append_left}
-use Rattle.resolver_encoding.proofs.SoFarLemmas.{IsPresent-within, IsReadingOf-same, IsReadingOf-trans, IsReadingOf-weaker, demanded_asked}
+use Rattle.resolver_encoding.proofs.SoFarLemmas.{IsReadingOf-same, IsReadingOf-trans, IsReadingOf-weaker, demanded_asked}
+use Rattle.resolver_clause_store.proofs.DemandLemmas.{IsPresent-within}
 
 -- what stands at a place stands there in a longer list
 same_place : {X : Type 0} (xs ys : List X) → Extends xs ys → (k : ℕ) → k < length xs → slice_get ys k ≡ slice_get xs k

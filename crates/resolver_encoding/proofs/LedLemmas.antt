@@ -1,7 +1,7 @@
 -- Which variables come: lists of origins, notes, and what calls bring with them.
-use Rattle.std.proofs.Common.{◌≡◌, ◌⊎◌, ℕ, ◌<◌, ◌≤◌, ◌^◌, Bool, true, false, length, arith, List, [], ◌∷◌, ◌++◌, refl, sym, ◌∙◌, subst, ⊎_elim, inl, inr}
+use Rattle.std.proofs.Common.{◌≡◌, ◌⊎◌, ℕ, ◌<◌, ◌≤◌, ◌^◌, length, arith, List, [], ◌∷◌, ◌++◌, refl, sym, ◌∙◌, subst, ⊎_elim, inl, inr}
 use Rattle.std.proofs.Common.{Contains, All}
-use Rattle.std.specs.Prelude.{Option, slice_get, not, ◌≢◌, None, Some}
+use Rattle.std.specs.Prelude.{Option, slice_get, ◌≢◌, None, Some}
 use Rattle.std.proofs.lemmas.List.Elements.{Contains-push_cases}
 use Rattle.resolver_clause_store.specs.Universe.{Universe, Demands}
 use Rattle.resolver_clause_store.specs.declared.Origin.{Origin}
@@ -31,6 +31,7 @@ use Rattle.resolver_encoding.specs.Led.{AddsOnly, AddsSuch, Brings, IsBarred, Is
 use Rattle.resolver_encoding.specs.Led.{IsOwn, IsThere, NoneOwn, helped_by, helped_itself, own_constraint, own_gate, own_helped, own_itself, with_constraints}
 use Rattle.resolver_clause_store.proofs.ListLemmas.{Contains-cons_cases as cons_cases, Contains-here as here, Contains-none as none_in}
 use Rattle.resolver_encoding.specs.Led.{with_requirements, brought_barred, brought_candidate, brought_digit, brought_own}
+use Rattle.resolver_clause_store.proofs.BoolLemmas.{not_same}
 
 module _ {N S : Type 0} where
   pub AddsSuch-same : (Added : Origin N S → Type 0) (origins : List (Origin N S)) → AddsSuch Added origins origins
@@ -157,14 +158,10 @@ module _ {N S : Type 0} (u : Universe N S) where
   -- the numbers of those of a name differ
   module _ (root : Demands) (notes : Notes N S) (encoding : IsEncoding u root notes) (n : N) (list : List S)
       (each_at : (k : ℕ) (t : S) → slice_get list k ≡ Some t → IsAt notes.groups n k t) where
-    clash : (b : Bool) → b ≡ not b → ⊥
-    clash true e = absurd cc
-    clash false e = absurd cc
-
     no_later : (j k : ℕ) (t : S) → slice_get list j ≡ Some t → slice_get list k ≡ Some t → j < k → ⊥
     no_later j k t one other less =
         let w = digit_apart j k k less (omega arith) in
-        clash (bit j w.0) (sym (encoding.placed n j t (each_at j t one) w.0) ∙ encoding.placed n k t (each_at k t other) w.0 ∙ w.2)
+        not_same (bit j w.0) (sym (encoding.placed n j t (each_at j t one) w.0) ∙ encoding.placed n k t (each_at k t other) w.0 ∙ w.2)
 
     distinct_named : AreDistinct list
     distinct_named = record {
@@ -331,11 +328,6 @@ module _ {N S : Type 0} (u : Universe N S) where
   pub excluded_own : (v : VersionSetId) (s : S) → Contains (others u v) s → (o : Origin N S) → (o ≡ Solvable s) ⊎ (o ≡ ConstraintHelper v) →
       IsOfConstraint u v o
   excluded_own v s other o is = ⊎_elim (λ (it : o ≡ Solvable s). inr (s, other, it)) (λ (helper : o ≡ ConstraintHelper v). inl helper) is
-
-  -- nothing was registered
-  pub none_seen : (Called : Call N S → Type 0) (old new : Notes N S) → new.seen ≡ old.seen → (s : S) → Contains new.seen s → Contains old.seen s ⊎
-      Called (to_see s)
-  none_seen Called old new same s h = let Has : List S → Type 0 = λ list. Contains list s in inl (subst Has same h)
 
   -- a requirement of a solvable without a condition
   pub plain_brings : (set : List S) (by : By S) (requirer : S) (r : ConditionalRequirement) (old new : Notes N S) → by ≡ BySolvable requirer →

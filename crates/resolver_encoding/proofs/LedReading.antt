@@ -1,5 +1,5 @@
 -- What reading brings with it is led to, where what is read is near.
-use Rattle.std.proofs.Common.{◌≡◌, ◌⊎◌, ◌≤◌, ◌^◌, ℕ, length, List, [], ◌∷◌, sym, ◌∙◌, subst, ⊎_elim, inl, inr, map, Contains, All}
+use Rattle.std.proofs.Common.{◌≡◌, ◌⊎◌, ◌≤◌, ◌^◌, ℕ, length, List, [], ◌∷◌, ◌∙◌, subst, ⊎_elim, inl, inr, map, Contains, All}
 use Rattle.std.specs.Prelude.{Option, None, Some, slice_set}
 use Rattle.std.proofs.lemmas.List.Elements.{All-contains, All-weaker}
 use Rattle.resolver_clause_store.specs.Universe.{Universe, Demands}
@@ -29,11 +29,9 @@ use Rattle.resolver_encoding.specs.ReadState.{Deferred}
 use Rattle.resolver_encoding.specs.SoFar.{IsBare, IsFiring, IsHalfRead, IsTakenOut}
 use Rattle.resolver_encoding.proofs.FiringLemmas.{kept}
 use Rattle.resolver_encoding.proofs.LedLemmas.{IsBrought-weaker, barred_brings}
-use Rattle.resolver_clause_store.proofs.ListLemmas.{Contains-at as place_in, Contains-cons_cases as cons_cases, Contains-here as here, Contains-none as none_in}
+use Rattle.resolver_clause_store.proofs.ListLemmas.{Contains-at as place_in, Contains-here as here, Contains-none as none_in}
 use Rattle.resolver_encoding.proofs.ReachLemmas.{IsLed as LeadsTo, demanded_led, entry_led}
-
-alone : {X : Type 0} (x y : X) → Contains (y ∷ []) x → x ≡ y
-alone x y h = ⊎_elim (λ (same : y ≡ x). sym same) (λ (none : Contains [] x). absurd (none_in x none)) (cons_cases y [] x h)
+use Rattle.resolver_clause_store.proofs.ListLemmas.{Contains-one}
 
 module _ {N S : Type 0} (u : Universe N S) where
   module _ (root : Demands) (seeds : List S) (packages : List N) where
@@ -122,7 +120,7 @@ module _ {N S : Type 0} (u : Universe N S) where
         let Near : S → Type 0 = λ t. IsNear u root seeds t in
         led_brings root seeds packages (IsDemanded u set (demands_of (u.needs s))) (IsOwn u (BySolvable s) (demands_of (u.needs s))) old new near
         (λ call demanded. led_call root seeds packages call
-        (demanded_led u root seeds packages set (s ∷ []) (λ t h. All-contains (IsNear u root seeds) set t all h) (λ t h. subst Near (sym (alone t s h)) it)
+        (demanded_led u root seeds packages set (s ∷ []) (λ t h. All-contains (IsNear u root seeds) set t all h) (λ t h. subst Near (Contains-one s t h) it)
         (BySolvable s) (here s []) call demanded))
         (λ o own. inr (s, it, own)) brings;
   }

@@ -37,12 +37,12 @@ use Rattle.resolver_encoding.specs.TrailAtoms.{IsChosen}
 use Rattle.resolver_encoding.specs.Trails.{AreAssumed, atoms_before, solvables_before}
 use Rattle.resolver_encoding.specs.Truth.{AreCodes, HasLawfulSolvables, is_plain, follows, IsTrueClause, Spares}
 use Rattle.resolver_encoding.proofs.Bridge.{finished_is_valid, is_chosen, is_trail}
-use Rattle.resolver_encoding.proofs.Reading.{name_matching, sorted_back}
 use Rattle.resolver_encoding.proofs.Satisfied.{has-contains, contains-has, present, helper_meets, satisfied}
 use Rattle.resolver_clause_store.proofs.BoolLemmas.{beq-true, not_same}
 use Rattle.resolver_clause_store.proofs.DemandLemmas.{active_by, requires_by}
 use Rattle.resolver_clause_store.proofs.ListLemmas.{Contains-cons_cases as cons_cases, Contains-here as here, Contains-none as none_in, list_any-witness}
 use Rattle.resolver_encoding.proofs.Sound.{is_plain-parts, defines, valid_obeys}
+use Rattle.resolver_clause_store.proofs.RequirementLemmas.{matching_named, sorted_matches}
 
 spares_none : {N S : Type 0} (u : Universe N S) (kinds : List (ClauseKind N S)) → Spares u [] kinds
 spares_none u kinds = record { locks = λ s t inside free. none_in t free; exclusions = λ s reason inside free. absurd (none_in s free) }
@@ -153,7 +153,7 @@ module _ {N S : Type 0} (u : Universe N S) (root : Demands) (lawful : HasLawfulS
   -- an answer of first choices has all of them
   module _ (packages : HasLawfulPackages u) (chosen exempt : List S) (within : IsWithin chosen firsts) (ok : IsValid u root chosen exempt) where
     named : (v : VersionSetId) (s : S) → Contains (sorted_candidates u v) s → u.name s ≡ u.version_set_name v
-    named v s h = name_matching u lawful packages v s (sorted_back u lawful packages v s h)
+    named v s h = matching_named u packages v s (sorted_matches u packages lawful.same_solvable v s h)
 
     step : (s : S) → IsFirstNext u root (Contains chosen) s → Contains chosen s
     step s (r, v, requires, active, single, choice) =

@@ -35,9 +35,9 @@ use Rattle.resolver_encoding.specs.Reach.{AreNear}
 use Rattle.resolver_encoding.specs.ReadState.{Deferred}
 use Rattle.resolver_encoding.specs.SoFar.{IsBare, IsFiring, IsHalfRead, IsReadSoFar, IsReadingOf}
 use Rattle.resolver_encoding.specs.Trails.{origin_at}
-use Rattle.resolver_encoding.proofs.RequirementLemmas.{active_where}
 use Rattle.resolver_clause_store.proofs.ListLemmas.{Contains-cons_cases as cons_cases, Contains-map_back, Contains-none as none_in}
 use Rattle.resolver_encoding.proofs.SoFarLemmas.{demanded_asked}
+use Rattle.resolver_clause_store.proofs.DemandLemmas.{active_by}
 
 module _ {N S : Type 0} (u : Universe N S) (root : Demands) (seeds : List S) (packages : List N) where
   abbrev Near : S → Type 0
@@ -85,7 +85,7 @@ module _ {N S : Type 0} (u : Universe N S) (root : Demands) (seeds : List S) (pa
       let Wanted : Requirement → Type 0 = λ r. IsWantedBy u r call in
       wanted_led is_true.0 (requires_by e.by read present near is_true.0 is_true.1)
       (OptionalConditionHolds-within u (Contains set) Near set_near is_true.0.condition
-      (active_where u set (map (matching u) e.disjunct) is_true.0.condition is_true.3 met))
+      (active_by u set (map (matching u) e.disjunct) is_true.0.condition is_true.3 met))
       call (subst Wanted (sym is_true.2) wanted)
 
   followed_led : (notes : Notes N S) → AreNear u root seeds packages notes → (call : Call N S) → IsFollowed notes call → IsLed call

@@ -29,12 +29,13 @@ use Rattle.resolver_encoding.specs.TrailAtoms.{IsFirstOpen, IsBecause, needed, n
 use Rattle.resolver_encoding.specs.TrailAtoms.{CoversReached, IsAnswerBy}
 use Rattle.resolver_encoding.proofs.Satisfied.{has-contains, contains-has, present, helper_meets, satisfied}
 use Rattle.resolver_encoding.proofs.Sound.{is_plain-parts, defines, valid_obeys}
-use Rattle.resolver_encoding.proofs.Closure.{active_more, Closure, closure, Next}
+use Rattle.resolver_encoding.proofs.Closure.{Closure, closure, Next}
 use Rattle.resolver_clause_store.proofs.BoolLemmas.{beq-true, not_same}
 use Rattle.resolver_clause_store.proofs.DemandLemmas.{active_by}
 use Rattle.resolver_clause_store.proofs.ListLemmas.{Contains-cons_cases as cons_cases, Contains-here as here, Contains-none as none_in, Contains-there as there}
 use Rattle.resolver_clause_store.proofs.ListLemmas.{list_any-witness}
 use Rattle.resolver_encoding.proofs.Answers.{closed_part_is_valid}
+use Rattle.resolver_clause_store.proofs.NearLemmas.{OptionalConditionHolds-within}
 
 pub first_open_candidate : {N S : Type 0} (u : Universe N S) (earlier : List (Atom N S)) (r : Requirement) (s : S) → IsFirstOpen u earlier r s →
     Contains (requirement_candidates u r) s
@@ -71,7 +72,8 @@ module _ {N S : Type 0} (u : Universe N S) (root : Demands) (lawful : HasLawfulS
     taken = λ s inside. is_chosen.each_true s (cl.within s inside);
     closed = λ by disjunct r s clause here_is meets candidate taken.
         let t = All-contains (IsTrueClause u codes root) kinds (Requires by disjunct r) are_true clause in
-        let active = active_more u (Contains cl.part) (Contains chosen) cl.within t.0.condition (active_by u cl.part _ t.0.condition t.3 meets) in
+        let active = OptionalConditionHolds-within u (Contains cl.part) (Contains chosen) cl.within t.0.condition
+        (active_by u cl.part _ t.0.condition t.3 meets) in
         let Candidate : Requirement → Type 0 = λ q. Contains (requirement_candidates u q) s in
         cl.closed s (is_chosen.each_chosen s taken) (next_by by t.0 s cl.part here_is t.1 active (subst Candidate (sym t.2) candidate));
     closed_gate = λ t r s clause inside implied candidate taken. gate_closed cl t r s inside

@@ -43,6 +43,9 @@ use Rattle.resolver_clause_store.proofs.ListLemmas.{Contains-at as place_in}
 use Rattle.resolver_clause_store.proofs.ListLemmas.{Contains-cons_cases as cons_cases, Contains-here as here, Contains-none as none_in, Contains-there as there}
 use Rattle.resolver_encoding.proofs.GroupLemmas.{named_of_number as IsNamed-at}
 
+pub not_in : {X : Type 0} (xs : List X) (x : X) → xs ≡ [] → Contains xs x → ⊥
+not_in {X} xs x e h = let Has : List X → Type 0 = λ list. Contains list x in none_in x (subst Has e h)
+
 module _ {N S : Type 0} (u : Universe N S) (kinds more : List (ClauseKind N S)) (within : IsWithin kinds more) where
   pub HasClause-within : (by : By S) (list : List VersionSetId) (r : Requirement) → HasClause kinds by list r → HasClause more by list r
   HasClause-within by list r (has_direct disjunct is h) = has_direct disjunct is (within _ h)
@@ -173,9 +176,6 @@ module _ {N S : Type 0} (u : Universe N S) where
   none_at : {X : Type 0} (xs : List X) (i : ℕ) (x : X) → xs ≡ [] → slice_get xs i ≡ Some x → ⊥
   none_at {X} xs i x e at = let below : i < length xs = slice_get_within xs i x at in let nothing : length xs ≡ 0 = ap length e in omega (arith, below, nothing)
 
-  none : {X : Type 0} (xs : List X) (x : X) → xs ≡ [] → Contains xs x → ⊥
-  none {X} xs x e h = let Has : List X → Type 0 = λ list. Contains list x in none_in x (subst Has e h)
-
   -- the root alone
   pub installed : (old new : Notes N S) → IsUnread old → AddsKind u InstallRoot old new → AddsOnly (λ o. o ≡ Root) old new → (root : Demands) →
       IsEncoding u root new
@@ -208,27 +208,27 @@ module _ {N S : Type 0} (u : Universe N S) where
         installs = here InstallRoot [];
         listed = λ n kind at asks. let Asks : ClauseKind N S → Type 0 = λ k. IsRequirementKind k in
             absurd (asks_not {N = N} {S = S} InstallRoot tt (subst Asks (sym (is_install n kind at).1) asks));
-        ask = λ n h. absurd (none old.requirements n unread.no_requirements h);
+        ask = λ n h. absurd (not_in old.requirements n unread.no_requirements h);
         helpers = λ by disjunct r h. absurd (not_there (Requires by disjunct r) (λ q. cc) h);
         packages = λ by disjunct r h. absurd (not_there (Requires by disjunct r) (λ q. cc) h);
         candidates = λ by disjunct r h. absurd (not_there (Requires by disjunct r) (λ q. cc) h);
         once = λ by disjunct r h. absurd (not_there (Requires by disjunct r) (λ q. cc) h);
         gate_packages = λ r h. absurd (not_there (GateRequires r) (λ q. cc) h);
         gate_candidates = λ r h. absurd (not_there (GateRequires r) (λ q. cc) h);
-        gated = λ r h. absurd (none old.gates r unread.no_gates h);
-        excluded = λ v h. absurd (none old.constrained v unread.none_constrained h);
-        follow = λ v h. absurd (none old.helped v unread.none_helped h);
-        locks = λ s t h. absurd (none old.asked (u.name s) unread.none_asked h);
-        exclusions = λ s reason h. absurd (none old.asked (u.name s) unread.none_asked h);
-        registered = λ s h. absurd (none old.seen s unread.none_seen h);
+        gated = λ r h. absurd (not_in old.gates r unread.no_gates h);
+        excluded = λ v h. absurd (not_in old.constrained v unread.none_constrained h);
+        follow = λ v h. absurd (not_in old.helped v unread.none_helped h);
+        locks = λ s t h. absurd (not_in old.asked (u.name s) unread.none_asked h);
+        exclusions = λ s reason h. absurd (not_in old.asked (u.name s) unread.none_asked h);
+        registered = λ s h. absurd (not_in old.seen s unread.none_seen h);
         placed = λ n k s at. absurd (unread.no_groups n s (IsNamed-at old.groups n k s at));
         coding = λ c h. absurd (none_in c h);
         coded = λ n s i b h. absurd (not_there (HasBit n s i b) (λ q. cc) h);
         digits = λ n j k s t at. absurd (unread.no_groups n s (IsNamed-at old.groups n j s at));
         sound_groups = unread.sound_groups;
-        grouped = λ s h. absurd (none old.seen s unread.none_seen h);
+        grouped = λ s h. absurd (not_in old.seen s unread.none_seen h);
         members = λ n s h. absurd (unread.no_groups n s h);
-        left_true = λ e h. absurd (none old.deferred (Some e) unread.none_deferred h);
+        left_true = λ e h. absurd (not_in old.deferred (Some e) unread.none_deferred h);
         indexed = λ i e at. absurd (none_at old.deferred i (Some e) unread.none_deferred at);
         sound_deferred_by_name = unread.sound_deferred_by_name;
       })
@@ -240,7 +240,7 @@ module _ {N S : Type 0} (u : Universe N S) where
           let below : 0 < length new.origins = omega (arith, slice_get_within new.origins w.0.variable Root w.2.origin) in
           let first = slice_get-get_or new.origins 0 Root below in
           let is : get_or new.origins 0 Root ≡ Root = ⊎_elim
-          (λ (earlier : Contains old.origins (get_or new.origins 0 Root)). absurd (none old.origins (get_or new.origins 0 Root) unread.no_origins earlier))
+          (λ (earlier : Contains old.origins (get_or new.origins 0 Root)). absurd (not_in old.origins (get_or new.origins 0 Root) unread.no_origins earlier))
           (λ (same : get_or new.origins 0 Root ≡ Root). same)
           (only.origins.only (get_or new.origins 0 Root) (place_in new.origins 0 (get_or new.origins 0 Root) first)) in
           first ∙ ap (λ o. Some o) is

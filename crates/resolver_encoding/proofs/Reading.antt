@@ -1,18 +1,16 @@
 -- What was read covers what is there by need.
 use Rattle.resolver_encoding.specs.Truth.{HasLawfulSolvables}
-use Rattle.std.proofs.Common.{◌≡◌, ◌⊎◌, List, [], ◌∷◌, inr, sym, subst, ⊎_elim, Contains}
-use Rattle.std.specs.Prelude.{map, Option, Some, None}
-use Rattle.std.proofs.lemmas.List.Elements.{Contains-append_cases, All-weaker}
-use Rattle.std.proofs.lemmas.List.Sorted.{Contains-permutation, IsPermutation-sym}
+use Rattle.std.proofs.Common.{◌⊎◌, List, inr, sym, subst, ⊎_elim, Contains}
+use Rattle.std.specs.Prelude.{map}
+use Rattle.std.proofs.lemmas.List.Elements.{All-weaker}
 use Rattle.resolver_clause_store.specs.Laws.{HasLawfulPackages}
 use Rattle.resolver_clause_store.specs.Lists.{Meets, IsWithin}
 use Rattle.resolver_clause_store.specs.Universe.{Universe, Demands}
-use Rattle.resolver_clause_store.specs.Candidates.{matching, favored_first, sorted_candidates, sorted_in_order, requirement_candidates, version_sets}
+use Rattle.resolver_clause_store.specs.Candidates.{matching, requirement_candidates}
 use Rattle.resolver_clause_store.specs.Conditions.{IsActive}
 use Rattle.resolver_clause_store.specs.Reached.{IsReached, by_seed, by_root, by_reached}
 use Rattle.resolver_clause_store.specs.declared.ConditionalRequirement.{ConditionalRequirement}
 use Rattle.resolver_clause_store.specs.declared.Requirement.{Requirement}
-use Rattle.resolver_clause_store.specs.declared.Requirement.TheVariants.{Single, Union}
 use Rattle.resolver_clause_store.specs.declared.VersionSetId.{VersionSetId}
 use Rattle.resolver_clause_store.specs.declared.By.{By}
 use Rattle.resolver_clause_store.specs.declared.By.TheVariants.{Root as ByRoot, Solvable as BySolvable}
@@ -21,39 +19,10 @@ use Rattle.resolver_clause_store.specs.TrueRules.{demands_by}
 use Rattle.resolver_clause_store.specs.declared.ClauseKind.{ClauseKind}
 use Rattle.resolver_encoding.specs.Read.{IsMade, made_direct, made_gated}
 use Rattle.resolver_encoding.specs.ReadState.{Deferred, HasClause, has_direct, has_gate, IsRead, AreSeeds, NoneFires}
-use Rattle.resolver_clause_store.proofs.ListLemmas.{Contains-here as here, Contains-none as none_in, Contains-there as there}
-use Rattle.resolver_clause_store.proofs.RequirementLemmas.{Contains-cut_left as Contains-cut, Contains-moved_to_front as Contains-front}
-use Rattle.resolver_clause_store.proofs.RequirementLemmas.{Contains-without_repeats as Contains-repeats}
+use Rattle.resolver_clause_store.proofs.RequirementLemmas.{candidate_matches, matching_named}
 use Rattle.resolver_encoding.specs.TrailAtoms.{CoversReached}
 
 module _ {N S : Type 0} (u : Universe N S) (ids : HasLawfulSolvables u) (packages : HasLawfulPackages u) where
-  -- what matches a version set bears its name
-  pub name_matching : (v : VersionSetId) (s : S) → Contains (matching u v) s → u.name s ≡ u.version_set_name v
-  name_matching v s h = (packages.packages (u.version_set_name v)).listed s
-      (Contains-cut (packages.filter_splits (u.package_named (u.version_set_name v)).listed v).cut s h)
-
-  favored_back : (o : Option S) (xs : List S) (s : S) → Contains (favored_first u o xs) s → Contains xs s
-  favored_back None xs s h = h
-  favored_back (Some f) xs s h = Contains-front u.same_solvable ids.same_solvable f xs s h
-
-  pub sorted_back : (v : VersionSetId) (s : S) → Contains (sorted_candidates u v) s → Contains (matching u v) s
-  sorted_back v s h = Contains-permutation (u.sorted_of (matching u v)) (matching u v) s
-      (IsPermutation-sym (matching u v) (u.sorted_of (matching u v)) (packages.sort_permutes (matching u v)))
-      (favored_back (u.package_named (u.version_set_name v)).favored (u.sorted_of (matching u v)) s h)
-
-  in_order_back : (vs : List VersionSetId) (s : S) → Contains (sorted_in_order u vs) s → (v : VersionSetId) × Contains vs v × Contains (matching u v) s
-  in_order_back [] s h = absurd (none_in s h)
-  in_order_back (v ∷ vs) s h = ⊎_elim
-      (λ a. (v, here v vs, sorted_back v s a))
-      (λ b. let w = in_order_back vs s b in (w.0, there v vs w.0 w.1, w.2))
-      (Contains-append_cases (sorted_candidates u v) (sorted_in_order u vs) s h)
-
-  -- a candidate matches a version set of the requirement
-  pub candidate_matches : (r : Requirement) (s : S) → Contains (requirement_candidates u r) s → (v : VersionSetId) × Contains (version_sets u r) v ×
-      Contains (matching u v) s
-  candidate_matches (Single v) s h = (v, here v [], sorted_back v s h)
-  candidate_matches (Union m) s h = in_order_back (u.union_members m) s (Contains-repeats u.same_solvable (sorted_in_order u (u.union_members m)) s h)
-
   module _ (root : Demands) (kinds : List (ClauseKind N S)) (IsLeft : Deferred S → Type 0) (read : List S) (asked : List N) (registered exempt : List S)
       (state : IsRead u root kinds IsLeft read asked registered exempt)
       (chosen seeds : List S) (seeded : AreSeeds u seeds chosen asked registered exempt)
@@ -80,9 +49,12 @@ module _ {N S : Type 0} (u : Universe N S) (ids : HasLawfulSolvables u) (package
         Contains registered s × Contains asked (u.name s)
     of_clause by r s present asks active candidate =
         let w = has_clause chosen (λ x h. h) by r present asks active in
-        let m = candidate_matches r.requirement s candidate in
-        let Asked : N → Type 0 = λ n. Contains asked n in
-        (state.candidates by w.0 r.requirement w.2 s candidate, subst Asked (sym (name_matching m.0 s m.2)) (state.packages by w.0 r.requirement w.2 m.0 m.1))
+        let m = candidate_matches u packages ids.same_solvable r.requirement s candidate in
+        let Asked : N → Type 0 = λ n. Contains asked n in (
+          state.candidates by w.0 r.requirement w.2 s candidate,
+          subst Asked (sym (matching_named u packages m.0 s m.2))
+              (state.packages by w.0 r.requirement w.2 m.0 m.1),
+        )
 
     is_chosen : {s : S} → Reached s → Contains chosen s
     is_chosen {s} (by_seed seed inside) = seeded.seed_chosen s seed

@@ -20,8 +20,8 @@ use Rattle.resolver_clause_store.specs.declared.Origin.TheVariants.{Gate}
 use Rattle.resolver_clause_store.specs.declared.Requirement.{Requirement}
 use Rattle.resolver_clause_store.specs.declared.VersionSetId.{VersionSetId}
 use Rattle.resolver_encoding.specs.Called.{Call, IsCalledBy, IsCalledByEach, IsNamedBy, IsPlainlyNamed, IsSeeingEach, IsWantedBy, to_ask, to_see}
-use Rattle.resolver_encoding.specs.Encodings.{AreDisjuncts, HasRequirement, HasConstraint, IsAskStep, IsConstraintRead, IsDisjunctRead, IsEncodingOf, IsLeft, IsReadStep}
-use Rattle.resolver_encoding.specs.Encodings.{IsStep, Notes}
+use Rattle.resolver_encoding.specs.Encodings.{AreDisjuncts, HasRequirement, HasConstraint, IsAskStep, IsConstraintRead, IsDisjunctRead, IsEncodingOf}
+use Rattle.resolver_encoding.specs.Encodings.{IsLeft, IsReadStep, IsStep, Notes}
 use Rattle.resolver_encoding.specs.Read.{IsForbidden, forbidden_helped}
 use Rattle.resolver_encoding.specs.ReadState.{Deferred, HasClause, has_gate, IsReadRequirement}
 use Rattle.resolver_clause_store.specs.Statements.{AllMeet}
@@ -31,7 +31,7 @@ use Rattle.resolver_encoding.proofs.EncodingLemmas.{IsAskStep-weaker, IsEncoding
 use Rattle.resolver_encoding.proofs.ReadLemmas.{HasClause-within}
 use Rattle.resolver_clause_store.proofs.ListLemmas.{Contains-cons_cases as cons_cases, Contains-here as here, Contains-none as none_in, Contains-there as there}
 use Rattle.resolver_clause_store.proofs.ListLemmas.{list_any-contains}
-use Rattle.resolver_encoding.proofs.Sound.{same_requirement-same}
+use Rattle.resolver_clause_store.proofs.SameRequirementLemmas.{same_requirement-same}
 
 -- what holds of each image holds of each element
 pub All-unmap : {X Y : Type 0} (P : Y → Type 0) (f : X → Y) (xs : List X) → All P (map f xs) → All (λ x. P (f x)) xs
@@ -95,9 +95,6 @@ module _ {N S : Type 0} (u : Universe N S) where
   disjunct_met set (Some c) lists are holds = disjunct_holds u (Contains set) c lists are holds
 
   module _ (notes : Notes N S) (by : By S) (requirement : Requirement) where
-    abbrev Given : List VersionSetId → Type 0
-    Given list = IsDisjunctRead notes by requirement list
-
     -- the disjuncts of the clauses, and those that are put off
     abbrev chosen : (lists : List (List VersionSetId)) → All (IsDisjunctRead notes by requirement) lists → List (List VersionSetId)
     chosen [] all = []
@@ -209,12 +206,6 @@ module _ {N S : Type 0} (u : Universe N S) where
       (HasRequirement u (BySolvable requirer) (record { condition = None; requirement = r.requirement })) (HasRequirement u by r) (λ root asks.
       subst (λ q. Asks (BySolvable requirer) q root) plain (subst (λ b. Asks b r root) same asks)) old new step)
 
-  -- a condition holds where a disjunct of it is met
-  pub active_where : (set : List S) (when : List (List S)) (c : Option ConditionId) → Implies u when c → AllMeet set when →
-      OptionalConditionHolds u (Contains set) c
-  active_where set when None implies met = tt
-  active_where set when (Some c) implies met = implies set met
-
   -- a gate follows from a solvable that asks for its requirement
   pub gate_follows : (codes : N → ℕ → S → Bool) (s : S) (r : Requirement) →
       Contains (demands_of (u.needs s)).requirements (record { condition = None; requirement = r }) → follows u codes (Gate r) s ≡ true
@@ -230,7 +221,8 @@ module _ {N S : Type 0} (u : Universe N S) where
       has_gate s refl refl implied (now.encoding.gated r gate)
 
   -- a constraint of the root or of a solvable that is apart from its helper
-  pub constraint_read : (old new : Notes N S) (by : By S) (v : VersionSetId) → IsEncodingOf u (HasConstraint u by v) old → IsStep u (HasConstraint u by v) old new →
+  pub constraint_read : (old new : Notes N S) (by : By S) (v : VersionSetId) → IsEncodingOf u (HasConstraint u by v) old →
+      IsStep u (HasConstraint u by v) old new →
       Contains new.constrained v → Contains new.kinds (ConstrainsParent by v) → IsConstraintRead u new.kinds by v
   constraint_read old new by v before step helped parent =
       let now = IsEncodingOf-step u (HasConstraint u by v) old new before step in

@@ -2,7 +2,7 @@
 use Rattle.std.proofs.Common.{arith, ◌≡◌, List, Bool, true, false, refl, sym, ap, ◌∙◌, Contains}
 use Rattle.std.specs.Prelude.{not, map}
 use Rattle.std.specs.List.{list_any}
-use Rattle.std.proofs.lemmas.Bool.{both_ways, false≢true}
+use Rattle.std.proofs.lemmas.Bool.{both_ways, false≢true, true_from_ne_false}
 use Rattle.std.proofs.lemmas.List.Elements.{All-map, Contains-get_or}
 use Rattle.std.proofs.lemmas.Map.Views.{Contains-from_any}
 use Rattle.resolver_clause_store.specs.Laws.{IsIdentity}
@@ -22,7 +22,7 @@ use Rattle.resolver_encoding.specs.Atoms.{Atom, atom, origin_by, atoms_of, has, 
 use Rattle.resolver_encoding.specs.Atoms.{states_gated, states_helped, states_coded, states_bit, states_lock, states_excluded, Defines}
 use Rattle.resolver_clause_store.proofs.BoolLemmas.{beq-false}
 use Rattle.resolver_clause_store.proofs.ListLemmas.{list_any-contains, list_any-witness}
-use Rattle.resolver_encoding.proofs.Lists.{In, first, later, on_left, on_right, mapped, list_any-none, true_if}
+use Rattle.resolver_encoding.proofs.Lists.{In, first, later, on_left, on_right, mapped, list_any-none}
 
 module _ {N S : Type 0} (u : Universe N S) (implies : Origin N S → S → Bool) (same : IsIdentity u.same_solvable) (set : List S) where
   abbrev pub value : Origin N S → Bool
@@ -51,7 +51,8 @@ module _ {N S : Type 0} (u : Universe N S) (implies : Origin N S → S → Bool)
     pub each : (o : Origin N S) (b : Bool) → In atoms (atom o b) → value o ≡ not b
 
   pub satisfied_unless : (atoms : List (Atom N S)) → (IsFalse atoms → ⊥) → is_satisfied value atoms ≡ true
-  satisfied_unless atoms h = true_if _ (λ wrong. h (record { each = λ o b inside. beq-false _ _ (list_any-none _ atoms (atom o b) wrong inside.at) }))
+  satisfied_unless atoms h =
+      true_from_ne_false _ (λ wrong. h (record { each = λ o b inside. beq-false _ _ (list_any-none _ atoms (atom o b) wrong inside.at) }))
 
   module _ (kinds : List (ClauseKind N S)) (defines : Defines u implies kinds) where
     pub helper_meets : (v : VersionSetId) → value (ConditionHelper v) ≡ true → Meets (matching u v) set

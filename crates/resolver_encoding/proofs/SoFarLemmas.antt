@@ -32,10 +32,11 @@ use Rattle.resolver_encoding.specs.SoFar.{HasFired, HasRead, IsBare, IsFiring, I
 use Rattle.resolver_encoding.specs.SoFar.{IsReadingOf, left_count, progress_by}
 use Rattle.resolver_encoding.specs.Truth.{HasLawfulSolvables}
 use Rattle.resolver_encoding.proofs.EncodingLemmas.{Contains-kept, Extends-same, Extends-trans, Extends-within, IsWithin-same, IsWithin-trans}
-use Rattle.resolver_encoding.proofs.ReadLemmas.{AreDemandsRead-grown, AreNeedsRead-grown, HasClause-within, IsConstraintRead-within, demands_read, packages_of}
-use Rattle.resolver_encoding.proofs.Reading.{name_matching}
+use Rattle.resolver_encoding.proofs.ReadLemmas.{AreDemandsRead-grown, AreNeedsRead-grown, HasClause-within, IsConstraintRead-within, demands_read}
+use Rattle.resolver_encoding.proofs.ReadLemmas.{not_in, packages_of}
 use Rattle.resolver_clause_store.proofs.ListLemmas.{Contains-at as place_in, Contains-here as here, Contains-none as none_in, Contains-there as there}
-use Rattle.resolver_encoding.proofs.RequirementLemmas.{active_where}
+use Rattle.resolver_clause_store.proofs.DemandLemmas.{IsPresent-within, active_by}
+use Rattle.resolver_clause_store.proofs.RequirementLemmas.{matching_named}
 
 place_on : {X : Type 0} (xs ys : List X) → Extends xs ys → (k : ℕ) (x : X) → slice_get xs k ≡ Some x → slice_get ys k ≡ Some x
 place_on {X} xs ys more k x at =
@@ -44,10 +45,6 @@ place_on {X} xs ys more k x at =
 
 pub IsWithin-equal : {X : Type 0} (xs ys : List X) → ys ≡ xs → IsWithin xs ys
 IsWithin-equal {X} xs ys same x h = let Has : List X → Type 0 = λ list. Contains list x in subst Has (sym same) h
-
-pub IsPresent-within : {S : Type 0} (by : By S) (xs ys : List S) → IsWithin xs ys → IsPresent by xs → IsPresent by ys
-IsPresent-within ByRoot xs ys within h = tt
-IsPresent-within (BySolvable s) xs ys within h = within s h
 
 -- each list of the disjunct is met in the first part of the set, or one in the second
 met_in_parts : {N S : Type 0} (u : Universe N S) (first second : List S) (list : List VersionSetId) → AllMeet (first ++ second) (map (matching u) list) →
@@ -198,7 +195,7 @@ module _ {N S : Type 0} (u : Universe N S) (set : List S) where
       quiet_behind i e at met v inside s behind matches =
           let Named : N → Type 0 = λ n. IsNamed new.deferred_by_name n i in
           let named : IsNamed new.deferred_by_name (u.name s) i =
-          subst Named (sym (name_matching u ids packages v s matches)) (half_after.encoding.indexed i e at v inside) in
+          subst Named (sym (matching_named u packages v s matches)) (half_after.encoding.indexed i e at v inside) in
           let here_quiet : IsQuietUnder u set new (u.name s) = All-contains (λ t. IsQuietUnder u set new (u.name t)) (drop from set) s quiet behind in
           (here_quiet.quiet i named).quiet e at met
 
@@ -237,7 +234,7 @@ module _ {N S : Type 0} (u : Universe N S) (set : List S) where
               is_true.0,
               is_true.1,
               (
-                active_where u set (map (matching u) e.disjunct) is_true.0.condition is_true.3 w.2,
+                active_by u set (map (matching u) e.disjunct) is_true.0.condition is_true.3 w.2,
                 subst Named (sym is_true.2) w.3,
               ),
             ),
@@ -331,9 +328,6 @@ module _ {N S : Type 0} (u : Universe N S) (root : Demands) (bare new : Notes N 
     (nothing : IsBare bare) (start : IsEncoding u root bare) (read : AreDemandsRead u new ByRoot root) where
   pub root_none_read : new.read ≡ []
   root_none_read = step.read ∙ nothing.none_read
-
-  not_in : {X : Type 0} (xs : List X) (x : X) → xs ≡ [] → Contains xs x → ⊥
-  not_in xs x none h = none_in x (IsWithin-equal xs [] (sym none) x h)
 
   root_unmet : (e : Deferred S) → IsLeft new e → IsUnmet u [] ByRoot e
   root_unmet e h = ⊎_elim

@@ -2,7 +2,7 @@
 use Rattle.std.proofs.Common.{ℕ, ◌≡◌, List, Bool, true, refl, sym, ap, ◌∙◌, subst, ⊎_elim, Contains, All}
 use Rattle.std.specs.Prelude.{Option, Some, None, is_none, nat_eq}
 use Rattle.std.proofs.lemmas.List.Elements.{All-contains}
-use Rattle.std.proofs.lemmas.Bool.{eqb-true, eq-eqb}
+use Rattle.std.proofs.lemmas.Bool.{eq-eqb}
 use Rattle.std.proofs.lemmas.Map.Views.{Contains-from_any}
 use Rattle.resolver_clause_store.specs.Laws.{IsIdentity}
 use Rattle.resolver_clause_store.specs.Lists.{Meets}
@@ -13,7 +13,6 @@ use Rattle.resolver_clause_store.specs.Valid.{IsValid, demands_of}
 use Rattle.resolver_clause_store.specs.declared.ConditionId.{ConditionId}
 use Rattle.resolver_clause_store.specs.declared.ConditionalRequirement.{ConditionalRequirement}
 use Rattle.resolver_clause_store.specs.declared.Requirement.{Requirement}
-use Rattle.resolver_clause_store.specs.declared.Requirement.TheVariants.{Single, Union}
 use Rattle.resolver_clause_store.specs.declared.By.TheVariants.{Solvable as BySolvable}
 use Rattle.resolver_clause_store.specs.declared.Rule.{Rule}
 use Rattle.resolver_clause_store.specs.declared.Rule.TheVariants.{Requires as RuleRequires, Constrains as RuleConstrains, Lock as RuleLock}
@@ -29,20 +28,11 @@ use Rattle.resolver_encoding.specs.Atoms.{states_excluded, Defines}
 use Rattle.resolver_clause_store.proofs.BoolLemmas.{and_left, and_right}
 use Rattle.resolver_clause_store.proofs.DemandLemmas.{active_by, constrains_by, not_unknown, requires_by}
 use Rattle.resolver_clause_store.proofs.ListLemmas.{list_any-contains, list_any-witness}
-use Rattle.resolver_encoding.specs.Truth.{same_requirement, is_plain, AreCodes, follows, IsTrueClause, Spares, AreListed}
-
-pub same_requirement-true : (r q : Requirement) → same_requirement r q ≡ true → r ≡ q
-same_requirement-true (Single v) (Single w) e = let same : v.0 ≡ w.0 = eqb-true _ _ e in let Of : ℕ → Requirement = λ n. Single (record { 0 = n }) in ap Of same
-same_requirement-true (Single v) (Union w) e = cc
-same_requirement-true (Union v) (Single w) e = cc
-same_requirement-true (Union v) (Union w) e = let same : v.0 ≡ w.0 = eqb-true _ _ e in let Of : ℕ → Requirement = λ n. Union (record { 0 = n }) in ap Of same
+use Rattle.resolver_clause_store.proofs.SameRequirementLemmas.{same_requirement-true}
+use Rattle.resolver_encoding.specs.Truth.{is_plain, AreCodes, follows, IsTrueClause, Spares, AreListed}
 
 pub nat_same : (n : ℕ) → nat_eq n n ≡ true
 nat_same n = eq-eqb n n refl
-
-pub same_requirement-same : (r : Requirement) → same_requirement r r ≡ true
-same_requirement-same (Single v) = nat_same v.0
-same_requirement-same (Union v) = nat_same v.0
 
 none_is : {X : Type 0} (o : Option X) → is_none o ≡ true → o ≡ None
 none_is None e = refl

@@ -22,7 +22,8 @@ use Rattle.resolver_encoding.specs.Turns.{AddsPlainly, AsksOnly, IsRestored, IsR
 use Rattle.resolver_encoding.proofs.EncodingLemmas.{Contains-kept, IsStep-same, IsWithin-same}
 use Rattle.resolver_encoding.proofs.ReadLemmas.{AreDemandsRead-grown, AreNeedsRead-grown}
 use Rattle.resolver_clause_store.proofs.ListLemmas.{Contains-cons_cases as cons_cases, Contains-here as here, Contains-there as there}
-use Rattle.resolver_encoding.proofs.SoFarLemmas.{IsPresent-within, IsWithin-equal}
+use Rattle.resolver_encoding.proofs.SoFarLemmas.{IsWithin-equal}
+use Rattle.resolver_clause_store.proofs.DemandLemmas.{IsPresent-within}
 
 module _ {N S : Type 0} (u : Universe N S) where
   -- what was read stays read where clauses are added, and nothing is read or put off

@@ -10,7 +10,7 @@ use Rattle.resolver_clause_store.specs.declared.Rule.{Rule}
 use Rattle.resolver_clause_store.specs.Rules.{IsRefuted}
 use Rattle.resolver_clause_store.specs.TrueRules.{IsTrueRule}
 use Rattle.resolver_encoding.specs.Atoms.{atoms_of, is_satisfied}
-use Rattle.resolver_encoding.specs.Truth.{same_requirement}
+use Rattle.resolver_clause_store.specs.SameRequirements.{same_requirement}
 
 -- whether two helpers are the same
 abbrev pub same_helper : {N S : Type 0} → (N → N → Bool) → Origin N S → Origin N S → Bool

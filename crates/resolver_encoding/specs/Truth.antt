@@ -1,12 +1,11 @@
 -- Which clauses are true of a provider and a problem.
-use Rattle.std.specs.Prelude.{ℕ, nat_eq, is_none, ◌&&◌, ◌≡◌, ◌≢◌, ◌⊎◌, Bool, true, false, List, Some, Contains, map, ⊤}
+use Rattle.std.specs.Prelude.{ℕ, is_none, ◌&&◌, ◌≡◌, ◌≢◌, ◌⊎◌, Bool, true, false, List, Some, Contains, map, ⊤}
 use Rattle.resolver_clause_store.specs.Laws.{HasLawfulIds, IsIdentity}
 use Rattle.resolver_clause_store.specs.Universe.{Universe, Demands, unknown}
 use Rattle.resolver_clause_store.specs.Candidates.{matching, others}
 use Rattle.std.specs.List.{list_any}
 use Rattle.resolver_clause_store.specs.Valid.{demands_of}
 use Rattle.resolver_clause_store.specs.declared.Requirement.{Requirement}
-use Rattle.resolver_clause_store.specs.declared.Requirement.TheVariants.{Single, Union}
 use Rattle.resolver_clause_store.specs.declared.ConditionalRequirement.{ConditionalRequirement}
 use Rattle.resolver_clause_store.specs.declared.Rule.{Rule}
 use Rattle.resolver_clause_store.specs.Statements.{Statement, statement_of}
@@ -16,18 +15,13 @@ use Rattle.resolver_clause_store.specs.declared.Origin.TheVariants.{Root, Solvab
 use Rattle.resolver_clause_store.specs.declared.ClauseKind.{ClauseKind}
 use Rattle.resolver_clause_store.specs.declared.ClauseKind.TheVariants.{InstallRoot, Requires, AnyOf, Constrains, GateRequires, ConstrainsExcluded}
 use Rattle.resolver_clause_store.specs.declared.ClauseKind.TheVariants.{ConstrainsParent, HasBit, Lock, Excluded}
+use Rattle.resolver_clause_store.specs.SameRequirements.{same_requirement}
 use Rattle.resolver_encoding.specs.Atoms.{has, IsHelper, IsStated}
 
 -- conditions are well-founded, and solvables that compare equal are the same
 pub record HasLawfulSolvables {N S : Type 0} (u : Universe N S) : Type 0 where
   pub ids : HasLawfulIds u
   pub same_solvable : IsIdentity u.same_solvable
-
-abbrev pub same_requirement : Requirement → Requirement → Bool
-same_requirement (Single v) (Single w) = nat_eq v.0 w.0
-same_requirement (Single v) (Union w) = false
-same_requirement (Union v) (Single w) = false
-same_requirement (Union v) (Union w) = nat_eq v.0 w.0
 
 -- whether the conditional requirement is this requirement without a condition
 abbrev pub is_plain : Requirement → ConditionalRequirement → Bool

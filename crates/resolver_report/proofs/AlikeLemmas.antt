@@ -2,15 +2,14 @@
 use Rattle.std.proofs.Common.{◌≡◌, ◌⊎◌, ℕ, ◌+◌, Bool, true, false, cond, List, [], ◌∷◌, length, refl, sym, ◌∙◌, ap, inl, inr, rules, arith}
 use Rattle.std.specs.Prelude.{◌==◌, ◌&&◌, nat_eq, count_by, filter, Option, Some, None, slice_get}
 use Rattle.std.specs.List.{list_all, range_with_len}
-use Rattle.std.proofs.lemmas.Bool.{false≢true}
+use Rattle.std.proofs.lemmas.Bool.{false≢true, and_from}
 use Rattle.std.proofs.lemmas.List.Sums.{sum_by-cons}
 use lib.Pointwise.{pointwise}
 use Rattle.resolver_clause_store.specs.declared.Requirement.{Requirement}
-use Rattle.resolver_clause_store.specs.declared.Requirement.TheVariants.{Single, Union}
 use Rattle.resolver_report.specs.declared.graph.Side.{Side}
-use Rattle.resolver_report.specs.Same.{same_requirement}
+use Rattle.resolver_clause_store.proofs.SameRequirementLemmas.{same_requirement-true}
 use Rattle.resolver_report.specs.Merging.{same_required, same_side, has_count, same_counts, same_texts, Key, are_alike, are_alike_if_there, class_in}
-use Rattle.resolver_clause_store.proofs.BoolLemmas.{and_both as both_true, and_left, and_right}
+use Rattle.resolver_clause_store.proofs.BoolLemmas.{and_left, and_right}
 use Rattle.resolver_report.specs.Merging.{first_of_two}
 
 pub same_bool : (a b : Bool) → (a ≡ true → b ≡ true) → (b ≡ true → a ≡ true) → a ≡ b
@@ -24,14 +23,8 @@ same_numbers m n e = search (rules, e)
 pub itself_number : (m : ℕ) → (m == m) ≡ true
 itself_number m = search rules
 
-requirement_alone : (r q : Requirement) → same_requirement r q ≡ true → r ≡ q
-requirement_alone (Single v) (Single w) e = ap (λ n. Single (record { 0 = n })) (same_numbers v.0 w.0 e)
-requirement_alone (Union v) (Union w) e = ap (λ n. Union (record { 0 = n })) (same_numbers v.0 w.0 e)
-requirement_alone (Single v) (Union w) e = absurd (false≢true e)
-requirement_alone (Union v) (Single w) e = absurd (false≢true e)
-
 required_alone : (a b : Option Requirement) → same_required a b ≡ true → a ≡ b
-required_alone (Some r) (Some q) e = ap Some (requirement_alone r q e)
+required_alone (Some r) (Some q) e = ap Some (same_requirement-true r q e)
 required_alone None None e = refl
 required_alone (Some r) None e = absurd (false≢true e)
 required_alone None (Some q) e = absurd (false≢true e)
@@ -70,11 +63,11 @@ module _ {X : Type 0} (same : X → X → Bool) (alone : (a b : X) → same a b 
 
   all_agree : ((x : X) → count_by (same x) xs ≡ count_by (same x) ys) → (zs : List X) → list_all (has_count same xs ys) zs ≡ true
   all_agree agree [] = refl
-  all_agree agree (z ∷ zs) = both_true (has_count same xs ys z) (list_all (has_count same xs ys) zs)
+  all_agree agree (z ∷ zs) = and_from (has_count same xs ys z) (list_all (has_count same xs ys) zs)
       (ap (λ n. n == count_by (same z) ys) (agree z) ∙ itself_number (count_by (same z) ys)) (all_agree agree zs)
 
   pub agree_counts : ((x : X) → count_by (same x) xs ≡ count_by (same x) ys) → same_counts same xs ys ≡ true
-  agree_counts agree = both_true (list_all (has_count same xs ys) xs) (list_all (has_count same xs ys) ys) (all_agree agree xs) (all_agree agree ys)
+  agree_counts agree = and_from (list_all (has_count same xs ys) xs) (list_all (has_count same xs ys) ys) (all_agree agree xs) (all_agree agree ys)
 
 -- lists with the same counts have the same counts as a third
 counts_alike : {X : Type 0} (same : X → X → Bool) (alone : (a b : X) → same a b ≡ true → a ≡ b) (xs ys zs : List X) → same_counts same xs ys ≡ true →

@@ -1,5 +1,5 @@
 -- The first node of a group.
-use Rattle.std.proofs.Common.{◌≡◌, ◌⊎◌, ℕ, zero, suc, ◌+◌, ◌<◌, ◌≤◌, Bool, true, false, List, [], ◌∷◌, length, map, filter, refl, sym, ◌∙◌, ap, subst, inl, inr}
+use Rattle.std.proofs.Common.{◌≡◌, ◌⊎◌, ℕ, zero, suc, ◌+◌, ◌<◌, ◌≤◌, Bool, true, false, List, [], ◌∷◌, length, map, refl, sym, ◌∙◌, ap, subst, inl, inr}
 use Rattle.std.proofs.Common.{arith, get_or}
 use Rattle.std.specs.Prelude.{Option, Some, None, IsNone, MatchOption, slice_get}
 use Rattle.std.specs.List.{filter_map, range_with_len}
@@ -20,6 +20,8 @@ use Rattle.std.proofs.lemmas.List.Sums.{position_or_len_is}
 use Rattle.resolver_report.proofs.AlikeLemmas.{first_passes}
 use Rattle.resolver_clause_store.proofs.ListLemmas.{slice_get-inside as below}
 use Rattle.resolver_report.proofs.GraphLemmas.{same_node_is_identity}
+use Rattle.std.proofs.lemmas.Option.{get_or_from_slice_get}
+use Rattle.resolver_report.proofs.ListLemmas.{filter_none}
 
 -- what a function makes of numbers in a row, at a place
 made_at : {X : Type 0} (f : ℕ → X) (a count n : ℕ) → (slice_get (map f (range_with_len a count)) n ≡ None) ⊎
@@ -32,10 +34,6 @@ made_within : {X : Type 0} (f : ℕ → X) (a count n : ℕ) → n < count → s
 made_within f a zero n lt = absurd (omega (arith, lt))
 made_within f a (suc count) zero lt = let same : a + 0 ≡ a = omega arith in ap (λ k. Some (f k)) (sym same)
 made_within f a (suc count) (suc n) lt = let same : (a + 1) + n ≡ a + suc n = omega arith in rw same at (made_within f (a + 1) count n (omega (arith, lt)))
-
-filter_none : (p : ℕ → Bool) (xs : List ℕ) → ((x : ℕ) → p x ≡ false) → filter p xs ≡ []
-filter_none p [] h = refl
-filter_none p (x ∷ xs) h = rw (h x) (filter_none p xs h)
 
 nameless_left : (k l : Option Key) → ((key : Key) → k ≡ Some key → key.name ≡ None) → are_alike_if_there k l ≡ false
 nameless_left None l h = refl
@@ -51,24 +49,19 @@ nameless_right None l h = refl
 nameless_right (Some k) None h = refl
 nameless_right (Some k) (Some l) h = rw (h l refl, nameless_text k.name) refl
 
-here : {X : Type 0} (xs : List X) (n : ℕ) (x d : X) → slice_get xs n ≡ Some x → get_or xs n d ≡ x
-here [] n x d e = absurd cc
-here (y ∷ ys) zero x d e = cc
-here (y ∷ ys) (suc n) x d e = here ys n x d e
-
 -- a node's place is where it stands
 place_is : {S : Type 0} (same : S → S → Bool) → IsIdentity same → (ms : List (ConflictNode S)) → HasNoRepeats ms → (k : ℕ) (s : S) →
     slice_get ms k ≡ Some (Solvable s) → place_in same ms (Solvable s) ≡ k
 place_is {S} same identity ms once k s e =
     position_or_len_is (λ m. same_node same m (Solvable s)) ms k Root (omega (arith, lt)) (λ j h.
-    apart j h (same_node same (get_or ms j Root) (Solvable s)) refl) (λ h. rw (here ms k (Solvable s) Root e) (identity.itself s))
+    apart j h (same_node same (get_or ms j Root) (Solvable s)) refl) (λ h. rw (get_or_from_slice_get ms k (Solvable s) Root e) (identity.itself s))
   where
     lt : k < length ms
     lt = below ms k (Solvable s) e
 
     apart : (j : ℕ) → j < k → (b : Bool) → same_node same (get_or ms j Root) (Solvable s) ≡ b → same_node same (get_or ms j Root) (Solvable s) ≡ false
     apart j h true f = absurd (once j k Root h lt
-        ((same_node_is_identity same identity).alone (get_or ms j Root) (Solvable s) f ∙ sym (here ms k (Solvable s) Root e)))
+        ((same_node_is_identity same identity).alone (get_or ms j Root) (Solvable s) f ∙ sym (get_or_from_slice_get ms k (Solvable s) Root e)))
     apart j h false f = f
 
 not_empty : {X : Type 0} (x : X) (xs : List X) → length (x ∷ xs) ≡ 0 → ⊥

@@ -9,7 +9,7 @@ use Rattle.std.specs.Ordering.{is_eq, is_lt, ordering_reverse}
 use Rattle.std.specs.declared.cmp.Ordering.{Ordering}
 use Rattle.std.specs.declared.cmp.Ordering.TheVariants.{Less, Equal, Greater}
 use lib.Pointwise.{pointwise}
-use Rattle.std.proofs.lemmas.Bool.{false≢true, true≢false, cases_lt}
+use Rattle.std.proofs.lemmas.Bool.{false≢true, true≢false, cases_lt, and_from}
 use Rattle.std.proofs.lemmas.List.{get_or_default, length-map}
 use Rattle.std.proofs.lemmas.List.Elements.{filter-append}
 use Rattle.std.proofs.lemmas.List.FromFn.{length-range_with_len}
@@ -18,39 +18,34 @@ use Rattle.std.proofs.lemmas.Option.{slice_get-map, slice_get_past, slice_get-ge
 use Rattle.resolver_clause_store.specs.Laws.{IsIdentity}
 use Rattle.resolver_clause_store.specs.Universe.{Universe}
 use Rattle.resolver_clause_store.specs.declared.Requirement.{Requirement}
-use Rattle.resolver_clause_store.specs.declared.Requirement.TheVariants.{Single, Union}
 use Rattle.resolver_report.specs.declared.keys.NodeKey.{NodeKey}
 use Rattle.resolver_report.specs.declared.graph.Side.{Side}
 use Rattle.resolver_report.specs.Classes.{has_key, places_of_key}
 use Rattle.resolver_report.specs.Keys.{AreKeysOf, IsInOrder, IsKeyOf, IsOrderedKey, same_key}
 use Rattle.resolver_report.specs.Merging.{same_required, same_side, same_counts, same_texts, Key, are_alike, are_alike_if_there, class_in, key_of, keys}
-use Rattle.resolver_report.specs.Same.{same_requirement}
+use Rattle.resolver_clause_store.proofs.SameRequirementLemmas.{same_requirement-same}
 use Rattle.resolver_report.specs.Shapes.{Shape}
 use Rattle.resolver_report.specs.Listed.{items_if}
 use Rattle.resolver_report.specs.Shapes.{places}
-use Rattle.resolver_report.proofs.ListLemmas.{range-next}
+use Rattle.resolver_report.proofs.ListLemmas.{range-next, filter_none}
 use Rattle.resolver_report.proofs.AlikeLemmas.{agree_counts, counts_agree, itself_number, same_bool, side_alone}
 use Rattle.resolver_report.proofs.AlikeLemmas.{texts_pointwise}
-use Rattle.resolver_clause_store.proofs.BoolLemmas.{and_both as both_true, and_left, and_right}
+use Rattle.resolver_clause_store.proofs.BoolLemmas.{and_left, and_right}
 use Rattle.resolver_report.proofs.OrderedLemmas.{sorted_same}
-
-requirement_itself : (r : Requirement) → same_requirement r r ≡ true
-requirement_itself (Single v) = itself_number v.0
-requirement_itself (Union v) = itself_number v.0
 
 required_itself : (o : Option Requirement) → same_required o o ≡ true
 required_itself None = refl
-required_itself (Some r) = requirement_itself r
+required_itself (Some r) = same_requirement-same r
 
 side_itself : (a : Side) → same_side a a ≡ true
-side_itself a = both_true (same_required a.required a.required) (a.other.0 == a.other.0) (required_itself a.required) (itself_number a.other.0)
+side_itself a = and_from (same_required a.required a.required) (a.other.0 == a.other.0) (required_itself a.required) (itself_number a.other.0)
 
 same_side_is_identity : IsIdentity same_side
 same_side_is_identity = record { alone = side_alone; itself = side_itself }
 
 sides_itself : (xs : List Side) → pointwise same_side xs xs ≡ true
 sides_itself [] = refl
-sides_itself (x ∷ xs) = both_true (same_side x x) (pointwise same_side xs xs) (side_itself x) (sides_itself xs)
+sides_itself (x ∷ xs) = and_from (same_side x x) (pointwise same_side xs xs) (side_itself x) (sides_itself xs)
 
 sides_alone : (xs ys : List Side) → pointwise same_side xs ys ≡ true → xs ≡ ys
 sides_alone [] [] e = refl
@@ -63,7 +58,7 @@ sides_alone (x ∷ xs) (y ∷ ys) e =
 
 bytes_itself : (a : List ℕ) → pointwise nat_eq a a ≡ true
 bytes_itself [] = refl
-bytes_itself (x ∷ xs) = both_true (nat_eq x x) (pointwise nat_eq xs xs) (itself_number x) (bytes_itself xs)
+bytes_itself (x ∷ xs) = and_from (nat_eq x x) (pointwise nat_eq xs xs) (itself_number x) (bytes_itself xs)
 
 regrouped : (a b c : Bool) → (a && (b && c)) ≡ ((a && b) && c)
 regrouped true b c = refl
@@ -163,10 +158,6 @@ module _ (cmp : Side → Side → Ordering) (total : IsTotalOrder cmp) (matches 
         let ordered : IsOrderedKey cmp k a = subst Is (sym is) (are.each n k there) in
         λ i. filter (λ m. (at_place k a ordered m ∙ ap (λ o. are_alike_if_there o (slice_get ks m)) (sym there)) i) (range_with_len 0 (are.long i))
 
-    none_pass : (ms : List ℕ) (p : ℕ → Bool) → ((m : ℕ) → p m ≡ false) → filter p ms ≡ []
-    none_pass [] p f = refl
-    none_pass (m ∷ ms) p f = ap (λ b. cond b (m ∷ filter p ms) (filter p ms)) (f m) ∙ none_pass ms p f
-
     -- a node without a key has an empty class
     pub class_of_none : (n : ℕ) (o : Option NodeKey) → n < length os → o ≡ get_or os n o → o ≡ None → [] ≡ class_in ks n
     class_of_none n o lt at none =
@@ -175,7 +166,7 @@ module _ (cmp : Side → Side → Ordering) (total : IsTotalOrder cmp) (matches 
         let there : slice_get ks n ≡ Some k = key_there n lt in
         let Is : Option NodeKey → Type 0 = λ o. IsKeyOf cmp k o in
         let nameless : k.name ≡ None = subst Is (sym is) (are.each n k there) in
-        sym (none_pass (range_with_len 0 (length ks)) (λ m. are_alike_if_there (slice_get ks n) (slice_get ks m)) (λ m.
+        sym (filter_none (λ m. are_alike_if_there (slice_get ks n) (slice_get ks m)) (range_with_len 0 (length ks)) (λ m.
         ap (λ o. are_alike_if_there o (slice_get ks m)) there ∙ alone (slice_get ks m) k nameless))
       where
         first_none : (o p : Option (List ℕ)) → o ≡ None → same_texts o p ≡ false

@@ -1,5 +1,5 @@
 -- Lists of numbers, and one element more.
-use Rattle.std.proofs.Common.{◌≡◌, ℕ, zero, suc, ◌+◌, Bool, true, false, [], ◌∷◌, ◌++◌, map, refl, ◌∙◌, ap, arith}
+use Rattle.std.proofs.Common.{◌≡◌, ℕ, zero, suc, ◌+◌, Bool, true, false, [], ◌∷◌, ◌++◌, map, refl, ◌∙◌, ap, arith, List}
 use Rattle.std.proofs.Common.{add-zero, add-one}
 use Rattle.std.specs.Prelude.{filter}
 use Rattle.std.specs.List.{range_with_len}
@@ -23,3 +23,7 @@ filter-range-pass p n e = ap (filter p) (range-next n) ∙ filter-append p (rang
 
 pub filter-range-fail : (p : ℕ → Bool) (n : ℕ) → p n ≡ false → filter p (range_with_len 0 (n + 1)) ≡ filter p (range_with_len 0 n)
 filter-range-fail p n e = ap (filter p) (range-next n) ∙ filter-append p (range_with_len 0 n) (n ∷ []) ∙ rw (e, append-nil) refl
+
+pub filter_none : {X : Type 0} (p : X → Bool) (xs : List X) → ((x : X) → p x ≡ false) → filter p xs ≡ []
+filter_none p [] h = refl
+filter_none p (x ∷ xs) h = rw (h x) (filter_none p xs h)

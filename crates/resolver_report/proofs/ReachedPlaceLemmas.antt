@@ -21,8 +21,8 @@ use Rattle.resolver_report.specs.declared.graph.Link.{Link}
 use Rattle.resolver_clause_store.specs.declared.Rule.{Rule}
 use Rattle.resolver_clause_store.specs.declared.Rule.TheVariants.{Requires, Constrains, Lock, Excluded, OnePerPackage}
 use Rattle.resolver_report.specs.Same.{same_node}
-use Rattle.resolver_report.specs.Graphs.{node_by, mentioned, mentions, first_mentions, requirement_link, requirement_links, last_instance, instance_links, links_of}
-use Rattle.resolver_report.specs.Graphs.{links_after, links, is_entered, place_in, edge_in, graph_with, graph_of}
+use Rattle.resolver_report.specs.Graphs.{node_by, mentioned, mentions, first_mentions, requirement_link, requirement_links, last_instance, instance_links}
+use Rattle.resolver_report.specs.Graphs.{links_of, links_after, links, is_entered, place_in, edge_in, graph_with, graph_of}
 use Rattle.resolver_report.specs.ReachedRules.{IsReachedBy, by_root, by_reached, IsRequirerReached, IsKept}
 use Rattle.resolver_report.specs.ReachedPlaces.{IsWalkedTo, at_root, by_requirement, IsReachedPlace, by_walk, by_edge, AreNodesReached}
 use Rattle.resolver_report.specs.Shapes.{as_solvable, ConflictShape}
@@ -93,7 +93,8 @@ module _ {N S : Type 0} (same_name : N → N → Bool) where
       solvable_nodes candidates.items (λ s inside.
           candidate_node by requirement candidates when s listed inside (requirer_node by h)),
     )
-    mentioned_nodes (Constrains by version_set candidate) listed (requirer, h) = (by_nodes (requirer_node by requirer), (by_nodes (reached_node candidate h), tt))
+    mentioned_nodes (Constrains by version_set candidate) listed (requirer, h) =
+        (by_nodes (requirer_node by requirer), (by_nodes (reached_node candidate h), tt))
     mentioned_nodes (Lock locked forbidden) listed h = (by_nodes (reached_node forbidden h), tt)
     mentioned_nodes (Excluded solvable reason) listed h =
         let l : Link S = record { source = Solvable solvable; target = Reason reason; weight = Conflict ByExclusion } in (

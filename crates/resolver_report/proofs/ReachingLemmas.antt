@@ -1,13 +1,12 @@
 -- Why following what is reached ends, and with just what is reached.
 use Rattle.std.proofs.Common.{◌≡◌, ◌⊎◌, ℕ, zero, suc, ◌+◌, ◌-◌, ◌<◌, ◌≤◌, Bool, true, false, List, [], ◌∷◌, ◌++◌, length, append_assoc, length-append, refl}
-use Rattle.std.proofs.Common.{sym, ◌∙◌, ap, subst, true≢false, inl, inr, arith, Contains, MatchBool, Vec, Global}
+use Rattle.std.proofs.Common.{sym, ◌∙◌, ap, subst, inl, inr, arith, Contains, MatchBool, Vec, Global}
 use Rattle.std.specs.Cmp.{IsEquivalence}
 use Rattle.std.specs.List.{flat_map, list_any, items_where_true}
 use Rattle.std.specs.List.Retain.{IsFiltered, ReturnsInTurn}
 use Rattle.std.specs.Prelude.{if◌then◌else◌, Some, slice_get}
 use Rattle.std.proofs.lemmas.List.{append-nil}
 use Rattle.std.proofs.lemmas.List.Elements.{All-cons, All-nil, Contains-append_left, Contains-push_cases, All-weaker}
-use Rattle.std.proofs.lemmas.Map.Views.{list_any-from_Contains, Contains-from_any}
 use Rattle.std.proofs.lemmas.Option.{get_or_from_slice_get, slice_get-get_or, slice_get_within}
 use Rattle.indexmap.proofs.CallerLemmas.{Contains-insert_key}
 use Rattle.indexmap.specs.IndexSet.{insert_all, insert_key}
@@ -27,6 +26,7 @@ use Rattle.resolver_report.proofs.CandidateListLemmas.{gathered, gathered_from, 
 use Rattle.resolver_report.specs.Searching.{all_candidates, candidates_in, count_outside}
 use Rattle.resolver_clause_store.proofs.ListLemmas.{Contains-here as head_in, Contains-none as none_in, slice_get-append_left, Contains-there}
 use Rattle.resolver_report.proofs.SearchLemmas.{Contains-all_candidates, count_outside-lt, list_any-outside}
+use Rattle.resolver_clause_store.proofs.MemberLemmas.{list_any-member}
 
 module _ {S : Type 0} (same : S → S → Bool) where
   -- solvables of one list were added at the end, each of which was not there
@@ -58,11 +58,6 @@ pub record IsUnderway {N S : Type 0} (same : S → S → Bool) (rules : List (Ru
   pub followed : (k : ℕ) (u : S) → k < next → slice_get set k ≡ Some u → IsWithin (flat_map (candidates_for same u) rules) set
 
 module _ {S : Type 0} (same : S → S → Bool) (identity : IsIdentity same) (laws : IsEquivalence same) where
-  -- the search finds just the members
-  pub list_any-member : (ks : List S) (q : S) (b : Bool) → b ≡ list_any (same q) ks → MatchBool b (Contains ks q) (Contains ks q → ⊥)
-  list_any-member ks q true e = Contains-from_any identity.alone q ks (sym e)
-  list_any-member ks q false e = λ h. true≢false (sym (list_any-from_Contains laws q ks h) ∙ sym e)
-
   Growth-key : (all old : List S) (k : S) → Contains all k → IsGrowth same all old (insert_key same old k)
   Growth-key all old k inside = by (list_any (same k) old) refl
     where
@@ -70,7 +65,7 @@ module _ {S : Type 0} (same : S → S → Bool) (identity : IsIdentity same) (la
       by true e = Growth-none same all old
       by false e =
           let fewer : count_outside same (old ++ k ∷ []) all < count_outside same old all =
-          count_outside-lt same old k all inside (list_any-outside same identity old k (list_any-member old k false e)) (identity.itself k) in
+          count_outside-lt same old k all inside (list_any-outside same identity old k (list_any-member identity laws old k false e)) (identity.itself k) in
           record { more = k ∷ []; is = refl; counts = simp length-append (omega (arith, fewer)) }
 
   Growth-all : (all old : List S) (cs : List S) → IsWithin cs all → IsGrowth same all old (insert_all same old cs)
@@ -144,8 +139,8 @@ module _ {S : Type 0} (same : S → S → Bool) (identity : IsIdentity same) (la
         let found = gathered_from (candidates_for same u) rules s inside in
         Contains-all_candidates rules found.0 s found.1 (listed_candidate u found.0 s found.2)
 
-    candidates_itself : (u : S) (requirement : Requirement) (candidates : Vec S Global) (when : Vec (Vec S Global) Global) (s : S) → Contains candidates.items s →
-        Contains (candidates_for {N = N} same u (Requires (Solvable u) requirement candidates when)) s
+    candidates_itself : (u : S) (requirement : Requirement) (candidates : Vec S Global) (when : Vec (Vec S Global) Global) (s : S) →
+        Contains candidates.items s → Contains (candidates_for {N = N} same u (Requires (Solvable u) requirement candidates when)) s
     candidates_itself u requirement candidates when s inside =
         let Listed : Bool → Type 0 = λ b. Contains (items_if b candidates.items) s in
         subst Listed (sym (identity.itself u)) inside
@@ -163,9 +158,6 @@ module _ {S : Type 0} (same : S → S → Bool) (identity : IsIdentity same) (la
 
     module _ (old new : List S) (next : ℕ) (u : S) (at_next : slice_get old next ≡ Some u)
         (told : new ≡ insert_all same old (flat_map (candidates_for same u) rules)) where
-      listed_there : List S
-      listed_there = flat_map (candidates_for same u) rules
-
       growth : IsGrowth same (all_candidates rules) old new
       growth = let Grown : List S → Type 0 = λ set. IsGrowth same (all_candidates rules) old set in
           subst Grown (sym told) (Growth-all (all_candidates rules) old (flat_map (candidates_for same u) rules) (candidates_within u))
@@ -191,7 +183,8 @@ module _ {S : Type 0} (same : S → S → Bool) (identity : IsIdentity same) (la
           sound : (s : S) → Contains new s → IsReachedBy rules s
           sound s inside =
               let Has : List S → Type 0 = λ set. Contains set s in
-              all_sound (IsReachedBy rules) old (flat_map (candidates_for same u) rules) h.sound (candidates_reached u (h.sound u there)) s (subst Has told inside)
+              all_sound (IsReachedBy rules) old (flat_map (candidates_for same u) rules) h.sound
+              (candidates_reached u (h.sound u there)) s (subst Has told inside)
 
           at_place : (k : ℕ) (v : S) → slice_get old k ≡ Some v → (k < next) ⊎ (k ≡ next) → IsWithin (flat_map (candidates_for same v) rules) new
           at_place k v e (inl below) = λ s inside. within_new s (h.followed k v below e s inside)

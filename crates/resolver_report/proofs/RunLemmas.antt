@@ -1,23 +1,16 @@
 -- Runs of edges, one edge after the other.
-use Rattle.std.proofs.Common.{◌≡◌, ℕ, ◌+◌, ◌<◌, Bool, true, false, cond, List, [], ◌∷◌, ◌++◌, length, map, take, refl, sym, ◌∙◌, ap, rules, get_or}
-use Rattle.std.proofs.lemmas.Bool.{false≢true}
+use Rattle.std.proofs.Common.{◌≡◌, ℕ, ◌+◌, ◌<◌, Bool, true, false, cond, List, [], ◌∷◌, ◌++◌, length, map, take, refl, sym, ◌∙◌, ap, get_or}
 use Rattle.std.proofs.lemmas.List.{take_more, map-append}
 use Rattle.resolver_clause_store.specs.declared.Requirement.{Requirement}
-use Rattle.resolver_clause_store.specs.declared.Requirement.TheVariants.{Single, Union}
 use Rattle.resolver_report.specs.declared.graph.NodeId.{NodeId}
 use Rattle.resolver_report.specs.declared.graph.ConflictEdge.{ConflictEdge}
 use Rattle.resolver_report.specs.declared.graph.ConflictEdge.TheVariants.{Requires, Conflict}
 use Rattle.resolver_report.specs.declared.graph.Edge.{Edge}
 use Rattle.resolver_report.specs.declared.runs.EdgeRun.{EdgeRun}
-use Rattle.resolver_report.specs.Same.{same_requirement}
+use Rattle.resolver_clause_store.specs.SameRequirements.{same_requirement}
 use Rattle.resolver_report.specs.Runs.{Run, joined, with_edge, runs_of}
 use Rattle.resolver_report.specs.EdgeRuns.{run_view, and_then, new_run}
-
-same_requirement_is : (a b : Requirement) → same_requirement a b ≡ true → a ≡ b
-same_requirement_is (Single v) (Single w) e = let same : v.0 ≡ w.0 = search (rules, e) in ap (λ n. Single (record { 0 = n })) same
-same_requirement_is (Union v) (Union w) e = let same : v.0 ≡ w.0 = search (rules, e) in ap (λ n. Union (record { 0 = n })) same
-same_requirement_is (Single v) (Union w) e = absurd (false≢true e)
-same_requirement_is (Union v) (Single w) e = absurd (false≢true e)
+use Rattle.resolver_clause_store.proofs.SameRequirementLemmas.{same_requirement-true}
 
 -- putting an edge in front and one at the end
 joined_and_then : (q : Requirement) (m : NodeId) (r : Requirement) (n : NodeId) (runs : List Run) →
@@ -30,8 +23,8 @@ joined_and_then q m r n (run ∷ []) = one (same_requirement q run.requirement) 
     one : (a b : Bool) → same_requirement q run.requirement ≡ a → same_requirement run.requirement r ≡ b →
         joined q m (cond b (new_run run.requirement (run.targets ++ n ∷ []) ∷ []) (run ∷ new_run r (n ∷ []) ∷ [])) ≡ and_then r n
         (cond a (new_run q (m ∷ run.targets) ∷ []) (new_run q (m ∷ []) ∷ run ∷ []))
-    one true true e f = let same : same_requirement q r ≡ true = rw (same_requirement_is q run.requirement e) f in rw (e, same) refl
-    one true false e f = let same : same_requirement q r ≡ false = rw (same_requirement_is q run.requirement e) f in rw (e, same) refl
+    one true true e f = let same : same_requirement q r ≡ true = rw (same_requirement-true q run.requirement e) f in rw (e, same) refl
+    one true false e f = let same : same_requirement q r ≡ false = rw (same_requirement-true q run.requirement e) f in rw (e, same) refl
     one false true e f = rw (e, f) refl
     one false false e f = rw (e, f) refl
 joined_and_then q m r n (run ∷ next ∷ runs) =

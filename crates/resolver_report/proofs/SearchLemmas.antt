@@ -9,22 +9,19 @@ use Rattle.std.proofs.lemmas.List.Quantifiers.{all_pairs_push}
 use Rattle.std.proofs.lemmas.List.Folds.{list_any-append, list_any_none}
 use Rattle.resolver_clause_store.specs.Laws.{IsIdentity}
 use Rattle.resolver_clause_store.specs.Lists.{HasNoRepeats, Meets, IsWithin}
-use Rattle.resolver_clause_store.specs.declared.By.{By}
 use Rattle.resolver_clause_store.specs.declared.By.TheVariants.{Root, Solvable}
 use Rattle.resolver_clause_store.specs.declared.Rule.{Rule}
 use Rattle.resolver_clause_store.specs.declared.Rule.TheVariants.{Requires, Constrains, Lock, Excluded, OnePerPackage}
-use Rattle.resolver_clause_store.specs.Statements.{lists_of, statement_of, AllMeet, IsPresent, ObeysAlone}
+use Rattle.resolver_clause_store.specs.Statements.{lists_of, statement_of, AllMeet, ObeysAlone}
 use Rattle.resolver_clause_store.specs.Rules.{AllNeeded, IsNeeded, by_root, by_needed, Obeys}
 use Rattle.resolver_report.specs.Searching.{all_candidates, candidates_in, count_outside}
-use Rattle.resolver_report.specs.Plain.{BreaksSome, Clashes, HasTwo, IsAllowed, IsOnlyInstance, IsForbidden, IsMet, IsOpen, IsRefutedFrom, IsUnmet, HasNoOtherInstance}
+use Rattle.resolver_report.specs.Plain.{BreaksSome, Clashes, HasTwo, IsAllowed, IsOnlyInstance, IsForbidden, IsMet, IsOpen, IsRefutedFrom, IsUnmet}
 use Rattle.resolver_clause_store.proofs.ListLemmas.{Contains-map}
-use Rattle.resolver_report.specs.Plain.{HasOtherInstance}
+use Rattle.resolver_report.specs.Plain.{HasNoOtherInstance, HasOtherInstance}
+use Rattle.resolver_clause_store.proofs.DemandLemmas.{IsPresent-within}
+use Rattle.std.proofs.lemmas.Bool.{false_from_ne_true}
 
 -- what is there in a set is there in a larger one
-
-IsPresent-within : {S : Type 0} (by : By S) (set larger : List S) → IsWithin set larger → IsPresent by set → IsPresent by larger
-IsPresent-within Root set larger within here = tt
-IsPresent-within (Solvable s) set larger within here = within s here
 
 Meets-within : {S : Type 0} (list set larger : List S) → IsWithin set larger → Meets list set → Meets list larger
 Meets-within list set larger within met = record { shared = met.shared; in_first = met.in_first; in_second = within met.shared met.in_second }
@@ -154,14 +151,11 @@ module _ {S : Type 0} (same : S → S → Bool) (set : List S) (s : S) where
       rw (list_any-append (λ y. same y x) set (s ∷ []))
       (fewer_still (list_any (λ y. same y x) set) (same s x || false) _ _ (count_outside-lt xs (k, omega (arith, below), is) outside itself))
 
-not_true : (b : Bool) → (b ≡ true → ⊥) → b ≡ false
-not_true true h = absurd (h refl)
-not_true false h = refl
-
 pub list_any-outside : {S : Type 0} (same : S → S → Bool) → IsIdentity same → (set : List S) (s : S) → (Contains set s → ⊥) →
     list_any (λ y. same y s) set ≡ false
 list_any-outside same identity set s outside =
-    list_any_none (λ y. same y s) set (All-from_get_or (λ y. same y s ≡ false) set s (λ k below. not_true _ (λ e. outside (k, below, identity.alone _ _ e))))
+    list_any_none (λ y. same y s) set (All-from_get_or (λ y. same y s ≡ false) set s (λ k below.
+    false_from_ne_true _ (λ e. outside (k, below, identity.alone _ _ e))))
 
 pub Contains-all_candidates : {N S : Type 0} (rules : List (Rule N S)) (rule : Rule N S) (s : S) → Contains rules rule → Contains (candidates_in rule) s →
     Contains (all_candidates rules) s

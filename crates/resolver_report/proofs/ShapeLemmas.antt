@@ -3,7 +3,7 @@ use Rattle.std.proofs.Common.{◌≡◌, ◌≢◌, ◌⊎◌, ℕ, zero, suc, �
 use Rattle.std.proofs.Common.{inl, inr, arith, get_or, take, set}
 use Rattle.std.specs.Prelude.{Option, Some, None, IsPermutation}
 use Rattle.std.specs.List.{list_any, flat_map, AllByRecursion, swap_remove}
-use Rattle.std.proofs.lemmas.Bool.{true≢false}
+use Rattle.std.proofs.lemmas.Bool.{true≢false, or_right}
 use Rattle.std.proofs.lemmas.List.{get_or-take, get_or-set_same, get_or-set_other, get_or_default, length-take, length-set}
 use Rattle.std.proofs.lemmas.List.Elements.{All-from_recursion, All-map}
 use Rattle.std.proofs.lemmas.List.Sorted.{IsPermutation-swap_remove, list_any-IsPermutation}
@@ -19,8 +19,8 @@ use Rattle.resolver_clause_store.specs.declared.Rule.{Rule}
 use Rattle.resolver_clause_store.specs.declared.Rule.TheVariants.{Requires, Constrains, Lock, Excluded, OnePerPackage}
 use Rattle.resolver_report.specs.Same.{same_node}
 use Rattle.resolver_report.specs.Shapes.{IsShape}
-use Rattle.resolver_report.specs.Graphs.{node_by, mentioned, mentions, first_mentions, requirement_link, requirement_links, last_instance, instance_links, links_of}
-use Rattle.resolver_report.specs.Graphs.{links_after, links, is_entered, place_in, edge_in}
+use Rattle.resolver_report.specs.Graphs.{node_by, mentioned, mentions, first_mentions, requirement_link, requirement_links, last_instance, instance_links}
+use Rattle.resolver_report.specs.Graphs.{links_of, links_after, links, is_entered, place_in, edge_in}
 use Rattle.resolver_report.proofs.GraphLemmas.{IsFinding, finding, same_node_is_identity, has-without_repeats, without_repeats_once}
 
 -- A list with its element at 1 gone and its last one in that place.
@@ -66,10 +66,6 @@ module _ {X : Type 0} (xs : List X) (d : X) (two : 1 < length xs) where
 both : (a b : Bool) → (a || b) ≡ true → a ≡ false → b ≡ true
 both true b e f = absurd (true≢false f)
 both false b e f = e
-
-or_right : (a b : Bool) → b ≡ true → (a || b) ≡ true
-or_right true b e = refl
-or_right false b e = e
 
 pub AllByRecursion-append : {X : Type 0} (P : X → Type 0) (xs ys : List X) → AllByRecursion P xs → AllByRecursion P ys → AllByRecursion P (xs ++ ys)
 AllByRecursion-append P [] ys h k = k
@@ -130,7 +126,8 @@ module _ {S : Type 0} (same : S → S → Bool) (identity : IsIdentity same) whe
   last_is_mentioned same_name ms n (Lock locked forbidden ∷ earlier) h = last_is_mentioned same_name ms n earlier h.1
   last_is_mentioned same_name ms n (Excluded solvable reason ∷ earlier) h = last_is_mentioned same_name ms n earlier h.1
 
-  instance_ends : (ms : List (ConflictNode S)) (o : Option S) (s : S) → HasInstance ms o → Has ms (Solvable s) → AllByRecursion (HasEnds ms) (instance_links o s)
+  instance_ends : (ms : List (ConflictNode S)) (o : Option S) (s : S) → HasInstance ms o → Has ms (Solvable s) →
+      AllByRecursion (HasEnds ms) (instance_links o s)
   instance_ends ms None s h k = tt
   instance_ends ms (Some t) s h k = ((h, inl k, λ e. cc), tt)
 

@@ -1,6 +1,5 @@
 -- One node more of which the groups are told.
-use Rattle.std.proofs.Common.{◌≡◌, ℕ, zero, suc, ◌+◌, ◌<◌, ◌≤◌, Bool, true, false, cond, List, [], ◌∷◌, length, refl, sym, ◌∙◌, ap, subst, ⊎_elim, arith}
-use Rattle.std.proofs.Common.{get_or}
+use Rattle.std.proofs.Common.{◌≡◌, ℕ, ◌+◌, ◌<◌, ◌≤◌, Bool, true, false, cond, List, [], ◌∷◌, length, refl, sym, ◌∙◌, ap, subst, ⊎_elim, arith}
 use Rattle.std.specs.Prelude.{Option, Some, None, IsSome, IsNone, MatchOption, slice_get, slice_index}
 use Rattle.std.specs.Option.{is_some}
 use Rattle.std.specs.Map.{lookup}
@@ -18,6 +17,7 @@ use Rattle.resolver_report.specs.Merging.{Key, key_of, keys, class_in, first_of_
 use Rattle.resolver_report.specs.Simplified.{Group, Groups, IsGroupOf, IsEarlierGroup, IsMadeAt, IsSimplified, IsSimplifiedBefore}
 use Rattle.resolver_clause_store.proofs.ListLemmas.{slice_get-inside as below}
 use Rattle.resolver_report.proofs.AlikeLemmas.{class_of_first}
+use Rattle.std.proofs.lemmas.Option.{get_or_from_slice_get}
 
 match_weaker : {A B : Type 0} {X : Type 0} (o : Option X) (P Q : X → Type 0) → (A → B) → ((x : X) → P x → Q x) → MatchOption o A P → MatchOption o B Q
 match_weaker None P Q f h m = f m
@@ -33,17 +33,16 @@ node_of (Some UnresolvedDependency) s e = absurd cc
 node_of (Some (Excluded r)) s e = absurd cc
 node_of None s e = absurd cc
 
-here : {X : Type 0} (xs : List X) (n : ℕ) (x : X) → slice_get xs n ≡ Some x → get_or xs n x ≡ x
-here [] n x e = absurd cc
-here (y ∷ ys) zero x e = cc
-here (y ∷ ys) (suc n) x e = here ys n x e
-
 -- one node stands at one place
 one_place : {X : Type 0} (xs : List X) → HasNoRepeats xs → (n k : ℕ) (x : X) → slice_get xs n ≡ Some x → slice_get xs k ≡ Some x → n ≡ k
 one_place xs once n k x e f =
-    ⊎_elim (λ (lt : n < k). absurd (once n k x lt (below xs k x f) (here xs n x e ∙ sym (here xs k x f))))
-    (λ (le : k ≤ n). ⊎_elim (λ (lt : k < n). absurd (once k n x lt (below xs n x e) (here xs k x f ∙ sym (here xs n x e)))) (λ (ge : n ≤ k). omega arith)
-    (cases_lt k n)) (cases_lt n k)
+    ⊎_elim
+    (λ (lt : n < k). absurd (once n k x lt (below xs k x f) (get_or_from_slice_get xs n x x e ∙ sym (get_or_from_slice_get xs k x x f))))
+    (λ (le : k ≤ n). ⊎_elim
+    (λ (lt : k < n). absurd (once k n x lt (below xs n x e) (get_or_from_slice_get xs k x x f ∙ sym (get_or_from_slice_get xs n x x e))))
+    (λ (ge : n ≤ k). omega arith)
+    (cases_lt k n))
+    (cases_lt n k)
 
 first_is : (xs : List ℕ) → 2 ≤ length xs → first_of_two xs ≡ Some (slice_index xs 0)
 first_is [] h = absurd (omega (arith, h))

@@ -1,8 +1,8 @@
 -- Pieces side by side, one after the other.
-use Rattle.std.proofs.Common.{◌≡◌, ℕ, zero, suc, ◌+◌, ◌-◌, Bool, true, false, List, [], ◌∷◌, ◌++◌, length, drop, map, refl, sym, ◌∙◌, ap}
+use Rattle.std.proofs.Common.{◌≡◌, ℕ, zero, suc, Bool, true, false, List, [], ◌∷◌, ◌++◌, length, map, refl, sym, ◌∙◌, ap}
 use Rattle.std.proofs.Common.{append_assoc}
 use Rattle.std.specs.Prelude.{◌==◌, slice_set}
-use Rattle.std.proofs.lemmas.List.{append-nil, length-map, length-drop}
+use Rattle.std.proofs.lemmas.List.{append-nil, length-map}
 use Rattle.resolver_report.specs.Forests.{Forest, Piece, quiet, said, put, is_last, text_of, indent_from}
 use Rattle.resolver_report.specs.Marks.{is_marked}
 use Rattle.resolver_report.specs.Messages.{Told, lines_of, side_by_side}
@@ -30,9 +30,6 @@ side_step top levels tell x xs reported =
     let after = (side_by_side tell xs (tell x reported).reported).value in
     put_text top levels (tell x reported).value after ∙
     ap (λ b. text_at top (levels ++ b ∷ []) (tell x reported).value ++ text_of top levels after) (is_last_side tell xs (tell x reported).reported)
-
-pub at_end : {X Y : Type 0} (f : X → Y) (xs : List X) (i : ℕ) (b : Bool) → b ≡ (length xs - (i + 1) == 0) → (length (map f (drop (i + 1) xs)) == 0) ≡ b
-at_end f xs i b e = rw (length-map, length-drop) (sym e)
 
 -- a mark that is set and taken away again
 pub unset : (marks : List Bool) (n : ℕ) → is_marked marks n ≡ false → slice_set (slice_set marks n true) n false ≡ marks

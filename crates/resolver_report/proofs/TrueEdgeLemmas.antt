@@ -39,8 +39,8 @@ module _ {N S : Type 0} (u : Universe N S) (root : Demands) where
   candidate_links source r (c ∷ cs) requirer within =
       ((requirer, within c (zero, omega arith, refl)), candidate_links source r cs requirer (λ s h. within s (Contains-append_right (c ∷ []) cs s h)))
 
-  requirement_links_true : (source : ConflictNode S) (r : Requirement) (cs : List S) → IsRequirerWith u root (HasRequirement r) source → cs ≡ requirement_candidates u r →
-      AllByRecursion IsTrueLink (requirement_links source r cs)
+  requirement_links_true : (source : ConflictNode S) (r : Requirement) (cs : List S) → IsRequirerWith u root (HasRequirement r) source →
+      cs ≡ requirement_candidates u r → AllByRecursion IsTrueLink (requirement_links source r cs)
   requirement_links_true source r [] requirer are = ((requirer, sym are), tt)
   requirement_links_true source r (c ∷ cs) requirer are =
       candidate_links source r (c ∷ cs) requirer (λ s h. let Has : List S → Type 0 = λ xs. Contains xs s in subst Has are h)

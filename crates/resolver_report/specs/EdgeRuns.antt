@@ -3,7 +3,7 @@ use Rattle.std.specs.Prelude.{List, [], ◌∷◌, ◌++◌, if◌then◌else◌
 use Rattle.resolver_clause_store.specs.declared.Requirement.{Requirement}
 use Rattle.resolver_report.specs.declared.graph.NodeId.{NodeId}
 use Rattle.resolver_report.specs.declared.runs.EdgeRun.{EdgeRun}
-use Rattle.resolver_report.specs.Same.{same_requirement}
+use Rattle.resolver_clause_store.specs.SameRequirements.{same_requirement}
 use Rattle.resolver_report.specs.Runs.{Run}
 
 abbrev pub run_view : EdgeRun → Run

@@ -7,7 +7,7 @@ use Rattle.resolver_clause_store.specs.Universe.{Universe}
 use Rattle.resolver_clause_store.specs.declared.Requirement.{Requirement}
 use Rattle.resolver_report.specs.declared.graph.Edge.{Edge}
 use Rattle.resolver_report.specs.declared.graph.Side.{Side}
-use Rattle.resolver_report.specs.Same.{same_requirement}
+use Rattle.resolver_clause_store.specs.SameRequirements.{same_requirement}
 use Rattle.resolver_report.specs.Shapes.{Shape, places, solvable_at, outgoing, incoming, required}
 
 -- the sides of a node's incoming and outgoing edges: the requirement of the edge, if it has one, and its other end

@@ -5,7 +5,7 @@ use Rattle.resolver_report.specs.declared.graph.NodeId.{NodeId}
 use Rattle.resolver_report.specs.declared.graph.ConflictEdge.{ConflictEdge}
 use Rattle.resolver_report.specs.declared.graph.ConflictEdge.TheVariants.{Requires, Conflict}
 use Rattle.resolver_report.specs.declared.graph.Edge.{Edge}
-use Rattle.resolver_report.specs.Same.{same_requirement}
+use Rattle.resolver_clause_store.specs.SameRequirements.{same_requirement}
 
 -- neighbouring edges with one requirement, and their targets
 pub record Run : Type 0 where

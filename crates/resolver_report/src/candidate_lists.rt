@@ -26,7 +26,8 @@ fn add_candidates<N, S: Copy + Eq + Hash + Drop>(
     rule: &Rule<N, S>,
 ) -> Result<(), Exhausted>
     ensures root { OnOk result (by_root.new.items ≡ by_root.old.items ++ root_candidates_of rule.now) }
-    ensures solvables { OnOk result ((s : S) → items_at (get S.eq by_solvable.new s) ≡ items_at (get S.eq by_solvable.old s) ++ candidates_for S.eq s rule.now) }
+    ensures solvables { OnOk result ((s : S) →
+        items_at (get S.eq by_solvable.new s) ≡ items_at (get S.eq by_solvable.old s) ++ candidates_for S.eq s rule.now) }
     ensures memory { IfErr result (λ e. e ≡ Exhausted.Memory) }
 {
     match rule {

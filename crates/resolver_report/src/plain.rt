@@ -123,7 +123,8 @@ fn lists_other_instance<N: Eq, S: Eq>(rule: &Rule<N, S>, set: &[S], name: &N, in
 fn has_other<N: Eq, S: Eq>(rules: &[Rule<N, S>], set: &[S], name: &N, instance: &S) -> bool
     requires names { IsIdentity N.eq }
     requires solvables { IsIdentity S.eq }
-    ensures { MatchBool result (Any (HasOtherInstance set.now name.now instance.now) rules.now) (All (HasNoOtherInstance set.now name.now instance.now) rules.now) }
+    ensures { MatchBool result (Any (HasOtherInstance set.now name.now instance.now) rules.now)
+        (All (HasNoOtherInstance set.now name.now instance.now) rules.now) }
 {
     for rule in rules {
         if lists_other_instance(rule, set, name, instance) {

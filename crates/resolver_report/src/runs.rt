@@ -5,7 +5,7 @@ ghost use Rattle.resolver_report.specs.Causes.{has_conflict as has_conflict_in, 
 ghost use Rattle.resolver_report.specs.Causes.{is_exclusion as is_exclusion_in, is_second_instance as is_second_instance_in};
 ghost use Rattle.resolver_report.specs.Runs.{runs_of as runs_of_edges};
 ghost use Rattle.resolver_report.specs.EdgeRuns.{and_then, new_run, run_view};
-ghost use Rattle.resolver_report.specs.Same.{same_requirement};
+ghost use Rattle.resolver_clause_store.specs.SameRequirements.{same_requirement};
 ghost use Rattle.resolver_report.specs.Shapes.{outgoing as outgoing_in};
 
 use crate::graph::{ConflictCause, ConflictEdge, Edge, Graph, NodeId};

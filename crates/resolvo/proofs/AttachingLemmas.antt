@@ -1,5 +1,5 @@
 -- What attaching clauses, cutting a trail and more variables keep of what propagation keeps.
-use Rattle.std.proofs.Common.{◌≡◌, ◌≢◌, ℕ, zero, suc, ◌+◌, ◌*◌, ◌-◌, ◌<◌, ◌≤◌, ◌⊎◌, List, [], ◌∷◌, ◌++◌, length, get_or, take, min, Some, None, Option}
+use Rattle.std.proofs.Common.{◌≡◌, ◌≢◌, ℕ, ◌+◌, ◌*◌, ◌-◌, ◌<◌, ◌≤◌, ◌⊎◌, List, [], ◌∷◌, ◌++◌, length, get_or, take, min, Some, None, Option}
 use Rattle.std.proofs.Common.{true, append_assoc, arith, inl, inr, refl, sym, ap, ◌∙◌, subst, ⊎_elim, length-append}
 use Rattle.std.specs.Prelude.{Vec, slice_get}
 use Rattle.std.specs.Bool.{beq}
@@ -20,7 +20,7 @@ use Rattle.resolver_clause_store.specs.Outcomes.{IsFalseBefore, IsSatisfied}
 use Rattle.resolver_clause_store.specs.TrailView.{Gains, IsCut, IsGrown, IsUndone, KeepsPlaces, length_of, literal_value, slot_of}
 use Rattle.resolver_clause_store.proofs.FormulaLemmas.{clause_at-last, clause_at-past, clause_at-push}
 use Rattle.resolver_clause_store.proofs.KeptLemmas.{keeps_all, keeps_places, keeps_undone}
-use Rattle.resolver_clause_store.proofs.PlaceLemmas.{place_cases, place_left}
+use Rattle.resolver_clause_store.proofs.PlaceLemmas.{place_left}
 use Rattle.resolver_clause_store.proofs.TrailLemmas.{Keeps, value-true}
 use Rattle.resolvo.specs.declared.propagator.Late.{Late}
 use Rattle.resolvo.specs.declared.propagator.Propagator.{Propagator}
@@ -36,13 +36,10 @@ use Rattle.resolver_clause_store.specs.Watches.{HasBlockers, IsWatching, list_at
 use Rattle.resolver_clause_store.specs.WatchesView.{lists_of, pairs_of}
 use Rattle.resolvo.proofs.PropagatorLemmas.{any-map, covers-kept, late-kept}
 use Rattle.resolver_clause_store.proofs.BoolLemmas.{beq-itself as beq-same}
-use Rattle.resolver_clause_store.proofs.ListLemmas.{All-front as all-left, Contains-at as place_in, slice_get-last as place_last}
+use Rattle.resolver_clause_store.proofs.ListLemmas.{All-front as all-left, slice_get-last as place_last, Contains-one}
 use Rattle.resolver_clause_store.proofs.WatchListLemmas.{pair_at-before as pair-before, watching-number as watching-inside}
 use Rattle.resolvo.proofs.JustifiedLemmas.{extends-gains, justified-gains}
-
-contains-one : {X : Type 0} (x y : X) → Contains (x ∷ []) y → x ≡ y
-contains-one x y (zero, below, is) = is
-contains-one x y (suc k, below, is) = absurd (omega arith)
+use Rattle.resolvo.proofs.VisitLemmas.{late-pushed}
 
 pair-last : (pairs : List WatchedPair) (pair : WatchedPair) (number : ℕ) → length pairs ≡ number → pair_at (pairs ++ pair ∷ []) number ≡ pair
 pair-last pairs pair number end = get_or_push pairs pair unwatched number end
@@ -211,7 +208,7 @@ noted-last late last pending number noted = ⊎_elim
     (λ (one : Any (λ (l : Late). l.number ≡ number) (late ++ last ∷ [])). ⊎_elim
     (λ (early : Contains late one.1). inl (early.0, one.1, early.1, early.2, one.4))
     (λ (end : Contains (last ∷ []) one.1).
-    let here : last.number ≡ number = ap (λ (l : Late). l.number) (contains-one last one.1 end) ∙ one.4 in
+    let here : last.number ≡ number = ap (λ (l : Late). l.number) (Contains-one last one.1 end) ∙ one.4 in
     let Has : ℕ → Type 0 = λ n. Contains (pending ++ last.number ∷ []) n in
     inr (subst Has here (Contains-append_right pending (last.number ∷ []) last.number (0, omega arith, refl))))
     (Contains-append_cases late (last ∷ []) one.1 (one.0, one.2, one.3)))
@@ -261,7 +258,7 @@ noted-fewer late rest number other differ noted = ⊎_elim
     (λ (one : Any (λ (l : Late). l.number ≡ other) late). inl one)
     (λ (again : Contains (rest ++ number ∷ []) other). ⊎_elim
     (λ (early : Contains rest other). inr early)
-    (λ (end : Contains (number ∷ []) other). absurd (differ (sym (contains-one number other end))))
+    (λ (end : Contains (number ∷ []) other). absurd (differ (sym (Contains-one number other end))))
     (Contains-append_cases rest (number ∷ []) other again))
     noted
 
@@ -328,30 +325,6 @@ passed-high table trail p pending number ends pair satisfied it =
     covers in
     assumption
 
--- a clause that is true is noted behind the others
-late-push : (table : List (Vec Literal Global)) (trail : Trail) (late : List Late) (number : ℕ) → IsSatisfied trail (clause_at table number) →
-    AreLate table trail late → AreLate table trail (late ++ record { number = number; length = length_of trail } ∷ [])
-late-push table trail late number satisfied are =
-    let made : Late = record { number = number; length = length_of trail } in
-    record {
-      each = All-push (λ (l : Late). Any (IsTrueBefore trail l.length) (clause_at table l.number)) late made are.each (any-map _ _ _ (λ l holds.
-          let t = value-true (slot_of trail l.variable) l.positive holds in
-          record { slot = t.0; is = t.1; true_there = t.2; earlier = (trail.listed _ _ t.1).0 }) satisfied);
-      within = All-push (λ (l : Late). l.length ≤ length_of trail) late made are.within (omega arith);
-      rising = λ k n early later less at there. ⊎_elim
-          (λ (old_later : slice_get late n ≡ Some later). ⊎_elim
-          (λ (old_early : slice_get late k ≡ Some early). are.rising k n early later less old_early old_later)
-          (λ (end : (k ≡ length late) × (made ≡ early)). absurd (omega (arith, less, end.0, slice_get_within late n later old_later)))
-          (place_cases late made k early at))
-          (λ (last : (n ≡ length late) × (made ≡ later)). ⊎_elim
-          (λ (old_early : slice_get late k ≡ Some early).
-          let short = All-contains (λ (l : Late). l.length ≤ length_of trail) late early are.within (place_in late k early old_early) in
-          omega (arith, short, ap (λ (l : Late). l.length) last.1))
-          (λ (end : (k ≡ length late) × (made ≡ early)). absurd (omega (arith, less, end.0, last.0)))
-          (place_cases late made k early at))
-          (place_cases late made n later there);
-    }
-
 pub passed-late : (table : List (Vec Literal Global)) (trail : Trail) (p : Propagator) (late : Vec Late Global) (pending : Vec ℕ Global) (number : ℕ) →
     pending_of p ≡ pending.items ++ number ∷ [] → late.items ≡ late_of p ++ record { number = number; length = length_of trail } ∷ [] →
     IsSatisfied trail (clause_at table number) → IsPropagator table trail p → IsPropagator table trail (record p { late = late; pending = pending })
@@ -367,7 +340,7 @@ passed-late table trail p late pending number ends is satisfied it =
     let longer : List Late = late_of p ++ made ∷ [] in
     let has : Contains longer made = Contains-append_right (late_of p) (made ∷ []) made (0, omega arith, refl) in
     let noted : IsNoted longer pending.items number = inl (has.0, made, has.1, has.2, refl) in
-    let was_late = subst (λ (ls : List Late). AreLate table trail ls) (sym is) (late-push table trail (late_of p) number satisfied it.late) in
+    let was_late = subst (λ (ls : List Late). AreLate table trail ls) (sym is) (late-pushed table trail (late_of p) number it.late satisfied) in
     let fewer = all-fewer pending.items number (attached_of p) all in
     let attached = subst (λ (ls : List Late). All (λ (l : Late). l.number < attached_of p) ls) (sym is)
     (All-push (λ (l : Late). l.number < attached_of p) (late_of p) made it.inside inside) in

@@ -17,18 +17,19 @@ use Rattle.resolver_clause_store.specs.declared.Literal.{Literal}
 use Rattle.resolver_clause_store.specs.declared.Rule.{Rule}
 use Rattle.resolver_clause_store.specs.declared.Rule.TheVariants.{Requires, Constrains, Lock, Excluded, OnePerPackage}
 use Rattle.resolver_encoding.proofs.CodeLemmas.{digit_apart, pow_under}
-use Rattle.resolvo.proofs.LineLemmas.{some_at, kept_here, kept_there, kept_cases, in_marked, zip_at, zip_right, bit_line}
+use Rattle.resolvo.proofs.LineLemmas.{some_at, kept_here, kept_there, kept_cases, in_marked, zip_at, bit_line}
 use Rattle.resolvo.proofs.LineLemmas.{bit_line_in, member_line, member_line_in, line_in, rule_of_line}
 use Rattle.resolver_encoding.specs.Codes.{bit}
 use Rattle.resolvo.specs.Minimal.{marked}
-use Rattle.resolvo.specs.RuleClauses.{Line, atom, plain, requirement_line, requirer_atoms, list_atoms, candidate_atoms, condition_lines, lines_of, all_lines, IsLiteralOf}
-use Rattle.resolvo.specs.RuleClauses.{IsClauseOf, HasCode, AreClausesOf, MakesMarkedTrue}
+use Rattle.resolvo.specs.RuleClauses.{Line, atom, plain, requirement_line, requirer_atoms, list_atoms, candidate_atoms, condition_lines, lines_of}
+use Rattle.resolvo.specs.RuleClauses.{all_lines, IsLiteralOf, IsClauseOf, HasCode, AreClausesOf, MakesMarkedTrue}
 use Rattle.resolvo.specs.declared.minimal.rule_clauses.Atom.{Atom}
 use Rattle.resolvo.specs.declared.minimal.rule_clauses.Proposition.{Proposition}
 use Rattle.resolvo.specs.declared.minimal.rule_clauses.Proposition.TheVariants.{Member, Listed, Bit}
 use Rattle.resolver_clause_store.proofs.BoolLemmas.{beq-true}
 use Rattle.resolver_clause_store.proofs.ListLemmas.{Contains-at, Contains-here as here, Contains-map, Contains-none as none_in, Contains-there as there}
 use Rattle.resolvo.specs.declared.minimal.rule_clauses.RuleClause.{RuleClause}
+use Rattle.resolver_clause_store.proofs.ListLemmas.{AllZip-right}
 
 -- a variable stands for the proposition, and has this value
 pub record Holds {N S : Type 0} (propositions : List (Proposition N S)) (values : ℕ → Bool) (p : Proposition N S) (b : Bool) : Type 0 where
@@ -228,7 +229,7 @@ module _ {N S : Type 0} (rules : List (Rule N S)) (propositions : List (Proposit
   lines_true : (place : ℕ) (rule : Rule N S) (code : ℕ) → slice_index_or marks place false ≡ true → slice_get rules place ≡ Some rule →
       slice_get are.codes place ≡ Some code → AreTrue propositions values are.distinct are.width place code rule
   lines_true place rule code mark at coded = λ line inside.
-      let w = zip_right (IsClauseOf propositions) clauses (all_lines are.width 0 rules are.codes) are.lines line
+      let w = AllZip-right (IsClauseOf propositions) clauses (all_lines are.width 0 rules are.codes) are.lines line
       (line_in are.width 0 rules are.codes place place rule code (omega arith) at coded line inside) in
       let same : w.0.rule ≡ place = w.2.rule ∙ rule_of_line are.width place code rule line inside in
       let Marked : ℕ → Type 0 = λ k. slice_index_or marks k false ≡ true in

@@ -63,10 +63,6 @@ marked-replace table sources old new bound place last inside derived refute so =
     (λ learnt. replaced-learnt table sources old new bound place last inside derived refute learnt (so.learnt learnt))
     (some_or_none (given_at sources place))
 
-pub adds-none : (numbers : List ℕ) (sources : List Source) (marks : List Bool) (place : ℕ) →
-    ((number : ℕ) → is_marked marks place ≡ true → given_at sources place ≡ Some number → ⊥) → AddsMarked numbers numbers sources marks place
-adds-none numbers sources marks place none = record { kept = λ number c. c; only = λ all. all; added = λ number m is. absurd (none number m is) }
-
 pub lists-more : (old new : List ℕ) (sources : List Source) (marks : List Bool) (place : ℕ) → AddsMarked old new sources marks place →
     ListsMarked sources marks old place → ListsMarked sources marks new (place + 1)
 lists-more old new sources marks place adds lists = λ p n below m is. ⊎_elim

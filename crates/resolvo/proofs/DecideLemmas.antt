@@ -11,14 +11,14 @@ use Rattle.resolver_clause_store.specs.declared.Literal.{Literal}
 use Rattle.resolver_clause_store.specs.declared.Rule.{Rule}
 use Rattle.resolver_clause_store.specs.declared.Rule.TheVariants.{Requires, Constrains, Lock, Excluded, OnePerPackage}
 use Rattle.resolvo.proofs.CompleteLemmas.{members, chosen_obeys}
-use Rattle.resolvo.proofs.LineLemmas.{All-each, zip_left, bit_line_from, member_line_from, line_from, rule_of_line}
+use Rattle.resolvo.proofs.LineLemmas.{All-each, bit_line_from, member_line_from, line_from, rule_of_line}
 use Rattle.resolvo.proofs.SoundLemmas.{values_true}
-use Rattle.resolvo.specs.RuleClauses.{Line, atom, plain, requirement_line, requirer_atoms, list_atoms, candidate_atoms, condition_lines, lines_of, all_lines, IsLiteralOf}
-use Rattle.resolvo.specs.RuleClauses.{IsClauseOf, AreClausesOf, IsGuarded, DecideRules}
+use Rattle.resolvo.specs.RuleClauses.{Line, atom, plain, requirement_line, requirer_atoms, list_atoms, candidate_atoms, condition_lines, lines_of}
+use Rattle.resolvo.specs.RuleClauses.{all_lines, IsLiteralOf, IsClauseOf, AreClausesOf, IsGuarded, DecideRules}
 use Rattle.resolvo.specs.declared.minimal.rule_clauses.Atom.{Atom}
 use Rattle.resolvo.specs.declared.minimal.rule_clauses.Proposition.{Proposition}
 use Rattle.resolvo.specs.declared.minimal.rule_clauses.Proposition.TheVariants.{Member}
-use Rattle.resolver_clause_store.proofs.ListLemmas.{Contains-cons_cases as cons_cases, Contains-none as none_in}
+use Rattle.resolver_clause_store.proofs.ListLemmas.{Contains-cons_cases as cons_cases, Contains-none as none_in, AllZip-left}
 use Rattle.resolvo.specs.declared.minimal.rule_clauses.RuleClause.{RuleClause}
 
 -- one atom or two, of which the first is a negation
@@ -76,7 +76,7 @@ module _ {N S : Type 0} where
   literals_below : (propositions : List (Proposition N S)) (literals : List Literal) (atoms : List (Atom N S)) →
       AllZip (IsLiteralOf propositions) literals atoms → IsBelow (length propositions) literals
   literals_below propositions literals atoms zip = All-each (λ (l : Literal). l.variable < length propositions) literals (λ l inside.
-      let w = zip_left (IsLiteralOf propositions) literals atoms zip l inside in
+      let w = AllZip-left (IsLiteralOf propositions) literals atoms zip l inside in
       slice_get_within propositions l.variable w.0.proposition w.2.stands)
 
 pub clauses_decide : {N S : Type 0} (names : N → N → Bool) (solvables : S → S → Bool) → IsIdentity names → IsIdentity solvables →
@@ -86,16 +86,16 @@ clauses_decide names solvables same_names same_solvables rules propositions clau
   sound = λ marks set size obeys. values_true names solvables same_names same_solvables rules propositions clauses are marks set obeys;
   complete = λ marks values size makes refuted. refuted (members values propositions) (chosen_obeys rules propositions clauses are marks values makes);
   guarded = All-each (λ (clause : RuleClause). clause.is_requirement ≡ false → IsGuarded clause.literals.items) clauses (λ clause inside plain_one.
-      let w = zip_left (IsClauseOf propositions) clauses (all_lines are.width 0 rules are.codes) are.lines clause inside in
+      let w = AllZip-left (IsClauseOf propositions) clauses (all_lines are.width 0 rules are.codes) are.lines clause inside in
       let at = line_from are.width 0 rules are.codes w.0 w.1 in
       guarded_literals propositions clause.literals.items w.0.atoms w.2.literals
       (line_orderly are.width (0 + at.index) at.code at.rule w.0 at.inside (sym w.2.is_requirement ∙ plain_one)));
   places = All-each (λ (clause : RuleClause). clause.rule < length rules) clauses (λ clause inside.
-      let w = zip_left (IsClauseOf propositions) clauses (all_lines are.width 0 rules are.codes) are.lines clause inside in
+      let w = AllZip-left (IsClauseOf propositions) clauses (all_lines are.width 0 rules are.codes) are.lines clause inside in
       let at = line_from are.width 0 rules are.codes w.0 w.1 in
       let is_rule : clause.rule ≡ 0 + at.index = w.2.rule ∙ rule_of_line are.width (0 + at.index) at.code at.rule w.0 at.inside in
       omega (arith, is_rule, slice_get_within rules at.index at.rule at.at));
   below = All-each (λ (clause : RuleClause). IsBelow (length propositions) clause.literals.items) clauses (λ clause inside.
-      let w = zip_left (IsClauseOf propositions) clauses (all_lines are.width 0 rules are.codes) are.lines clause inside in
+      let w = AllZip-left (IsClauseOf propositions) clauses (all_lines are.width 0 rules are.codes) are.lines clause inside in
       literals_below propositions clause.literals.items w.0.atoms w.2.literals);
 }

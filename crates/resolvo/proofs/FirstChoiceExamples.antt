@@ -1,4 +1,5 @@
--- A promise that is met: the provider that writes down its questions, and a root that requires_it for one version set, whose first candidate is the favored one.
+-- A promise that is kept: the provider that writes down its questions, and a root with a requirement for one version set, whose first candidate is
+-- the favored one.
 use Rattle.std.proofs.Common.{◌≡◌, ℕ, [], ◌∷◌, Some, None, Contains, inl, inr, refl, sym, ap, ◌∙◌, subst}
 use Rattle.std.proofs.lemmas.Option.{none-some, same_Some}
 use Rattle.std.proofs.lemmas.List.Elements.{All-contains, All-cons, All-nil}

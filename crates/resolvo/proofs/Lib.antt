@@ -1,4 +1,3 @@
-pub mod RefusalLemmas
 pub mod JustifiedLemmas
 pub mod PropagatorLemmas
 pub mod VisitLemmas

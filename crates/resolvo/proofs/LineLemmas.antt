@@ -11,8 +11,8 @@ use Rattle.resolver_clause_store.specs.declared.Rule.{Rule}
 use Rattle.resolver_clause_store.specs.declared.Rule.TheVariants.{Requires, Constrains, Lock, Excluded, OnePerPackage}
 use Rattle.resolver_encoding.specs.Codes.{bit}
 use Rattle.resolvo.specs.Minimal.{marked}
-use Rattle.resolvo.specs.RuleClauses.{Line, atom, plain, requirement_line, requirer_atoms, list_atoms, candidate_atoms, member_lines, condition_lines, bit_lines, lines_of}
-use Rattle.resolvo.specs.RuleClauses.{all_lines}
+use Rattle.resolvo.specs.RuleClauses.{Line, atom, plain, requirement_line, requirer_atoms, list_atoms, candidate_atoms, member_lines, condition_lines}
+use Rattle.resolvo.specs.RuleClauses.{bit_lines, lines_of, all_lines}
 use Rattle.resolver_clause_store.proofs.ListLemmas.{Contains-cons_cases as cons_cases, Contains-here as here, Contains-map, Contains-map_back}
 use Rattle.resolver_clause_store.proofs.ListLemmas.{Contains-none as none_in, Contains-there as there}
 use Rattle.resolvo.specs.declared.minimal.rule_clauses.Proposition.TheVariants.{Member, Listed, Bit}
@@ -58,23 +58,6 @@ in_marked (b ∷ marks) (y ∷ xs) x h = ⊎_elim
     (λ (first : (b ≡ true) × (y ≡ x)). record { place = zero; mark = first.0; at = ap Some first.1 })
     (λ (later : Contains (marked marks xs) x). let w = in_marked marks xs x later in record { place = suc w.place; mark = w.mark; at = w.at })
     (kept_cases b y (marked marks xs) x h)
-
--- lists that agree element by element
-pub zip_left : {A B : Type 0} (R : A → B → Type 0) (xs : List A) (ys : List B) → AllZip R xs ys → (x : A) → Contains xs x → (y : B) × Contains ys y × R x y
-zip_left R [] ys h x inside = absurd (none_in x inside)
-zip_left R (x ∷ xs) [] h z inside = absurd h
-zip_left {A} {B} R (x ∷ xs) (y ∷ ys) (first, rest) z inside = ⊎_elim
-    (λ (same : x ≡ z). let At : A → Type 0 = λ q. R q y in (y, here y ys, subst At same first))
-    (λ (later : Contains xs z). let w = zip_left R xs ys rest z later in (w.0, there y ys w.0 w.1, w.2))
-    (cons_cases x xs z inside)
-
-pub zip_right : {A B : Type 0} (R : A → B → Type 0) (xs : List A) (ys : List B) → AllZip R xs ys → (y : B) → Contains ys y → (x : A) × Contains xs x × R x y
-zip_right R xs [] h y inside = absurd (none_in y inside)
-zip_right R [] (y ∷ ys) h z inside = absurd h
-zip_right {A} {B} R (x ∷ xs) (y ∷ ys) (first, rest) z inside = ⊎_elim
-    (λ (same : y ≡ z). (x, here x xs, subst (R x) same first))
-    (λ (later : Contains ys z). let w = zip_right R xs ys rest z later in (w.0, there x xs w.0 w.1, w.2))
-    (cons_cases y ys z inside)
 
 pub zip_at : {A B : Type 0} (R : A → B → Type 0) (xs : List A) (ys : List B) → AllZip R xs ys → (k : ℕ) (x : A) → slice_get xs k ≡ Some x → (y : B) ×
     (slice_get ys k ≡ Some y) × R x y

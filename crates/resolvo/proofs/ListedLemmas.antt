@@ -1,9 +1,9 @@
 -- Marked variables that are listed.
-use Rattle.std.proofs.Common.{◌≡◌, ◌≢◌, ℕ, ◌+◌, ◌<◌, List, [], ◌∷◌, ◌++◌, length, get_or, set, take, Some, Bool, true, false, sym, ap}
+use Rattle.std.proofs.Common.{◌≡◌, ◌≢◌, ℕ, ◌+◌, ◌<◌, List, length, get_or, set, take, Some, Bool, true, false, sym, ap}
 use Rattle.std.proofs.Common.{◌∙◌, subst, ⊎_elim, length-set, get_or-set_other}
 use Rattle.std.specs.List.{All, Contains}
 use Rattle.std.proofs.lemmas.Bool.{both_ways, cases_eq}
-use Rattle.std.proofs.lemmas.List.Elements.{All-contains, All-more, All-push, All-weaker, Contains-append_left, Contains-push}
+use Rattle.std.proofs.lemmas.List.Elements.{All-contains, All-more, All-weaker}
 use Rattle.resolver_clause_store.specs.declared.Literal.{Literal}
 use Rattle.resolver_clause_store.specs.declared.Slot.{Slot}
 use Rattle.resolver_clause_store.specs.declared.Trail.{Trail}
@@ -11,17 +11,6 @@ use Rattle.resolver_clause_store.specs.TrailView.{slot_of}
 use Rattle.resolver_clause_store.specs.Outcomes.{IsFalsified}
 use Rattle.resolvo.specs.Resolvents.{AddsNegation, ListsMarks, Negates, is_marked}
 use Rattle.resolvo.proofs.NegationLemmas.{negation}
-
--- a variable that is marked and listed
-pub lists-more : (marks : List Bool) (marked : List ℕ) (variable : ℕ) → variable < length marks → ListsMarks marks marked →
-    ListsMarks (set marks variable true) (marked ++ variable ∷ [])
-lists-more marks marked variable inside lists = record {
-  within = rw length-set (All-push (λ v. v < length marks) marked variable lists.within inside);
-  all = λ w m. ⊎_elim
-      (λ (e : w ≡ variable). subst (λ v. Contains (marked ++ variable ∷ []) v) (sym e) (Contains-push marked variable))
-      (λ (ne : w ≢ variable). Contains-append_left marked (variable ∷ []) w (lists.all w (sym (get_or-set_other marks variable w true false ne) ∙ m)))
-      (cases_eq w variable);
-}
 
 -- one whose mark is taken away
 pub lists-fewer : (marks : List Bool) (marked : List ℕ) (variable : ℕ) → is_marked (set marks variable false) variable ≡ false → ListsMarks marks marked →
@@ -38,10 +27,6 @@ lists-fewer marks marked variable gone lists = record {
 pub record Unmarks (old new : List Bool) (gone : List ℕ) : Type 0 where
   pub size : length new ≡ length old
   pub left : (variable : ℕ) → is_marked new variable ≡ true → (is_marked old variable ≡ true) × All (λ other. other ≢ variable) gone
-
-pub adds-none : (trail : Trail) (marks : List Bool) (variable : ℕ) (literals : List Literal) →
-    ((slot : Slot) → is_marked marks variable ≡ true → slot_of trail variable ≡ Some slot → ⊥) → AddsNegation trail marks variable literals literals
-adds-none trail marks variable literals none = record { kept = λ l c. c; falsified = λ all. all; only = λ all. all; added = λ s m at. absurd (none s m at) }
 
 -- the literals of these variables, as far as they are marked and have a value
 pub record NegatesListed (trail : Trail) (marks : List Bool) (literals : List Literal) (listed : List ℕ) : Type 0 where

@@ -328,7 +328,8 @@ consistent-requirement old wanted queue in_lists requirement it inside is queued
     assumption
 
 pub same-none : (it : ClauseSearch) → IsSameSearch it it
-same-none it = record { set = record { was = λ v s at. at }; bookmarked = λ all. all; variables = refl; learnt = refl; kept = λ base k. k; turn = keeps-none it }
+same-none it =
+    record { set = record { was = λ v s at. at }; bookmarked = λ all. all; variables = refl; learnt = refl; kept = λ base k. k; turn = keeps-none it }
 
 pub same-trans : (a b c : ClauseSearch) → IsSameSearch a b → IsSameSearch b c → IsSameSearch a c
 same-trans a b c first second =

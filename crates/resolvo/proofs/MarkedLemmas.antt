@@ -107,7 +107,8 @@ pub added_plain : (marks : List Bool) (from : List RuleClause) (clauses : List (
     AreMarkedClauses marks from clauses places numbers →
     AreMarkedClauses marks (from ++ clause ∷ []) (clauses ++ copy ∷ []) (places ++ clause.rule ∷ []) numbers
 added_plain marks from clauses places numbers clause copy same plain marked so =
-    added marks from clauses places numbers numbers clause copy marked same so (λ x inside. inside) (λ is_requirement. absurd (false≢true (sym plain ∙ is_requirement)))
+    added marks from clauses places numbers numbers clause copy marked same so (λ x inside. inside)
+    (λ is_requirement. absurd (false≢true (sym plain ∙ is_requirement)))
     (All-weaker (λ number. number < length clauses) (λ number. number < length clauses + 1) (λ n below. omega (arith, below)) numbers so.inside)
 
 pub added_requirement : (marks : List Bool) (from : List RuleClause) (clauses : List (Vec (Literal) Global)) (places numbers : List ℕ) (clause : RuleClause)

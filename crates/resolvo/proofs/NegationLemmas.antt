@@ -1,7 +1,6 @@
 -- The literals that negate the marked variables.
-use Rattle.std.proofs.Common.{◌≡◌, ℕ, List, Bool, true, false, refl, ⊎_elim}
+use Rattle.std.proofs.Common.{ℕ, List, Bool, ⊎_elim}
 use Rattle.std.specs.Prelude.{Vec, not}
-use Rattle.std.specs.Bool.{beq}
 use Rattle.std.specs.declared.alloc.Global.{Global}
 use Rattle.std.proofs.lemmas.Bool.{cases_Bool}
 use Rattle.resolver_clause_store.specs.declared.Literal.{Literal}
@@ -13,10 +12,6 @@ use Rattle.resolver_clause_store.proofs.FormulaLemmas.{beq-not, false-contains}
 
 abbrev pub negation : ℕ → Slot → Literal
 negation variable slot = record { variable = variable; positive = not slot.value }
-
-pub beq-itself : (a : Bool) → beq a (not a) ≡ false
-beq-itself true = refl
-beq-itself false = refl
 
 -- where the causes hold, some variable differs from the trail
 pub learnt-follows : (table : List (Vec Literal Global)) (trail : Trail) (marks : List Bool) (causes : List ℕ) (literals : List Literal) →

@@ -22,9 +22,6 @@ use Rattle.resolvo.specs.declared.solver.UnsolvableOrCancelled.TheVariants.{Unso
 use Rattle.resolvo.proofs.SolveLemmas.{shortage_weaker}
 
 -- what holds of a result that is right
-pub found_at : {A E : Type 0} (P : A → Type 0) (r : Result A E) (x : A) → r ≡ Ok x → IfOk r P → P x
-found_at {A} {E} P r x is h = let At : Result A E → Type 0 = λ q. IfOk q P in subst At is h
-
 pub same_demands : (d : Demands) (rs : List ConditionalRequirement) (vs : List VersionSetId) → rs ≡ d.requirements → vs ≡ d.constraints →
     record { requirements = rs; constraints = vs } ≡ d
 same_demands d rs vs r v = λ i. record { requirements = r i; constraints = v i }

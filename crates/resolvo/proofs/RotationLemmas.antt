@@ -1,45 +1,17 @@
 -- Values that make the clauses of all rules but one true, clause by clause and turn by turn.
-use Rattle.std.proofs.Common.{◌≡◌, ◌≢◌, ℕ, suc, ◌+◌, ◌<◌, ◌≤◌, List, [], ◌∷◌, ◌++◌, length, get_or, take, replicate, set, refl, sym, ap, ◌∙◌, subst}
+use Rattle.std.proofs.Common.{◌≡◌, ◌≢◌, ℕ, suc, ◌+◌, ◌<◌, ◌≤◌, List, [], ◌∷◌, ◌++◌, length, get_or, replicate, set, sym, ap, ◌∙◌, subst}
 use Rattle.std.proofs.Common.{length-append, get_or-set_other, Bool, true, false, ⊎_elim}
 use Rattle.std.specs.Prelude.{Option, Some, None, IfSome, IsSome}
 use Rattle.std.proofs.lemmas.Bool.{cases_eq, cases_lt, false≢true}
 use Rattle.std.proofs.lemmas.List.{get_or_append_left, get_or_past, get_or_default, get_or-replicate, length-replicate}
-use Rattle.std.proofs.lemmas.List.Elements.{All-weaker}
-use Rattle.resolver_clause_store.specs.Formula.{clause_true}
 use Rattle.resolver_clause_store.specs.Rules.{IsRefuted}
 use Rattle.resolver_clause_store.specs.declared.Rule.{Rule}
-use Rattle.resolver_clause_store.proofs.SetLemmas.{All-next}
 use Rattle.resolvo.proofs.MinimalLemmas.{others_at, others_before}
 use Rattle.resolvo.specs.Minimal.{marked, others_of}
 use Rattle.resolvo.specs.RuleClauses.{DecideRules}
-use Rattle.resolvo.specs.Rotations.{AreNeeded, BrokenIs, IsStillThere, MakesOthersTrue}
+use Rattle.resolvo.specs.Rotations.{AreNeeded, IsStillThere, MakesOthersTrue}
 use Rattle.resolvo.specs.declared.minimal.rule_clauses.RuleClause.{RuleClause}
 use Rattle.resolvo.specs.declared.minimal.rule_clauses.RuleClauses.{RuleClauses}
-
-module _ (values : ℕ → Bool) (kept : List Bool) (clauses : List RuleClause) (index : ℕ) (clause : RuleClause) (below : index < length clauses)
-    (is : clause ≡ get_or clauses index clause) where
-  -- a clause that is true, or whose rule is gone, breaks nothing
-  pub broken_kept : (broken : Option ℕ) → (IsStillThere kept clause.rule → clause_true values clause.literals.items ≡ true) →
-      BrokenIs values kept (take index clauses) broken → BrokenIs values kept (take (index + 1) clauses) broken
-  broken_kept None here so = All-next (λ (c : RuleClause).
-      IsStillThere kept c.rule → clause_true values c.literals.items ≡ true) clauses index clause below is so here
-  broken_kept (Some rule) here so =
-      All-next (λ (c : RuleClause). IsStillThere kept c.rule → c.rule ≢ rule →
-      clause_true values c.literals.items ≡ true) clauses index clause below is so (λ there other. here there)
-
-  -- a clause of the rule that is broken may be false
-  pub broken_same : (rule : ℕ) → clause.rule ≡ rule → BrokenIs values kept (take index clauses) (Some rule) →
-      BrokenIs values kept (take (index + 1) clauses) (Some rule)
-  broken_same rule same so =
-      All-next (λ (c : RuleClause). IsStillThere kept c.rule → c.rule ≢ rule →
-      clause_true values c.literals.items ≡ true) clauses index clause below is so (λ there other. absurd (other same))
-
-  -- the first clause that is false
-  pub broken_first : BrokenIs values kept (take index clauses) None → BrokenIs values kept (take (index + 1) clauses) (Some clause.rule)
-  broken_first so = broken_same clause.rule refl
-      (All-weaker (λ (c : RuleClause). IsStillThere kept c.rule → clause_true values c.literals.items ≡ true)
-      (λ (c : RuleClause). IsStillThere kept c.rule → c.rule ≢ clause.rule → clause_true values c.literals.items ≡ true) (λ c h there other. h there)
-      (take index clauses) so)
 
 -- one more rule is marked
 pub needed_mark : (clauses : List RuleClause) (kept needed : List Bool) (rule : ℕ) (values : ℕ → Bool) → rule < length needed →

@@ -36,8 +36,8 @@ use Rattle.resolver_encoding.proofs.TrailLemmas.{before_extends, follows_still}
 use Rattle.resolvo.specs.ClauseSearches.{IsConsistent, IsLoaded, KeepsLoaded, KeepsBookmark, KeepsTurn, clause_count_of, kept_of, learnt_count_of, numbers_of}
 use Rattle.resolvo.specs.ClauseSearches.{trail_of}
 use Rattle.resolvo.specs.declared.owners.Owners.{Owners}
-use Rattle.resolvo.specs.RoundStates.{AreRounds, HasFollowed, HasLoaded, HasBookmark, IsFollowing, IsFresh, IsSearchOf, IsStill, IsUpToDate, KeepsRead, KeepsRoom}
-use Rattle.resolvo.specs.RoundStates.{chosen_of, notes_of}
+use Rattle.resolvo.specs.RoundStates.{AreRounds, HasFollowed, HasLoaded, HasBookmark, IsFollowing, IsFresh, IsSearchOf, IsStill, IsUpToDate, KeepsRead}
+use Rattle.resolvo.specs.RoundStates.{KeepsRoom, chosen_of, notes_of}
 use Rattle.resolvo.specs.declared.clause_search.ClauseSearch.{ClauseSearch}
 use Rattle.resolvo.specs.declared.rounds.Rounds.{Rounds}
 use Rattle.resolver_clause_store.proofs.ListLemmas.{Contains-at}
@@ -176,7 +176,12 @@ module _ {N S : Type 0} where
           record { more = []; is = sym (append-nil (notes_of old).requirements) };
     };
     variables = omega (arith, size);
-    bookmark = record { base = rounds.bookmark.base; follows = rounds.bookmark.follows; kept = kept rounds.bookmark.base rounds.bookmark.kept; known = rounds.bookmark.known };
+    bookmark = record {
+      base = rounds.bookmark.base;
+      follows = rounds.bookmark.follows;
+      kept = kept rounds.bookmark.base rounds.bookmark.kept;
+      known = rounds.bookmark.known;
+    };
   }
 
   -- the list of chosen solvables that was cut and follows the trail again
@@ -193,7 +198,8 @@ module _ {N S : Type 0} where
   cut_again old kept cut new up bookmark is cuts follows =
       let origins : List (Origin N S) = (notes_of old).origins in
       let trail : Trail = trail_of old.search in
-      let places : KeepsPlaces bookmark.base trail kept = let Places : ℕ → Type 0 = λ n. KeepsPlaces bookmark.base trail n in subst Places (sym is) bookmark.kept in
+      let places : KeepsPlaces bookmark.base trail kept =
+      let Places : ℕ → Type 0 = λ n. KeepsPlaces bookmark.base trail n in subst Places (sym is) bookmark.kept in
       let first : Follows cut origins bookmark.base kept = cuts origins bookmark.base (length_of bookmark.base) bookmark.follows places.were in
       let now : Follows cut origins trail kept = follows_still origins origins bookmark.base trail kept (Keeps-same origins) bookmark.known places cut first in
       let Within : List S → Type 0 = λ list. IsWithin list (chosen_of old) in
@@ -288,8 +294,8 @@ module _ {N S : Type 0} where
         variables = omega (arith, longer, following.loaded.variables);
         bookmark = record {
           base = bookmark.base;
-          follows = follows_still (notes_of mid).origins (notes_in encoding).origins bookmark.base bookmark.base (length_of bookmark.base) more.origins bookmark.known
-              (keeps_itself bookmark.base (length_of bookmark.base) (omega arith)) mid.chosen bookmark.follows;
+          follows = follows_still (notes_of mid).origins (notes_in encoding).origins bookmark.base bookmark.base (length_of bookmark.base)
+              more.origins bookmark.known (keeps_itself bookmark.base (length_of bookmark.base) (omega arith)) mid.chosen bookmark.follows;
           kept = bookmark.kept;
           known = omega (arith, bookmark.known, longer);
         };

@@ -1,5 +1,5 @@
 -- What rules that state the same have in common.
-use Rattle.std.proofs.Common.{◌≡◌, ℕ, zero, suc, List, [], ◌∷◌, ◌++◌, get_or, take, drop, arith, refl, sym, subst, Contains, All}
+use Rattle.std.proofs.Common.{◌≡◌, ℕ, zero, suc, List, [], ◌∷◌, get_or, take, drop, arith, sym, subst, Contains, All}
 use Rattle.std.specs.Prelude.{remove}
 use Rattle.std.specs.List.{AllZip}
 use Rattle.std.proofs.lemmas.List.Elements.{All-contains, Contains-get_or, length_all_zip}
@@ -8,7 +8,7 @@ use Rattle.resolver_clause_store.specs.Statements.{ObeysAlone, StatesTheSame, on
 use Rattle.resolver_clause_store.specs.Rules.{Obeys, IsRefuted, IsIrreducible}
 use Rattle.resolver_clause_store.specs.TrueRules.{IsTrueRule, IsTrueStatement}
 use Rattle.resolver_clause_store.specs.declared.Rule.{Rule}
-use Rattle.resolver_clause_store.proofs.ListLemmas.{Contains-there as further}
+use Rattle.resolver_clause_store.proofs.ListLemmas.{AllZip-append, AllZip-left}
 use Rattle.resolver_clause_store.specs.declared.Rule.TheVariants.{Requires, Constrains, Lock, Excluded, OnePerPackage}
 
 pub StatesTheSame-flip : {N S : Type 0} (rule other : Rule N S) → StatesTheSame rule other → StatesTheSame other rule
@@ -23,25 +23,11 @@ pub IsTrueRule-same : {N S : Type 0} (u : Universe N S) (root : Demands) (rule o
     IsTrueRule u root other
 IsTrueRule-same u root rule other same h = subst (IsTrueStatement u root) same h
 
--- one of two lists that agree element by element has, for each element, one of the other
-pub zip_left : {X : Type 0} (R : X → X → Type 0) (xs ys : List X) → AllZip R xs ys → (x : X) → Contains xs x → (y : X) × Contains ys y × R x y
-zip_left R [] ys h x inside = absurd (omega (arith, inside.1))
-zip_left R (x ∷ xs) [] h z inside = absurd h
-zip_left {X} R (x ∷ xs) (y ∷ ys) (here, rest) z (zero, below, is) = let At : X → Type 0 = λ q. R q y in (y, (zero, omega arith, refl), subst At is here)
-zip_left R (x ∷ xs) (y ∷ ys) (here, rest) z (suc k, below, is) = let w = zip_left R xs ys rest z (k, omega (arith, below), is) in
-    (w.0, further y ys w.0 w.1, w.2)
-
 pub zip_flip : {X : Type 0} (R : X → X → Type 0) → ((x y : X) → R x y → R y x) → (xs ys : List X) → AllZip R xs ys → AllZip R ys xs
 zip_flip R flip [] [] h = tt
 zip_flip R flip [] (y ∷ ys) h = absurd h
 zip_flip R flip (x ∷ xs) [] h = absurd h
 zip_flip R flip (x ∷ xs) (y ∷ ys) (here, rest) = (flip x y here, zip_flip R flip xs ys rest)
-
-pub zip_append : {X : Type 0} (R : X → X → Type 0) (xs ys zs ws : List X) → AllZip R xs ys → AllZip R zs ws → AllZip R (xs ++ zs) (ys ++ ws)
-zip_append R [] [] zs ws h k = k
-zip_append R [] (y ∷ ys) zs ws h k = absurd h
-zip_append R (x ∷ xs) [] zs ws h k = absurd h
-zip_append R (x ∷ xs) (y ∷ ys) zs ws (here, rest) k = (here, zip_append R xs ys zs ws rest k)
 
 zip_take : {X : Type 0} (R : X → X → Type 0) (n : ℕ) (xs ys : List X) → AllZip R xs ys → AllZip R (take n xs) (take n ys)
 zip_take R zero xs ys h = tt
@@ -58,7 +44,7 @@ zip_drop R (suc n) (x ∷ xs) [] h = absurd h
 zip_drop R (suc n) (x ∷ xs) (y ∷ ys) (here, rest) = zip_drop R n xs ys rest
 
 pub zip_remove : {X : Type 0} (R : X → X → Type 0) (xs ys : List X) (k : ℕ) → AllZip R xs ys → AllZip R (remove xs k) (remove ys k)
-zip_remove R xs ys k h = zip_append R (take k xs) (take k ys) (drop (suc k) xs) (drop (suc k) ys) (zip_take R k xs ys h) (zip_drop R (suc k) xs ys h)
+zip_remove R xs ys k h = AllZip-append R (take k xs) (drop (suc k) xs) (take k ys) (drop (suc k) ys) (zip_take R k xs ys h) (zip_drop R (suc k) xs ys h)
 
 -- the rule that states a mark is that mark
 is_mark : {N S : Type 0} (rule : Rule N S) (name : N) (instance : S) → one_per_package name instance ≡ statement_of rule → OnePerPackage name instance ≡ rule
@@ -77,11 +63,11 @@ marked_too {N} {S} rules name instance other same inside = let Has : Rule N S �
 pub Obeys-same : {N S : Type 0} (rules others : List (Rule N S)) → AllZip StatesTheSame rules others → (set : List S) → Obeys set others → Obeys set rules
 Obeys-same {N} {S} rules others same set obeys = record {
   each = λ rule inside.
-      let w = zip_left StatesTheSame rules others same rule inside in
+      let w = AllZip-left StatesTheSame rules others same rule inside in
       ObeysAlone-same set w.0 rule (StatesTheSame-flip rule w.0 w.2) (obeys.each w.0 w.1);
   one_each = λ n s t first second.
-      let v = zip_left StatesTheSame rules others same (OnePerPackage n s) first in
-      let w = zip_left StatesTheSame rules others same (OnePerPackage n t) second in
+      let v = AllZip-left StatesTheSame rules others same (OnePerPackage n s) first in
+      let w = AllZip-left StatesTheSame rules others same (OnePerPackage n t) second in
       obeys.one_each n s t (marked_too others n s v.0 v.2 v.1) (marked_too others n t w.0 w.2 w.1);
 }
 
@@ -102,5 +88,5 @@ IsIrreducible-same rules others same (refuted, needed) = (
 pub AllTrue-same : {N S : Type 0} (u : Universe N S) (root : Demands) (rules others : List (Rule N S)) → AllZip StatesTheSame rules others →
     All (IsTrueRule u root) rules → All (IsTrueRule u root) others
 AllTrue-same u root rules others same all = λ k d below.
-    let w = zip_left StatesTheSame others rules (same_flipped rules others same) (get_or others k d) (Contains-get_or others k d below) in
+    let w = AllZip-left StatesTheSame others rules (same_flipped rules others same) (get_or others k d) (Contains-get_or others k d below) in
     IsTrueRule-same u root w.0 (get_or others k d) (StatesTheSame-flip (get_or others k d) w.0 w.2) (All-contains (IsTrueRule u root) rules w.0 all w.1)

@@ -7,7 +7,7 @@ use Rattle.std.specs.Option.{option_map, option_map_or}
 use Rattle.std.proofs.Math.Seq.{take-append_seam}
 use Rattle.std.proofs.lemmas.Bool.{cases_Bool, cases_eq, cases_lt, false≢true}
 use Rattle.std.proofs.lemmas.Option.{same_Some, none-some, get_or_from_slice_get}
-use Rattle.std.proofs.lemmas.List.Elements.{Contains-append_cases, Contains-append_left}
+use Rattle.std.proofs.lemmas.List.Elements.{Contains-append_left, Contains-push_cases}
 use Rattle.resolver_clause_store.specs.Laws.{IsIdentity}
 use Rattle.resolver_clause_store.specs.Lists.{HasNoRepeats, IsWithin}
 use Rattle.resolver_clause_store.specs.Near.{IsNamed, IsNear}
@@ -88,12 +88,6 @@ ended_adds {N} {S} u old new e =
 
 pub earlier_in : {X : Type 0} (xs : List X) (x y : X) → Contains xs y → Contains (xs ++ x ∷ []) y
 earlier_in xs x y h = Contains-append_left xs (x ∷ []) y h
-
-pub pushed_cases : {X : Type 0} (xs : List X) (x y : X) → Contains (xs ++ x ∷ []) y → Contains xs y ⊎ (x ≡ y)
-pushed_cases xs x y h = ⊎_elim
-    (λ old. inl old)
-    (λ new. ⊎_elim (λ e. inr e) (λ none. absurd (none_in y none)) (cons_cases x [] y new))
-    (Contains-append_cases xs (x ∷ []) y h)
 
 -- whether something is in a list, where equal values are one
 pub in_or_not : {X : Type 0} (eq : X → X → Bool) → IsIdentity eq → (xs : List X) (x : X) → Contains xs x ⊎ (Contains xs x → ⊥)
@@ -189,8 +183,8 @@ module _ {N S : Type 0} where
         variables = omega (arith, rounds.variables, longer);
         bookmark = record {
           base = bookmark.base;
-          follows = follows_still (notes_of old).origins (notes_in encoding).origins bookmark.base bookmark.base (length_of bookmark.base) adds.origins bookmark.known
-              (keeps_itself bookmark.base (length_of bookmark.base) (omega arith)) old.chosen bookmark.follows;
+          follows = follows_still (notes_of old).origins (notes_in encoding).origins bookmark.base bookmark.base (length_of bookmark.base)
+              adds.origins bookmark.known (keeps_itself bookmark.base (length_of bookmark.base) (omega arith)) old.chosen bookmark.follows;
           kept = bookmark.kept;
           known = omega (arith, bookmark.known, longer);
         };
@@ -457,7 +451,7 @@ module _ {N S : Type 0} where
     same_seen = ap (λ (n : Notes N S). n.seen) only
 
     within_now : IsWithin taken_now seeds
-    within_now t h = ⊎_elim (λ was. b.within t was) (λ e. let Has : S → Type 0 = λ x. Contains seeds x in subst Has e seed) (pushed_cases taken s t h)
+    within_now t h = ⊎_elim (λ was. b.within t was) (λ e. let Has : S → Type 0 = λ x. Contains seeds x in subst Has e seed) (Contains-push_cases taken s t h)
 
     -- the problem leads to what there is when the turn begins, and to what there is while it goes on
     pub led_begun : AreLed u root seeds packages (notes_of old) → AreLed u root seeds packages (notes_in encoding)
@@ -551,7 +545,7 @@ module _ {N S : Type 0} where
         few_exempt e (asked_before was) = λ t h. earlier_in taken s t (b.exempt t h)
         few_exempt e (not_asked not) =
             λ t h. ⊎_elim (λ was. earlier_in taken s t (b.exempt t was)) (λ same.
-            let Has : S → Type 0 = λ x. Contains taken_now x in subst Has same (last_in taken s)) (pushed_cases (notes_of old).exempt s t h)
+            let Has : S → Type 0 = λ x. Contains taken_now x in subst Has same (last_in taken s)) (Contains-push_cases (notes_of old).exempt s t h)
 
         freed : (e : List S) → Exempts u (notes_of old).asked (notes_of old).exempt s e → Contains e s ⊎ Contains (notes_of old).asked (u.name s)
         freed e (asked_before was) = inr was
@@ -560,15 +554,15 @@ module _ {N S : Type 0} where
         now_seeded : AreSeeds u taken_now (chosen_of rest) (notes_of rest).asked (notes_of rest).seen (notes_of rest).exempt
         now_seeded = record {
           seed_chosen = λ t h. ⊎_elim (λ was. stays_chosen t (b.seeded.seed_chosen t was)) (λ e.
-              let Has : S → Type 0 = λ x. Contains (chosen_of rest) x in subst Has e now_chosen) (pushed_cases taken s t h);
+              let Has : S → Type 0 = λ x. Contains (chosen_of rest) x in subst Has e now_chosen) (Contains-push_cases taken s t h);
           seed_registered = λ t h. ⊎_elim (λ was. seen_rest t (b.seeded.seed_registered t was)) (λ e.
-              let Has : S → Type 0 = λ x. Contains (notes_of rest).seen x in subst Has e (seen_rest s seen)) (pushed_cases taken s t h);
+              let Has : S → Type 0 = λ x. Contains (notes_of rest).seen x in subst Has e (seen_rest s seen)) (Contains-push_cases taken s t h);
           seed_free = λ t h. ⊎_elim
               (λ was. ⊎_elim (λ free_before. inl (more_exempt (notes_of rest).exempt rest_exempts t free_before)) (λ asked. inr (asked_rest (u.name t) asked))
               (b.seeded.seed_free t was))
               (λ e. let Free : S → Type 0 = λ x. Contains (notes_of rest).exempt x ⊎ Contains (notes_of rest).asked (u.name x) in
               subst Free e (⊎_elim (λ is. inl is) (λ asked. inr (asked_rest (u.name s) asked)) (freed (notes_of rest).exempt rest_exempts)))
-              (pushed_cases taken s t h);
+              (Contains-push_cases taken s t h);
         }
 
         pub accepted : HasTurned u root taken refused seeds packages s old rest true
@@ -751,7 +745,7 @@ module _ {N S : Type 0} where
                   (λ was. are x t (b.seeded.seed_chosen t was) is)
                   (λ e. let Stands : S → Type 0 = λ y. slice_get o2 v ≡ Some (Solvable y) in
                   ap values (encoding_rest.distinct.same x v (Solvable t) is (subst Stands e stands_rest)) ∙ on)
-                  (pushed_cases taken s t h)
+                  (Contains-push_cases taken s t h)
                   in
                   absurd (unanswered.none values holds
                   (trail_agrees u root (notes_of rest) encoding_rest rest.search rounds.consistent rounds.loaded
@@ -773,7 +767,7 @@ module _ {N S : Type 0} where
             let Left : S → Type 0 = λ x. IsLeftOut o2 (notes_of rest).table (chosen_of old) x in
             left_out_more o2 o3 (notes_of rest).table (notes_of after).table (chosen_of old)
             (chosen_of old) t refusing.ended.origins refusing.ended.table (λ x k. k)
-            (⊎_elim (λ was. left_rest (chosen_of old) (λ x k. k) t was) (λ e. subst Left e out_rest) (pushed_cases refused s t h))
+            (⊎_elim (λ was. left_rest (chosen_of old) (λ x k. k) t was) (λ e. subst Left e out_rest) (Contains-push_cases refused s t h))
 
         pub not_accepted : HasTurned u root taken refused seeds packages s old after false
         not_accepted =

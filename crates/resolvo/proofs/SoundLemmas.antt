@@ -19,16 +19,16 @@ use Rattle.resolver_clause_store.specs.declared.By.TheVariants.{Root, Solvable}
 use Rattle.resolver_clause_store.specs.declared.Literal.{Literal}
 use Rattle.resolver_clause_store.specs.declared.Rule.{Rule}
 use Rattle.resolver_clause_store.specs.declared.Rule.TheVariants.{Requires, Constrains, Lock, Excluded, OnePerPackage}
-use Rattle.resolvo.proofs.LineLemmas.{All-each, marked_in, zip_left, zip_both, bit_line_from, member_line_from, line_from, rule_of_line}
+use Rattle.resolvo.proofs.LineLemmas.{All-each, marked_in, zip_both, bit_line_from, member_line_from, line_from, rule_of_line}
 use Rattle.resolver_encoding.specs.Codes.{bit}
 use Rattle.resolvo.specs.Minimal.{marked}
-use Rattle.resolvo.specs.RuleClauses.{Line, atom, plain, requirement_line, requirer_atoms, list_atoms, candidate_atoms, condition_lines, lines_of, all_lines, IsLiteralOf}
-use Rattle.resolvo.specs.RuleClauses.{IsClauseOf, HasCode, AreClausesOf, MakesMarkedTrue}
+use Rattle.resolvo.specs.RuleClauses.{Line, atom, plain, requirement_line, requirer_atoms, list_atoms, candidate_atoms, condition_lines, lines_of}
+use Rattle.resolvo.specs.RuleClauses.{all_lines, IsLiteralOf, IsClauseOf, HasCode, AreClausesOf, MakesMarkedTrue}
 use Rattle.resolvo.specs.declared.minimal.rule_clauses.Atom.{Atom}
 use Rattle.resolvo.specs.declared.minimal.rule_clauses.Proposition.{Proposition}
 use Rattle.resolvo.specs.declared.minimal.rule_clauses.Proposition.TheVariants.{Member, Listed, Bit}
 use Rattle.resolver_clause_store.proofs.BoolLemmas.{beq-false as other_value}
-use Rattle.resolver_clause_store.proofs.ListLemmas.{Contains-cons_cases as cons_cases, Contains-none as none_in, list_any-contains as any_of}
+use Rattle.resolver_clause_store.proofs.ListLemmas.{Contains-cons_cases as cons_cases, Contains-none as none_in, list_any-contains as any_of, AllZip-left}
 use Rattle.resolver_clause_store.proofs.ListLemmas.{list_any-witness as any_from}
 use Rattle.resolvo.specs.declared.minimal.rule_clauses.RuleClause.{RuleClause}
 
@@ -243,7 +243,8 @@ module _ {N S : Type 0} (names : N → N → Bool) (solvables : S → S → Bool
         (λ (none : Contains [] line). none_in line none)
         (cons_cases only [] line inside)
 
-    requirement_line_is : (by : By S) (candidates : Vec S Global) (lists : List (Vec S Global)) → ((j : ℕ) → value (Listed place j) ≡ passes (slice_get lists j)) →
+    requirement_line_is : (by : By S) (candidates : Vec S Global) (lists : List (Vec S Global)) →
+        ((j : ℕ) → value (Listed place j) ≡ passes (slice_get lists j)) →
         (IsPresent by set → AllMeet set (lists_of lists) → Meets candidates.items set) →
         None_true (requirer_atoms by ++ (list_atoms place (length lists) ++ candidate_atoms candidates.items)) → ⊥
     requirement_line_is by candidates lists is alone wrong =
@@ -318,7 +319,7 @@ module _ {N S : Type 0} (names : N → N → Bool) (solvables : S → S → Bool
     values_of value propositions,
     All-each (λ (clause : RuleClause).
         slice_index_or marks clause.rule false ≡ true → clause_true (values_of value propositions) clause.literals.items ≡ true) clauses (λ clause inside mark.
-        let w = zip_left (IsClauseOf propositions) clauses (all_lines are.width 0 rules are.codes) are.lines clause inside in
+        let w = AllZip-left (IsClauseOf propositions) clauses (all_lines are.width 0 rules are.codes) are.lines clause inside in
         let at = line_from are.width 0 rules are.codes w.0 w.1 in
         let same : 0 + at.index ≡ at.index = omega arith in
         let Has : ℕ → Type 0 = λ p. Contains (lines_of are.width p at.code at.rule) w.0 in

@@ -24,10 +24,7 @@ use Rattle.resolvo.specs.Minimal.{AreAmong, IsRefutedPart, marked}
 use Rattle.resolvo.specs.RuleClauses.{DecideRules, IsGuarded, MakesMarkedTrue}
 use Rattle.resolver_clause_store.proofs.ListLemmas.{Contains-here as first_in}
 use Rattle.resolvo.specs.declared.minimal.rule_clauses.RuleClause.{RuleClause}
-
--- the values of a trail, where a variable that has none is false
-abbrev reads : Trail → ℕ → Bool
-reads trail variable = option_map_or (λ (slot : Slot). slot.value) (slot_of trail variable) false
+use Rattle.resolver_encoding.specs.Trails.{value_of}
 
 abbrev value_in : Option Slot → Literal → Option Bool
 value_in slot literal = option_map (λ (slot : Slot). beq slot.value literal.positive) slot
@@ -43,11 +40,11 @@ open_in : (slot : Option Slot) (literal : Literal) → value_in slot literal ≡
 open_in None literal is negative = rw negative refl
 open_in (Some slot) literal is negative = absurd cc
 
-literal_true_on : (trail : Trail) (literal : Literal) → literal_value trail literal ≡ Some true → literal_true (reads trail) literal ≡ true
+literal_true_on : (trail : Trail) (literal : Literal) → literal_value trail literal ≡ Some true → literal_true (value_of trail) literal ≡ true
 literal_true_on trail literal is = true_in (slot_of trail literal.variable) literal is
 
 negation_open_on : (trail : Trail) (literal : Literal) → literal_value trail literal ≡ None → literal.positive ≡ false →
-    literal_true (reads trail) literal ≡ true
+    literal_true (value_of trail) literal ≡ true
 negation_open_on trail literal is negative = open_in (slot_of trail literal.variable) literal is negative
 
 -- a clause with a true literal is true
@@ -64,27 +61,27 @@ value_cases None is_open is_true is_false = is_open refl
 value_cases (Some true) is_open is_true is_false = is_true refl
 value_cases (Some false) is_open is_true is_false = is_false refl
 
-met_true : (trail : Trail) (clause : List Literal) → IsMet trail clause → clause_true (reads trail) clause ≡ true
+met_true : (trail : Trail) (clause : List Literal) → IsMet trail clause → clause_true (value_of trail) clause ≡ true
 met_true trail clause met = ⊎_elim
     (λ (one : Any (λ (literal : Literal). literal_value trail literal ≡ Some true) clause).
-    one_true (reads trail) clause one.1 (one.0, one.2, one.3) (literal_true_on trail one.1 one.4))
+    one_true (value_of trail) clause one.1 (one.0, one.2, one.3) (literal_true_on trail one.1 one.4))
     (λ (one : Any (λ (literal : Literal). (literal_value trail literal ≡ None) × (literal.positive ≡ false)) clause).
-    one_true (reads trail) clause one.1 (one.0, one.2, one.3) (negation_open_on trail one.1 one.4.0 one.4.1))
+    one_true (value_of trail) clause one.1 (one.0, one.2, one.3) (negation_open_on trail one.1 one.4.0 one.4.1))
     met
 
 abbrev second_in : {X : Type 0} (x y : X) (xs : List X) → Contains (x ∷ y ∷ xs) y
 second_in x y xs = (1, omega arith, refl)
 
-guarded_true : (trail : Trail) (clause : List Literal) → IsGuarded clause → IsPropagated trail clause → clause_true (reads trail) clause ≡ true
+guarded_true : (trail : Trail) (clause : List Literal) → IsGuarded clause → IsPropagated trail clause → clause_true (value_of trail) clause ≡ true
 guarded_true trail [] guarded propagated = absurd guarded
 guarded_true trail (first ∷ []) guarded propagated = value_cases (literal_value trail first)
-    (λ is_open. one_true (reads trail) (first ∷ []) first (first_in first []) (negation_open_on trail first is_open guarded))
-    (λ is_true. one_true (reads trail) (first ∷ []) first (first_in first []) (literal_true_on trail first is_true))
+    (λ is_open. one_true (value_of trail) (first ∷ []) first (first_in first []) (negation_open_on trail first is_open guarded))
+    (λ is_true. one_true (value_of trail) (first ∷ []) first (first_in first []) (literal_true_on trail first is_true))
     (λ is_false. absurd (propagated.not_false (All-cons (λ (literal : Literal). literal_value trail literal ≡ Some false) first [] is_false (All-nil _))))
 guarded_true trail (first ∷ second ∷ []) guarded propagated = value_cases (literal_value trail first)
-    (λ is_open. one_true (reads trail) (first ∷ second ∷ []) first (first_in first (second ∷ [])) (negation_open_on trail first is_open guarded))
-    (λ is_true. one_true (reads trail) (first ∷ second ∷ []) first (first_in first (second ∷ [])) (literal_true_on trail first is_true))
-    (λ is_false. one_true (reads trail) (first ∷ second ∷ []) second (second_in first second [])
+    (λ is_open. one_true (value_of trail) (first ∷ second ∷ []) first (first_in first (second ∷ [])) (negation_open_on trail first is_open guarded))
+    (λ is_true. one_true (value_of trail) (first ∷ second ∷ []) first (first_in first (second ∷ [])) (literal_true_on trail first is_true))
+    (λ is_false. one_true (value_of trail) (first ∷ second ∷ []) second (second_in first second [])
     (literal_true_on trail second (propagated.last second (second_in first second []) (λ other inside. of_two is_false other inside))))
   where
     of_two : literal_value trail first ≡ Some false → (other : Literal) → Contains (first ∷ second ∷ []) other → (other ≡ second) ⊎
@@ -103,11 +100,11 @@ named P requirements all = All-map P (λ (requirement : RequirementClause). requ
 pub finished_true : (marks : List Bool) (from : List RuleClause) (clauses : List (Vec Literal Global)) (places : List ℕ) (requirements : List RequirementClause)
     (trail : Trail) → AreMarkedClauses marks from clauses places (numbers_of requirements) →
     All (λ (clause : RuleClause). clause.is_requirement ≡ false → IsGuarded clause.literals.items) from → IsFinished clauses requirements trail →
-    MakesMarkedTrue (reads trail) marks from
+    MakesMarkedTrue (value_of trail) marks from
 finished_true marks from clauses places requirements trail are guarded finished = λ k d below marked_one.
     let clause : RuleClause = get_or from k d in
     let there = are.all k d below marked_one in
-    let P : List Literal → Type 0 = λ literals. clause_true (reads trail) literals ≡ true in
+    let P : List Literal → Type 0 = λ literals. clause_true (value_of trail) literals ≡ true in
     subst P there.literals (⊎_elim
     (λ (is_requirement : clause.is_requirement ≡ true). met_true trail (clause_at clauses there.number)
     (All-contains (λ number. IsMet trail (clause_at clauses number)) (numbers_of requirements) there.number
@@ -121,7 +118,7 @@ pub obeyed : {N S : Type 0} (rules : List (Rule N S)) (variables : ℕ) (marks :
     (places : List ℕ) (requirements : List RequirementClause) (trail : Trail) → length marks ≡ length rules → DecideRules rules variables from →
     AreMarkedClauses marks from clauses places (numbers_of requirements) → IsFinished clauses requirements trail → IsRefuted (marked marks rules) → ⊥
 obeyed rules variables marks from clauses places requirements trail size decide are finished =
-    decide.complete marks (reads trail) size (finished_true marks from clauses places requirements trail are decide.guarded finished)
+    decide.complete marks (value_of trail) size (finished_true marks from clauses places requirements trail are decide.guarded finished)
 
 module _ {N S : Type 0} (rules : List (Rule N S)) (variables : ℕ) (marks part : List Bool) (from : List RuleClause) (clauses : List (Vec Literal Global))
     (places numbers core : List ℕ) (decide : DecideRules rules variables from) (are : AreMarkedClauses marks from clauses places numbers)

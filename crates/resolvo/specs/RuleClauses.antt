@@ -66,7 +66,8 @@ bit_lines rule name instance code (suc n) = bit_lines rule name instance code n 
 -- the clauses of the rule at a place; those of an instance use its code, with `width` bits
 abbrev pub lines_of : {N S : Type 0} → ℕ → ℕ → ℕ → Rule N S → List (Line N S)
 lines_of width place code (Requires by requirement candidates when) =
-    requirement_line place (requirer_atoms by ++ (list_atoms place (length when.items) ++ candidate_atoms candidates.items)) ∷ condition_lines place 0 when.items
+    requirement_line place (requirer_atoms by ++ (list_atoms place (length when.items) ++ candidate_atoms candidates.items)) ∷
+    condition_lines place 0 when.items
 lines_of width place code (Constrains by version_set candidate) = plain place (requirer_atoms by ++ atom (Member candidate) false ∷ []) ∷ []
 lines_of width place code (Lock locked forbidden) = plain place (atom (Member forbidden) false ∷ []) ∷ []
 lines_of width place code (Excluded solvable reason) = plain place (atom (Member solvable) false ∷ []) ∷ []

@@ -158,8 +158,8 @@ fn level_for(trail: &Trail, literals: &[Literal], base: usize) -> usize
 impl ClauseSearch {
     ghost use Rattle.resolvo.specs.ClauseSearches.{IsConsistent, IsBacktrack, IsLoaded, IsRootTurn};
     ghost use Rattle.resolvo.specs.ClauseSearches.{IsSameProblem, IsSameSearch, SetsNone, StaysBookmarked, KeepsLoaded};
-    ghost use Rattle.resolvo.specs.ClauseSearches.{KeepsBookmark, KeepsTurn, OutcomeIs, base_of, clause_count_of, held_of, kept_of, learnt_count_of, numbers_of};
-    ghost use Rattle.resolvo.specs.ClauseSearches.{trail_of};
+    ghost use Rattle.resolvo.specs.ClauseSearches.{KeepsBookmark, KeepsTurn, OutcomeIs, base_of, clause_count_of, held_of, kept_of, learnt_count_of};
+    ghost use Rattle.resolvo.specs.ClauseSearches.{numbers_of, trail_of};
 
     /// Returns a search without variables and clauses. The activity has the parameters of its scores.
     pub fn new(alloc: Global, activity: Activity) -> Self

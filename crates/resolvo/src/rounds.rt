@@ -66,9 +66,9 @@ pub struct Rounds<N: Copy + Eq + Hash + Drop, S: Copy + Eq + Hash + Drop> {
 }
 
 impl<N: Copy + Eq + Hash + Drop, S: Copy + Eq + Hash + Drop> Rounds<N, S> {
-    ghost use Rattle.resolvo.specs.RoundStates.{AreRounds, GoesOn, HasAllClauses, HasFollowed, HasBookmark, HasAssumed, HasTurned, IsAnswering, IsDone, IsStanding};
+    ghost use Rattle.resolvo.specs.RoundStates.{AreRounds, GoesOn, HasAllClauses, HasFollowed, HasBookmark, HasAssumed, HasTurned, IsAnswering, IsDone};
     ghost use Rattle.resolvo.specs.RoundStates.{IsFollowing, IsRefusing, IsFound, IsFresh, IsStill, IsRound, IsSearchOf, IsStuck, IsUnanswered, IsUpToDate};
-    ghost use Rattle.resolvo.specs.RoundStates.{IsLedBy, KeepsEncoding, KeepsRead, KeepsRoom, LeadsOn, LeadsTurns, StaysLed};
+    ghost use Rattle.resolvo.specs.RoundStates.{IsStanding, IsLedBy, KeepsEncoding, KeepsRead, KeepsRoom, LeadsOn, LeadsTurns, StaysLed};
     ghost use Rattle.resolvo.specs.RoundStates.{chosen_of, clause_limit_of, learnt_limit_of, notes_of, search_of};
 
     /// Returns rounds that have read nothing.

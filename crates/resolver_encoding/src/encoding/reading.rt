@@ -11,8 +11,8 @@ ghost use Rattle.resolver_clause_store.specs.declared.ConditionalRequirement.{Co
 ghost use Rattle.resolver_clause_store.specs.declared.Origin.TheVariants.{Root as RootOrigin, Solvable as SolvableOrigin};
 ghost use Rattle.resolver_clause_store.specs.TrueRules.{demands_by};
 ghost use Rattle.resolver_encoding.specs.Called.{AreAsked, IsCalledByEach, IsCalledFor, IsDemanded, IsNamedBy, IsPlainlyNamed};
-ghost use Rattle.resolver_encoding.specs.Encodings.{AreDemandsRead, AreNeedsRead, HasRequirement, HasConstraint, IsAskStep, IsConstraintRead, IsEncoding, IsEncodingOf};
-ghost use Rattle.resolver_encoding.specs.Encodings.{IsFull, IsLeft, IsReadStep, IsStep, IsUnmet, IsUnread, KeepsLimits};
+ghost use Rattle.resolver_encoding.specs.Encodings.{AreDemandsRead, AreNeedsRead, HasRequirement, HasConstraint, IsAskStep, IsConstraintRead, IsEncoding};
+ghost use Rattle.resolver_encoding.specs.Encodings.{IsEncodingOf, IsFull, IsLeft, IsReadStep, IsStep, IsUnmet, IsUnread, KeepsLimits};
 ghost use Rattle.resolver_encoding.specs.Hints.{AreHintsRead, IsListedFrom};
 ghost use Rattle.resolver_encoding.specs.Led.{AddsOnly, AreLed, Brings, IsBarred, IsOwn, KeepsLed, with_constraints, with_requirements};
 ghost use Rattle.resolver_encoding.specs.Reach.{AreNear};

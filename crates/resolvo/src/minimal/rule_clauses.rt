@@ -6,8 +6,8 @@ ghost use Rattle.resolver_clause_store.specs.Laws.{IsIdentity};
 ghost use Rattle.resolver_clause_store.specs.Variables.{AreDistinct, Keeps};
 ghost use Rattle.resolver_clause_store.specs.declared.Rule.{Rule};
 ghost use Rattle.resolvo.specs.AddedLines.{Adds};
-ghost use Rattle.resolvo.specs.RuleClauses.{AreClausesOf, DecideRules, IsLiteralOf, all_lines, requirer_atoms, requirement_line, atom, bit_lines, candidate_atoms};
-ghost use Rattle.resolvo.specs.RuleClauses.{condition_lines, lines_of, list_atoms, member_lines, plain};
+ghost use Rattle.resolvo.specs.RuleClauses.{AreClausesOf, DecideRules, IsLiteralOf, all_lines, requirer_atoms, requirement_line, atom, bit_lines};
+ghost use Rattle.resolvo.specs.RuleClauses.{candidate_atoms, condition_lines, lines_of, list_atoms, member_lines, plain};
 ghost use Rattle.resolvo.specs.declared.minimal.rule_clauses.Proposition.{Proposition};
 ghost use Rattle.resolvo.specs.declared.minimal.rule_clauses.Proposition.TheVariants.{Member};
 
@@ -344,7 +344,8 @@ fn add_requirement<N: Copy + Eq + Hash + Drop, S: Copy + Eq + Hash + Drop>(
     requires names { IsIdentity N.eq }
     requires solvables { IsIdentity S.eq }
     ensures { OnOk result (Adds propositions.old.keys propositions.new.keys clauses.old.items clauses.new.items
-        (requirement_line rule (requirer_atoms by ++ (list_atoms rule (length when.now) ++ candidate_atoms candidates.now)) ∷ condition_lines rule 0 when.now)) }
+        (requirement_line rule (requirer_atoms by ++ (list_atoms rule (length when.now) ++ candidate_atoms candidates.now)) ∷
+        condition_lines rule 0 when.now)) }
 {
     let atoms = requirement_atoms(*clauses.allocator(), rule, by, when.len(), candidates)?;
     add_requirement_clause(propositions, clauses, rule, &atoms)?;

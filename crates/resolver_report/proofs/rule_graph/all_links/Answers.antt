@@ -10,8 +10,9 @@ loop-rule-init g c = record { linked = c.new-found.ensures.items; followed = λ 
 pub loop-rule-preserved : goal.loop-rule-preserved
 loop-rule-preserved g c = record {
   linked = links_next g.N.PartialEq.eq c.args.rules.now c.loop-rule.rule-index c.rule-item.result (omega arith) c.rule-item.is
-      (get g.N.PartialEq.eq c.loop-rule.last_instances) c.loop-rule.invariant.followed c.loop-rule.found.items c.add_links.new.found.items c.loop-rule.invariant.linked
-      c.in_ok-add_links.ensures.ok;
+      (get g.N.PartialEq.eq c.loop-rule.last_instances) c.loop-rule.invariant.followed c.loop-rule.found.items c.add_links.new.found.items
+      c.loop-rule.invariant.linked c.in_ok-add_links.ensures.ok;
   followed = marks_next g.N.PartialEq.eq c.args.rules.now c.loop-rule.rule-index c.rule-item.result (omega arith) c.rule-item.is
-      (get g.N.PartialEq.eq c.loop-rule.last_instances) c.loop-rule.invariant.followed (get g.N.PartialEq.eq c.keep_instance.new.last_instances) (λ n. c.in_ok-keep_instance.ensures.ok n);
+      (get g.N.PartialEq.eq c.loop-rule.last_instances) c.loop-rule.invariant.followed
+      (get g.N.PartialEq.eq c.keep_instance.new.last_instances) (λ n. c.in_ok-keep_instance.ensures.ok n);
 }

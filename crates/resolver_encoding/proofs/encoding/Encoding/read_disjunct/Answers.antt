@@ -6,13 +6,14 @@ use Rattle.resolver_encoding.specs.Encodings.{HasRequirement, IsTrueUnder, IsUnm
 use Rattle.resolver_clause_store.specs.TrueRules.{Implies}
 use Rattle.resolver_encoding.proofs.EncodingLemmas.{IsAskStep-weaker, IsReadStep-of}
 use Rattle.resolver_encoding.proofs.FiringLemmas.{IsReadStep-deferral, deferral_left}
-use Rattle.resolver_encoding.proofs.RequirementLemmas.{active_where, disjunct_implies, fails_if, holds_if}
+use Rattle.resolver_encoding.proofs.RequirementLemmas.{disjunct_implies, fails_if, holds_if}
 use Rattle.resolver_clause_store.specs.declared.Origin.{Origin}
 use Rattle.resolver_encoding.specs.Led.{IsHelped, IsOwn, with_requirements}
 use Rattle.resolver_encoding.specs.Notes.{notes_in}
 use Rattle.resolver_encoding.specs.ReadState.{Deferred}
 use Rattle.resolver_encoding.proofs.LedLemmas.{Brings-equal, Brings-same, Brings-weaker, deferral_brings, helped_own}
 use Rattle.resolver_encoding.proofs.encoding.Encoding.read_disjunct.Goals as goal
+use Rattle.resolver_clause_store.proofs.DemandLemmas.{active_by}
 
 pub returns-then-met-clause-step : goal.returns-then-met-clause-step
 returns-then-met-clause-step g c =
@@ -27,7 +28,7 @@ returns-then-met-clause-step g c =
     let met = holds_if c.in_ok-met.met _ _ c.if-met.true (rw c.deref.ensures.value at c.in_ok-met.ensures.met) in
     IsReadStep-of u (IsUnmet u set by) (IsCalledBy u set r) (HasRequirement u by r) _ _
     (IsAskStep-weaker u (IsWantedBy u r.requirement) (IsCalledBy u set r) (λ n named.
-    (active_where u set (map (matching u) list) r.condition implies met, named))
+    (active_by u set (map (matching u) list) r.condition implies met, named))
     (IsTrueUnder u by list r.requirement) (HasRequirement u by r) (λ root asks. (r, asks, refl, implies)) _ _ c.in_ok-encode_disjunct.ensures.step)
 
 pub returns-then-met-clause-read : goal.returns-then-met-clause-read
@@ -91,7 +92,7 @@ returns-in_err-encode_disjunct-clause-brings g c = λ root before.
     let implies : Implies u (map (matching u) list) r.condition =
     disjunct_implies u r.condition c.requires.disjunct.lists c.args.disjunct.now list c.requires.disjunct.are c.requires.disjunct.listed same in
     let met = holds_if c.in_ok-met.met _ _ c.if-met.true (rw c.deref.ensures.value at c.in_ok-met.ensures.met) in
-    Brings-weaker u (IsWantedBy u r.requirement) Called (λ call wanted. (active_where u set (map (matching u) list) r.condition implies met, wanted))
+    Brings-weaker u (IsWantedBy u r.requirement) Called (λ call wanted. (active_by u set (map (matching u) list) r.condition implies met, wanted))
     (IsHelped u by list) Own
     (helped_own u by r c.args.disjunct.now list c.requires.disjunct same.left_within) old (notes_in c.encode_disjunct.new.self)
     (c.encode_disjunct.ensures.brings root before)
@@ -110,7 +111,7 @@ returns-then-met-clause-brings g c = λ root before.
     let implies : Implies u (map (matching u) list) r.condition =
     disjunct_implies u r.condition c.requires.disjunct.lists c.args.disjunct.now list c.requires.disjunct.are c.requires.disjunct.listed same in
     let met = holds_if c.in_ok-met.met _ _ c.if-met.true (rw c.deref.ensures.value at c.in_ok-met.ensures.met) in
-    Brings-weaker u (IsWantedBy u r.requirement) Called (λ call wanted. (active_where u set (map (matching u) list) r.condition implies met, wanted))
+    Brings-weaker u (IsWantedBy u r.requirement) Called (λ call wanted. (active_by u set (map (matching u) list) r.condition implies met, wanted))
     (IsHelped u by list) Own
     (helped_own u by r c.args.disjunct.now list c.requires.disjunct same.left_within) old (notes_in c.encode_disjunct.new.self)
     (c.encode_disjunct.ensures.brings root before)

@@ -7,8 +7,8 @@ use Rattle.resolvo.proofs.clause_search.ClauseSearch.assume.Goals as goal
 
 pub returns-clause-consistent : goal.returns-clause-consistent
 returns-clause-consistent c =
-    consistent-assumed c.args.self.now _ _ _ _ _ _ c.requires.consistent c.in_ok-assume.ensures.ok c.requires.free c.requires.bookmarked c.level-self.ensures.top
-    c.level-self.ensures.bound c.len-self.ensures
+    consistent-assumed c.args.self.now _ _ _ _ _ _ c.requires.consistent c.in_ok-assume.ensures.ok c.requires.free c.requires.bookmarked
+    c.level-self.ensures.top c.level-self.ensures.bound c.len-self.ensures
 
 pub returns-clause-loaded : goal.returns-clause-loaded
 returns-clause-loaded c = λ given numbers loaded. loaded-turn c.args.self.now _ _ _ _ _ _ _ given numbers loaded

@@ -4,7 +4,7 @@ use Rattle.std.proofs.lemmas.List.Elements.{All-contains}
 use Rattle.resolver_clause_store.proofs.SetLemmas.{Contains-item}
 use Rattle.resolvo.specs.RoundStates.{HasTurned, HaveTurned, notes_of}
 use Rattle.resolvo.proofs.RoundLemmas.{room_same, room_trans}
-use Rattle.resolvo.proofs.SoftLemmas.{pushed_cases}
+use Rattle.std.proofs.lemmas.List.Elements.{Contains-push_cases}
 use Rattle.resolvo.proofs.SoftTurnLemmas.{none_tried, tried_last, tried_more}
 use Rattle.resolvo.proofs.rounds.Rounds.take_first.Goals as goal
 use Rattle.resolver_encoding.proofs.LedLemmas.{one_within}
@@ -58,7 +58,7 @@ loop-candidate-preserved g c =
           let Cases : List g.row.S.Denot → Type 0 = λ list. (t : g.row.S.Denot) → Contains list t → Contains (take i all) t ⊎ (s ≡ t) in
           let more : take (i + 1) all ≡ take i all ++ s ∷ [] = take_more all i s (omega arith) ∙ ap (λ x. take i all ++ x ∷ []) (sym c.candidate-item.is) in
           tried_more u root taken seeds packages c.args.self.now (take i all) mid new s h asked (take (i + 1) all)
-          (subst Cases (sym more) (λ t k. pushed_cases (take i all) s t k))
+          (subst Cases (sym more) (λ t k. Contains-push_cases (take i all) s t k))
           (subst Turned c.if-branch.false (c.in_ok-turn.ensures.turned root h.taken_now h.refused_now seeds packages (within s listed) h.standing));
       led = λ root taken refused seeds packages within b led.
           let h = before.turned root taken refused seeds packages within b in

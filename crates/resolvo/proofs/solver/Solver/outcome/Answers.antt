@@ -3,7 +3,7 @@ use Rattle.std.specs.Prelude.{Ok, All, IfOk}
 use Rattle.resolver_clause_store.specs.Outcomes.{IsCore}
 use Rattle.resolver_encoding.specs.SoFar.{IsReadSoFar}
 use Rattle.resolvo.specs.RoundStates.{IsDone, IsStuck, chosen_of, notes_of, IsBetween, IsSomeDone}
-use Rattle.resolvo.proofs.OutcomeLemmas.{OnOk-of, found_at, refusal_weaker, IfOk-both, soft_answer}
+use Rattle.resolvo.proofs.OutcomeLemmas.{OnOk-of, refusal_weaker, IfOk-both, soft_answer}
 use Rattle.resolvo.specs.declared.rounds.Found.TheVariants.{Answer, Contradiction}
 use Rattle.resolver_clause_store.specs.Universe.{Demands, Universe}
 use Rattle.resolver_clause_store.specs.declared.Exhausted.TheVariants.{Memory}
@@ -12,10 +12,10 @@ use Rattle.resolvo.specs.Answers.{IsSoftAnswer}
 use Rattle.resolvo.specs.Refusals.{IsRefusal}
 use Rattle.resolvo.specs.Solvers.{exempt_in}
 use Rattle.resolvo.specs.declared.solver.UnsolvableOrCancelled.TheVariants.{Exhausted}
-use Rattle.resolvo.proofs.RefusalLemmas.{IfErr-weaker}
 use Rattle.resolvo.specs.declared.rounds.Found.{Found}
 use Rattle.resolvo.specs.declared.rounds.Rounds.{Rounds}
 use Rattle.resolvo.proofs.solver.Solver.outcome.Goals as goal
+use Rattle.std.proofs.lemmas.Result.{IfOk-at_ok, IfErr-weaker}
 
 -- a core that was found has numbers of clauses
 core_within : {N S : Type 0} (u : Universe N S) (rounds : Rounds N S) (found : Found) (core : Vec ℕ Global) → found ≡ Contradiction core →
@@ -30,7 +30,7 @@ returns-in-Ok-Contradiction-clause-refusal g c = λ root soft done.
     let u = g.D.Interner.universe c.args.self.now.provider in
     let rounds = c.args.rounds.now in
     let it : IsDone u root soft rounds c.in-Ok-Contradiction.field-0 =
-    found_at (IsDone u root soft rounds) c.args.found c.in-Ok-Contradiction.field-0 c.in-Ok-Contradiction.is done in
+    IfOk-at_ok (IsDone u root soft rounds) c.in-Ok-Contradiction.is done in
     let both : IsReadSoFar u root (chosen_of rounds) (notes_of rounds) × IsCore (notes_of rounds).table c.in-Ok-Contradiction.core.items =
     rw c.in-Ok-Contradiction.field-0-is at it in
     let CoreOf : List ℕ → Type 0 = λ ns. IsCore (notes_of rounds).table ns in
@@ -108,7 +108,7 @@ returns-in-Ok-Refused-clause-refusal g c = λ root soft done.
     let u = g.D.Interner.universe c.args.self.now.provider in
     let rounds = c.args.rounds.now in
     let it : IsDone u root soft rounds c.in-Ok-Refused.field-0 =
-    found_at (IsDone u root soft rounds) c.args.found c.in-Ok-Refused.field-0 c.in-Ok-Refused.is done in
+    IfOk-at_ok (IsDone u root soft rounds) c.in-Ok-Refused.is done in
     absurd (rw c.in-Ok-Refused.field-0-is at it)
 
 pub refuse-requires-in-Ok-Refused-clause-within : goal.refuse-requires-in-Ok-Refused-clause-within
@@ -124,7 +124,7 @@ returns-in-Ok-Answer-clause-answer g c =
     IsSoftAnswer u root soft chosen.items exempt)
     (exempt ≡ (notes_of rounds).exempt)
     (λ chosen are free root soft done. let it : IsDone u root soft rounds c.in-Ok-Answer.field-0 =
-    found_at (IsDone u root soft rounds) c.args.found c.in-Ok-Answer.field-0 c.in-Ok-Answer.is done in
+    IfOk-at_ok (IsDone u root soft rounds) c.in-Ok-Answer.is done in
     let between : IsBetween u root soft rounds = rw c.in-Ok-Answer.field-0-is at it in
     soft_answer {E = g.row.D.Denot} u rounds (Ok chosen) exempt are free root soft between)
     c.accept.result c.accept.ensures.chosen c.accept.ensures.exempt
@@ -133,16 +133,16 @@ pub returns-in-Ok-Answer-clause-refusal : goal.returns-in-Ok-Answer-clause-refus
 returns-in-Ok-Answer-clause-refusal g c =
     let u = g.D.Interner.universe c.args.self.now.provider in
     let rounds = c.args.rounds.now in
-    IfErr-weaker (λ e. e ≡ Exhausted Memory)
+    IfErr-weaker c.accept.result (λ e. e ≡ Exhausted Memory)
     (λ e. (root : Demands) (soft : List (SoftRequirement g.row.D-SolvableId.Denot)) → IfOk c.args.found (IsDone u root soft rounds) →
     IsRefusal u (g.D.DependencyProvider.may_cancel c.args.self.now.provider) root (IsStuck rounds) e)
-    (λ e is root soft done. rw is tt) c.accept.result c.accept.ensures.memory
+    (λ e is root soft done. rw is tt) c.accept.ensures.memory
 
 pub refuse-requires-clause-within : goal.refuse-requires-clause-within
 refuse-requires-clause-within g c =
     let u = g.D.Interner.universe c.args.self.now.provider in
     let rounds = c.args.rounds.now in
-    let done = found_at (IsSomeDone u rounds) c.args.found c.in-Ok-Contradiction.field-0 c.in-Ok-Contradiction.is c.requires.done in
+    let done = IfOk-at_ok (IsSomeDone u rounds) c.in-Ok-Contradiction.is c.requires.done in
     let within = core_within u rounds c.in-Ok-Contradiction.field-0 c.in-Ok-Contradiction.core c.in-Ok-Contradiction.field-0-is done in
     let table = rw c.in-Ok-Contradiction.is at c.requires.table in
     let In : ℕ → Type 0 = λ m. All (λ n. n < m) c.in-Ok-Contradiction.core.items in

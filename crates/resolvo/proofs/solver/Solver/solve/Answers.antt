@@ -10,9 +10,8 @@ use Rattle.resolvo.specs.Refusals.{IsRefusal}
 use Rattle.resolvo.specs.RoundStates.{IsDone, IsLedBy, IsStuck, IsSomeDone}
 use Rattle.resolvo.specs.Solvers.{IsAtLimit, exempt_in}
 use Rattle.resolvo.specs.declared.rounds.Found.TheVariants.{Answer}
-use Rattle.resolvo.proofs.OutcomeLemmas.{IfOk-both, at_limit, found_at, refusal_weaker, same_demands, soft_given, still_at_limit, still_sound}
-use Rattle.resolvo.proofs.RefusalLemmas.{IfErr-weaker}
-use Rattle.std.proofs.lemmas.Result.{IfOk-weaker}
+use Rattle.resolvo.proofs.OutcomeLemmas.{IfOk-both, at_limit, refusal_weaker, same_demands, soft_given, still_at_limit, still_sound}
+use Rattle.std.proofs.lemmas.Result.{IfOk-weaker, IfOk-at_ok, IfErr-weaker}
 use Rattle.std.specs.Iterator.{IsFinite}
 use Rattle.resolvo.proofs.solver.Solver.solve.Goals as goal
 
@@ -60,7 +59,7 @@ returns-clause-answer g c =
     (λ chosen h is. let For : g.row.D.Denot →
     Type 0 = λ q. IsSoftAnswer (g.D.Interner.universe q) root (map Solvable w.0 ++ list) chosen.items (exempt_in c.outcome-answer.new.self) in (
       w.0,
-      found_at (λ f. f ≡ Answer → Gives w.0) c.find-found.result Answer is w.1 refl,
+      IfOk-at_ok (λ f. f ≡ Answer → Gives w.0) is w.1 refl,
       (let For-list : List (SoftRequirement g.row.D-SolvableId.Denot) → Type 0 = λ more. Answered more chosen.items in
           subst For-list c.listed_soft_requirements.ensures (subst For provider (h root (map Solvable w.0 ++ list) done))),
     ))
@@ -101,7 +100,7 @@ returns-clause-refusal g c =
     (at_limit u root Begun c.new-rounds.result rounds s c.find-found.ensures.limits (made.variables ∙ sym limits.variables)
     (made.clauses ∙ sym limits.clauses) (made.all_clauses ∙ sym limits.clauses) (made.learnt ∙ sym limits.learnt) c.count.ensures.counted
     led.0 begun (subst LedBy same led.2) stuck) in
-    IfErr-weaker (λ e. (d : Demands) (xs : List (SoftRequirement g.row.D-SolvableId.Denot)) →
+    IfErr-weaker c.outcome-answer.result (λ e. (d : Demands) (xs : List (SoftRequirement g.row.D-SolvableId.Denot)) →
     IfOk c.find-found.result (IsDone (g.D.Interner.universe s.provider) d xs rounds) →
     IsRefusal (g.D.Interner.universe s.provider) (g.D.DependencyProvider.may_cancel s.provider) d (IsStuck rounds) e)
     (λ e. IsRefusal u (g.D.DependencyProvider.may_cancel p) root (IsAtLimit u root Begun new) e)
@@ -109,7 +108,7 @@ returns-clause-refusal g c =
     Type 0 = λ q. IsRefusal (g.D.Interner.universe q) (g.D.DependencyProvider.may_cancel q) root (IsStuck rounds) e in
     refusal_weaker u (g.D.DependencyProvider.may_cancel p) root (IsStuck rounds) (IsAtLimit u root Begun new) follows e
     (subst For provider (h root (map Solvable w.0 ++ list) done)))
-    c.outcome-answer.result c.outcome-answer.ensures.refusal
+    c.outcome-answer.ensures.refusal
 
 pub returns-clause-activity : goal.returns-clause-activity
 returns-clause-activity g c = c.outcome-answer.ensures.activity ∙ c.count.ensures.rest.activity
