@@ -1,5 +1,6 @@
 -- The literals of a clause against its kind, and what a clause mentions.
-use Rattle.std.proofs.Common.{◌≡◌, ◌<◌, ◌⊎◌, ℕ, List, [], ◌∷◌, ◌++◌, map, refl, sym, ap, ◌∙◌, subst, ⊎_elim, inl, inr, Bool, true, false, Contains, Vec, Global, length, arith}
+use Rattle.std.proofs.Common.{◌≡◌, ◌<◌, ◌⊎◌, ℕ, List, [], ◌∷◌, ◌++◌, map, refl, sym, ap, ◌∙◌, subst, ⊎_elim, inl, inr}
+use Rattle.std.proofs.Common.{Bool, true, false, Contains, Vec, Global, length, arith}
 use Rattle.std.specs.Prelude.{Option, Some, None, get_or, slice_get, take}
 use Rattle.std.specs.List.{AllZip}
 use Rattle.std.proofs.lemmas.List.{ext_get_or, get_or-take, length-take-le}

@@ -28,7 +28,8 @@ returns-clause-clause g c = λ u are.
     let helpers = c.push_helpers.ensures.grows in
     let candidates = c.push_candidates.ensures.grows in
     let Front : Origin g.row.N.Denot g.row.S.Denot × Bool → Type 0 =
-    λ first. Adds (origins_in c.push_front.new.variables) c.reserve_exact.new.self.items c.push_front.new.literals.items (front first c.second_of-second.result) in
+    λ first. Adds (origins_in c.push_front.new.variables) c.reserve_exact.new.self.items c.push_front.new.literals.items
+    (front first c.second_of-second.result) in
     let Helpers : List VersionSetId → Type 0 =
     λ list. Adds (origins_in c.push_helpers.new.variables) c.push_front.new.literals.items c.push_helpers.new.literals.items
     (map (λ v. atom (ConditionHelper v) false) list) in
@@ -49,20 +50,23 @@ pub returns-in_err-push_helpers-clause-adds : goal.returns-in_err-push_helpers-c
 returns-in_err-push_helpers-clause-adds g c = λ u are.
     let kind = c.args.kind.now in
     helpers_add u kind _ _ _ c.depends_on-helpers.result.now c.depends_on-helpers.ensures
-    (front_adds u kind _ _ c.first_of.result c.second_of-second.result c.first_of.ensures c.second_of-second.ensures c.push_front.ensures.adds) c.push_helpers.ensures.adds
+    (front_adds u kind _ _ c.first_of.result c.second_of-second.result c.first_of.ensures c.second_of-second.ensures c.push_front.ensures.adds)
+    c.push_helpers.ensures.adds
 
 pub returns-in_err-ends-clause-adds : goal.returns-in_err-ends-clause-adds
 returns-in_err-ends-clause-adds g c = λ u are.
     let kind = c.args.kind.now in
     helpers_add u kind _ _ _ c.depends_on-helpers.result.now c.depends_on-helpers.ensures
-    (front_adds u kind _ _ c.first_of.result c.second_of-second.result c.first_of.ensures c.second_of-second.ensures c.push_front.ensures.adds) c.push_helpers.ensures.adds
+    (front_adds u kind _ _ c.first_of.result c.second_of-second.result c.first_of.ensures c.second_of-second.ensures c.push_front.ensures.adds)
+    c.push_helpers.ensures.adds
 
 pub returns-in_err-push_candidates-clause-adds : goal.returns-in_err-push_candidates-clause-adds
 returns-in_err-push_candidates-clause-adds g c = λ u are.
     let kind = c.args.kind.now in
     candidates_add u kind _ _ _ c.deref-3.result.now (c.deref-3.ensures.value ∙ are)
     (helpers_add u kind _ _ _ c.depends_on-helpers.result.now c.depends_on-helpers.ensures
-    (front_adds u kind _ _ c.first_of.result c.second_of-second.result c.first_of.ensures c.second_of-second.ensures c.push_front.ensures.adds) c.push_helpers.ensures.adds)
+    (front_adds u kind _ _ c.first_of.result c.second_of-second.result c.first_of.ensures c.second_of-second.ensures c.push_front.ensures.adds)
+    c.push_helpers.ensures.adds)
     c.push_candidates.ensures.adds
 
 pub returns-clause-adds : goal.returns-clause-adds
@@ -70,5 +74,6 @@ returns-clause-adds g c = λ u are.
     let kind = c.args.kind.now in
     candidates_add u kind _ _ _ c.deref-3.result.now (c.deref-3.ensures.value ∙ are)
     (helpers_add u kind _ _ _ c.depends_on-helpers.result.now c.depends_on-helpers.ensures
-    (front_adds u kind _ _ c.first_of.result c.second_of-second.result c.first_of.ensures c.second_of-second.ensures c.push_front.ensures.adds) c.push_helpers.ensures.adds)
+    (front_adds u kind _ _ c.first_of.result c.second_of-second.result c.first_of.ensures c.second_of-second.ensures c.push_front.ensures.adds)
+    c.push_helpers.ensures.adds)
     c.push_candidates.ensures.adds
