@@ -18,6 +18,7 @@ use crate::chosen::as_solvable;
 use indexmap::IndexSet;
 use resolver_clause_store::{Cache, DependencyProvider, Exhausted, Interner, Interrupted, Literal};
 use std::hash::Hash;
+use std::mem::replace;
 
 /// Appends the value that was found, if any.
 fn push_found<T: Drop>(list: &mut Vec<T>, found: Option<T>) -> Result<(), Exhausted>
@@ -66,12 +67,12 @@ impl<N: Copy + Eq + Hash + Drop, S: Copy + Eq + Hash + Drop> Encoding<N, S> {
         }
     }
 
-    /// Returns the candidates of the requirement clause at a place.
-    fn listed_candidates(&self, place: usize) -> Result<Vec<S>, Exhausted>
+    /// Returns the candidates of the requirement clause at a place. They take the place of the items of `candidates`.
+    fn listed_candidates(&self, place: usize, mut candidates: Vec<S>) -> Result<Vec<S>, Exhausted>
         ensures candidates { IfOk result (λ list. list.items ≡ candidates_at (notes_in self.now) place) }
         ensures memory { IfErr result (λ e. e ≡ Exhausted.Memory) }
     {
-        let mut candidates = Vec::new(self.alloc);
+        candidates.clear();
         for literal in self.asking_literals(place) {
             push_found(&mut candidates, self.stated(*literal))?;
         }
@@ -194,8 +195,10 @@ impl<N: Copy + Eq + Hash + Drop, S: Copy + Eq + Hash + Drop> Encoding<N, S> {
         ensures led { KeepsLed (D.universe provider.now) chosen.now.keys (notes_in self.old) (notes_in self.new) }
         ensures refusal { IfErr result (IsStop (D.may_cancel provider.now) (IsFull (notes_in self.new))) }
     {
-        let candidates = self.listed_candidates(place)?;
+        let list = replace(&mut self.spare, Vec::new(self.alloc));
+        let candidates = self.listed_candidates(place, list)?;
         self.read_candidates(provider, cache, chosen, place, &candidates)?;
+        self.spare = candidates;
         Ok(())
     }
 
