@@ -81,18 +81,12 @@ fn add_lists(lists: &mut Vec<Vec<Watch>>, alloc: Global, count: usize) -> Result
     Ok(())
 }
 
-/// The first capacity of a list: most literals are watched by one or two clauses.
-const FIRST_CAPACITY: usize = 2;
-
 /// Appends a watch to a list.
 fn push_at(lists: &mut Vec<Vec<Watch>>, list: usize, watch: Watch) -> Result<(), AllocError>
     requires { list < length lists.old.items }
     ensures ok { OnOk result (PutsList lists.old.items lists.new.items list (list_at lists.old.items list ++ watch ∷ [])) }
     ensures err { OnErr result (PutsList lists.old.items lists.new.items list (list_at lists.old.items list)) }
 {
-    if lists[list].is_empty() {
-        lists[list].reserve_exact(FIRST_CAPACITY)?;
-    }
     lists[list].push(watch)?;
     Ok(())
 }

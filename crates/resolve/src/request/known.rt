@@ -19,7 +19,7 @@ use std::str;
 pub struct KnownWords<'a> {
     /// The last solvable, and its word.
     last: Option<(&'a [u8], SolvableId)>,
-    specs: IndexMap<&'a [u8], VersionSetId>,
+    specs: IndexMap<&'a str, VersionSetId>,
 }
 
 impl<'a> KnownWords<'a> {
@@ -169,17 +169,17 @@ impl Request {
         known: &mut KnownWords<'a>,
         word: &'a [u8],
     ) -> Result<Option<VersionSetId>, Exhausted> {
-        if let Some(version_set) = known.specs.get(&word) {
-            return Ok(Some(*version_set));
-        }
         let Ok(text) = str::from_utf8(word) else {
             return Ok(None);
         };
+        if let Some(version_set) = known.specs.get(&text) {
+            return Ok(Some(*version_set));
+        }
         let Some(spec) = parse_spec(text) else {
             return Ok(None);
         };
         let version_set = self.version_set(spec)?;
-        known.specs.insert(word, version_set)?;
+        known.specs.insert(text, version_set)?;
         Ok(Some(version_set))
     }
 }
