@@ -32,6 +32,7 @@ use resolver_clause_store::{
 use resolver_encoding::rules_of_clauses;
 use resolver_report::keep_reached;
 use std::alloc::Global;
+use std::mem::replace;
 
 /// Why there is no answer.
 #[derive(Drop)]
@@ -65,11 +66,21 @@ fn explain<D: DependencyProvider>(
     Ok(Conflict { rules })
 }
 
+/// Returns the tables of a search that ended with an answer. Frees those of any other search, whose memory the message of
+/// a conflict may need.
+fn kept_after<T: Drop>(is_answer: bool, tables: T) -> Option<T> {
+    if is_answer {
+        return Some(tables);
+    }
+    drop(tables);
+    None
+}
+
 /// Solves problems over one provider.
 ///
 /// However a call of `solve` ends, the next one starts afresh. It keeps only the limits, the parameters of the scores,
-/// and the provider's answers, which are true. The tables of the last search stay in memory until the next one starts, or until the solver
-/// is dropped, so that a program that ends after an answer need not give back each of their blocks.
+/// and the provider's answers, which are true. After an answer, the tables of the search stay in memory until the next
+/// call or until the solver is dropped, so a program that ends then need not free each of their blocks.
 #[derive(Drop)]
 pub struct Solver<D: DependencyProvider> {
     alloc: Global,
@@ -311,7 +322,8 @@ impl<D: DependencyProvider> Solver<D> {
         self.exempt = Vec::new(self.alloc);
         self.count(&rounds);
         let answer = self.outcome(&rounds, found);
-        drop(self.finished.replace(rounds));
+        let kept = kept_after(answer.is_ok(), rounds);
+        drop(replace(&mut self.finished, kept));
         answer
     }
 }
