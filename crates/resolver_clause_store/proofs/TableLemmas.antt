@@ -1,4 +1,4 @@
--- What a table holds after an answer is put in.
+-- The entries of a table after an answer is put in.
 use Rattle.std.proofs.Common.{◌≡◌, ◌∙◌, Bool, true, false, cond, List, [], ◌∷◌, All, Contains, refl, subst, sym, ap}
 use Rattle.std.specs.Prelude.{Option, Some, None, MatchOption, is_some, IsSome, IsPermutation}
 use Rattle.std.specs.Map.{lookup, keys_of, set_value}
