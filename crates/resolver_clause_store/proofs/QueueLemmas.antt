@@ -348,7 +348,7 @@ pub not-true : (trail : Trail) (variable kept : ℕ) → (literal_value trail (r
     slot_of trail variable ≡ Some slot → slot.value ≡ true → kept ≤ slot.place
 not-true trail variable kept other slot at is_so = absurd (other (ap (option_map (λ (s : Slot). beq s.value false)) at ∙ ap (λ b. Some (beq b false)) is_so))
 
--- a requirement with a true candidate, all places being followed
+-- a requirement is met by a candidate whose place was followed
 met-here : (met : Lists) (trail : Trail) (followed : List ℕ) (kept : ℕ) (clause : List Literal) (index variable : ℕ) →
     ((place : ℕ) → place < kept → slice_index followed place ≡ variable_at trail place) → kept ≡ length_of trail → length followed ≡ kept →
     Contains (list_of met variable) index → Contains clause (record { variable = variable; positive = true }) →

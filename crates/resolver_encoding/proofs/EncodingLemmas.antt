@@ -384,7 +384,7 @@ module _ {N S : Type 0} (u : Universe N S) where
       IsStepWhile u doing Premise two three → IsStepWhile u doing Premise one three
   IsStep-trans doing Premise one two three first second = search (Keeps-trans, Extends-trans, IsWithin-trans, first.keeps, second.keeps)
 
-  -- the same step under a premise that implies its own
+  -- a step is also a step under a premise that implies its own
   pub IsStep-weaker : (doing : Doing N S) (Premise Stronger : Demands → Type 0) → ((root : Demands) → Stronger root → Premise root) → (old new : Notes N S) →
       IsStepWhile u doing Premise old new → IsStepWhile u doing Stronger old new
   IsStep-weaker doing Premise Stronger follows old new step = search step.keeps
@@ -412,7 +412,7 @@ module _ {N S : Type 0} (u : Universe N S) where
       λ call h. ⊎_elim (λ before. first.called call before) (λ called. inr called) (second.called call h) in
       search (Keeps-trans, Extends-trans, IsWithin-trans, first.keeps, second.keeps)
 
-  -- the same step with more calls, under a premise that implies its own
+  -- such a step with more calls, under a premise that implies its own
   pub IsAskStep-weaker : (Called More : Call N S → Type 0) → ((call : Call N S) → Called call → More call) → (Premise Stronger : Demands → Type 0) →
       ((root : Demands) → Stronger root → Premise root) → (old new : Notes N S) → IsAskStep u Called Premise old new → IsAskStep u More Stronger old new
   IsAskStep-weaker Called More more Premise Stronger follows old new step =

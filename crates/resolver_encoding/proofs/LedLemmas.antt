@@ -122,7 +122,7 @@ module _ {N S : Type 0} (u : Universe N S) where
           (All-weaker (λ s. (u.name s ≡ n) × (Contains two.seen s ⊎ Called (to_see s))) (λ s. (u.name s ≡ n) × (Contains one.seen s ⊎ Called (to_see s)))
           (λ s h. (h.0, ⊎_elim (λ (was : Contains two.seen s). seen s was) (λ (called : Called (to_see s)). inr called) h.1)) list all) below is
 
-  -- the same for more calls, and more origins of its own
+  -- an origin that is brought, with more calls and more own origins
   pub IsBrought-weaker : (Called More : Call N S → Type 0) → ((call : Call N S) → Called call → More call) → (Own Other : Origin N S → Type 0) →
       ((o : Origin N S) → Own o → Other o) →
       (seen : List S) (o : Origin N S) → IsBrought u Called Own seen o → IsBrought u More Other seen o

@@ -35,7 +35,7 @@ use Rattle.resolver_clause_store.proofs.ListLemmas.{Contains-one}
 
 module _ {N S : Type 0} (u : Universe N S) where
   module _ (root : Demands) (seeds : List S) (packages : List N) where
-    -- the problem leads to what is brought if it leads to the calls, and the origins belong to something near
+    -- the problem leads to each origin that is brought, if it leads to the calls, and something near owns the others
     since : (Called : Call N S → Type 0) (Own : Origin N S → Type 0) (old : Notes N S) → AreNear u root seeds packages old →
         ((call : Call N S) → Called call → IsLedCall u root seeds packages call) →
         ((o : Origin N S) → Own o → IsOwnOfNear u root seeds packages o) → (o : Origin N S) → IsBrought u Called Own old.seen o → IsLed u root seeds packages o
@@ -101,7 +101,7 @@ module _ {N S : Type 0} (u : Universe N S) where
         absurd (none_in (Some w.0) (subst Has (adds.deferred ∙ deferred) w.1)))
         there
 
-    -- the variables that the deferred disjuncts bring which are met in a set of near solvables
+    -- the variables that deferred disjuncts bring if they are met in a set of near solvables
     pub led_fired : (set : List S) (old new : Notes N S) → IsHalfRead u root old → AreNear u root seeds packages old → All (IsNear u root seeds) set →
         Brings u (IsFired u set old) NoneOwn old new →
         AreLed u root seeds packages old → AreLed u root seeds packages new

@@ -248,7 +248,7 @@ module _ {N S : Type 0} (u : Universe N S) (set : List S) where
         all = λ n called. demanded_asked root new half_after so_far.none called.0 called.1 n called.2;
       }
 
-  -- what changed in both halves
+  -- the changes of both halves
   pub progress : (old mid new : Notes N S) (read fired : Bool) → HasRead old mid read → HasFired mid new fired → IsFiring u set mid new →
       IsProgress old new (progress_by read fired)
   progress old mid new true true read fired firing = let Longer : List S → Type 0 = λ list. length old.read < length list in subst Longer (sym firing.read) read

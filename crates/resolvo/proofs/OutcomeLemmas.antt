@@ -116,7 +116,7 @@ pub OnOk-of : {A E : Type 0} (P : Type 0) → P → (r : Result A E) → OnOk r 
 OnOk-of P h (Ok x) = h
 OnOk-of P h (Err e) = tt
 
--- a property of a result that follows from two others
+-- a property of a result that another property and a fact imply
 pub IfOk-both : {A E : Type 0} (P Q : A → Type 0) (W : Type 0) → ((x : A) → P x → W → Q x) → (r : Result A E) → IfOk r P → OnOk r W → IfOk r Q
 IfOk-both P Q W follows (Ok x) h w = follows x h w
 IfOk-both P Q W follows (Err e) h w = tt
