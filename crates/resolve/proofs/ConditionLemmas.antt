@@ -1,4 +1,4 @@
--- One step more of a condition.
+-- One more step of a condition.
 use Rattle.std.proofs.Common.{◌≡◌, ℕ, zero, suc, ◌+◌, List, [], ◌∷◌, ◌++◌, Option, Some, None, Bool, true, false, cond, refl, sym, ◌∙◌, ap, subst, All, arith}
 use Rattle.resolve.specs.declared.condition.ConditionStep.{ConditionStep}
 use Rattle.resolve.specs.declared.condition.ConditionStep.TheVariants.{Version, And, Or}
@@ -24,7 +24,7 @@ joined_two (suc (suc n)) m e = ap Some (omega arith)
 depth_push : (xs : List ConditionStep) (n : ℕ) (step : ConditionStep) → depth_of xs ≡ Some n → depth_of (xs ++ step ∷ []) ≡ stepped step n
 depth_push xs n step e = depth_after-append (Some 0) xs (step ∷ []) ∙ ap (λ parts. depth_after parts (step ∷ [])) e
 
--- a spec is written out where a part is wanted
+-- the steps get a spec where an operand is wanted
 pub version_written : (xs : List ConditionStep) (spec : Spec) (operators : ℕ) (wants : Bool) → wants ≡ true
     → depth_of xs ≡ Some (operators + cond wants 0 1) → depth_of (xs ++ Version spec ∷ []) ≡ Some (operators + 1)
 version_written xs spec operators true w e = depth_push xs (operators + 0) (Version spec) e ∙ ap Some (omega arith)
@@ -34,7 +34,7 @@ joined_push : (xs : List ConditionStep) (n m : ℕ) (step : ConditionStep) → (
     n ≡ m + 2 → depth_of (xs ++ step ∷ []) ≡ Some (m + 1)
 joined_push xs n m step joins e two = depth_push xs n step e ∙ (joins n ∙ joined_two n m two)
 
--- a pending `and` is written out, with so many other pending operators, inside and outside
+-- the steps get a pending `and`, with other pending operators inside and outside
 pub and_written : (xs : List ConditionStep) (inside outside : ℕ) (is_pending wants : Bool) → is_pending ≡ true → wants ≡ false
     → depth_of xs ≡ Some ((inside + cond is_pending 1 0) + outside + cond wants 0 1)
     → depth_of (xs ++ And ∷ []) ≡ Some ((inside + 0) + outside + cond wants 0 1)
@@ -43,7 +43,7 @@ and_written xs inside outside true false a w e = joined_push xs ((inside + 1) + 
 and_written xs inside outside true true a w e = cc
 and_written xs inside outside false wants a w e = cc
 
--- the same of an `or`
+-- the same for an `or`
 pub or_written : (xs : List ConditionStep) (inside outside : ℕ) (is_pending wants : Bool) → is_pending ≡ true → wants ≡ false
     → depth_of xs ≡ Some ((cond is_pending 1 0 + inside) + outside + cond wants 0 1)
     → depth_of (xs ++ Or ∷ []) ≡ Some ((0 + inside) + outside + cond wants 0 1)

@@ -1,4 +1,4 @@
--- What `insert_full` leaves of a set in insertion order, seen through a view of its elements.
+-- The effect of `insert_full` on a set in insertion order, in a view of its elements.
 use Rattle.std.proofs.Common.{◌≡◌, ℕ, zero, suc, ◌<◌, ◌≤◌, length, ◌⊎◌, inl, inr, ⊎_elim, Bool, true, false, cond, List, [], ◌∷◌, ◌++◌, refl, arith, sym}
 use Rattle.std.proofs.Common.{◌∙◌, subst, ap, Some, None}
 use Rattle.std.specs.Prelude.{Contains, Option, IfNone, IfSome, slice_get, map, get_or, nat_lt}
@@ -147,7 +147,7 @@ IsInterned-itself {X} old new x place h =
     let Q : List X → Type 0 = λ xs. IsInterned old xs x place in
     subst Q (map-itself new) (subst P (map-itself old) h)
 
--- where `get_index_of` found a key
+-- the place where `get_index_of` found a key
 pub position-at : {T : Type 0} (p : T → Bool) (xs : List T) (i : ℕ) → position p xs ≡ Some i → (k : T) × (slice_get xs i ≡ Some k) × (p k ≡ true)
 position-at p [] i e = absurd cc
 position-at p (x ∷ xs) i e = ⊎_elim (λ w. (w.0, w.2, sym (ap p w.3) ∙ (position-Some p (x ∷ xs) i w.0 e).1)) (λ w.
@@ -171,11 +171,11 @@ version-at keys v i e =
     let at = position-at (version-eq.it v) keys i e in
     at.1 ∙ ap (λ (w : Version). Some w) (sym (versions-same v at.0 at.2))
 
--- a version that the table has
+-- a version that is in the table
 pub version_found : (keys : List Version) (v : Version) (b : Bool) → b ≡ list_any (version-eq.it v) keys → b ≡ true → Contains keys v
 version_found keys v b e is = Contains-from_any versions-same v keys (sym e ∙ is)
 
--- what passes stands no lower than the first place that does
+-- an element that passes stands no lower than the first place that passes
 first_at_most : {T : Type 0} (p : T → Bool) (xs : List T) (k : ℕ) (x : T) → slice_get xs k ≡ Some x → p x ≡ true → position_or_len p xs ≤ k
 first_at_most p xs k x at e =
     let is : get_or xs k x ≡ x = get_or_from_slice_get xs k x x at in
@@ -183,7 +183,7 @@ first_at_most p xs k x at e =
     absurd (clash (p (get_or xs k x)) (ap p is ∙ e) (fails_before_first p xs k x lt))) (λ (le : position_or_len p xs ≤ k). le)
     (cases_lt k (position_or_len p xs))
 
--- where `get_index_of` found no place that has an id, nothing that passes has one
+-- if `get_index_of` found no place that has an id, no element that passes has an id
 unreached : {T : Type 0} (p : T → Bool) (xs : List T) (k : ℕ) (x : T) → slice_get xs k ≡ Some x → p x ≡ true → k < 4294967295 →
     IfSome (position p xs) (λ i. 4294967295 ≤ i) → ⊥
 unreached p xs k x at e small none =
@@ -201,7 +201,7 @@ string-alone keys text distinct i j at bt =
     let other = unmapped string_bytes (slice_get keys j) text (sym (slice_get-map string_bytes keys j) ∙ bt) in
     alone-at string_bytes string_eq string_eq-Decides keys distinct i j one.0 other.0 one.1 other.1 (one.2 ∙ sym other.2)
 
--- a text that stands there already
+-- a text that is there already
 pub interned-there : (keys : List (String Global)) (text : List ℕ) (place : ℕ) → IsDistinct string_eq keys →
     position (λ k. bytes_eq text (string_bytes k)) keys ≡ Some place → IsInterned (map string_bytes keys) (map string_bytes keys) text place
 interned-there keys text place distinct found =
@@ -224,7 +224,7 @@ no_text keys text place k is none at small =
 version-itself : (v : Version) → version-eq.it v v ≡ true
 version-itself v = and_from (v.name.0 == v.name.0) (v.number == v.number) (eq-eqb v.name.0 v.name.0 refl) (eq-eqb v.number v.number refl)
 
--- the version under the name that is at this place, which no other place has
+-- the version under the name at this place, which is at no other place
 pub no_version : (names : List (String Global)) (text : List ℕ) → IsDistinct string_eq names → (n : ℕ) → slice_get (map string_bytes names) n ≡ Some text →
     (keys : List Version) (number : ℕ) (place : Option ℕ) →
     (let v : Version = record { name = record { 0 = n }; number = number } in place ≡ position (version-eq.it v) keys) → IfSome place (λ i. 4294967295 ≤ i) →

@@ -1,4 +1,4 @@
--- Cutting the first line off.
+-- The first line is cut off.
 use Rattle.std.proofs.Common.{◌≡◌, ℕ, ◌+◌, ◌<◌, ◌≤◌, ◌==◌, cond, Bool, true, false, not, List}
 use Rattle.std.proofs.Common.{[], ◌∷◌, length, take, drop, Option, Some, None, refl, sym, ap, ◌∙◌, arith}
 use Rattle.std.specs.Prelude.{nat_lt}
@@ -20,7 +20,7 @@ split_case : (x : ℕ) (xs : List ℕ) (b : Bool) → length (x ∷ xs) ≤ cond
 split_case x xs true h ih = absurd (omega arith)
 split_case x xs false h ih = ap (onto_first x) (ih (omega arith))
 
--- with no line feed there is one part
+-- without a line feed there is one part
 split_none : (bs : List ℕ) → length bs ≤ position_or_len feeds bs → slice_split feeds bs ≡ bs ∷ []
 split_none [] h = refl
 split_none (x ∷ xs) h = split_case x xs (feeds x) h (split_none xs)
@@ -53,7 +53,7 @@ none_at n count h = grind (arith, nat_tests)
 some_at : (n count : ℕ) → n < count → cond (nat_lt n count) (Some n) None ≡ Some n
 some_at n count h = grind (arith, nat_tests)
 
--- what a search for a line feed finds
+-- the result of a search for a line feed
 pub found : (bs : List ℕ) (r : Option ℕ) → IsFirstByte (is_byte 10) bs r → r ≡ position feeds bs
 found bs None h =
     let all : position_or_len feeds bs ≡ length bs = position_or_len_is feeds bs (length bs) 0 (omega arith)

@@ -1,4 +1,4 @@
--- Numbers in decimal digits, with no leading zeros.
+-- Numbers in decimal digits, without leading zeros.
 use Rattle.std.proofs.Common.{◌≡◌, ◌≢◌, ℕ, ◌+◌, ◌-◌, ◌*◌, ◌<◌, ◌≤◌, ◌^◌, List, length, take, zero, suc, get_or, sym, ◌∙◌, ap, subst, rules, arith, inl, inr}
 use Rattle.resolve.specs.Words.{HasOddFront, HasPlainFront, IsNumeralUpTo}
 use Rattle.std.specs.Char.{digit_value}
@@ -12,11 +12,11 @@ use Rattle.std.proofs.lemmas.Str.Parse.{IsNumeralModel, digit_at, digits_value-t
 pub own : IsNumeralModel (AllDigits 10) (digits_value 10)
 own = numerals_by_value (AllDigits 10) tells_digits
 
--- the digits have no plus in front
+-- the digits of a number do not begin with a plus
 plus_free : (n : ℕ) → n < 2 ^ 64 → get_or (decimal n) 0 0 ≢ 43
 plus_free n h = not_in_digits own (decimal n) 43 (digits_decimal own n h) (search rules) 0 (decimal_nonempty n h)
 
--- and no zero, unless they are the zero
+-- the digits of a number do not begin with a zero, except for the number zero
 zero_alone : (n : ℕ) → n < 2 ^ 64 → get_or (decimal n) 0 0 ≡ 48 → length (decimal n) ≡ 1
 zero_alone zero h e = ap length (decimal_digit 0 (omega arith))
 zero_alone (suc m) h e = absurd (omega (arith, first_decimal (suc m) (omega arith) h))
@@ -26,20 +26,20 @@ pub odd_front : (bs : List ℕ) (n : ℕ) → bs ≡ decimal n → HasOddFront b
 odd_front bs n e (inl p) h = plus_free n h (sym (ap (λ x. get_or x 0 0) e) ∙ p)
 odd_front bs n e (inr (p, q)) h = q (ap length e ∙ zero_alone n h (sym (ap (λ x. get_or x 0 0) e) ∙ p))
 
--- the digits of any other text write its number
+-- any other text of digits is the digits of its number
 pub plain_number : (most n : ℕ) (bs : List ℕ) → most < 2 ^ 64 → HasPlainFront bs → IsNumeralUpTo most bs → n ≡ digits_value 10 bs
     → (bs ≡ decimal n) × (n ≤ most)
 plain_number most n bs small plain h e =
     (sym (ap decimal e ∙ decimal-digits_value own bs h.0.1 h.0.0 plain.zero_alone (omega (arith, h.1))), omega (arith, h.1))
 
--- what has no digits is no number
+-- a text that is no numeral is no number
 pub plain_refused : (most : ℕ) (bs : List ℕ) → most < 2 ^ 64 → (IsNumeralUpTo most bs → ⊥) → (n : ℕ) → n ≤ most → bs ≢ decimal n
 plain_refused most bs small bad n below same =
     let fits : n < 2 ^ 64 = omega arith in
     let value : digits_value 10 (decimal n) ≡ n = digits_value-decimal own n fits in
     bad (subst (IsNumeralUpTo most) (sym same) ((decimal_nonempty n fits, digits_decimal own n fits), omega arith))
 
--- a byte is a digit, and the number goes on by it
+-- the value of a byte that is a digit, and the number with one more digit
 pub digit_value_is : (digit : ℕ) → 48 ≤ digit → digit ≤ 57 → digit_value digit ≡ digit - 48
 digit_value_is digit low high = omega (arith, digit_value_digit digit (low, high))
 
@@ -65,7 +65,7 @@ digit_refused most text place digit below is bad h =
     let range = digit_at text place h.0.1 below in
     bad (omega (arith, range.0), omega (arith, range.1))
 
--- a number that is too large already
+-- a number that is already too large
 pub large_refused : (most number : ℕ) (text : List ℕ) (place : ℕ) → ReadsDigits text place number → most < number → IsNumeralUpTo most text → ⊥
 large_refused most number text place h over n =
     absurd (omega (arith, h.value, digits_value-take-le 10 text place (omega arith), n.1))

@@ -1,4 +1,4 @@
--- What a refusal explains.
+-- The meaning of a refusal.
 use Rattle.std.proofs.Common.{◌≡◌, subst}
 use Rattle.std.specs.Prelude.{IfErr, Result, Ok, Err, Vec}
 use Rattle.std.specs.declared.alloc.Global.{Global}

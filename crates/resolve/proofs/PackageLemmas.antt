@@ -1,4 +1,4 @@
--- What a push to a table and a write in one leave, and that packages stay lawful.
+-- The effect of a push to a table and of a write to one; packages stay lawful.
 use Rattle.std.proofs.Common.{◌≡◌, ◌≢◌, ℕ, zero, suc, ◌<◌, ◌≤◌, Bool, true, false, cond, List, [], ◌∷◌, ◌++◌, length, get_or, refl, arith, sym, ◌∙◌, subst, inl}
 use Rattle.std.proofs.Common.{inr, ⊎_elim, ◌⊎◌, Some, ap, set, length-append, length-set}
 use Rattle.std.specs.Prelude.{Option, slice_get, All, AllPairs, IfSome}
@@ -76,7 +76,7 @@ pub IsPackageOf-at : (xs : List Version) (ps : List Package) (i : ℕ) (p : Pack
     IsPackageOf xs i p
 IsPackageOf-at xs ps i p within read h = h i p (slice_get_read ps (length ps) i p refl within read)
 
--- what was pushed last is a version of its package
+-- the version that was pushed last is a version of its package
 pub IsVersionOf-end : (xs ys : List Version) (y : Version) (s : SolvableId) → ys ≡ xs ++ y ∷ [] → s.0 ≡ length xs → IsVersionOf ys y.name.0 s
 IsVersionOf-end xs ys y s e at = record {
   declared = omega (arith, ap length e, length-append xs (y ∷ []));
@@ -84,7 +84,7 @@ IsVersionOf-end xs ys y s e at = record {
       ap (λ (o : Option Version). (name_of o).0) (slice_get-last xs y);
 }
 
--- the candidates of a package once a version of it was declared, and pushed to them or not
+-- the candidates of a package after a version of it was declared, and pushed to them or not
 pub listed_more : (xs ys : List Version) (y : Version) (s : SolvableId) (b : Bool) (cs ds : List SolvableId) → ys ≡ xs ++ y ∷ [] → s.0 ≡ length xs →
     ds ≡ cond b (cs ++ s ∷ []) cs → All (IsVersionOf xs y.name.0) cs → All (IsVersionOf ys y.name.0) ds
 listed_more xs ys y s b cs ds e at pushed h =
@@ -108,7 +108,7 @@ pub IsKept-inserted : (b : Bool) (xs ys : List Version) (y : Version) → ys ≡
 IsKept-inserted true xs ys y e = let Q : List Version → Type 0 = λ zs. IsKept xs zs in subst Q (sym e) (IsKept-refl xs)
 IsKept-inserted false xs ys y e = let Q : List Version → Type 0 = λ zs. IsKept xs zs in subst Q (sym e) (IsKept-push xs y)
 
--- a package of which nothing but its room changed
+-- a package of which only the room changed
 pub IsPackageOf-same : (xs : List Version) (n : ℕ) (p q : Package) → q.candidates.items ≡ p.candidates.items → q.favored ≡ p.favored → q.locked ≡ p.locked →
     q.excluded ≡ p.excluded → IsPackageOf xs n p → IsPackageOf xs n q
 IsPackageOf-same xs n p q listed favored locked excluded h =
@@ -123,7 +123,7 @@ IsPackageOf-same xs n p q listed favored locked excluded h =
       excluded = rw excluded h.excluded;
     }
 
--- a package once a version of it was declared, and listed or not
+-- a package after a version of it was declared, and listed or not
 pub IsPackageOf-declared : (xs ys : List Version) (y : Version) (s : SolvableId) (b : Bool) (p q : Package) → ys ≡ xs ++ y ∷ [] → s.0 ≡ length xs →
     q.candidates.items ≡ cond b (p.candidates.items ++ s ∷ []) p.candidates.items → q.favored ≡ p.favored → q.locked ≡ p.locked → q.excluded ≡ p.excluded →
     IsPackageOf xs y.name.0 p → IsPackageOf ys y.name.0 q
@@ -160,7 +160,7 @@ slice_get-set_other (x ∷ xs) zero y (suc k) h = refl
 slice_get-set_other (x ∷ xs) (suc i) y zero h = refl
 slice_get-set_other (x ∷ xs) (suc i) y (suc k) h = slice_get-set_other xs i y k (λ e. h (ap suc e))
 
--- what stands after the package's room and then its candidates were written
+-- the table after the room of the package and then its candidates were written
 pub IsDeclared-written : (vs ws : List Version) (ps : List Package) (v : Version) (p q r s : Package) (id : ℕ) → ws ≡ vs ++ v ∷ [] → v.name.0 < length ps →
     p ≡ get_or ps v.name.0 p → q.candidates.items ≡ p.candidates.items → r ≡ get_or (set ps v.name.0 q) v.name.0 r → id ≡ length vs →
     s.candidates.items ≡ r.candidates.items ++ record { 0 = id } ∷ [] → IsDeclared vs ws ps (set (set ps v.name.0 q) v.name.0 s) v
@@ -180,7 +180,7 @@ IsDeclared-written vs ws ps v p q r s id added within read room again at pushed 
       others = λ n other. slice_get-set_other (set ps v.name.0 q) v.name.0 s n other ∙ slice_get-set_other ps v.name.0 q n other;
     }
 
--- two reads of one place give one value
+-- two reads of one place give the same value
 pub same_read : {X : Type 0} (xs : List X) (i : ℕ) (x y : X) → i < length xs → x ≡ get_or xs i x → y ≡ get_or xs i y → x ≡ y
 same_read xs i x y within e f = let first : slice_get xs i ≡ Some x = slice_get_read xs (length xs) i x refl within e in
     let second : slice_get xs i ≡ Some y = slice_get_read xs (length xs) i y refl within f in cc

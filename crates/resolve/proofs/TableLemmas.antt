@@ -1,4 +1,4 @@
--- What calls leave of the tables that they do not speak of.
+-- The tables that a call leaves alone.
 use Rattle.std.proofs.Common.{◌≡◌, ℕ, List, sym, subst}
 use Rattle.resolver_clause_store.specs.declared.data.Exhausted.{Exhausted}
 use Rattle.resolver_clause_store.specs.declared.data.Exhausted.TheVariants.{Memory}

@@ -1,4 +1,4 @@
--- The text of several versions as a list that is joined.
+-- The joined text of several versions.
 use Rattle.std.proofs.Common.{◌≡◌, ℕ, List, [], ◌∷◌, refl}
 use Rattle.std.specs.Prelude.{codes}
 use Rattle.std.specs.Fmt.{decimal}

@@ -1,4 +1,4 @@
--- How a word is cut in one way alone.
+-- A word is cut in only one way.
 use Rattle.std.proofs.Common.{◌≡◌, ◌≢◌, ℕ, suc, ◌+◌, ◌<◌, ◌≤◌, ◌^◌, ◌==◌, Bool, true, false, cond, not, List, [], ◌∷◌}
 use Rattle.std.proofs.Common.{◌++◌, length, get_or, take, drop, Option, Some, None, refl, sym, ◌∙◌, ap, subst, inl, inr, length-take, arith, rules}
 use Rattle.std.specs.Prelude.{All, IsTrue, MatchOption}
@@ -31,7 +31,7 @@ dot_free (x ∷ xs) ys h = dot_free xs ys h.1
 decimal_lacks_dot : (n : ℕ) → n < 2 ^ 64 → Lacks 46 (decimal n)
 decimal_lacks_dot n small i below = not_in_digits own (decimal n) 46 (digits_decimal own n small) (search rules) i below
 
--- two cuts at the first sign are one
+-- two cuts at the first sign are the same
 same_cut : (sign : ℕ) (a b x y : List ℕ) → Lacks sign a → Lacks sign x → a ++ sign ∷ b ≡ x ++ sign ∷ y → (a ≡ x) × (b ≡ y)
 same_cut sign [] b [] y h k same = (refl, cc)
 same_cut sign [] b (x ∷ xs) y h k same = absurd (k 0 (omega arith) (let f : x ≡ sign = cc in f))
@@ -42,12 +42,12 @@ same_cut sign (a ∷ more) b (x ∷ xs) y h k same =
     let rest = same_cut sign more b xs y (λ i below. h (suc i) (omega arith)) (λ i below. k (suc i) (omega arith)) g in
     (let r : more ≡ xs = rest.0 in cc, rest.1)
 
--- the sign stands in what it was put into
+-- the sign is in a text into which it was put
 sign_in : (sign : ℕ) (a b : List ℕ) → Lacks sign (a ++ sign ∷ b) → ⊥
 sign_in sign [] b h = h 0 (omega arith) refl
 sign_in sign (x ∷ a) b h = sign_in sign a b (λ i below. h (suc i) (omega arith))
 
--- a text without dots has no two of them
+-- a text without dots does not have two dots
 pub no_dots : (text : List ℕ) → Lacks 46 text → (front back : List ℕ) → text ≢ front ++ 46 ∷ 46 ∷ back
 no_dots text lacks front back same = sign_in 46 front (46 ∷ back) (subst (Lacks 46) same lacks)
 
@@ -62,7 +62,7 @@ range_refused text front rest e lacks wrong (Within low high) (inr (two, left, r
     let cut = same_cut 46 front rest (decimal low) (46 ∷ decimal high) lacks (decimal_lacks_dot low (omega arith)) (sym e ∙ two) in
     wrong low high left right cut.0 cut.1
 
--- the place of a sign
+-- the first place of a sign, if there is one
 pub cut_none : (sign : ℕ) (text : List ℕ) → position (λ byte. byte == sign) text ≡ None → Lacks sign text
 cut_none sign text e i below same =
     let all : length text ≤ position_or_len (λ byte. byte == sign) text = grind (arith, common_steps) in
@@ -86,14 +86,14 @@ cut_some sign place text e =
           grind (arith, nat_tests),
     )
 
--- a name is ASCII
+-- the bytes of names are ASCII
 abbrev IsNameByte : ℕ → Type 0
 IsNameByte b = IsTrue (is_name_byte b)
 
 byte_ascii : (b : ℕ) → IsNameByte b → b < 128
 byte_ascii b t = grind (arith, nat_tests)
 
--- the bytes of names in front
+-- the bytes of a name at the front
 pub name_front : (word : List ℕ) → All IsNameByte (take (prefix_len is_name_byte word) word)
 name_front word i d below =
     let before : i < prefix_len is_name_byte word = omega (arith, length-prefix_len is_name_byte word) in
@@ -105,7 +105,7 @@ name_boundary word utf8 =
     IsCharBoundary-from_take word (prefix_len is_name_byte word) utf8 (prefix_len-le-length is_name_byte word)
     (IsUtf8-from_ascii front (IsAscii-from_all front (All-weaker IsNameByte (λ b. b < 128) byte_ascii front (name_front word))))
 
--- and what follows them
+-- the text after a name
 ends_with : (x : ℕ) (xs : List ℕ) (t : Bool) → is_name_byte x ≡ t → EndsName (drop (prefix_len is_name_byte xs) xs)
     → EndsName (drop (cond t (1 + prefix_len is_name_byte xs) 0) (x ∷ xs))
 ends_with x xs true e h =
@@ -117,7 +117,7 @@ name_ends : (word : List ℕ) → EndsName (drop (prefix_len is_name_byte word) 
 name_ends [] = tt
 name_ends (x ∷ xs) = ends_with x xs (is_name_byte x) refl (name_ends xs)
 
--- a name goes no further, and no less far
+-- a name ends where its bytes end
 stays_name : (x : ℕ) (xs b : List ℕ) → IsNameByte x → EndsName b → b ≡ x ∷ xs → ⊥
 stays_name x xs b t e same = let f : is_name_byte x ≡ false = subst EndsName same e in cc
 
@@ -131,7 +131,7 @@ same_name (a ∷ more) b (x ∷ xs) y h k p q same =
     let rest = same_name more b xs y (All-tail IsNameByte a more h) (All-tail IsNameByte x xs k) p q g in
     (let r : more ≡ xs = rest.0 in cc, rest.1)
 
--- the front is the name, if it is one
+-- the front is the name, if it is a name
 pub name_begins : (word : List ℕ) → IsName (take (prefix_len is_name_byte word) word)
     → BeginsWithName word (take (prefix_len is_name_byte word) word) (drop (prefix_len is_name_byte word) word)
 name_begins word n = (n, sym (take-append-drop (prefix_len is_name_byte word) word), name_ends word)
@@ -144,7 +144,7 @@ no_name_begins word bad name rest (n, same, ends) =
     bad (subst IsName (sym cut.0) n)
 
 module _ (word name rest : List ℕ) (begins : BeginsWithName word name rest) where
-  -- a word begins with one name alone
+  -- a word begins with only one name
   pub one_name : (other more : List ℕ) → BeginsWithName word other more → rest ≡ more
   one_name other more (n, same, ends) =
       (same_name name rest other more begins.0.plain n.plain begins.2 ends (sym begins.1 ∙ same)).1
@@ -184,14 +184,14 @@ pub no_sign_behind : (rest : List ℕ) → 0 < length rest → ((text : List ℕ
 no_sign_behind rest some bad versions (inl (all, empty)) = absurd (omega (arith, ap length empty))
 no_sign_behind rest some bad versions (inr (text, same, states)) = bad text same
 
--- what follows a name in a spec
+-- the text after a name in a spec
 pub range_behind : (rest text : List ℕ) (r : Option Range) → rest ≡ 64 ∷ text
     → MatchOption r ((versions : Range) → StatesVersions text versions → ⊥) (StatesVersions text)
     → MatchOption r ((versions : Range) → StatesRangeBehind rest versions → ⊥) (StatesRangeBehind rest)
 range_behind rest text None is h = λ versions states. no_range rest text is h versions states
 range_behind rest text (Some versions) is h = inr (text, is, h)
 
--- the bounds of what was stated
+-- stated bounds are bounded
 versions_bounded : (text : List ℕ) (versions : Range) → StatesVersions text versions → IsBounded versions
 versions_bounded text EachVersion h low high e = absurd h
 versions_bounded text (Within l r) (inl (one, below, next)) low high e =

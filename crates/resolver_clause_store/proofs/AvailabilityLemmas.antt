@@ -1,4 +1,4 @@
--- When the dependencies of a solvable are at hand.
+-- The conditions under which the dependencies of a solvable are available.
 use Rattle.std.proofs.Common.{◌≡◌, ◌∙◌, Bool, true, false, refl, sym, ap, subst, List, Contains, MatchBool}
 use Rattle.std.specs.Prelude.{Some, is_some, IsTrue, ◌↔◌}
 use Rattle.std.specs.Cmp.{IsEquivalence}
@@ -10,7 +10,7 @@ use Rattle.resolver_clause_store.specs.Universe.{Universe, Hint, Package, packag
 use Rattle.resolver_clause_store.specs.declared.cache.Cache.{Cache}
 use Rattle.resolver_clause_store.specs.declared.data.Candidates.{Candidates}
 
--- a key that no look-up finds is not there
+-- a key that no look-up finds is not in the table
 pub absent : {K X : Type 0} {same : K → K → Bool} → IsEquivalence same → (k : K) (es : List (K × X)) → is_some (lookup (same k) es) ≡ false →
     Contains (keys_of es) k → ⊥
 absent laws k es none has = false≢true (sym none ∙ IsSome-lookup_from_Contains laws k es has)
@@ -19,7 +19,7 @@ module _ {N S : Type 0} (u : Universe N S) (c : Cache N S) (s : S) where
   pub available_cached : HasDependencies c s → IsTrue true ↔ IsAvailable u c s
   available_cached has = (λ _. cached has, λ _. refl)
 
-  -- neither is at hand
+  -- neither the dependencies nor a hint that covers the solvable is cached
   neither : (HasDependencies c s → ⊥) → (HasCandidates c (u.name s) → Covers (u.package_named (u.name s)).hint s → ⊥) → IsAvailable u c s → ⊥
   neither none uncovered (cached has) = none has
   neither none uncovered (hinted has covered) = uncovered has covered
@@ -27,7 +27,7 @@ module _ {N S : Type 0} (u : Universe N S) (c : Cache N S) (s : S) where
   unavailable : (HasDependencies c s → ⊥) → (HasCandidates c (u.name s) → Covers (u.package_named (u.name s)).hint s → ⊥) → IsTrue false ↔ IsAvailable u c s
   unavailable none uncovered = (λ e. absurd (false≢true e), λ available. absurd (neither none uncovered available))
 
-  -- the candidates of the package are at hand, and the answer is whether the hint covers it
+  -- the candidates of the package are cached, and the answer is whether the hint covers the solvable
   available_hinted : (b : Bool) (h : Hint S) → (HasDependencies c s → ⊥) → HasCandidates c (u.name s) → h ≡ (u.package_named (u.name s)).hint →
       MatchBool b (Covers h s) (Covers h s → ⊥) → IsTrue b ↔ IsAvailable u c s
   available_hinted true h none has same covered =
@@ -37,7 +37,7 @@ module _ {N S : Type 0} (u : Universe N S) (c : Cache N S) (s : S) where
       let Covered : Hint S → Type 0 = λ x. Covers x s in
       unavailable none (λ _ covered. uncovered (subst Covered (sym same) covered))
 
-  -- the same for the name that the package goes by
+  -- the same for the name of the package
   module _ (n : N) (same_name : n ≡ u.name s) (none : HasDependencies c s → ⊥) where
     pub unavailable_here : (HasCandidates c n → ⊥) → IsTrue false ↔ IsAvailable u c s
     unavailable_here unasked =

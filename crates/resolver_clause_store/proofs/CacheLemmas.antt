@@ -1,4 +1,4 @@
--- What a look-up in a table of true entries finds, and what a table holds after an answer is put in.
+-- Look-ups in a table of true entries, and the entries of a table after an answer is put in.
 use Rattle.std.proofs.Common.{◌≡◌, ◌∙◌, ap, Bool, List, [], All}
 use Rattle.std.specs.Prelude.{Option, Some}
 use Rattle.std.specs.Map.{lookup}
@@ -12,7 +12,7 @@ use Rattle.resolver_clause_store.specs.declared.ids.VersionSetId.{VersionSetId}
 use Rattle.resolver_clause_store.specs.declared.data.Candidates.{Candidates}
 use Rattle.resolver_clause_store.specs.declared.cache.Cache.{Cache}
 
--- what holds of each entry holds of the key and the value that a look-up finds
+-- a property of each entry is one of the key and the value that a look-up finds
 pub found : {K X : Type 0} {same : K → K → Bool} → IsIdentity same → (P : K × X → Type 0) (k : K) (v : X) (es : List (K × X)) → All P es →
     lookup (same k) es ≡ Some v → P (k, v)
 found identity P k v es all is = All-contains P es (k, v) all (Contains-from_lookup identity.alone k v es is)
@@ -28,7 +28,7 @@ IsTrueCache-empty u c packages matching non_matching sorted dependencies = recor
   dependencies = All-same (λ e. needs_of e.1 ≡ u.needs e.0) _ _ dependencies (All-nil _);
 }
 
--- what a package lists, and which one it favors, under another name of the same package
+-- the candidates and the favored one of a package, under another name of the same package
 module _ {N S : Type 0} (u : Universe N S) (answer : Candidates S) (n m : N) (is : package_of (Some answer) ≡ u.package_named n) (same : n ≡ m) where
   package_at : package_of (Some answer) ≡ u.package_named m
   package_at = is ∙ ap u.package_named same
@@ -39,14 +39,14 @@ module _ {N S : Type 0} (u : Universe N S) (answer : Candidates S) (n m : N) (is
   pub favored_at : answer.favored ≡ (u.package_named m).favored
   favored_at = ap (λ (p : Package S). p.favored) package_at
 
--- what a version set takes, sorted and the favored one first
+-- the candidates that match a version set, sorted and with the favored one first
 pub sorted_at : {N S : Type 0} (u : Universe N S) (v : VersionSetId) (items xs : List S) (favored : Option S) →
     items ≡ favored_first u favored (u.sorted_of xs) → favored ≡ (u.package_named (u.version_set_name v)).favored → xs ≡ matching_in u v →
     items ≡ sorted_candidates u v
 sorted_at u v items xs favored is same_favored same_list = is ∙ ap (λ f. favored_first u f (u.sorted_of xs)) same_favored ∙
     ap (λ ys. favored_first u (u.package_named (u.version_set_name v)).favored (u.sorted_of ys)) same_list
 
--- what was answered stays answered over two steps, and over none
+-- answers stay over two steps, and over none
 pub KeepsAnswers-trans : {N S : Type 0} (before between after : Cache N S) → KeepsAnswers before between → KeepsAnswers between after →
     KeepsAnswers before after
 KeepsAnswers-trans before between after first then = record {

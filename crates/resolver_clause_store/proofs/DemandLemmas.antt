@@ -1,4 +1,4 @@
--- What the root or a present solvable asks for, and a set that meets a condition's lists.
+-- The demands of the root and of present solvables, and a set that meets the lists of a condition.
 use Rattle.std.proofs.Common.{◌≡◌, List, inl, inr, subst, Contains}
 use Rattle.std.specs.Prelude.{Option, Some, None}
 use Rattle.resolver_clause_store.specs.Universe.{Universe, Demands, Needs, unknown}
@@ -14,7 +14,7 @@ use Rattle.resolver_clause_store.specs.declared.data.ConditionalRequirement.{Con
 use Rattle.resolver_clause_store.specs.declared.data.By.{By}
 use Rattle.resolver_clause_store.specs.declared.data.By.TheVariants.{Root as ByRoot, Solvable as BySolvable}
 
--- what a set has, a larger set has
+-- a larger set has each member of the set
 pub IsPresent-within : {S : Type 0} (by : By S) (xs ys : List S) → IsWithin xs ys → IsPresent by xs → IsPresent by ys
 IsPresent-within ByRoot xs ys within h = tt
 IsPresent-within (BySolvable s) xs ys within h = within s h

@@ -1,4 +1,4 @@
--- A condition holds in a set exactly where some list of its disjunctive form does.
+-- A condition holds in a set exactly if some list of its disjunctive form does.
 use Rattle.std.proofs.Common.{◌≡◌, ◌⊎◌, inl, inr, ⊎_elim, sym, subst, List, [], ◌∷◌, ◌++◌, Contains, All}
 use Rattle.std.specs.Prelude.{map}
 use Rattle.std.proofs.lemmas.List.Elements.{All-nil, All-cons, All-head, All-tail, All-append, Contains-append_left, Contains-append_right}
@@ -80,7 +80,7 @@ module _ {N S : Type 0} (u : Universe N S) (Has : S → Type 0) where
       (λ t. absurd (Contains-none some.disjunct t))
       (Contains-cons_cases (v ∷ []) [] some.disjunct some.listed)
 
-  -- lists behind one another
+  -- one list of lists after another
   left_holds : (lefts rights : List (List VersionSetId)) → Some lefts → Some (lefts ++ rights)
   left_holds lefts rights some =
       record { disjunct = some.disjunct; listed = Contains-append_left lefts rights some.disjunct some.listed; all_taken = some.all_taken }
@@ -112,7 +112,7 @@ module _ {N S : Type 0} (u : Universe N S) (Has : S → Type 0) where
         record { disjunct = m.1; listed = m.3; all_taken = All-behind Taken m.0 m.1 all },
       )
 
-  -- what makes a condition hold, by its kind
+  -- the parts that make a condition hold, by its kind
   matched_taken : (c : ConditionId) (v : VersionSetId) → u.condition c ≡ Matched v → Holds c → Taken v
   matched_taken c v e (matched w s is listed inside) =
       let same : w ≡ v = cc in
@@ -122,7 +122,7 @@ module _ {N S : Type 0} (u : Universe N S) (Has : S → Type 0) where
   matched_taken c v e (left a b is h) = absurd cc
   matched_taken c v e (right a b is h) = absurd cc
 
-  -- where the condition holds, some disjunct does
+  -- if the condition holds, some disjunct does
   pub disjunct_holds : (c : ConditionId) (lists : List (List VersionSetId)) → IsDisjunctive u c lists → Holds c → Some lists
   disjunct_holds c lists (of_version_set v is) h = one_holds v (matched_taken c v is h)
   disjunct_holds c lists (of_or {lefts = lefts} {rights = rights} a b is p q) h = ⊎_elim
@@ -133,7 +133,7 @@ module _ {N S : Type 0} (u : Universe N S) (Has : S → Type 0) where
       let parts = both_hold u Has c a b is h in
       joined_holds lefts rights (disjunct_holds a lefts p parts.0) (disjunct_holds b rights q parts.1)
 
-  -- where some disjunct holds, the condition does
+  -- if some disjunct holds, the condition does
   pub condition_holds : (c : ConditionId) (lists : List (List VersionSetId)) → IsDisjunctive u c lists → Some lists → Holds c
   condition_holds c lists (of_version_set v is) some =
       let it = one_taken v some in matched v it.taken is it.listed it.inside

@@ -35,7 +35,7 @@ clause_at-append [] rest number within = absurd (omega arith)
 clause_at-append (d ∷ table) rest number within = clause_at-get_or (d ∷ table ++ rest) number d (simp length-append (omega arith)) ∙
     ap (λ (c : Vec Literal Global). c.items) (get_or-append (d ∷ table) rest d number within) ∙ sym (clause_at-get_or (d ∷ table) number d within)
 
--- a clause with no true literal is false
+-- a clause without a true literal is false
 pub false-by_recursion : (values : ℕ → Bool) (clause : List Literal) → AllByRecursion (λ literal. literal_true values literal ≡ false) clause →
     clause_true values clause ≡ false
 false-by_recursion values [] all = refl

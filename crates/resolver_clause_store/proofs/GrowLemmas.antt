@@ -10,7 +10,7 @@ use Rattle.std.proofs.lemmas.List.{get_or_past, get_or-replicate, get_or-take, l
 use Rattle.resolver_clause_store.specs.declared.trail.Slot.{Slot}
 use Rattle.resolver_clause_store.specs.Slots.{AreCounted, AreRising, AreValues, IsListed, IsPlaced, slot_in}
 
--- a slot of none is none
+-- each slot of an empty table is none
 none_at : (count v : ℕ) → get_or (replicate {A = Option Slot} count None) v None ≡ None
 none_at count v = ⊎_elim
     (λ (less : v < count). get_or-replicate count v None None less)
@@ -23,7 +23,7 @@ appended slots count v = ⊎_elim
     (λ (more : length slots ≤ v). get_or-append_right slots (replicate count None) v None more ∙ none_at count _ ∙ sym (get_or_past slots v None more))
     (cases_lt v (length slots))
 
--- what a table's growth leaves
+-- the slots after a table grew
 pub slots-resized : (ok : Bool) (old new : List (Option Slot)) (count more : ℕ) → length old ≤ count →
     new ≡ (if ok then take count old ++ replicate more None else old) → (v : ℕ) → slot_in new v ≡ slot_in old v
 slots-resized true old new count more longer is v =
@@ -46,14 +46,14 @@ rising-same old new same rising = λ v w s t at later. rising v w s t (sym (same
 pub counted-same : (old new : List (Option Slot)) → AreSame old new → AreCounted old → AreCounted new
 counted-same old new same counted = λ v s at. counted v s (sym (same.each v) ∙ at)
 
--- a value of none is none
+-- each value of an empty table is none
 no_value_at : (count v : ℕ) → get_or (replicate {A = Option Bool} count None) v None ≡ None
 no_value_at count v = ⊎_elim
     (λ (less : v < count). get_or-replicate count v None None less)
     (λ (more : count ≤ v). get_or_past (replicate {A = Option Bool} count None) v None (omega (arith, length-replicate {A = Option Bool} count None)))
     (cases_lt v count)
 
--- a table of values that was made as long as there will be slots
+-- a table of values that got the length that the slots will have
 pub values-resized : (old new : List (Option Bool)) (slots : List (Option Slot)) (count size : ℕ) → AreValues old slots → length slots ≤ count →
     size ≡ length old → new ≡ take count old ++ replicate (count - size) None → (length new ≡ count) × AreValues new slots
 values-resized old new slots count size values fit had is =
@@ -75,7 +75,7 @@ values-resized old new slots count size values fit had is =
       },
     )
 
--- a table of slots that was made longer, or stayed, is no longer than it should be
+-- a table of slots that grew or stayed is not longer than intended
 pub slots-fit : (ok : Bool) (old new : List (Option Slot)) (count size : ℕ) → length old ≤ count → size ≡ length old →
     new ≡ (if ok then take count old ++ replicate (count - size) None else old) → length new ≤ count
 slots-fit true old new count size fit had is =

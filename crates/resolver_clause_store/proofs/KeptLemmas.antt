@@ -1,4 +1,4 @@
--- First places of a trail that are as they were.
+-- First entries of a trail that have not changed.
 use Rattle.std.proofs.Common.{◌≡◌, ℕ, zero, suc, ◌<◌, ◌≤◌, min, Option, None, Some, arith, refl, sym, ap, ◌∙◌}
 use Rattle.std.specs.Option.{option_map}
 use Rattle.std.proofs.lemmas.Option.{same_Some}
@@ -16,7 +16,7 @@ pub slot_at : (trail : Trail) (place : ℕ) → place < length_of trail → (slo
     (slot.place ≡ place)
 slot_at trail place within = slot_placed _ place (trail.placed place within)
 
--- a place whose slot stays is as it was
+-- the entry at a place stays if its slot stays
 place_kept : (old new : Trail) (place : ℕ) → place < length_of old →
     ((variable : ℕ) (slot : Slot) → slot_of old variable ≡ Some slot → slot.place ≡ place → slot_of new variable ≡ Some slot) → (place < length_of new) ×
     (variable_at new place ≡ variable_at old place)
@@ -30,7 +30,7 @@ long_enough : (old new : Trail) (count : ℕ) → count ≤ length_of old →
 long_enough old new zero within kept = omega arith
 long_enough old new (suc count) within kept = omega (arith, (place_kept old new count (omega arith) (λ v s at e. kept v s at (omega (arith, e)))).0)
 
--- where the slots of the first places stay, the places are as they were
+-- the first entries stay if their slots stay
 pub keeps_places : (old new : Trail) (count : ℕ) → count ≤ length_of old →
     ((variable : ℕ) (slot : Slot) → slot_of old variable ≡ Some slot → slot.place < count → slot_of new variable ≡ Some slot) → KeepsPlaces old new count
 keeps_places old new count within kept = record {
@@ -40,7 +40,7 @@ keeps_places old new count within kept = record {
   slots = kept;
 }
 
--- a trail that only gains keeps all its places
+-- a trail that only grows keeps all its entries
 pub keeps_all : (old new : Trail) → Keeps old new → KeepsPlaces old new (length_of old)
 keeps_all old new keeps = keeps_places old new (length_of old) (omega arith) (λ v s at below. keeps.kept v s at)
 
@@ -48,7 +48,7 @@ pub keeps_trans : (a b c : Trail) (first second : ℕ) → KeepsPlaces a b first
 keeps_trans a b c first second k l =
     keeps_places a c (min first second) (omega (arith, k.were)) (λ v s at below. l.slots v s (k.slots v s at (omega arith)) (omega arith))
 
--- what a trail gained before it was undone does not matter
+-- entries that were added before the trail was undone make no difference
 pub keeps_through : (a b c : Trail) (first second : ℕ) → KeepsPlaces a b first → KeepsPlaces b c second → first ≤ second → KeepsPlaces a c first
 keeps_through a b c first second k l more = keeps_places a c first k.were (λ v s at below. l.slots v s (k.slots v s at below) (omega arith))
 
@@ -59,7 +59,7 @@ at_most (suc m) n back = omega (arith, back m (omega arith))
 shorter : (old new : Trail) → ((place : ℕ) → place < length_of new → place < length_of old) → length_of new ≤ length_of old
 shorter old new back = at_most (length_of new) (length_of old) back
 
--- a trail that is undone keeps the places that are left
+-- a trail that was undone keeps the entries that are left
 pub keeps_undone : (old new : Trail) (level : ℕ) → IsUndone old new level → KeepsPlaces old new (length_of new)
 keeps_undone old new level undone =
     let back : (place : ℕ) → place < length_of new → place < length_of old = λ place below.
@@ -74,6 +74,6 @@ keeps_undone old new level undone =
     let there : slot_of old v ≡ Some t.0 = ap (λ x. slot_of old x) (sym one) ∙ was in
     here ∙ sym there ∙ at)
 
--- more variables change no place
+-- more variables change no entry
 pub keeps_grown : (old new : Trail) (variables : ℕ) → IsGrown old new variables → KeepsPlaces old new (length_of old)
 keeps_grown old new variables grown = keeps_places old new (length_of old) (omega arith) (λ v s at below. grown.slots v ∙ at)

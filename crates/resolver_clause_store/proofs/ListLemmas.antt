@@ -1,4 +1,4 @@
--- Lists and options, and what is in them.
+-- Lists and options, and their elements.
 use Rattle.std.proofs.Common.{◌≡◌, ℕ, zero, suc, ◌+◌, ◌<◌, ◌⊎◌, inl, inr, List, [], ◌∷◌, ◌++◌, length, map, cond, arith, refl, sym, ap, ◌∙◌, subst, ⊎_elim}
 use Rattle.std.proofs.Common.{length-append, Bool, true, Contains, All}
 use Rattle.std.specs.Prelude.{Option, Some, None, IsNone, filter, slice_get}
@@ -72,7 +72,7 @@ AllZip-append R [] xs' (z ∷ zs) ys' h k = absurd h
 AllZip-append R (z ∷ zs) xs' [] ys' h k = absurd h
 AllZip-append R (z ∷ zs) xs' (w ∷ ws) ys' h k = (h.0, AllZip-append R zs xs' ws ys' h.1 k)
 
--- lists that agree element by element: what one has, the other has too
+-- lists that agree element by element: each element of one has a partner in the other
 pub AllZip-left : {A B : Type 0} (R : A → B → Type 0) (xs : List A) (ys : List B) → AllZip R xs ys → (x : A) → Contains xs x → (y : B) ×
     Contains ys y × R x y
 AllZip-left R [] ys h x inside = absurd (Contains-none x inside)

@@ -1,4 +1,4 @@
--- What a search through the members of a set tells.
+-- The results of searches through the members of a set.
 use Rattle.std.proofs.Common.{◌≡◌, Bool, true, false, List, [], ◌∷◌, ◌++◌, Contains, refl, sym, ◌∙◌, ap, MatchBool, true≢false}
 use Rattle.std.specs.Cmp.{IsEquivalence}
 use Rattle.std.specs.List.{list_any}
@@ -15,7 +15,7 @@ some_under : (b : Bool) (n i : ℕ) → cond b (Some n) None ≡ Some i → n �
 some_under true n i e = same_Some n i e
 some_under false n i e = absurd cc
 
--- what stands at the first place that passes, where only x passes
+-- the first element that passes is x if only x passes
 pub first_stands : {T : Type 0} (test : T → Bool) (x : T) → ((y : T) → test y ≡ true → x ≡ y) → (xs : List T) (i : ℕ) → i < length xs →
     Some i ≡ position test xs → slice_get xs i ≡ Some x
 first_stands test x alone xs i below found =
@@ -34,10 +34,10 @@ module _ {T : Type 0} {eq : T → T → Bool} (same : IsIdentity eq) (laws : IsE
   list_any-absent ks q true e none = absurd (none (Contains-from_any same.alone q ks (sym e)))
   list_any-absent ks q false e none = refl
 
-  -- what is no member yet goes last
+  -- an element that is no member yet is added at the end
   pub inserted_last : (ks new : List T) (q : T) → new ≡ (if list_any (eq q) ks then ks else ks ++ q ∷ []) → (Contains ks q → ⊥) → new ≡ ks ++ q ∷ []
   inserted_last ks new q inserted none = inserted ∙ ap (λ b. if b then ks else ks ++ q ∷ []) (list_any-absent ks q _ refl none)
 
-  -- nothing was found, so it is none of them
+  -- if nothing was found, the element is no member
   pub absent_unless : (ks : List T) (q : T) (found : Bool) → found ≡ list_any (eq q) ks → found ≡ false → Contains ks q → ⊥
   absent_unless ks q found e none inside = true≢false (sym (list_any-from_Contains laws q ks inside) ∙ sym e ∙ none)

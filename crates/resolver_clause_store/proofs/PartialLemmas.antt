@@ -1,4 +1,4 @@
--- Disjuncts on their way: what comes of them stays the same at each step, and less work is left.
+-- Partial disjuncts: their results stay the same at each step, and less work is left.
 use Rattle.std.proofs.Common.{◌≡◌, ℕ, zero, suc, ◌+◌, ◌*◌, ◌<◌, ◌≤◌, refl, sym, ◌∙◌, ap, subst, List, [], ◌∷◌, ◌++◌, ◌-◌, take, append_assoc, arith}
 use Rattle.std.specs.Prelude.{map, reverse}
 use Rattle.std.proofs.lemmas.List.{append-nil, map-append, reverse-append}
@@ -59,7 +59,7 @@ sum_within_product x y h k = omega (arith, mul-le-mul_left x k, mul-le-mul_right
 work_sum : (a b c : ℕ) → a < c → b < c → work_at a + work_at b < work_at c
 work_sum a b c h k = omega (arith, work_product a b c h k, sum_within_product (work_at a) (work_at b) (work_low a) (work_low b))
 
--- an inequality times the work of what is pending, beside other work
+-- a larger factor for the work of the pending conditions, besides other work
 one_times : (x w rest : ℕ) → 2 ≤ x → 1 ≤ w → w + rest < x * w + rest
 one_times x w rest h k = omega (arith, mul-le-mul_right w h)
 
@@ -79,13 +79,13 @@ reverse-push xs x = reverse-append xs (x ∷ [])
 pub map-push : {X Y : Type 0} (f : X → Y) (xs ys : List X) (x : X) → ys ≡ xs ++ x ∷ [] → map f ys ≡ map f xs ++ f x ∷ []
 map-push f xs ys x is = ap (map f) is ∙ map-append f xs (x ∷ [])
 
--- a pop that found nothing
+-- a pop from a list that is empty now
 pub emptied : {X : Type 0} (xs ys : List X) (n : ℕ) → n ≡ 0 → xs ≡ ys ++ [] → ys ≡ take (n - 1) xs → xs ≡ []
 emptied xs ys n none is rest =
     let zero_left : n - 1 ≡ 0 = omega arith in
     is ∙ append-nil ys ∙ rest ∙ ap (λ k. take k xs) zero_left
 
--- one more on the stack
+-- one more partial disjunct on the stack
 pub pushed : (stack stack' : List Partial) (p : Partial) (pending : List ConditionId) (chosen : List VersionSetId) → stack' ≡ stack ++ p ∷ [] →
     p.pending.items ≡ pending → p.chosen.items ≡ chosen →
     partial_disjuncts stack' ≡ record { pending = reverse pending; chosen = chosen } ∷ partial_disjuncts stack
@@ -95,7 +95,7 @@ pushed stack stack' p pending chosen is e f =
     ap partial_disjuncts is ∙ ap (map partial_disjunct) (reverse-push stack p) ∙ ap (λ d. d ∷ partial_disjuncts stack) same
 
 module _ {N S : Type 0} (u : Universe N S) where
-  -- the parts of lists that join disjuncts, and of lists that come of partial ones
+  -- the parts of joined lists, and of the lists that result from partial disjuncts
   joined_parts : (c : ConditionId) (cs : List ConditionId) (lists : List (List VersionSetId)) → AreJoined u (c ∷ cs) lists →
       (firsts : List (List VersionSetId)) × (others : List (List VersionSetId)) × IsDisjunctive u c firsts × AreJoined u cs others ×
       (lists ≡ joined firsts others)
@@ -147,7 +147,7 @@ module _ {N S : Type 0} (u : Universe N S) where
   }
 
   module _ (ids : HasLawfulIds u) where
-    -- the next condition is two joined by And
+    -- the next condition joins two by And
     pub put_both : (c a b : ConditionId) (cs : List ConditionId) (chosen : List VersionSetId) (ps : List PartialDisjunct) → u.condition c ≡ Binary And a b →
         IsCloser u (unfinished (a ∷ b ∷ cs) chosen ∷ ps) (unfinished (c ∷ cs) chosen ∷ ps)
     put_both c a b cs chosen ps is = record {
@@ -164,7 +164,7 @@ module _ {N S : Type 0} (u : Universe N S) where
           (pending_low cs);
     }
 
-    -- the next condition is two joined by Or
+    -- the next condition joins two by Or
     pub put_either : (c a b : ConditionId) (cs : List ConditionId) (chosen : List VersionSetId) (ps : List PartialDisjunct) → u.condition c ≡ Binary Or a b →
         IsCloser u (unfinished (a ∷ cs) chosen ∷ unfinished (b ∷ cs) chosen ∷ ps) (unfinished (c ∷ cs) chosen ∷ ps)
     put_either c a b cs chosen ps is = record {
@@ -190,7 +190,7 @@ module _ {N S : Type 0} (u : Universe N S) where
           (work_sum (u.condition_rank a) (u.condition_rank b) (u.condition_rank c) (ids.left_lower c a b Or is) (ids.right_lower c a b Or is)) (pending_low cs);
     }
 
-  -- the same of the stack
+  -- the same for the stack
   pub stack_version_set : (c : ConditionId) (v : VersionSetId) (pending : List ConditionId) (chosen : List VersionSetId) (stack stack' : List Partial)
       (p : Partial) → u.condition c ≡ Matched v →
       stack' ≡ stack ++ p ∷ [] → p.pending.items ≡ pending → p.chosen.items ≡ chosen ++ v ∷ [] →
@@ -238,7 +238,7 @@ front-none : {X : Type 0} (lists : List (List X)) → map (λ list. [] ++ list) 
 front-none [] = refl
 front-none (x ∷ xs) = ap (λ t. x ∷ t) (front-none xs)
 
--- what comes of the stack, behind what is done, is the form of the condition
+-- the finished lists, followed by the results of the stack, are the form of the condition
 pub record IsOnTheWay {N S : Type 0} (u : Universe N S) (c : ConditionId) (stack : List Partial) (done : List (List VersionSetId)) : Type 0 where
   pub form : (rest : List (List VersionSetId)) → AreFinished u (partial_disjuncts stack) rest → IsDisjunctive u c (done ++ rest)
 
@@ -270,7 +270,7 @@ module _ {N S : Type 0} (u : Universe N S) (c : ConditionId) where
   }
 
   module _ (before after : List Partial) (p : Partial) (is : before ≡ after ++ p ∷ []) where
-    -- the top has nothing pending
+    -- the top has no pending condition
     pub finish_top : (done done' : List (List VersionSetId)) → p.pending.items ≡ [] → done' ≡ done ++ p.chosen.items ∷ [] → IsOnTheWay u c before done →
         IsOnTheWay u c after done'
     finish_top done done' none new way = record {
@@ -291,7 +291,7 @@ module _ {N S : Type 0} (u : Universe N S) (c : ConditionId) where
       opened = pushed after before p (pending ++ next ∷ []) p.chosen.items is some refl ∙
           ap (λ cs. unfinished u cs p.chosen.items ∷ partial_disjuncts after) (reverse-push pending next)
 
-      -- the next condition of the top was put
+      -- the next condition of the top was replaced
       pub put_top : (done : List (List VersionSetId)) → IsOnTheWay u c before done → IsOnTheWay u c stack done
       put_top done way = record {
         form = λ rest finished. let P : List PartialDisjunct → Type 0 = λ ps. AreFinished u ps rest in

@@ -1,4 +1,4 @@
--- What stands at the places of a list that grows.
+-- The elements at the places of a list that grows.
 use Rattle.std.proofs.Common.{◌≡◌, ℕ, ◌+◌, ◌<◌, ◌≤◌, ◌⊎◌, List, [], ◌∷◌, ◌++◌, length, length-append, get_or, arith, inl, inr, sym, ap, ◌∙◌}
 use Rattle.std.proofs.Common.{subst, ⊎_elim, Contains}
 use Rattle.std.specs.Prelude.{Some, slice_get}
@@ -19,7 +19,7 @@ place_left xs ys k x at =
     let long : length (xs ++ ys) ≡ length xs + length ys = simp length-append in
     slice_get-get_or (xs ++ ys) k x (omega (arith, below, long)) ∙ ap Some (get_or-append xs ys x k below ∙ get_or_from_slice_get xs k x x at)
 
--- what stands in the longer list stood there before, or is the last one
+-- an element of the longer list was there before, or is the last one
 pub place_cases : {X : Type 0} (xs : List X) (y : X) (k : ℕ) (x : X) → slice_get (xs ++ y ∷ []) k ≡ Some x → (slice_get xs k ≡ Some x) ⊎
     ((k ≡ length xs) × (y ≡ x))
 place_cases {X} xs y k x at =
@@ -37,7 +37,7 @@ place_cases {X} xs y k x at =
 pub place_of_member : {X : Type 0} (xs : List X) (x : X) → Contains xs x → (k : ℕ) × (slice_get xs k ≡ Some x)
 place_of_member xs x (k, below, is) = (k, slice_get-get_or xs k x below ∙ ap Some is)
 
--- one more that was not there
+-- one more element that was not there
 pub AreDistinct-push : {X : Type 0} (xs : List X) (x : X) → (Contains xs x → ⊥) → AreDistinct xs → AreDistinct (xs ++ x ∷ [])
 AreDistinct-push {X} xs x absent distinct = record {
   same = λ i k y one other.
@@ -62,7 +62,7 @@ Keeps-trans xs ys zs one other = record { kept = λ k x at. other.kept k x (one.
 pub Keeps-push : {X : Type 0} (xs : List X) (x : X) → Keeps xs (xs ++ x ∷ [])
 Keeps-push xs x = record { kept = λ k y at. place_left xs (x ∷ []) k y at }
 
--- what a set finds to be distinct is
+-- elements that a test tells apart are distinct
 pub AreDistinct-from : {X : Type 0} (same : X → X → Bool) → IsIdentity same → (xs : List X) → IsDistinct same xs → AreDistinct xs
 AreDistinct-from {X} same identity xs distinct = record {
   same = λ i k x one other.

@@ -1,4 +1,4 @@
--- The queue of requirements that are to be decided.
+-- The queue of requirements to decide.
 use Rattle.std.proofs.Common.{◌≡◌, ◌≢◌, ℕ, ◌+◌, ◌<◌, ◌≤◌, ◌⊎◌, List, [], ◌∷◌, ◌++◌, length, get_or, min, Option, Some, None, Bool, true, false, arith, inl, inr}
 use Rattle.std.proofs.Common.{refl, sym, ap, ◌∙◌, subst, ⊎_elim, length-append, Contains}
 use Rattle.std.specs.Prelude.{Vec, slice_index}
@@ -25,7 +25,7 @@ use Rattle.resolver_clause_store.specs.declared.lists.Lists.{Lists}
 use Rattle.resolver_clause_store.specs.declared.queue.DecideQueue.{DecideQueue}
 use Rattle.resolver_clause_store.specs.Queues.{IsFollowed, IsHeld, IsMetBy, IsQueued, IsInactive, list_of}
 
--- a slot at a place that is kept was there
+-- a slot at a place that stays was there before
 pub slot-back : (old new : Trail) (count variable : ℕ) (slot : Slot) → KeepsPlaces old new count → slot_of new variable ≡ Some slot → slot.place < count →
     slot_of old variable ≡ Some slot
 slot-back old new count variable slot keeps at below =
@@ -35,7 +35,7 @@ slot-back old new count variable slot keeps at below =
     let here : slot_of new variable ≡ Some s.0 = keeps.slots variable s.0 was (omega (arith, s.2, below)) in
     was ∙ sym here ∙ at
 
--- what is parked where the lists are the same
+-- a requirement in a list that stays
 parked-same : (old new : Lists) (variable index : ℕ) → list_of new variable ≡ list_of old variable → Contains (list_of old variable) index →
     Contains (list_of new variable) index
 parked-same old new variable index same inside = let Inside : List ℕ → Type 0 = λ list. Contains list index in subst Inside (sym same) inside
@@ -82,7 +82,7 @@ held-cut active inactive met followed old new kept left clause index less reache
     rest)
     held
 
--- where the first places of the trail stay
+-- the first entries of the trail stay
 pub queued-cut : (old new : DecideQueue) (before after : Trail) (table : List (Vec Literal Global)) (requirements : List StoredRequirement) →
     new.active.items ≡ old.active.items → new.inactive ≡ old.inactive → new.met ≡ old.met → new.followed.items ≡ old.followed.items → new.kept ≤ old.kept →
     KeepsPlaces before after new.kept → IsQueued old before table requirements → IsQueued new after table requirements
@@ -103,7 +103,7 @@ pub queued-kept : (it : DecideQueue) (before after : Trail) (table : List (Vec L
     KeepsPlaces before after it.kept → IsQueued it before table requirements → IsQueued it after table requirements
 queued-kept it before after table requirements keeps queued = queued-cut it it before after table requirements refl refl refl refl (omega arith) keeps queued
 
--- where other parts of a queue change
+-- other parts of the queue change
 pub queued-same : (old new : DecideQueue) (trail : Trail) (table : List (Vec Literal Global)) (requirements : List StoredRequirement) →
     new.active.items ≡ old.active.items → new.inactive ≡ old.inactive → new.met ≡ old.met → new.followed.items ≡ old.followed.items → new.kept ≡ old.kept →
     IsQueued old trail table requirements → IsQueued new trail table requirements
@@ -116,7 +116,7 @@ queued-same old new trail table requirements active inactive met followed kept i
   each = λ index d below. rw (active, inactive, met, followed, kept) (it.each index d below);
 }
 
--- where clauses stay what they were
+-- the clauses stay
 pub queued-grown : (it : DecideQueue) (trail : Trail) (table more : List (Vec Literal Global)) (requirements : List StoredRequirement) →
     All (λ (r : StoredRequirement). r.number < length table) requirements →
     ((number : ℕ) → number < length table → clause_at more number ≡ clause_at table number) → IsQueued it trail table requirements →
@@ -128,13 +128,13 @@ queued-grown it trail table more requirements inside same queued = record {
       subst Held (sym (same (get_or requirements index d).number (inside index d below))) (queued.each index d below);
 }
 
--- more are to be looked at
+-- more active requirements
 held-more : (active more : List ℕ) (inactive met : Lists) (followed : List ℕ) (kept : ℕ) (trail : Trail) (clause : List Literal) (index : ℕ) →
     IsHeld active inactive met followed kept trail clause index → IsHeld (active ++ more) inactive met followed kept trail clause index
 held-more active more inactive met followed kept trail clause index held =
     ⊎_elim (λ (here : Contains active index). inl (Contains-append_left active more index here)) (λ rest. inr rest) held
 
--- a requirement behind the others
+-- a requirement after the others
 pub queued-add : (old new : DecideQueue) (trail : Trail) (table : List (Vec Literal Global)) (requirements : List StoredRequirement)
     (requirement : StoredRequirement) (last : ℕ) → last ≡ length requirements → new.active.items ≡ old.active.items ++ last ∷ [] → new.inactive ≡ old.inactive →
     new.met ≡ old.met → new.followed.items ≡ old.followed.items → new.kept ≡ old.kept → IsQueued old trail table requirements →
@@ -158,7 +158,7 @@ queued-add old new trail table requirements requirement last end active inactive
       (cases_lt index (length requirements)));
 }
 
--- the last place that was followed is taken back
+-- the last place that was followed is forgotten
 pub queued-forget : (old new : DecideQueue) (trail : Trail) (table : List (Vec Literal Global)) (requirements : List StoredRequirement) (variable : ℕ) →
     old.kept < length old.followed.items → old.followed.items ≡ new.followed.items ++ variable ∷ [] → new.active.items ≡ old.active.items ++
     list_of old.met variable → ((v : ℕ) → v ≢ variable → list_of new.met v ≡ list_of old.met v) → new.inactive ≡ old.inactive → new.kept ≡ old.kept →
@@ -274,7 +274,7 @@ queued-follow old new trail table requirements variable all inside next followed
           (it.each index d below);
     }
 
--- what stays in a list from which one was taken
+-- the elements of a list from which one was removed
 pub left-or : (xs : List ℕ) (place x : ℕ) → place < length xs → x ≡ get_or xs place x → (y : ℕ) → Contains xs y → (x ≡ y) ⊎ Contains (swap_remove xs place x) y
 left-or xs place x inside is y there = ⊎_elim
     (λ (first : Contains (x ∷ []) y).
@@ -283,7 +283,7 @@ left-or xs place x inside is y there = ⊎_elim
     (Contains-append_cases (x ∷ []) (swap_remove xs place x) y
     (Contains-permutation xs (x ∷ swap_remove xs place x) y (IsPermutation-swap_remove xs place x inside is) there))
 
--- one requirement has another place in the queue
+-- one requirement moved within the queue
 pub queued-settled : (old new : DecideQueue) (trail : Trail) (table : List (Vec Literal Global)) (requirements : List StoredRequirement) (settled : ℕ) →
     new.followed.items ≡ old.followed.items → new.kept ≡ old.kept →
     ((index : ℕ) → Contains old.active.items index → (settled ≡ index) ⊎ Contains new.active.items index) →
@@ -328,7 +328,7 @@ queued-settled old new trail table requirements settled followed kept active ina
       (it.each index d below);
 }
 
--- where one was added to a list, those that were there stay
+-- an element was added to a list, and the others stay
 pub parked-more : (old new : Lists) (variable last : ℕ) → list_of new variable ≡ list_of old variable ++ last ∷ [] →
     ((v : ℕ) → v ≢ variable → list_of new v ≡ list_of old v) → (v index : ℕ) → Contains (list_of old v) index → Contains (list_of new v) index
 parked-more old new variable last here others v index inside = ⊎_elim
@@ -343,12 +343,12 @@ pub parked-last : (old new : Lists) (variable last : ℕ) → list_of new variab
 parked-last old new variable last here = let Inside : List ℕ → Type 0 = λ list. Contains list last in
     subst Inside (sym here) (Contains-push (list_of old variable) last)
 
--- where a variable is not true
+-- a variable that is not true
 pub not-true : (trail : Trail) (variable kept : ℕ) → (literal_value trail (record { variable = variable; positive = false }) ≢ Some false) → (slot : Slot) →
     slot_of trail variable ≡ Some slot → slot.value ≡ true → kept ≤ slot.place
 not-true trail variable kept other slot at is_so = absurd (other (ap (option_map (λ (s : Slot). beq s.value false)) at ∙ ap (λ b. Some (beq b false)) is_so))
 
--- where a candidate is true, its place was followed
+-- a requirement is met by a candidate whose place was followed
 met-here : (met : Lists) (trail : Trail) (followed : List ℕ) (kept : ℕ) (clause : List Literal) (index variable : ℕ) →
     ((place : ℕ) → place < kept → slice_index followed place ≡ variable_at trail place) → kept ≡ length_of trail → length followed ≡ kept →
     Contains (list_of met variable) index → Contains clause (record { variable = variable; positive = true }) →
@@ -366,14 +366,14 @@ met-here met trail followed kept clause index variable same all exact parked has
       true_there = λ less. is_so;
     }
 
--- the clause of the requirement that was read, whatever the default
+-- the clause of the requirement that was read, whichever the default
 clause-read : (table : List (Vec Literal Global)) (requirements : List StoredRequirement) (index : ℕ) (d r : StoredRequirement) (literals : List Literal) →
     index < length requirements → r ≡ get_or requirements index r → literals ≡ clause_at table r.number →
     literals ≡ clause_at table (get_or requirements index d).number
 clause-read table requirements index d r literals inside is at = at ∙
     ap (λ (q : StoredRequirement). clause_at table q.number) (is ∙ get_or_default requirements index r d inside)
 
--- what stays where the one that was read is taken away
+-- the elements of a list from which the one that was read was removed
 pub left-read : (xs new : List ℕ) (place x taken : ℕ) → place < length xs → x ≡ get_or xs place x → taken ≡ get_or xs place taken →
     new ≡ swap_remove xs place taken → (y : ℕ) → Contains xs y → (x ≡ y) ⊎ Contains new y
 left-read xs new place x taken inside read is same y there = ⊎_elim
@@ -381,7 +381,7 @@ left-read xs new place x taken inside read is same y there = ⊎_elim
     (λ (left : Contains (swap_remove xs place taken) y). let Inside : List ℕ → Type 0 = λ list. Contains list y in inr (subst Inside (sym same) left))
     (left-or xs place taken inside is y there)
 
--- a requirement that was put aside
+-- a requirement that became inactive
 pub held-inactive : (active : List ℕ) (old inactive met : Lists) (followed : List ℕ) (kept : ℕ) (trail : Trail) (table : List (Vec Literal Global))
     (requirements : List StoredRequirement) (r : StoredRequirement) (literals : List Literal) (index variable : ℕ) →
     list_of inactive variable ≡ list_of old variable ++ index ∷ [] → r ≡ get_or requirements index r → literals ≡ clause_at table r.number →
@@ -409,7 +409,7 @@ held-by_candidate active inactive old met followed kept trail table requirements
     inr (inr (met-here met trail followed kept _ index variable same all exact (parked-last old met variable index here)
     (subst Has (clause-read table requirements index d r literals inside is at) standing.0) standing.1))
 
--- a requirement that waits or is met has nothing to decide
+-- an inactive requirement has nothing to decide
 unmet-not : (trail : Trail) (clause : List Literal) (variable : ℕ) (o : Option Slot) → slot_of trail variable ≡ o →
     Contains clause (record { variable = variable; positive = false }) → ((slot : Slot) → o ≡ Some slot → slot.value ≡ true → ⊥) → IsMet trail clause
 unmet-not trail clause variable None at asks never =
@@ -442,7 +442,7 @@ held-met active inactive met followed kept trail clause index none all exact hel
     rest)
     held
 
--- where none is left to look at, each has a candidate or depends on what is not true
+-- without active requirements, each requirement has a true candidate or is inactive
 pub all-met : (queue : DecideQueue) (trail : Trail) (table : List (Vec Literal Global)) (requirements : List StoredRequirement) →
     length queue.active.items ≡ 0 → IsFollowed queue trail → IsQueued queue trail table requirements →
     All (λ (r : StoredRequirement). IsMet trail (clause_at table r.number)) requirements
@@ -455,7 +455,7 @@ pub found-false : (trail : Trail) (variable : ℕ) (found : Bool) → found ≡ 
     found ≡ false → (slot : Slot) → slot_of trail variable ≡ Some slot → slot.value ≡ true → ⊥
 found-false trail variable found is none slot at is_so = false≢true (sym none ∙ is ∙ ap (λ o. option_map_or (λ (s : Slot). s.value) o false) at ∙ is_so)
 
--- fewer places are kept, too
+-- fewer unchanged entries
 pub places-fewer : (old new : Trail) (count fewer : ℕ) → KeepsPlaces old new count → fewer ≤ count → KeepsPlaces old new fewer
 places-fewer old new count fewer keeps less = record {
   were = omega (arith, keeps.were, less);
@@ -464,13 +464,13 @@ places-fewer old new count fewer keeps less = record {
   slots = λ v s at below. keeps.slots v s at (omega (arith, below, less));
 }
 
--- a trail that only gains
+-- a trail that only grows
 pub queued-longer : (it : DecideQueue) (old new : Trail) (table : List (Vec Literal Global)) (requirements : List StoredRequirement) →
     KeepsPlaces old new (length_of old) → IsQueued it old table requirements → IsQueued it new table requirements
 queued-longer it old new table requirements keeps queued =
     queued-kept it old new table requirements (places-fewer old new (length_of old) it.kept keeps queued.following.reached) queued
 
--- a trail of which the first places are left, where that was noted
+-- a trail of which the first entries are left, when the queue was cut
 pub queued-left : (it cut : DecideQueue) (old new : Trail) (table : List (Vec Literal Global)) (requirements : List StoredRequirement) (count left : ℕ) →
     ((before after : Trail) (clauses : List (Vec Literal Global)) (wanted : List StoredRequirement) → KeepsPlaces before after (min it.kept count) →
     IsQueued it before clauses wanted → IsQueued cut after clauses wanted) →

@@ -36,7 +36,7 @@ Contains-moved_to_front {X} same identity y xs x h =
     (λ e. subst Has e h)
     (cases_Bool (list_any (λ z. same z y) xs))
 
--- what either part of a cut list has, the list has
+-- each element of a part of a cut list is in the list
 pub Contains-cut_left : {X : Type 0} {xs ys zs : List X} → IsCut xs ys zs → (x : X) → Contains ys x → Contains xs x
 Contains-cut_left cut_none x h = h
 Contains-cut_left {X} (cut_left {x = y} {xs = xs} {ys = ys} rest) x h = ⊎_elim
@@ -57,14 +57,14 @@ module _ {N S : Type 0} (u : Universe N S) (packages : HasLawfulPackages u) wher
   abbrev Listed : VersionSetId → S → Type 0
   Listed v s = Contains (u.package_named (u.version_set_name v)).listed s
 
-  -- what a version set takes is listed in its package, and bears its name
+  -- a candidate that matches a version set is listed in its package, and has its name
   pub matching_listed : (v : VersionSetId) (s : S) → Contains (matching u v) s → Listed v s
   matching_listed v s h = Contains-cut_left (packages.filter_splits (u.package_named (u.version_set_name v)).listed v).cut s h
 
   pub matching_named : (v : VersionSetId) (s : S) → Contains (matching u v) s → u.name s ≡ u.version_set_name v
   matching_named v s h = (packages.packages (u.version_set_name v)).listed s (matching_listed v s h)
 
-  -- what a version set does not take is listed in its package, and is none of what it takes
+  -- a candidate that does not match a version set is listed in its package, and is none of those that match
   pub others_listed : (v : VersionSetId) (s : S) → Contains (others u v) s → Listed v s × (Contains (matching u v) s → ⊥)
   others_listed v s h =
       let splits = packages.filter_splits (u.package_named (u.version_set_name v)).listed v in

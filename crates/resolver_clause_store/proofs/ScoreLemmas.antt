@@ -6,17 +6,17 @@ use Rattle.resolver_clause_store.specs.Scores.{after_decay, after_decays, kept_s
 use Rattle.resolver_clause_store.specs.declared.scores.Score.{Score}
 use Rattle.resolver_clause_store.specs.declared.scores.Scores.{Scores}
 
--- one that does not change once never does
+-- a score that does not change in one decay never changes
 pub after_decay-settled : (decay times score : ℕ) → after_decay decay score ≡ score → after_decays decay times score ≡ score
 after_decay-settled decay zero score same = refl
 after_decay-settled decay (suc times) score same = ap (after_decays decay times) same ∙ after_decay-settled decay times score same
 
--- the last time comes last
+-- the last decay comes last
 pub after_decay-last : (decay times score : ℕ) → after_decays decay (suc times) score ≡ after_decay decay (after_decays decay times score)
 after_decay-last decay zero score = refl
 after_decay-last decay (suc times) score = after_decay-last decay times (after_decay decay score)
 
--- what is left to fade
+-- one of the remaining decays
 pub after_decay-next : (decay times count left : ℕ) → count < times → after_decays decay (times - count) left ≡ after_decays decay (times - (count + 1))
     (after_decay decay left)
 after_decay-next decay times count left below =
@@ -30,7 +30,7 @@ scores-after_decay scores number learnt before =
     let one : suc learnt - kept.learnt ≡ suc (learnt - kept.learnt) = omega (arith, before) in
     ap (λ n. after_decays scores.activity.decay n kept.value) one ∙ after_decay-last scores.activity.decay (learnt - kept.learnt) kept.value
 
--- nothing fades to nothing
+-- a score of 0 decays to 0
 pub after_decay-nothing : (decay : ℕ) → after_decay decay 0 ≡ 0
 after_decay-nothing decay =
     let none : 0 * decay ≡ 0 = omega arith in
@@ -42,7 +42,7 @@ score-new scores none number learnt =
     ap (λ (k : Score). after_decays scores.activity.decay (learnt - k.learnt) k.value) kept ∙
     after_decay-settled scores.activity.decay (learnt - 0) 0 (after_decay-nothing scores.activity.decay)
 
--- so many times, and so many more
+-- some decays, followed by more
 pub after_decay-sum : (decay first more score : ℕ) → after_decays decay (first + more) score ≡ after_decays decay more (after_decays decay first score)
 after_decay-sum decay zero more score =
     let none : zero + more ≡ more = omega arith in
@@ -51,7 +51,7 @@ after_decay-sum decay (suc first) more score =
     let one : suc first + more ≡ suc (first + more) = omega arith in
     ap (λ n. after_decays decay n score) one ∙ after_decay-sum decay first more (after_decay decay score)
 
--- a score that is kept as it was read is the same later
+-- a score that is stored as it was read is the same later
 pub read-same : (old new : Scores) (number learnt value : ℕ) → value ≡ score_in old number learnt → new.activity ≡ old.activity →
     kept_score new.scores.items number ≡ record { value = value; learnt = learnt } →
     ((other : ℕ) → other ≢ number → kept_score new.scores.items other ≡ kept_score old.scores.items other) →

@@ -1,4 +1,4 @@
--- What a write to a slot leaves.
+-- The effect of writing a slot.
 use Rattle.std.proofs.Common.{◌≡◌, ◌≢◌, ℕ, ◌+◌, ◌-◌, ◌<◌, ◌≤◌, List, [], ◌∷◌, ◌++◌, length, get_or, set, Option, Some, None, refl, sym, ap, ◌∙◌, arith, ◌⊎◌}
 use Rattle.std.proofs.Common.{inl, inr}
 use Rattle.std.specs.Option.{option_map, option_map_or}
@@ -36,7 +36,7 @@ placed-pop slots order rest variable placed is = λ place within.
     let differ : get_or rest place 0 ≢ variable = λ e. grind arith in
     rw get_or-set_other here
 
--- a variable with a slot is inside the table
+-- a variable with a slot is in the table
 pub slot-within : (slots : List (Option Slot)) (variable place : ℕ) → option_map (λ (slot : Slot). slot.place) (slot_in slots variable) ≡ Some place →
     variable < length slots
 slot-within slots variable place h = grind (arith, get_or_past slots variable None)
@@ -78,7 +78,7 @@ listed-pop slots order rest variable placed listed is = λ other s at.
     let differ : other ≢ variable = λ e. grind arith in
     grind (arith, get_or-append rest (variable ∷ []) 0 s.place)
 
--- the slot of a written table is the new one or an old one
+-- a slot of the written table is the new one or an old one
 pub push-cases : (slots : List (Option Slot)) (variable : ℕ) (slot : Slot) (other : ℕ) (s : Slot) → slot_in (set slots variable (Some slot)) other ≡ Some s →
     variable < length slots → ((other ≡ variable) × (s ≡ slot)) ⊎ ((other ≢ variable) × (slot_in slots other ≡ Some s))
 push-cases slots variable slot other s at inside = ⊎_elim
@@ -152,7 +152,7 @@ pub none-from : (o : Option Slot) → ((slot : Slot) → o ≡ Some slot → ⊥
 none-from None never = refl
 none-from (Some slot) never = absurd (never slot refl)
 
--- where no place is taken, no variable has a slot
+-- in an empty trail, no variable has a slot
 pub none-empty : (trail : Trail) (variable : ℕ) → length_of trail ≡ 0 → slot_of trail variable ≡ None
 none-empty trail variable empty = none-from (slot_of trail variable) (λ slot at. omega (arith, (trail.listed variable slot at).0))
 
@@ -191,7 +191,7 @@ undone old new level top undoes all low = record {
   stays = λ v s at. (undoes.stays v s at, omega (arith, all v s at));
 }
 
--- the first places are left, and perhaps more
+-- the first entries are left, and perhaps more
 pub record CutsBehind (old new : Trail) (count : ℕ) : Type 0 where
   pub size : variable_count new ≡ variable_count old
   pub enough : count ≤ length_of new

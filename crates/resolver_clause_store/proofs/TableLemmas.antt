@@ -1,4 +1,4 @@
--- What a table holds after an answer is put in.
+-- The entries of a table after an answer is put in.
 use Rattle.std.proofs.Common.{◌≡◌, ◌∙◌, Bool, true, false, cond, List, [], ◌∷◌, All, Contains, refl, subst, sym, ap}
 use Rattle.std.specs.Prelude.{Option, Some, None, MatchOption, is_some, IsSome, IsPermutation}
 use Rattle.std.specs.Map.{lookup, keys_of, set_value}
@@ -17,7 +17,7 @@ IsWithin-same {K} es fs is = λ q h.
     subst Holds (sym is) h
 
 module _ {K X : Type 0} (same : K → K → Bool) where
-  -- fs has the entries es after v is put at k, where old is what k had
+  -- fs has the entries es after v is put at k, where old is the previous value of k, if any
   abbrev pub IsPut : K → X → List (K × X) → List (K × X) → Option X → Type 0
   IsPut k v es fs old = MatchOption old (IsPermutation ((k, v) ∷ es) fs) (λ _. fs ≡ set_value (same k) es v)
 

@@ -1,4 +1,4 @@
--- Trails of which one follows from another.
+-- Trails that result from others.
 use Rattle.std.proofs.Common.{◌≡◌, ◌≢◌, ℕ, ◌⊎◌, List, Option, Some, None, Bool, true, false, inl, inr, refl, sym, ap, ◌∙◌, ⊎_elim}
 use Rattle.std.specs.Option.{option_map}
 use Rattle.std.specs.Bool.{beq}
@@ -23,12 +23,12 @@ pub value-true : (o : Option Slot) (b : Bool) → option_map (λ (slot : Slot). 
 value-true None b is = cc
 value-true (Some slot) b is = (slot, refl, cc)
 
--- a literal with no value has no slot
+-- a literal without a value has no slot
 pub value-none : (o : Option Slot) (b : Bool) → option_map (λ (slot : Slot). beq slot.value b) o ≡ None → o ≡ None
 value-none None b is = refl
 value-none (Some slot) b is = cc
 
--- each slot of the old trail stands in the new one
+-- each slot of the old trail is in the new one
 pub record Keeps (old new : Trail) : Type 0 where
   pub kept : (variable : ℕ) (slot : Slot) → slot_of old variable ≡ Some slot → slot_of new variable ≡ Some slot
 
@@ -47,7 +47,7 @@ pub forcing-kept : (old new : Trail) (place : ℕ) (literal : Literal) (clause :
     IsForcing new place literal clause
 forcing-kept old new place literal clause keeps f = λ k d below. ⊎_elim (λ e. inl e) (λ e. inr (false_before-kept old new place _ keeps e)) (f k d below)
 
--- a literal that is false is so before the trail's end
+-- a false literal is false before the end of the trail
 pub false-before : (trail : Trail) (literal : Literal) → literal_value trail literal ≡ Some false → IsFalseBefore trail (length_of trail) literal
 false-before trail literal is = let v = value-false _ _ is in record { slot = v.0; is = v.1; false_there = v.2; earlier = (trail.listed _ _ v.1).0 }
 

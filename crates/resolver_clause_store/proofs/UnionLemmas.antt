@@ -1,4 +1,4 @@
--- Inserting each element of a list into a set that keeps its order leaves the list without its repeats.
+-- Inserting each element of a list into a set in insertion order leaves the list without its repeats.
 use Rattle.std.proofs.Common.{◌≡◌, ◌∙◌, ℕ, ◌+◌, ◌<◌, Bool, true, false, cond, not, ◌||◌, List, [], ◌∷◌, ◌++◌, length, take, get_or, refl, sym, ap, subst}
 use Rattle.std.proofs.Common.{append_assoc, append-nil, ◌≤◌, if◌then◌else◌}
 use Rattle.std.specs.Prelude.{filter}
@@ -15,7 +15,7 @@ use Rattle.resolver_clause_store.specs.declared.ids.VersionSetId.{VersionSetId}
 use Rattle.resolver_clause_store.specs.declared.ids.VersionSetUnionId.{VersionSetUnionId}
 use Rattle.std.proofs.lemmas.List.{take_all, take_more}
 
--- a filter of a filter is a filter by both
+-- a filter after a filter is a filter by both tests
 filter_first : {X : Type 0} (p q r : X → Bool) (x : X) (ys zs : List X) (a b d : Bool) → a ≡ q x → b ≡ p x → cond a b false ≡ d → filter p ys ≡ zs →
     filter p (cond a (x ∷ ys) ys) ≡ cond d (x ∷ zs) zs
 filter_first p q r x ys zs true b d first second both rest =
@@ -28,11 +28,11 @@ filter_both p q r agree [] = refl
 filter_both p q r agree (x ∷ xs) = filter_first p q r x (filter q xs) (filter r xs) (q x) (p x) (r x) refl refl (agree x) (filter_both p q r agree xs)
 
 module _ {X : Type 0} (same : X → X → Bool) (identity : IsIdentity same) where
-  -- not yet in the set
+  -- the element is not yet in the set
   abbrev is_new : List X → X → Bool
   is_new ks y = not (list_any (same y) ks)
 
-  -- one that is new is another one than x, where x is there
+  -- if x is in the set, a new element is not x
   new_is_apart : (ks : List X) (x y : X) (a b : Bool) → list_any (same x) ks ≡ true → a ≡ same y x → b ≡ list_any (same y) ks →
       cond (not a) (not b) false ≡ not b
   new_is_apart ks x y false b there first second = refl
@@ -41,7 +41,7 @@ module _ {X : Type 0} (same : X → X → Bool) (identity : IsIdentity same) whe
       let Found : X → Type 0 = λ z. list_any (same z) ks ≡ true in
       absurd (false≢true (second ∙ subst Found (sym (identity.alone y x (sym first))) there))
 
-  -- one that is new after x was added
+  -- a new element after x was added
   new_after : (ks : List X) (x y : X) (a b : Bool) → a ≡ same y x → b ≡ list_any (same y) ks → cond (not a) (not b) false ≡ not (b || (a || false))
   new_after ks x y true true first second = refl
   new_after ks x y true false first second = refl
@@ -69,7 +69,7 @@ module _ {X : Type 0} (same : X → X → Bool) (identity : IsIdentity same) whe
       let rest = without_repeats same xs in
       insert_all_after xs (insert_key same ks x) ∙ added ks x xs rest (list_any (same x) ks) refl (tail_is ks x rest (list_any (same x) ks) refl)
 
-  -- nothing is there at first
+  -- the set is empty at first
   pub insert_all-is : (xs : List X) → insert_all same [] xs ≡ without_repeats same xs
   insert_all-is xs = insert_all_after xs [] ∙ filter_all (without_repeats same xs)
     where
@@ -91,7 +91,7 @@ module _ {N S : Type 0} (u : Universe N S) where
       ∙ sorted_in_order-append (take i vs) (get_or vs i d ∷ [])
       ∙ ap (λ l. sorted_in_order u (take i vs) ++ l) (append-nil (sorted_candidates u (get_or vs i d)))
 
-  -- what was taken, after the candidates of one more version set were added
+  -- the candidates of all version sets up to one more
   pub taken_more : (same : S → S → Bool) (vs : List VersionSetId) (i : ℕ) (d : VersionSetId) (before list after : List S) → i < length vs →
       before ≡ insert_all same [] (sorted_in_order u (take i vs)) → list ≡ sorted_candidates u (get_or vs i d) → after ≡ insert_all same before list →
       after ≡ insert_all same [] (sorted_in_order u (take (i + 1) vs))
@@ -102,7 +102,7 @@ module _ {N S : Type 0} (u : Universe N S) where
       ∙ sym (fold-append (insert_key same) [] (sorted_in_order u (take i vs)) (sorted_candidates u (get_or vs i d)))
       ∙ ap (insert_all same []) (sym (sorted_in_order_more vs i d below))
 
-  -- what was taken, after all
+  -- the candidates of all version sets
   pub taken_all : (same : S → S → Bool) → IsIdentity same → u.same_solvable ≡ same →
       (m : VersionSetUnionId) (vs : List VersionSetId) (i : ℕ) (items keys : List S) → length vs ≤ i → vs ≡ u.union_members m →
       items ≡ keys → keys ≡ insert_all same [] (sorted_in_order u (take i vs)) → items ≡ without_repeats u.same_solvable (sorted_in_order u (u.union_members m))

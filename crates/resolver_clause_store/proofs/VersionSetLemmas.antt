@@ -1,11 +1,11 @@
--- The derived `==` of a version set's id.
+-- The derived `==` of the ids of version sets.
 use Rattle.std.proofs.Common.{ℕ, Bool, nat_eq, refl, ap}
 use Rattle.std.specs.Cmp.{IsEquivalence, nat_eq_equiv, on_equiv}
 use Rattle.std.proofs.lemmas.Bool.{eqb-true, eq-eqb}
 use Rattle.resolver_clause_store.specs.Laws.{IsIdentity}
 use Rattle.resolver_clause_store.specs.declared.ids.VersionSetId.{VersionSetId}
 
--- it compares the numbers
+-- the test compares the numbers
 abbrev pub same_version_set : VersionSetId → VersionSetId → Bool
 same_version_set a b = nat_eq a.0 b.0
 

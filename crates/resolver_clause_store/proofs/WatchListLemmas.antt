@@ -1,4 +1,4 @@
--- The lists of watches: how often a clause stands in a list, and what a write to a list leaves.
+-- The lists of watches: the number of times that a clause is in a list, and the effect of writing a list.
 use Rattle.std.proofs.Common.{◌≡◌, ◌≢◌, ℕ, ◌+◌, ◌-◌, ◌*◌, ◌<◌, ◌≤◌, ◌⊎◌, List, [], ◌∷◌, ◌++◌, length, get_or, set, Option, Some, None, Bool, true, false, cond}
 use Rattle.std.proofs.Common.{eqb, arith, rules, inl, inr, refl, suc, sym, ap, true≢false, ◌∙◌, subst, ⊎_elim, length-set, get_or-set_same, get_or-set_other}
 use Rattle.std.proofs.Common.{length-append}
@@ -49,7 +49,7 @@ pub same-swap : (a b : ℕ) → cond (eqb a b) 1 0 ≡ same a b
 unfolding same
 same-swap a b = refl
 
--- how the counts of a list change
+-- the counts after a list changed
 pub count-push : (lists new : List (Vec Watch Global)) (list : ℕ) (watch : Watch) → PutsList lists new list (list_at lists list ++ watch ∷ []) → (n : ℕ) →
     entry_count new list n ≡ entry_count lists list n + same watch.number n
 unfolding entry_count
@@ -70,7 +70,7 @@ count-take lists new list place d puts inside n =
     let sums = sum_by-swap_remove (λ (w : Watch). cond (eqb w.number n) 1 0) (list_at lists list) place d inside in
     omega (arith, here, sums, same-swap (get_or (list_at lists list) place d).number n)
 
--- a clause that stands in a list is counted there
+-- a clause in a list is counted there
 pub count-positive : (lists : List (Vec Watch Global)) (list place : ℕ) (d : Watch) → place < length (list_at lists list) →
     0 < entry_count lists list (get_or (list_at lists list) place d).number
 unfolding entry_count
@@ -83,7 +83,7 @@ count-positive lists list place d inside =
 pub pair_at-past : (pairs : List WatchedPair) (number : ℕ) → length pairs ≤ number → pair_at pairs number ≡ unwatched
 pair_at-past pairs number past = get_or_past pairs number unwatched past
 
--- one clause's count changes in some lists, and so does its pair
+-- the counts of one clause change in some lists, and its pair changes accordingly
 pub watched-step : (lists new : List (Vec Watch Global)) (pairs : List WatchedPair) (number : ℕ) (pair : WatchedPair) (gains loses : ℕ → ℕ) →
     IsWatched lists pairs → number < length pairs →
     ((l n : ℕ) → entry_count new l n + loses l * same number n ≡ entry_count lists l n + gains l * same number n) →
@@ -106,7 +106,7 @@ watched-step lists new pairs number pair gains loses watched inside counts now =
     omega (arith, st, ap (λ (p : WatchedPair). pair_count p l) (get_or-set_other pairs number n pair unwatched ne), before))
     (cases_eq n number)
 
--- a clause in one list more
+-- a clause in one more list
 pub watched-attach : (lists new : List (Vec Watch Global)) (pairs : List WatchedPair) (list : ℕ) (watch : Watch) (pair : WatchedPair) → IsWatched lists pairs →
     watch.number < length pairs → PutsList lists new list (list_at lists list ++ watch ∷ []) →
     ((l : ℕ) → pair_count pair l ≡ pair_count (pair_at pairs watch.number) l + same list l) → IsWatched new (set pairs watch.number pair)
@@ -124,7 +124,7 @@ watched-attach lists new pairs list watch pair watched inside pushed now =
     (cases_eq l list))
     (λ l. omega (arith, now l))
 
--- a clause that was moved from one list to another
+-- a clause that moved from one list to another
 pub watched-move : (lists mid new : List (Vec Watch Global)) (pairs : List WatchedPair) (from to place : ℕ) (d watch : Watch) (pair : WatchedPair) →
     IsWatched lists pairs → from ≢ to → watch.number < length pairs → PutsList lists mid to (list_at lists to ++ watch ∷ []) →
     PutsList mid new from (swap_remove (list_at lists from) place d) → place < length (list_at lists from) →
@@ -162,7 +162,7 @@ watched-move lists mid new pairs from to place d watch pair watched differ insid
     (cases_eq l from))
     now
 
--- two literals with one list are one literal
+-- literals with the same list are equal
 pub literal-same : (one other : Literal) → one.variable ≡ other.variable → one.positive ≡ other.positive → one ≡ other
 literal-same one other e f = λ i. record { variable = e i; positive = f i }
 
@@ -219,7 +219,7 @@ stands-positive (Some one) literal e = ⊎_elim
     (λ (ne : list_number one ≢ list_number literal). absurd (omega (arith, e, stands-same one (list_number literal), same-differ _ _ ne)))
     (cases_eq (list_number one) (list_number literal))
 
--- how often a pair wants its clause in a list
+-- the number of times that a clause with this pair has to be in a list
 pub pair-parts : (pair : WatchedPair) (list : ℕ) → pair_count pair list ≡ stands_in pair.first list + stands_in pair.second list
 unfolding pair_count
 pair-parts pair list = refl
@@ -269,7 +269,7 @@ pair-positive pair literal watching = ⊎_elim
     ))
     watching
 
--- a pair with one literal in the place of another
+-- a pair with one literal replaced
 pub replaced-count : (pair : WatchedPair) (from to : Literal) → 0 < pair_count pair (list_number from) → (list : ℕ) →
     pair_count (replaced pair from to) list + same (list_number from) list ≡ pair_count pair list + same (list_number to) list
 replaced-count pair from to positive list = ⊎_elim
@@ -293,7 +293,7 @@ replaced-pair pair from to kept ne is = ⊎_elim
     inr (ap (λ (p : WatchedPair). replaced p from to) e ∙ cond-false _ _ _ (is_literal-differ kept from (λ w. ne (sym w)))))
     is
 
--- nothing is watched where there is no clause
+-- without clauses nothing is watched
 pub watched-empty : (lists : List (Vec Watch Global)) (pairs : List WatchedPair) → lists ≡ [] → pairs ≡ [] → IsWatched lists pairs
 unfolding entry_count
 watched-empty lists pairs none empty = λ l n.
@@ -313,7 +313,7 @@ puts-same lists new list puts other = ⊎_elim
     (λ (ne : other ≢ list). puts.others other ne)
     (cases_eq other list)
 
--- the pairs with one more
+-- one more pair
 pub pair_at-before : (pairs : List WatchedPair) (pair : WatchedPair) (number : ℕ) → number < length pairs →
     pair_at (pairs ++ pair ∷ []) number ≡ pair_at pairs number
 pair_at-before pairs pair number inside = get_or-append pairs (pair ∷ []) unwatched number inside
@@ -321,7 +321,7 @@ pair_at-before pairs pair number inside = get_or-append pairs (pair ∷ []) unwa
 pub pair_at-last : (pairs : List WatchedPair) (pair : WatchedPair) → pair_at (pairs ++ pair ∷ []) (length pairs) ≡ pair
 pair_at-last pairs pair = get_or-append_seam pairs pair [] unwatched
 
--- a clause that stands in a literal's list watches the literal
+-- a clause in the list of a literal watches the literal
 pub listed-watching : (lists : List (Vec Watch Global)) (pairs : List WatchedPair) (literal : Literal) (place : ℕ) (watch : Watch) → IsWatched lists pairs →
     slice_get (list_at lists (list_number literal)) place ≡ Some watch → IsWatching pairs watch.number literal
 listed-watching lists pairs literal place watch watched is =
@@ -346,7 +346,7 @@ watching-number pairs number literal watching = ⊎_elim
     watching)
     (cases_lt number (length pairs))
 
--- a clause stands in the list of each literal that it watches
+-- a clause is in the list of each literal that it watches
 counted-stands : (watches : List Watch) (number : ℕ) → 0 < count_by (λ (w : Watch). eqb w.number number) watches → (place : ℕ) × (watch : Watch) ×
     (slice_get watches place ≡ Some watch) × (watch.number ≡ number)
 counted-stands [] number positive = absurd (omega (arith, positive))
@@ -368,7 +368,7 @@ watching-stands lists pairs number literal watched watching =
     counted-stands (list_at lists (list_number literal)) number
     (omega (arith, watched (list_number literal) number, pair-positive (pair_at pairs number) literal watching))
 
--- what each watch of each list has
+-- a property of each watch in each list
 pub puts-all : (P : Watch → Type 0) (old new : List (Vec Watch Global)) (list : ℕ) (watches : List Watch) → PutsList old new list watches → All P watches →
     ((l : ℕ) → All P (list_at old l)) → (l : ℕ) → All P (list_at new l)
 puts-all P old new list watches puts all' before l = ⊎_elim
@@ -406,7 +406,7 @@ number_at-watch watches place watch is = ap (λ o. option_map_or (λ (w : Watch)
 pub number_at-get_or : (watches : List Watch) (place : ℕ) (d : Watch) → place < length watches → number_at watches place ≡ (get_or watches place d).number
 number_at-get_or watches place d within = number_at-watch watches place (get_or watches place d) (slice_get-get_or watches place d within)
 
--- a list in which the watch at a place has another blocker
+-- the watch at a place gets another blocker
 pub watched-set : (lists new : List (Vec Watch Global)) (pairs : List WatchedPair) (list place : ℕ) (watch : Watch) → IsWatched lists pairs →
     PutsList lists new list (set (list_at lists list) place watch) → place < length (list_at lists list) → watch.number ≡ number_at (list_at lists list) place →
     IsWatched new pairs
@@ -476,7 +476,7 @@ same-clauses old new list place blocker inside puts =
               (cases_eq k at),
         )
 
--- a clause that was moved
+-- a clause that moved
 pub moves-watch : (old mid new : List (Vec Watch Global)) (before : List WatchedPair) (from to : Literal) (place : ℕ) (d watch : Watch) → from ≢ to →
     watch.number < length before → PutsList old mid (list_number to) (list_at old (list_number to) ++ watch ∷ []) →
     PutsList mid new (list_number from) (swap_remove (list_at mid (list_number from)) place d) → place < length (list_at old (list_number from)) →
@@ -505,7 +505,7 @@ blockers-move table old mid new from to place d watch differ pushed taken inside
     blockers-take table mid new (list_number from) place d taken (omega (arith, inside, ap (λ (ws : List Watch). length ws) stays))
     (blockers-push table old mid (list_number to) watch pushed contains has)
 
--- a clause that was added with two literals
+-- a clause that was added with its two literals
 pub pairs-two : (old mid new last : List WatchedPair) (number : ℕ) (one two goal : WatchedPair) → number ≡ length old → mid ≡ old ++ unwatched ∷ [] →
     new ≡ set mid number one → last ≡ set new number two → two ≡ goal → last ≡ old ++ goal ∷ []
 pairs-two old mid new last number one two goal is added first second same-goal =
@@ -515,7 +515,7 @@ pairs-two old mid new last number one two goal is added first second same-goal =
     (ap (λ (ps : List WatchedPair). set ps (length old) two) (set-append_seam old unwatched [] one) ∙ set-append_seam old one [] two)
     ∙ ap (λ (p : WatchedPair). old ++ p ∷ []) same-goal
 
--- a clause that watches one literal, and then two
+-- a clause that first watches one literal, and then two
 pub gains-first : (pairs new : List WatchedPair) (number : ℕ) (first one other : Literal) → new ≡ pairs ++ unwatched ∷ [] → number ≡ length pairs →
     one ≡ first → other ≡ first → (list : ℕ) →
     pair_count (record { first = Some one; second = None }) list ≡ pair_count (pair_at new number) list + same (list_number other) list
@@ -544,7 +544,7 @@ contains-same table number other literal copy named is contains =
 pub added-inside : (pairs new : List WatchedPair) (pair : WatchedPair) (number : ℕ) → new ≡ pairs ++ pair ∷ [] → number ≡ length pairs → number < length new
 added-inside pairs new pair number added last = omega (arith, last, ap (λ (ps : List WatchedPair). length ps) added, length-append pairs (pair ∷ []))
 
--- a move, step by step: what was read, pushed, taken and written
+-- a move, step by step: the watch that was read, pushed, removed and written
 pub record IsMove (old mid new : List (Vec Watch Global)) (before : List WatchedPair) (from to : Literal) (place : ℕ) (blocker : Literal) (read : Watch)
     (pair : WatchedPair) : Type 0 where
   pub differ : from ≢ to

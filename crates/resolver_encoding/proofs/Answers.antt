@@ -1,4 +1,4 @@
--- Values that leave nothing to set give an answer.
+-- A trail that leaves nothing to set gives an answer.
 use Rattle.resolver_encoding.specs.Truth.{HasLawfulSolvables}
 use Rattle.std.proofs.Common.{◌≡◌, ◌≢◌, ◌⊎◌, List, [], ◌∷◌, Bool, true, false, inl, inr, refl, sym, ap, ◌∙◌, subst, ⊎_elim, Contains}
 use Rattle.std.specs.Prelude.{not, map}

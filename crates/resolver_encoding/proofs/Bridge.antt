@@ -1,4 +1,4 @@
--- A finished search over variables is a finished trail of what they stand for.
+-- A finished search over variables is a finished trail of the atoms that they stand for.
 use Rattle.std.proofs.Common.{◌≡◌, ◌≢◌, ℕ, zero, suc, ◌<◌, ◌≤◌, ◌⊎◌, List, [], ◌∷◌, ◌++◌, length, get_or, Option, Some, None, Bool, true, false, arith, inl}
 use Rattle.std.proofs.Common.{inr, refl, sym, ap, ◌∙◌, subst, ⊎_elim, Contains, All, Vec, Global}
 use Rattle.std.specs.Prelude.{not, map, slice_get, Any}
@@ -72,7 +72,7 @@ literal_open : (o : Option Slot) (slot : Slot) (q : Bool) → option_map (λ (s 
 literal_open None slot q e at = absurd cc
 literal_open (Some s) slot q e at = absurd cc
 
--- two lists that agree element by element
+-- two lists that agree element by element, each split at an element
 record Halves {A B : Type 0} (R : A → B → Type 0) (before : List A) (x : A) (ys : List B) : Type 0 where
   first : List B
   middle : B
@@ -88,7 +88,7 @@ halves R (b ∷ bs) x after [] h = absurd h
 halves R (b ∷ bs) x after (y ∷ ys) h = let w = halves R bs x after ys h.1 in
     record { first = y ∷ w.first; middle = w.middle; last = w.last; is = ap (λ q. y ∷ q) w.is; front = (h.0, w.front); at = w.at }
 
--- where a positive atom stands behind negative ones and then positive ones
+-- a positive atom behind negative atoms and other positive atoms
 record Cut {N S : Type 0} (vs : List VersionSetId) (candidates : List S) (first : List (Atom N S)) (middle : Atom N S) : Type 0 where
   s : S
   before : List S
@@ -142,7 +142,7 @@ cut_helpers {N} {S} (v ∷ vs) candidates (a ∷ first) middle last positive e =
       middle_is = w.middle_is;
     }
 
--- the same behind the requirer or the gate
+-- the same, behind the atom of the requirer or the gate
 record CutBehind {N S : Type 0} (parent : Origin N S) (vs : List VersionSetId) (candidates : List S) (first : List (Atom N S))
     (middle : Atom N S) : Type 0 where
   s : S
@@ -208,7 +208,7 @@ module _ {N S : Type 0} (origins : List (Origin N S)) (trail : Trail) (size : va
   has_value n x slot at below = let P : Atom N S → Type 0 = λ a. Contains (atoms_before origins trail n) a in
       subst P (entry_is x slot at) (Contains-before n slot.place below)
 
-  -- and so is the negation of a literal that is false
+  -- the negation of a false literal is on the trail of atoms
   pub has_negation : (n : ℕ) (l : Literal) → IsFalseBefore trail n l →
       Contains (atoms_before origins trail n) (atom (origin_at origins l.variable) (not l.positive))
   has_negation n l f =
@@ -218,7 +218,7 @@ module _ {N S : Type 0} (origins : List (Origin N S)) (trail : Trail) (size : va
   false_in_range : (n : ℕ) (l : Literal) → IsFalseBefore trail n l → l.variable < length origins
   false_in_range n l f = in_range l.variable f.slot f.is
 
-  -- an atom that literals before a place zip with
+  -- the negations of the atoms of false literals are on the trail
   zip_negation : (n : ℕ) (before : List Literal) (first : List (Atom N S)) → AllZip (IsAtom origins) before first → All (IsFalseBefore trail n) before →
       (a : Atom N S) → Contains first a → Contains (atoms_before origins trail n) (atom a.origin (not a.positive))
   zip_negation n before first zip falses a inside =
@@ -229,7 +229,7 @@ module _ {N S : Type 0} (origins : List (Origin N S)) (trail : Trail) (size : va
       let Q : Origin N S → Type 0 = λ x. P x w.0.positive in
       subst (P a.origin) w.2.positive (subst Q o (has_negation n w.0 f))
 
--- the clauses of an encoding, and a search over them that is finished
+-- the clauses of an encoding, and a finished search over them
 module _ {N S : Type 0} (u : Universe N S) (root : Demands) (notes : Notes N S) (encoding : IsEncoding u root notes) (requirements : List RequirementClause)
     (numbers : map (λ (r : RequirementClause). r.number) requirements ≡ notes.requirements)
     (trail : Trail) (size : variable_count trail ≡ length notes.origins) (finished : IsFinished notes.table requirements trail) (seeds refused : List S)
@@ -237,7 +237,7 @@ module _ {N S : Type 0} (u : Universe N S) (root : Demands) (notes : Notes N S) 
   abbrev before : ℕ → List (Atom N S)
   before n = atoms_before notes.origins trail n
 
-  -- a clause that the table implies is entailed
+  -- each clause that the table implies is entailed
   entailed : (clause : List Literal) → IsImplied notes.table clause → ((l : Literal) → Contains clause l → l.variable < length notes.origins) →
       IsEntailed u notes.kinds (atoms_by notes.origins clause)
   entailed clause implied ranged = record {
@@ -272,7 +272,7 @@ module _ {N S : Type 0} (u : Universe N S) (root : Demands) (notes : Notes N S) 
       inr (subst P w.2 (has_negation notes.origins trail size slot.place w.0 off)))
       (each w.0 w.1))
 
-  -- the first candidate that is left in a clause whose other literals are negative
+  -- the first candidate that is not false in a clause whose other literals are negative
   record IsFirstLeft (x : ℕ) (slot : Slot) (parent : Origin N S) (vs : List VersionSetId) (r : Requirement) : Type 0 where
     s : S
     is_solvable : origin_at notes.origins x ≡ Solvable s
@@ -413,14 +413,14 @@ module _ {N S : Type 0} (u : Universe N S) (root : Demands) (notes : Notes N S) 
       let e = same_slot a.0 b.0 a.1 b.1 (encoding.distinct.same a.0 b.0 o a.3 b.3) a.2 b.2 in
       false≢true (sym b.4 ∙ ap (λ (s : Slot). s.value) (sym e) ∙ a.4)
 
-  -- a literal whose atom's negation is on the trail is false
+  -- a literal is false if the negation of its atom is on the trail
   false_literal : (l : Literal) (a : Atom N S) → IsAtom notes.origins l a → Contains all (atom a.origin (not a.positive)) → literal_value trail l ≡ Some false
   false_literal l a is off =
       let w = variable_of (length_of trail) a.origin (not a.positive) (omega arith) off in
       let same : l.variable ≡ w.0 = encoding.distinct.same l.variable w.0 a.origin is.origin w.3 in
       literal_false _ w.1 a.positive l.positive (ap (slot_of trail) same ∙ w.2) w.4 is.positive
 
-  -- and a literal that is true has its atom there
+  -- the atom of a true literal is on the trail
   true_literal : (l : Literal) (a : Atom N S) → IsAtom notes.origins l a → literal_value trail l ≡ Some true → Contains all (atom a.origin a.positive)
   true_literal l a is holds =
       let w = literal_has _ l.positive true holds in
@@ -431,7 +431,7 @@ module _ {N S : Type 0} (u : Universe N S) (root : Demands) (notes : Notes N S) 
       let Q : Origin N S → Type 0 = λ p. P p w.0.value in
       subst (P a.origin) value (subst Q o (has_value notes.origins trail size (length_of trail) l.variable w.0 w.1 (trail.listed l.variable w.0 w.1).0))
 
-  -- the number of a clause of that kind
+  -- a clause of this kind has a number
   number_of : (kind : ClauseKind N S) → Contains notes.kinds kind → (n : ℕ) × (n < length notes.table) × (slice_get notes.kinds n ≡ Some kind)
   number_of kind (n, below, is) = (n, omega (arith, below, encoding.encoded.count), slice_get-get_or notes.kinds n kind below ∙ ap Some is)
 
@@ -461,7 +461,7 @@ module _ {N S : Type 0} (u : Universe N S) (root : Demands) (notes : Notes N S) 
       let a = are.each_literal l (Contains-get_or (clause_at notes.table n.0) i d below) in
       false_literal l a.0 a.2 (wrong a.0 a.1))
 
-  -- what a clause asks for candidates that depends on these
+  -- the atoms of a requirement clause with these helpers
   abbrev asking_atoms : Origin N S → List VersionSetId → Requirement → List (Atom N S)
   asking_atoms parent vs r = atom parent false ∷
       (map (λ v. atom (ConditionHelper v) false) vs ++ map (λ s. atom (Solvable s) true) (requirement_candidates u r))
@@ -541,7 +541,7 @@ module _ {N S : Type 0} (u : Universe N S) (root : Demands) (notes : Notes N S) 
     decided_gate = decided_gate;
   }
 
--- the chosen ones are the solvables that the trail makes true
+-- the chosen solvables are those that the trail makes true
 module _ {N S : Type 0} (origins : List (Origin N S)) (trail : Trail) where
   pub solvable_of : (o : Origin N S) (b : Bool) (s : S) → Contains (solvable_if o b) s → atom o b ≡ atom (Solvable s) true
   solvable_of (Solvable t) true s h = ⊎_elim (λ e. ap (λ x. atom (Solvable x) true) e) (λ n. absurd (none_in s n)) (cons_cases t [] s h)
@@ -574,7 +574,7 @@ module _ {N S : Type 0} (origins : List (Origin N S)) (trail : Trail) where
   is_chosen = record { each_true = true_before (length_of trail); each_chosen = chosen_before (length_of trail) }
 
   module _ (distinct : AreDistinct origins) (size : variable_count trail ≡ length origins) where
-    -- an atom stands at one place
+    -- a solvable has only one place on the trail
     one_place : (j k : ℕ) (s : S) → j < length_of trail → k < length_of trail → entry_at origins trail j ≡ atom (Solvable s) true →
         entry_at origins trail k ≡ atom (Solvable s) true → j ≡ k
     one_place j k s below_j below_k ej ek =
@@ -609,7 +609,7 @@ module _ {N S : Type 0} (origins : List (Origin N S)) (trail : Trail) where
     pub chosen_once : HasNoRepeats (solvables_before origins trail (length_of trail))
     chosen_once = once_before (length_of trail) (omega arith)
 
--- a finished search over what was read so far is an answer, where all that it chose was read
+-- a finished search is an answer if each solvable that it chose was read
 pub finished_is_valid : {N S : Type 0} (u : Universe N S) (root : Demands) (notes : Notes N S) (requirements : List RequirementClause) (trail : Trail)
     (seeds refused : List S) →
     HasLawfulSolvables u → HasLawfulPackages u → IsReadSoFar u root (solvables_before notes.origins trail (length_of trail)) notes →

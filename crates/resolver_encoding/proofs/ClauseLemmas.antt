@@ -1,4 +1,4 @@
--- Literals that are added, and clauses made of them.
+-- Literals that are added to lists, and clauses made of them.
 use Rattle.std.proofs.Common.{◌≡◌, ℕ, ◌+◌, ◌<◌, List, [], ◌∷◌, ◌++◌, length, get_or, take, sym, ap, ◌∙◌, subst, ⊎_elim, Contains, append_assoc}
 use Rattle.std.proofs.Common.{append-nil, map}
 use Rattle.std.specs.List.{AllZip}
@@ -54,7 +54,7 @@ AreAtoms-keeps old new ls as' keeps are = record {
   each_atom = λ a i. let w = are.each_atom a i in (w.0, w.1, IsAtom-keeps old new w.0 a keeps w.2);
 }
 
--- one literal that stands for an origin twice
+-- one literal stands for both of two equal atoms
 pub AreAtoms-twice : {N S : Type 0} (origins : List (Origin N S)) (ls : List Literal) (a b : Atom N S) → a ≡ b → AllZip (IsAtom origins) ls (a ∷ []) →
     AreAtoms origins ls (a ∷ b ∷ [])
 AreAtoms-twice {N} {S} origins ls a b same h =
@@ -72,7 +72,7 @@ AreAtoms-twice {N} {S} origins ls a b same h =
           one.each_atom c of_a;
     }
 
--- nothing is added yet
+-- nothing was added yet
 pub Adds-none : {N S : Type 0} (origins : List (Origin N S)) (ls : List Literal) → Adds origins ls ls []
 Adds-none origins ls = record { added = []; is = sym (append-nil ls); are = tt }
 
@@ -84,7 +84,7 @@ Adds-trans {N} {S} mid new one two three as' bs grows first second = record {
   are = AllZip-append (IsAtom new) first.added second.added as' bs (AllZip-keeps mid new grows.keeps first.added as' first.are) second.are;
 }
 
--- the literals of one more element
+-- one more element has its literals
 pub Adds-next : {N S X : Type 0} (f : X → Atom N S) (mid new : List (Origin N S)) (start now next : List Literal) (xs : List X) (i : ℕ) (d : X) (a : Atom N S) →
     Grows mid new → Adds mid start now (map f (take i xs)) → i < length xs → f (get_or xs i d) ≡ a → Adds new now next (a ∷ []) →
     Adds new start next (map f (take (i + 1) xs))
@@ -94,7 +94,7 @@ Adds-next {N} {S} {X} f mid new start now next xs i d a grows before below is mo
     let All_of : List (Atom N S) → Type 0 = λ as'. Adds new start next as' in
     subst All_of (sym (taken ∙ ap (λ b. map f (take i xs) ++ b ∷ []) is)) (Adds-trans mid new start now next (map f (take i xs)) (a ∷ []) grows before more)
 
--- the literals of an empty list to which these were added
+-- an empty list to which literals were added has these literals
 pub Adds-zip : {N S : Type 0} (origins : List (Origin N S)) (start ls : List Literal) (as' : List (Atom N S)) → start ≡ [] → Adds origins start ls as' →
     AllZip (IsAtom origins) ls as'
 Adds-zip {N} {S} origins start ls as' none adds =

@@ -1,4 +1,4 @@
--- The part of a set that is there by need, as a list.
+-- The part of a set that is reached by need, as a list.
 use Rattle.resolver_encoding.specs.Truth.{HasLawfulSolvables}
 use Rattle.std.proofs.Common.{◌≡◌, ℕ, zero, suc, ◌+◌, ◌<◌, ◌≤◌, ◌⊎◌, List, [], ◌∷◌, length, arith, inl, inr, refl, sym, subst, ⊎_elim, Contains}
 use Rattle.std.specs.Prelude.{Option, Some, None}
@@ -75,7 +75,7 @@ module _ {N S : Type 0} (u : Universe N S) (root : Demands) (lawful : HasLawfulS
   optional_or None = inl tt
   optional_or (Some c) = holds_or (suc (u.condition_rank c)) c (omega arith)
 
-  -- some active requirement of the list has it among its candidates
+  -- some active requirement of the list has the solvable among its candidates
   pub record ListsCandidate (rs : List ConditionalRequirement) (s : S) : Type 0 where
     pub r : ConditionalRequirement
     pub listed : Contains rs r
@@ -101,7 +101,7 @@ module _ {N S : Type 0} (u : Universe N S) (root : Demands) (lawful : HasLawfulS
       (optional_or r.condition))
       (lists_or rs s)
 
-  -- one of these lists_it for it
+  -- a requirement of one of these solvables lists the candidate
   pub record ListsFromOne (done : List S) (s : S) : Type 0 where
     pub by : S
     pub among : Contains done by
@@ -177,7 +177,7 @@ module _ {N S : Type 0} (u : Universe N S) (root : Demands) (lawful : HasLawfulS
       m)
       n
 
-  -- a part of the set that is there by need, and leads to nothing else of the set
+  -- a part of the set that is reached by need, and leads to nothing else in the set
   pub record Closure : Type 0 where
     pub part : List S
     pub within : IsWithin part chosen

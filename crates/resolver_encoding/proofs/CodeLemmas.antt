@@ -1,4 +1,4 @@
--- Codes that differ.
+-- Numbers that differ have codes that differ.
 use Rattle.std.proofs.Common.{◌≡◌, ◌≢◌, ℕ, ◌-◌, ◌*◌, ◌/◌, ◌%◌, ◌^◌, ◌<◌, ◌≤◌, zero, suc, Bool, true, false, arith, refl, sym, ap, ◌∙◌, subst, ⊎_elim, Contains}
 use Rattle.std.specs.Prelude.{not, nat_eq}
 use Rattle.std.specs.Int.Count.{count_leading_zeros}
@@ -58,7 +58,7 @@ bit-zero n = ap (λ d. nat_eq d 1) (bit_at_lowest n)
 bit_of_half : (k i : ℕ) (half whole : Bool) → bit (k / 2) i ≡ not half → whole ≡ half → bit k (suc i) ≡ not whole
 bit_of_half k i half whole is same = bit-suc k i ∙ is ∙ ap not (sym same)
 
--- two numbers differ in a digit that the larger one has
+-- two numbers differ in a digit of the larger number
 pub digit_apart : (j k fuel : ℕ) → j < k → k ≤ fuel → (i : ℕ) × (2 ^ i ≤ k) × (bit k i ≡ not (bit j i))
 digit_apart j k zero less enough = absurd (omega (arith, less, enough))
 digit_apart j k (suc fuel) less enough = ⊎_elim
@@ -80,7 +80,7 @@ digit_apart j k (suc fuel) less enough = ⊎_elim
     parities zero (suc (suc b)) h k differ = absurd (omega (arith, k))
     parities (suc zero) (suc (suc b)) h k differ = absurd (omega (arith, k))
 
--- a digit begins with no other number than a power of two
+-- a number that does not begin its last digit begins none
 pub no_new_digit : (number count i : ℕ) → ((j : ℕ) → j < count → 2 ^ j ≤ number) → ((j : ℕ) → 2 ^ j ≤ number → j < count) → (number ≡ 2 ^ (count - 1) → ⊥) →
     number ≡ 2 ^ i → ⊥
 no_new_digit number count i each every other is =
@@ -97,7 +97,7 @@ turned true false e = refl
 turned false true e = refl
 turned false false e = absurd cc
 
--- two that bear one name differ in a digit for which both have a clause
+-- two solvables of one package differ in a digit for which both have a clause
 pub apart_of_digits : {N S : Type 0} (u : Universe N S) (root : Demands) (notes : Notes N S) → IsEncoding u root notes → (s t : S) → Contains notes.seen s →
     Contains notes.seen t → u.name s ≡ u.name t → s ≢ t → AreApart notes.kinds (u.name s) s t
 apart_of_digits {N} {S} u root notes encoding s t one other same differ =
@@ -125,7 +125,7 @@ apart_of_digits {N} {S} u root notes encoding s t one other same differ =
         (cases_lt k j))
         (cases_lt j k)
 
--- a number has no digit beyond its own
+-- a digit that is worth more than the number is not set
 pub no_digit : (j i : ℕ) → j < 2 ^ i → bit j i ≡ false
 no_digit j i below =
     let none : j / 2 ^ i ≡ 0 = div-eq_of_lt below in

@@ -1,4 +1,4 @@
--- What a core's clauses imply fits them.
+-- The implications that the clauses of a core state.
 use Rattle.std.proofs.Common.{◌≡◌, ◌⊎◌, inl, inr, ℕ, List, Bool, true, false, sym, ap, ◌∙◌, subst, ⊎_elim, Contains, All}
 use Rattle.std.specs.Prelude.{◌&&◌, nat_eq}
 use Rattle.std.proofs.lemmas.Bool.{cases_Bool, both_ways, false≢true, eqb-true, and_from}
@@ -77,27 +77,27 @@ module _ {N S : Type 0} (u : Universe N S) (same_name : N → N → Bool) (names
     abbrev In : ClauseKind N S → Type 0
     In k = Contains kinds k
 
-    -- a gate's requirer whose implication is among the clauses
+    -- the clause by which a solvable implies a gate
     pub implied-gate : (r : Requirement) (s : S) → implied_in u same_name kinds (Gate r) s ≡ true → Contains kinds (AnyOf (Gate r) s)
     implied-gate r s e =
         let w = list_any-witness (says_implies u same_name (Gate r) s) kinds e in
         subst In (says-gate r s w.0 w.2) w.1
 
-    -- from what the helper of a constraint follows
+    -- the clause by which a solvable implies a constraint helper
     pub implied-helper : (v : VersionSetId) (s : S) → implied_in u same_name kinds (ConstraintHelper v) s ≡ true → Contains kinds (ConstrainsExcluded s v) ⊎
         Contains kinds (AnyOf (ConstraintHelper v) s)
     implied-helper v s e =
         let w = list_any-witness (says_implies u same_name (ConstraintHelper v) s) kinds e in
         ⊎_elim (λ a. inl (subst In a w.1)) (λ b. inr (subst In b w.1)) (says-helper v s w.0 w.2)
 
-    -- from what a bit follows
+    -- the clause by which a solvable implies a digit
     pub implied-bit : (n : N) (i : ℕ) (s : S) → implied_in u same_name kinds (Bit n i) s ≡ true → Contains kinds (HasBit n s i true) ⊎
         Contains kinds (AnyOf (Bit n i) s)
     implied-bit n i s e =
         let w = list_any-witness (says_implies u same_name (Bit n i) s) kinds e in
         ⊎_elim (λ a. inl (subst In a w.1)) (λ b. inr (subst In b w.1)) (says-bit n i s w.0 w.2)
 
-    -- a helper follows from the solvables of which the clauses say so
+    -- a solvable implies the helper if a clause says it
     pub implied-any : (o : Origin N S) (s : S) → IsHelper o → Contains kinds (AnyOf o s) → implied_in u same_name kinds o s ≡ true
     implied-any o s helper inside =
         list_any-contains (says_implies u same_name o s) kinds (AnyOf o s) inside (and_from _ _ (same_helper-same o helper) (same.itself s))
@@ -124,7 +124,7 @@ module _ {N S : Type 0} (u : Universe N S) (same_name : N → N → Bool) (names
     says-follows o s (HasBit n t i true) inside e = moved (Bit n i) o t s e (truth (HasBit n t i true) inside).1
     says-follows o s k inside e = absurd (false≢true e)
 
-    -- what these clauses imply is so
+    -- the implications that these clauses state are true
     pub implied-follows : (o : Origin N S) (s : S) → implies o s ≡ true → follows u codes o s ≡ true
     implied-follows o s e = let w = list_any-witness (says_implies u same_name o s) kinds e in says-follows o s w.0 w.1 w.2
 

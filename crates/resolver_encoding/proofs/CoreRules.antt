@@ -39,7 +39,7 @@ module _ {N S : Type 0} (u : Universe N S) (codes : N → ℕ → S → Bool) (a
   truth : (kind : ClauseKind N S) → Contains kinds kind → IsTrueClause u codes root kind
   truth kind inside = All-contains (IsTrueClause u codes root) kinds kind are_true inside
 
-  -- what true clauses state is true
+  -- true clauses make true statements
   pub stated_true : (st : Statement N S) → IsStated u implies kinds st → IsTrueStatement u root st
   stated_true st (states_requires by disjunct r inside) = let t = truth (Requires by disjunct r) inside in (t.0, t.1, t.2, refl, t.3)
   stated_true st (states_constrains by v s inside) = truth (Constrains by v s) inside
@@ -55,13 +55,13 @@ module _ {N S : Type 0} (u : Universe N S) (codes : N → ℕ → S → Bool) (a
   stated_true st (states_lock s t inside) = truth (Lock s t) inside
   stated_true st (states_excluded s reason inside) = truth (Excluded s reason) inside
 
--- clauses that no values make true at the level of origins refute the rules that they state
+-- clauses that no values of their atoms make true refute the rules that they state
 pub contradictory_refutes : {N S : Type 0} (u : Universe N S) (implies : Origin N S → S → Bool) (kinds : List (ClauseKind N S)) (rules : List (Rule N S)) →
     HasLawfulSolvables u → Defines u implies kinds → AreListed u implies kinds rules → IsContradictory u kinds → IsRefuted rules
 contradictory_refutes u implies kinds rules lawful defines listed h =
     λ set obeys. h.none (is_on u implies set) (satisfied u implies lawful.same_solvable set kinds defines (rules_obey u implies kinds rules set obeys listed))
 
--- clauses of a table that no values make true
+-- clauses of a table that no values make true are contradictory
 pub core_contradicts : {N S : Type 0} (u : Universe N S) (origins : List (Origin N S)) (table : List (Vec Literal Global)) (kinds : List (ClauseKind N S))
     (numbers : List ℕ) →
     AreEncoded u origins table kinds → All (λ n. n < length kinds) numbers → ((values : ℕ → Bool) → MakesTrue values table numbers → ⊥) →
@@ -77,7 +77,7 @@ core_contradicts {N} {S} u origins table kinds numbers encoded within none = rec
 
 module _ {N S : Type 0} (u : Universe N S) (same_name : N → N → Bool) (codes : N → ℕ → S → Bool) (root : Demands) (core : List (ClauseKind N S))
     (rules : List (Rule N S)) where
-  -- the rules of a core
+  -- the rules of a core explain
   pub core_explained : HasLawfulSolvables u → IsIdentity same_name → AreCodes u codes → All (IsTrueClause u codes root) core →
       AreListed u (implied_in u same_name core) core rules → AreStated u (implied_in u same_name core) core rules → IsContradictory u core →
       IsExplained u root rules

@@ -1,4 +1,4 @@
--- What an encoding's clauses are for a search.
+-- The clauses of an encoding, as a search uses them.
 use Rattle.std.proofs.Common.{◌≡◌, ℕ, ◌<◌, ◌≤◌, List, [], length, get_or, arith, sym, ap, subst, ⊎_elim, Contains, All, Vec}
 use Rattle.std.proofs.Common.{Global}
 use Rattle.std.specs.Prelude.{map}
@@ -16,7 +16,7 @@ use Rattle.resolver_clause_store.proofs.ListLemmas.{Contains-map, slice_get-insi
 use Rattle.resolver_encoding.specs.Encodings.{IsEncoding, Notes}
 
 module _ {N S : Type 0} (u : Universe N S) (root : Demands) (notes : Notes N S) (encoding : IsEncoding u root notes) where
-  -- each variable of each clause stands for something
+  -- each variable of each clause has an origin
   pub encoded_below : AreBelow (length notes.origins) notes.table
   encoded_below number = ⊎_elim
       (λ (less : number < length notes.kinds). λ k d below.
@@ -32,7 +32,7 @@ module _ {N S : Type 0} (u : Universe N S) (root : Demands) (notes : Notes N S) 
       subst Below (sym none) (λ k d below. absurd (omega arith)))
       (cases_lt number (length notes.kinds))
 
-  -- each clause that asks for candidates is in the table
+  -- each requirement clause is in the table
   pub requirements_inside : (requirements : List RequirementClause) → map (λ (r : RequirementClause). r.number) requirements ≡ notes.requirements →
       All (λ (r : RequirementClause). r.number < length notes.table) requirements
   requirements_inside requirements numbers = λ k d below.

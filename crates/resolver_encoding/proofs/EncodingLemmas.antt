@@ -1,4 +1,4 @@
--- Steps of an encoding: one after another, one more clause, one more solvable, package or helper.
+-- Steps of an encoding: one after another, or one more clause, solvable, package or helper.
 use Rattle.std.proofs.Common.{Bool, true, false}
 use Rattle.std.proofs.Common.{◌≡◌, ℕ, ◌+◌, ◌<◌, map, List, [], ◌∷◌, ◌++◌, length, length-append, refl, sym, ap, ◌∙◌, subst, ⊎_elim, inl, inr, arith}
 use Rattle.std.proofs.Common.{append_assoc, append-nil, Contains, Vec, Global, ◌⊎◌}
@@ -62,7 +62,7 @@ Extends-within {X} xs ys more x h =
     let Has : List X → Type 0 = λ list. Contains list x in
     subst Has (sym more.is) (Contains-append_left xs more.more x h)
 
--- it asks for no candidates
+-- the clause is no requirement clause
 abbrev pub IsPlain : {N S : Type 0} → ClauseKind N S → Type 0
 IsPlain (Requires by disjunct r) = ⊥
 IsPlain (GateRequires r) = ⊥
@@ -80,7 +80,7 @@ asks_not {N} {S} kind plain asks =
     let Plain : ClauseKind N S → Type 0 = λ k. IsPlain k in
     ⊎_elim (λ w. subst Plain w.3 plain) (λ w. subst Plain w.1 plain) asks
 
--- a clause asks for candidates and its number is noted, or neither
+-- the clause is a requirement clause and its number is listed, or neither
 abbrev AsksOrNot : {N S : Type 0} → ClauseKind N S → Type 0
 AsksOrNot kind = (IsRequirementKind kind × ((number : ℕ) (numbers : List ℕ) → numbers_with kind number numbers ≡ numbers ++ number ∷ [])) ⊎
     ((IsRequirementKind kind → ⊥) × ((number : ℕ) (numbers : List ℕ) → numbers_with kind number numbers ≡ numbers))
@@ -97,7 +97,7 @@ asks_or_not (HasBit n s i b) = inr (asks_not (HasBit n s i b) tt, λ number numb
 asks_or_not (Lock s t) = inr (asks_not (Lock s t) tt, λ number numbers. refl)
 asks_or_not (Excluded s reason) = inr (asks_not (Excluded s reason) tt, λ number numbers. refl)
 
--- a clause's literals stay those of its kind when variables are added
+-- the literals of a clause stay those of its kind when variables are added
 AreInOrder-keeps : {N S : Type 0} (u : Universe N S) (old new : List (Origin N S)) (ls : List Literal) (kind : ClauseKind N S) → Keeps old new →
     AreInOrder u old ls kind → AreInOrder u new ls kind
 AreInOrder-keeps u old new ls (Requires by disjunct r) keeps h = AllZip-keeps old new keeps ls (atoms_of u (Requires by disjunct r)) h
@@ -124,16 +124,16 @@ AreInOrder-zip u origins ls (HasBit n s i b) h = tt
 AreInOrder-zip u origins ls (Lock s t) h = tt
 AreInOrder-zip u origins ls (Excluded s reason) h = tt
 
--- literals that are the atoms of a kind, in order
+-- literals that stand for the atoms of a kind, in order
 pub IsClauseOf-zip : {N S : Type 0} (u : Universe N S) (origins : List (Origin N S)) (ls : List Literal) (kind : ClauseKind N S) →
     AllZip (IsAtom origins) ls (atoms_of u kind) → IsClauseOf u origins ls kind
 IsClauseOf-zip u origins ls kind h = record { atoms = AreAtoms-zip origins ls (atoms_of u kind) h; in_order = AreInOrder-zip u origins ls kind h }
 
--- the helpers and the candidates of a clause
+-- the atoms of the helpers and of the candidates of a clause
 abbrev behind : {N S : Type 0} → List VersionSetId → List S → List (Atom N S)
 behind helpers candidates = map (λ v. atom (ConditionHelper v) false) helpers ++ map (λ s. atom (Solvable s) true) candidates
 
--- the atoms of which the literals of a clause are made
+-- the atoms for which the literals of a clause are made
 abbrev pub made_of : {N S : Type 0} → Universe N S → Option (Origin N S × Bool) → ClauseKind N S → List (Atom N S)
 made_of u second kind = front (first_atom kind) second ++ behind (helpers_of kind) (wanted u kind)
 
@@ -193,7 +193,7 @@ module _ {N S : Type 0} (u : Universe N S) where
   AreEncoded-keeps old new table kinds keeps before =
       record { count = before.count; each = λ n k at. IsClauseOf-keeps u old new (clause_at table n) k keeps (before.each n k at) }
 
-  -- what a new lock or exclusion must be
+  -- conditions for a new lock or exclusion
   abbrev pub IsDue : List N → List S → ClauseKind N S → Type 0
   IsDue asked exempt (Lock s t) = Contains asked (u.name t) × (Contains exempt t → ⊥)
   IsDue asked exempt (Excluded s reason) = (Contains asked (u.name s) × (Contains exempt s → ⊥)) ⊎ (u.needs s ≡ unknown reason)
@@ -216,14 +216,14 @@ module _ {N S : Type 0} (u : Universe N S) where
             (Contains-push_cases kinds kind (Excluded s reason) h);
       }
 
-  -- what a new requirement's clause needs to be there before it
+  -- a requirement clause needs these packages, candidates and helpers first
   pub record IsReady (notes : Notes N S) (disjunct : List VersionSetId) (r : Requirement) : Type 0 where
     pub helpers : (v : VersionSetId) → Contains disjunct v → Contains notes.helped v
     pub packages : (v : VersionSetId) → Contains (version_sets u r) v → Contains notes.asked (u.version_set_name v)
     pub candidates : (s : S) → Contains (requirement_candidates u r) s → Contains notes.seen s
     pub once : AreDistinct disjunct
 
-  -- what the clause of a gate needs to be there before it
+  -- the clause of a gate needs these packages and candidates first
   pub record IsGateReady (notes : Notes N S) (r : Requirement) : Type 0 where
     pub packages : (v : VersionSetId) → Contains (version_sets u r) v → Contains notes.asked (u.version_set_name v)
     pub candidates : (s : S) → Contains (requirement_candidates u r) s → Contains notes.seen s
@@ -240,19 +240,19 @@ module _ {N S : Type 0} (u : Universe N S) where
   IsPrepared doing notes (ConstrainsParent by v) = ⊤
   IsPrepared doing notes (HasBit n s i b) = Contains notes.seen s ⊎ Contains (map (λ (c : Coding N S). c.instance) doing.coding) s
 
-  -- the codes are those of what was met and of what is in progress
+  -- the codes are those of the registered solvables and of the work in progress
   pub record HasCodes (doing : Doing N S) (notes : Notes N S) (codes : N → ℕ → S → Bool) : Type 0 where
     pub placed : (n : N) (k : ℕ) (s : S) → IsAt notes.groups n k s → (i : ℕ) → codes n i s ≡ bit k i
     pub coding : (c : Coding N S) → Contains doing.coding c → (i : ℕ) → codes c.name i c.instance ≡ bit c.number i
 
-  -- a clause that may be added: it is true, due, and what it brings with it is there
+  -- a clause that may be added: it is true and due, and the notes have all that it relies on
   pub record IsNext (doing : Doing N S) (root : Demands) (notes : Notes N S) (kind : ClauseKind N S) : Type 0 where
     pub is_true : (codes : N → ℕ → S → Bool) → HasCodes doing notes codes → IsTrueClause u codes root kind
     pub proper : HasProperHelper kind
     pub due : IsDue (doing.asking ++ notes.asked) notes.exempt kind
     pub prepared : IsPrepared doing notes kind
 
-  -- the numbers of the clauses that ask for candidates, after a clause
+  -- the numbers of the requirement clauses are listed
   pub record AreListed (kinds : List (ClauseKind N S)) (requirements : List ℕ) : Type 0 where
     pub listed : (n : ℕ) (kind : ClauseKind N S) → slice_get kinds n ≡ Some kind → IsRequirementKind kind → Contains requirements n
     pub ask : (n : ℕ) → Contains requirements n → (kind : ClauseKind N S) × (slice_get kinds n ≡ Some kind) × IsRequirementKind kind
@@ -281,7 +281,7 @@ module _ {N S : Type 0} (u : Universe N S) where
             (Contains-push_cases requirements (length kinds) n h);
       }
 
-  -- with the number of the clause, where it asks for candidates
+  -- they are listed after one more clause, with its number if it is a requirement clause
   AreListed-kind : (kinds : List (ClauseKind N S)) (requirements : List ℕ) (kind : ClauseKind N S) → AreListed kinds requirements →
       AreListed (kinds ++ kind ∷ []) (numbers_with kind (length kinds) requirements)
   AreListed-kind kinds requirements kind before =
@@ -355,14 +355,14 @@ module _ {N S : Type 0} (u : Universe N S) where
         sound_deferred_by_name = before.sound_deferred_by_name;
       }
 
-  -- the notes stay right where the premise holds
+  -- the notes stay an encoding if the premise holds
   abbrev pub StaysRight : Doing N S → (Demands → Type 0) → Notes N S → Notes N S → Type 0
   StaysRight doing Premise old new = (root : Demands) → Premise root → IsEncodingWhile u doing root old → IsEncodingWhile u doing root new
 
   pub IsStep-same : (doing : Doing N S) (Premise : Demands → Type 0) (notes : Notes N S) → IsStepWhile u doing Premise notes notes
   IsStep-same doing Premise notes = search (Keeps-same, Extends-same)
 
-  -- one more clause
+  -- one more clause was added
   pub IsStep-clause : (doing : Doing N S) (Premise : Demands → Type 0) (old new : Notes N S) (kind : ClauseKind N S) → AddsKind u kind old new →
       ((root : Demands) → Premise root → IsEncodingWhile u doing root old → IsNext doing root old kind) → IsStepWhile u doing Premise old new
   IsStep-clause doing Premise old new kind adds next =
@@ -384,17 +384,17 @@ module _ {N S : Type 0} (u : Universe N S) where
       IsStepWhile u doing Premise two three → IsStepWhile u doing Premise one three
   IsStep-trans doing Premise one two three first second = search (Keeps-trans, Extends-trans, IsWithin-trans, first.keeps, second.keeps)
 
-  -- under a premise from which its own follows
+  -- a step is also a step under a premise that implies its own
   pub IsStep-weaker : (doing : Doing N S) (Premise Stronger : Demands → Type 0) → ((root : Demands) → Stronger root → Premise root) → (old new : Notes N S) →
       IsStepWhile u doing Premise old new → IsStepWhile u doing Stronger old new
   IsStep-weaker doing Premise Stronger follows old new step = search step.keeps
 
-  -- where nothing was asked or registered, all was followed before
+  -- if nothing was asked or registered, each followed call was followed before
   pub followed_before : (old new : Notes N S) → new.asked ≡ old.asked → new.seen ≡ old.seen → (call : Call N S) → IsFollowed new call → IsFollowed old call
   followed_before old new asked seen (to_ask n) h = let Has : List N → Type 0 = λ list. Contains list n in subst Has asked h
   followed_before old new asked seen (to_see s) h = let Has : List S → Type 0 = λ list. Contains list s in subst Has seen h
 
-  -- steps that may ask and register
+  -- a step that may ask packages and register candidates
   pub IsAskStep-of : (Called : Call N S → Type 0) (Premise : Demands → Type 0) (old new : Notes N S) → IsStep u Premise old new →
       IsAskStep u Called Premise old new
   IsAskStep-of Called Premise old new step =
@@ -412,7 +412,7 @@ module _ {N S : Type 0} (u : Universe N S) where
       λ call h. ⊎_elim (λ before. first.called call before) (λ called. inr called) (second.called call h) in
       search (Keeps-trans, Extends-trans, IsWithin-trans, first.keeps, second.keeps)
 
-  -- with more called for, under a premise from which its own follows
+  -- such a step with more calls, under a premise that implies its own
   pub IsAskStep-weaker : (Called More : Call N S → Type 0) → ((call : Call N S) → Called call → More call) → (Premise Stronger : Demands → Type 0) →
       ((root : Demands) → Stronger root → Premise root) → (old new : Notes N S) → IsAskStep u Called Premise old new → IsAskStep u More Stronger old new
   IsAskStep-weaker Called More more Premise Stronger follows old new step =
@@ -420,7 +420,7 @@ module _ {N S : Type 0} (u : Universe N S) where
       λ call h. ⊎_elim (λ before. inl before) (λ called. inr (more call called)) (step.called call h) in
       search step.keeps
 
-  -- steps that may put disjuncts off
+  -- a step that may defer disjuncts
   pub IsReadStep-of : (Defers : Deferred S → Type 0) (Called : Call N S → Type 0) (Premise : Demands → Type 0) (old new : Notes N S) →
       IsAskStep u Called Premise old new → IsReadStep u Defers Called Premise old new
   IsReadStep-of Defers Called Premise old new step =
@@ -449,7 +449,7 @@ module _ {N S : Type 0} (u : Universe N S) where
       λ call h. ⊎_elim (λ before. inl before) (λ called. inr (more call called)) (step.called call h) in
       search step.keeps
 
-  -- an encoding of the same problem, after a step; of a problem of which another premise holds
+  -- an encoding stays one of the same problem after a step, and is one under a weaker premise
   pub IsEncodingOf-step : (Premise : Demands → Type 0) (old new : Notes N S) → IsEncodingOf u Premise old → IsStep u Premise old new →
       IsEncodingOf u Premise new
   IsEncodingOf-step Premise old new before step =

@@ -1,4 +1,4 @@
--- A set's extension makes the clauses true.
+-- The extension of a set makes the clauses true.
 use Rattle.resolver_encoding.specs.Truth.{HasLawfulSolvables}
 use Rattle.std.proofs.Common.{◌≡◌, ◌<◌, ℕ, List, [], Bool, true, false, ap, subst, Contains, All, Vec, Global, length, get_or, arith}
 use Rattle.std.specs.Prelude.{Some, slice_get}
@@ -20,7 +20,7 @@ use Rattle.resolver_encoding.proofs.Satisfied.{satisfied}
 use Rattle.resolver_clause_store.proofs.ListLemmas.{list_any-contains, list_any-witness}
 use Rattle.resolver_encoding.proofs.Sound.{defines, valid_obeys}
 
--- variables that have the values of their origins make a clause true that is true by its atoms
+-- variables with the values of their origins make a clause true if its atoms make it true
 pub clause_true-atoms : {N S : Type 0} (origins : List (Origin N S)) (value : Origin N S → Bool) (values : ℕ → Bool) →
     ((x : ℕ) (o : Origin N S) → slice_get origins x ≡ Some o → values x ≡ value o) →
     (literals : List Literal) (atoms : List (Atom N S)) → AreAtoms origins literals atoms → is_satisfied value atoms ≡ true → clause_true values literals ≡ true
@@ -30,7 +30,7 @@ clause_true-atoms origins value values agree literals atoms are holds =
     list_any-contains (λ (l : Literal). beq (values l.variable) l.positive) literals l.0 l.1
     (rw (agree l.0.variable w.0.origin l.2.origin, l.2.positive) w.2)
 
--- the values that variables get from their origins
+-- the values that variables get from the values of their origins
 abbrev pub values_by : {N S : Type 0} → List (Origin N S) → (Origin N S → Bool) → ℕ → Bool
 values_by origins value x = option_map_or value (slice_get origins x) false
 
@@ -40,7 +40,7 @@ values_by-origin origins value x o e = ap (λ p. option_map_or value p false) e
 
 module _ {N S : Type 0} (u : Universe N S) (origins : List (Origin N S)) (table : List (Vec Literal Global)) (kinds : List (ClauseKind N S))
     (encoded : AreEncoded u origins table kinds) (value : Origin N S → Bool) where
-  -- a clause is true by its variables where it is by its atoms
+  -- the variables make a clause true if the atoms of its kind do
   pub clause_by_kind : (n : ℕ) (kind : ClauseKind N S) → slice_get kinds n ≡ Some kind → is_satisfied value (atoms_of u kind) ≡ true →
       clause_true (values_by origins value) (clause_at table n) ≡ true
   clause_by_kind n kind e holds =
@@ -57,7 +57,7 @@ module _ {N S : Type 0} (u : Universe N S) (origins : List (Origin N S)) (table 
       subst True (ap (λ o. option_map_or (λ (c : Vec Literal Global). c.items) o []) stands)
       (clause_by_kind n kind is (all kind (Contains-get_or kinds n InstallRoot inside)))
 
--- an answer
+-- the extension of an answer satisfies the clauses
 pub valid_satisfies : {N S : Type 0} (u : Universe N S) (codes : N → ℕ → S → Bool) (root : Demands) (origins : List (Origin N S))
     (table : List (Vec Literal Global)) (kinds : List (ClauseKind N S)) (set exempt : List S) →
     HasLawfulSolvables u → AreCodes u codes → AreEncoded u origins table kinds → All (IsTrueClause u codes root) kinds → Spares u exempt kinds →

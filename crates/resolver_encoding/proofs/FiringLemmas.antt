@@ -1,4 +1,4 @@
--- Disjuncts that are put off, taken out and fired.
+-- Disjuncts that are deferred, removed and encoded.
 use Rattle.std.proofs.Common.{◌≡◌, ◌≢◌, ◌⊎◌, ℕ, zero, suc, ◌+◌, ◌-◌, ◌<◌, ◌≤◌, Bool, true, false, MatchBool, List, [], ◌∷◌, ◌++◌, length, get_or, take, drop}
 use Rattle.std.proofs.Common.{map, refl, ap, sym, ◌∙◌, subst, ⊎_elim, inl, inr, arith, Contains, All, cond}
 use Rattle.std.specs.Prelude.{Option, Some, None, IfSome, IfNone, count_by, is_some, slice_get, slice_set, ◌||◌}
@@ -35,7 +35,7 @@ pub unmet_if : {S : Type 0} (candidates set : List S) (b : Bool) → b ≡ false
     Meets candidates set → ⊥
 unmet_if candidates set b is fact = fails_if b (Meets candidates set) (Meets candidates set → ⊥) is fact
 
--- a version set that is not met
+-- a disjunct is not met if one of its version sets is not
 pub unmet_at : {N S : Type 0} (u : Universe N S) (set : List S) (list : List VersionSetId) (i : ℕ) (d : VersionSetId) → i < length list →
     (Meets (matching u (get_or list i d)) set → ⊥) → AllMeet set (map (matching u) list) → ⊥
 unmet_at u set list i d below unmet all =
@@ -43,7 +43,7 @@ unmet_at u set list i d below unmet all =
     unmet (All-contains (λ xs. Meets xs set) (map (matching u) list) (matching u (get_or list i d)) all
     (Contains-map (matching u) list (get_or list i d) inside))
 
--- a place of a list from which an element was taken
+-- a place of a list where another element was removed
 pub kept : {X : Type 0} (xs : List (Option X)) (n i : ℕ) (x : X) → slice_get (slice_set xs n None) i ≡ Some (Some x) → slice_get xs i ≡ Some (Some x)
 kept [] n i x at = at
 kept (y ∷ ys) zero zero x at = absurd (none-some x (same_Some _ _ at))
@@ -63,7 +63,7 @@ gone [] n x at = none-some (Some x) at
 gone (y ∷ ys) zero x at = none-some x (same_Some _ _ at)
 gone (y ∷ ys) (suc n) x at = gone ys n x at
 
--- one fewer is left
+-- fewer elements are left
 fewer : {X : Type 0} (xs : List (Option X)) (n : ℕ) (x : X) → slice_get xs n ≡ Some (Some x) → count_by is_some (slice_set xs n None) < count_by is_some xs
 fewer {X} xs n x at =
     let one : Option X → ℕ = λ o. cond (is_some o) 1 0 in
@@ -81,7 +81,7 @@ get_map f [] n x at = absurd (none-some x at)
 get_map f (y ∷ ys) zero x at = ap (λ z. Some (f z)) (same_Some y x at)
 get_map f (y ∷ ys) (suc n) x at = get_map f ys n x at
 
--- what is there now of the one that was taken
+-- the list of deferred disjuncts after one was removed
 pub taken_some : {N S : Type 0} (notes : Notes N S) (items : List (Option (Entry S))) (number : ℕ) (d result after : Option (Entry S)) →
     notes.deferred ≡ map (option_map entry_of) items → number < length items → result ≡ get_or items number d → after ≡ None →
     IfSome result (λ entry. IsTakenOut number (entry_of entry) notes (record notes { deferred = map (option_map entry_of) (slice_set items number after) }))
@@ -114,7 +114,7 @@ module _ {N S : Type 0} (u : Universe N S) (set : List S) (notes : Notes N S) (i
   seen_at o at = let At : List (Option (Deferred S)) → Type 0 = λ xs. slice_get xs number ≡ Some (option_map entry_of o) in
       subst At (sym view) (get_map (option_map entry_of) items number o at)
 
-  -- whether a disjunct that is put off is due
+  -- whether a deferred disjunct is met in the set
   pub due_of : (entry : Entry S) (b : Bool) → slice_get items number ≡ Some (Some entry) →
       MatchBool b (AllMeet set (map (matching u) entry.disjunct.items)) (AllMeet set (map (matching u) entry.disjunct.items) → ⊥) →
       MatchBool b (HasMet u set notes number) (IsQuietAt u set notes number)
@@ -148,7 +148,7 @@ module _ {N S : Type 0} (u : Universe N S) where
         here = λ h. All-nil (λ v. IsNamed notes.deferred_by_name (u.version_set_name v) number);
       }
 
-  -- the package of one more version set
+  -- the number is indexed under the package of one more version set
   pub IsIndexing-more : (number : ℕ) (list : List VersionSetId) (i : ℕ) (d : VersionSetId) (old mid new : Notes N S) (n : N) →
       n ≡ u.version_set_name (get_or list i d) → i < length list → IsIndexing u number (take i list) old mid →
       (AreGroups mid.deferred_by_name → AddsNamed mid.deferred_by_name new.deferred_by_name n number) →
@@ -183,7 +183,7 @@ module _ {N S : Type 0} (u : Universe N S) where
         here = λ h. subst Here last (before.here h);
       }
 
-  -- an encoding with other disjuncts that are put off
+  -- the notes stay an encoding with other deferred disjuncts
   encoding_deferred : (root : Demands) (old : Notes N S) (deferred : List (Option (Deferred S))) (deferred_by_name : Groups N ℕ) → IsEncoding u root old →
       ((e : Deferred S) → Contains deferred (Some e) → IsTrueEntry u root e) →
       ((i : ℕ) (e : Deferred S) → slice_get deferred i ≡ Some (Some e) → (v : VersionSetId) → Contains e.disjunct v →
@@ -191,13 +191,13 @@ module _ {N S : Type 0} (u : Universe N S) where
       IsEncoding u root (record old { deferred = deferred; deferred_by_name = deferred_by_name })
   encoding_deferred root old deferred deferred_by_name before left_true indexed sound = search
 
-  -- it is put off from then on
+  -- a disjunct is deferred from then on
   pub deferral_left : (e : Deferred S) (old new : Notes N S) → IsDeferral u e old new → IsLeft new e
   deferral_left e old new deferral =
       let Left : Notes N S → Type 0 = λ n. IsLeft n e in
       subst Left (sym deferral.is) (Contains-push old.deferred (Some e))
 
-  -- one more disjunct is put off
+  -- one more disjunct is deferred
   pub IsReadStep-deferral : (Defers : Deferred S → Type 0) (Called : Call N S → Type 0) (Premise : Demands → Type 0) (e : Deferred S) (old new : Notes N S) →
       IsDeferral u e old new → Defers e → ((root : Demands) → Premise root → IsTrueEntry u root e) →
       IsReadStep u Defers Called Premise old new
@@ -227,7 +227,7 @@ module _ {N S : Type 0} (u : Universe N S) where
           (place_cases old.deferred (Some e) i (Some x) at))
           (deferral.sound before.sound_deferred_by_name)
 
-  -- fewer disjuncts are left
+  -- the notes stay an encoding with fewer deferred disjuncts
   pub IsEncoding-taken : (root : Demands) (number : ℕ) (e : Deferred S) (old mid : Notes N S) → IsTakenOut number e old mid → IsEncoding u root old →
       IsEncoding u root mid
   IsEncoding-taken root number e old mid out before =
@@ -254,7 +254,7 @@ module _ {N S : Type 0} (u : Universe N S) where
         (first.taken i e at) in
         search (Keeps-trans, Extends-trans, IsWithin-trans, first.stays, second.stays, first.keeps, second.keeps)
 
-    -- the disjunct at hand was met
+    -- the disjunct with this number is met
     pub met_entry : (number : ℕ) (e : Deferred S) (old mid : Notes N S) → HasMet u set old number → IsTakenOut number e old mid →
         AllMeet set (map (matching u) e.disjunct)
     met_entry number e old mid has out =
@@ -277,7 +277,7 @@ module _ {N S : Type 0} (u : Universe N S) where
             gone old.deferred number x (subst At left_now at);
       }
 
-      -- a disjunct was taken out, and its requirement encoded
+      -- a disjunct was removed, and its requirement encoded
       pub IsFiring-taken : AllMeet set (map (matching u) e.disjunct) → HasClause new.kinds e.by e.disjunct e.requirement → IsFiring u set old new
       IsFiring-taken met clause =
           let Step : Notes N S → Type 0 = λ n. IsAskStep u (IsWantedBy u e.requirement) (IsTrueUnder u e.by e.disjunct e.requirement) n new in
@@ -307,7 +307,7 @@ module _ {N S : Type 0} (u : Universe N S) where
               (cases_eq i number)
 
     module _ (old new : Notes N S) (firing : IsFiring u set old new) where
-      -- what is quiet stays quiet
+      -- disjuncts that are not due stay so
       pub IsQuietAt-kept : (i : ℕ) → IsQuietAt u set old i → IsQuietAt u set new i
       IsQuietAt-kept i before = record { quiet = λ e at. before.quiet e (firing.stays i e at) }
 
@@ -317,7 +317,7 @@ module _ {N S : Type 0} (u : Universe N S) where
             IsQuietAt-kept i (before.quiet i (subst Named firing.deferred_by_name named));
       }
 
-      -- all of a group are
+      -- no disjunct with one of these numbers is due
       pub IsQuietUnder-all : (n : N) (numbers : List ℕ) → ((i : ℕ) → IsNamed old.deferred_by_name n i → Contains numbers i) →
           All (IsQuietAt u set new) numbers → IsQuietUnder u set new n
       IsQuietUnder-all n numbers every quiet =
@@ -329,7 +329,7 @@ module _ {N S : Type 0} (u : Universe N S) where
       pub groups_kept : AreGroups old.deferred_by_name → AreGroups new.deferred_by_name
       groups_kept sound = let Sound : Groups N ℕ → Type 0 = λ g. AreGroups g in subst Sound (sym firing.deferred_by_name) sound
 
-  -- all that wait for the package of a solvable between these places
+  -- no disjunct with a version set of a package of one of these solvables is due
   pub record AreQuiet (set : List S) (notes : Notes N S) (from place : ℕ) : Type 0 where
     pub each : (k : ℕ) (s : S) → from ≤ k → k < place → slice_get set k ≡ Some s → IsQuietUnder u set notes (u.name s)
 
@@ -356,7 +356,7 @@ module _ {N S : Type 0} (u : Universe N S) where
       subst Quiet (sym (get_or-drop from set k d))
       (all.each (from + k) (get_or set (from + k) d) (omega arith) (omega (arith, inside, end)) (slice_get-get_or set (from + k) d inside))
 
--- after one reading and another
+-- whether disjuncts were removed, over two steps
 pub HasFired-trans : {N S : Type 0} (one two three : Notes N S) (a b : Bool) → HasFired one two a → HasFired two three b → HasFired one three (a || b)
 HasFired-trans one two three true true first second = omega (arith, first, second)
 HasFired-trans {N} {S} one two three true false first second = let Fewer : Notes N S → Type 0 = λ n. left_count n < left_count one in

@@ -90,7 +90,7 @@ module _ {N S : Type 0} (old new : Groups N S) (n : N) (s : S) where
         below = λ k t h. absurd (absent (place_in old.names.keys h.place n h.named));
       }
 
-  -- one more in the group of a name
+  -- one more element in the group of a name
   pub joined : (place : ℕ) → slice_get old.names.keys place ≡ Some n → new.names.keys ≡ old.names.keys → length new.members.items ≡ length old.members.items →
       ((k : ℕ) → k ≢ place → group_at new.members.items k ≡ group_at old.members.items k) →
       (place < length old.members.items → group_at new.members.items place ≡ group_at old.members.items place ++ s ∷ []) → AreGroups old → AddsNamed old new n s
@@ -162,24 +162,24 @@ module _ {N S : Type 0} (old new : Groups N S) (n : N) (s : S) where
             slice_get_within (group_at old.members.items place) k t (subst (λ q. Place (group_at old.members.items q) k t) same h.at);
       }
 
--- one that was put there has a number
+-- an element of a group has a number
 pub number_of_named : {N S : Type 0} (g : Groups N S) (n : N) (s : S) → IsNamed g n s → (k : ℕ) × IsAt g n k s
 number_of_named g n s h =
     let at = place_of_member (group_at g.members.items h.place) s h.inside in
     (at.0, record { place = h.place; named = h.named; at = at.1 })
 
--- one that has a number was put there
+-- an element that has a number is in the group
 pub named_of_number : {N S : Type 0} (g : Groups N S) (n : N) (k : ℕ) (s : S) → IsAt g n k s → IsNamed g n s
 named_of_number g n k s h = record { place = h.place; named = h.named; inside = place_in (group_at g.members.items h.place) k s h.at }
 
--- no two have one number
+-- two numbers of one element are the same
 pub same_number : {N S : Type 0} (g : Groups N S) (n : N) (j k : ℕ) (s t : S) → AreGroups g → IsAt g n j s → IsAt g n k t → j ≡ k → s ≡ t
 same_number g n j k s t sound one other e =
     let places : one.place ≡ other.place = sound.distinct.same one.place other.place n one.named other.named in
     same_Some s t (sym one.at ∙ ap (λ p. slice_get (group_at g.members.items p) j) places ∙ ap (λ i. slice_get (group_at g.members.items other.place) i) e ∙
     other.at)
 
--- the number of one that was added is how many there were
+-- the number of a new element is the previous length of the group
 pub number_is : {N S : Type 0} (old new : Groups N S) (n : N) (s : S) (list : List S) → (added : AddsNamed old new n s) →
     ((k : ℕ) (t : S) → slice_get list k ≡ Some t → IsAt old n k t) → ((k : ℕ) (t : S) → IsAt old n k t → slice_get list k ≡ Some t) → added.number ≡ length list
 number_is {N} {S} old new n s list added each every = ⊎_elim

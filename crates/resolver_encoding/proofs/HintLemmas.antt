@@ -1,4 +1,4 @@
--- Candidates that are read at once.
+-- Candidates that are read early.
 use Rattle.std.proofs.Common.{◌≡◌, ℕ, ◌+◌, ◌<◌, ◌≤◌, Bool, true, false, length, length-append, List, [], ◌∷◌, ◌++◌, refl, sym, ap, ◌∙◌, subst, ⊎_elim, inl, inr}
 use Rattle.std.proofs.Common.{arith, Contains, Vec, Global, get_or}
 use Rattle.std.specs.Prelude.{◌||◌, None, Option, Some, cond, map, slice_get}
@@ -31,7 +31,7 @@ use Rattle.resolver_clause_store.proofs.ListLemmas.{Contains-there as there, sli
 use Rattle.resolver_encoding.proofs.SoFarLemmas.{IsReadingOf-same, IsReadingOf-trans, IsReadingOf-weaker, demanded_asked}
 use Rattle.resolver_clause_store.proofs.DemandLemmas.{IsPresent-within}
 
--- what stands at a place stands there in a longer list
+-- an element keeps its place in a longer list
 same_place : {X : Type 0} (xs ys : List X) → Extends xs ys → (k : ℕ) → k < length xs → slice_get ys k ≡ slice_get xs k
 same_place xs ys more k below = ap (λ list. slice_get list k) more.is ∙ slice_get-append_left xs more.more k below
 
@@ -41,7 +41,7 @@ longer xs ys more =
     omega (arith, both)
 
 module _ {N S : Type 0} where
-  -- the literals of a clause say the same where more variables stand for something
+  -- the literals of a clause state the same if variables are added
   stated_same : (old new : List (Origin N S)) → Keeps old new → (ls : List Literal) → IsBelow (length old) ls → stated_by_each new ls ≡ stated_by_each old ls
   stated_same old new keeps [] below = refl
   stated_same old new keeps (l ∷ ls) below =
@@ -55,7 +55,7 @@ module _ {N S : Type 0} where
       found ≡ solvable_found (slice_get origins l.variable) → found ≡ stated_by origins l
   stated_found origins l found on is = is ∙ sym (ap (λ b. cond b (solvable_found (slice_get origins l.variable)) None) on)
 
-  -- a literal that states a solvable is positive, and its variable stands for it
+  -- a literal that states a solvable is positive, and its variable stands for the solvable
   found_is : (o : Option (Origin N S)) (b : Bool) (s : S) → Contains (option_to_list (cond b (solvable_found o) None)) s → (b ≡ true) × (o ≡ Some (Solvable s))
   found_is (Some (Solvable t)) true s h =
       ⊎_elim (λ (is : t ≡ s). (refl, ap (λ q. Some (Solvable q)) is)) (λ (none : Contains [] s). absurd (none_in s none)) (cons_cases t [] s h)
@@ -76,7 +76,7 @@ module _ {N S : Type 0} where
       (λ (later : Contains (stated_by_each origins ls) s). let w = stated_where origins ls s later in (w.0, there l ls w.0 w.1, w.2, w.3))
       (Contains-append_cases (option_to_list (stated_by origins l)) (stated_by_each origins ls) s h)
 
--- the literals of a clause that asks for candidates are those of a clause
+-- the literals of a requirement clause are those of a clause in the table
 in_table : (table : List (Vec Literal Global)) (number : ℕ) (o : Option (Vec Literal Global)) → slice_get table number ≡ o → (l : Literal) →
     Contains (option_map_or (λ (c : Vec Literal Global). c.items) o []) l → (clause : Vec Literal Global) × Contains table clause × Contains clause.items l
 in_table table number None e l h = absurd (none_in l h)
@@ -95,7 +95,7 @@ literals_by table asking place r at =
     sym (ap (λ o. option_map_or (clause_at table) o []) number)
 
 module _ {N S : Type 0} (u : Universe N S) where
-  -- a candidate was registered
+  -- the candidates of a requirement clause are registered
   pub candidates_seen : (root : Demands) (notes : Notes N S) → IsEncoding u root notes → (place : ℕ) (s : S) → Contains (candidates_at notes place) s →
       Contains notes.seen s
   candidates_seen root notes encoding place s h =
@@ -103,7 +103,7 @@ module _ {N S : Type 0} (u : Universe N S) where
       let at = in_clause notes.table (slice_get notes.requirements place) w.0 w.1 in
       positives_seen u root notes encoding at.0 at.1 w.0 at.2 w.2 s (get_or_from_slice_get notes.origins w.0.variable (Solvable s) Root w.3)
 
-  -- the candidates of a clause are the same when the notes have grown
+  -- the candidates of a clause are the same after the notes grew
   module _ (root : Demands) (old new : Notes N S) (encoding : IsEncoding u root old) (origins : Keeps old.origins new.origins)
       (table : Extends old.table new.table) (requirements : Extends old.requirements new.requirements) where
     pub candidates_same : (place : ℕ) → place < length old.requirements → candidates_at new place ≡ candidates_at old place
@@ -127,7 +127,7 @@ module _ {N S : Type 0} (u : Universe N S) where
         let more : length old.requirements ≤ length new.requirements = longer old.requirements new.requirements requirements in
         record { place = l.place; later = l.later; below = omega (arith, l.below, more); listed = subst Has (sym (candidates_same l.place l.below)) l.listed }
 
-    -- what was read of them stays read
+    -- candidates that were read early stay read
     pub hints_grown : Extends old.read new.read → (from until : ℕ) → until ≤ length old.requirements → AreHintsReadTo u from until old →
         AreHintsReadTo u from until new
     hints_grown read from until within h = record {
@@ -198,7 +198,7 @@ module _ {N S : Type 0} (u : Universe N S) where
               near_read u other seeds packages set (λ t. s ≡ t) old new reading near all (λ t same. subst Near same (near.seen s seen));
         }
 
-    -- what was read for a set stays so
+    -- the notes are read as far as before for the set
     pub so_far_on : (root : Demands) (Reads : S → Type 0) (old new : Notes N S) → IsReadSoFar u root set old → IsReadingOf u set Reads old new →
         IsReadSoFar u root set new
     so_far_on root Reads old new so reading = record {
@@ -207,7 +207,7 @@ module _ {N S : Type 0} (u : Universe N S) where
       none = record { none = λ e left met. ⊎_elim (λ (before : IsLeft old e). so.none.none e before met) (λ never. never met) (reading.unmet e left) };
     }
 
-    -- and just what is called for was asked
+    -- the packages that were asked are still exactly those that are called for
     pub asked_on : (root : Demands) (Reads : S → Type 0) (before : List N) (old new : Notes N S) → IsReadSoFar u root set old →
         IsReadingOf u set Reads old new → AreAsked (IsCalledFor u root old.read set) before old.asked →
         AreAsked (IsCalledFor u root new.read set) before new.asked
@@ -249,12 +249,12 @@ module _ {N S : Type 0} (u : Universe N S) where
         same_deferred : (i : ℕ) (e : Deferred S) → slice_get mid.deferred i ≡ Some (Some e) → slice_get new.deferred i ≡ Some (Some e)
         same_deferred i e at = same_place mid.deferred new.deferred reading.deferred i (slice_get_within mid.deferred i (Some e) at) ∙ at
 
--- what was read was read before, or then
+-- whether anything was read, over two steps
 pub HasRead-then : {N S : Type 0} (old mid new : Notes N S) (any : Bool) → HasRead old mid any → HasRead mid new true → HasRead old new true
 HasRead-then old mid new true first second = omega (arith, first, second)
 HasRead-then {N} {S} old mid new false first second = let Longer : Notes N S → Type 0 = λ n. length n.read < length new.read in subst Longer first second
 
--- what changed by all
+-- the changes of all steps
 pub progress_then : {N S : Type 0} (old mid new : Notes N S) (read fired hinted : Bool) → IsProgress old mid (progress_by read fired) → HasRead mid new hinted →
     IsProgress old new (progress_by (read || hinted) fired)
 progress_then old mid new true fired true before then = omega (arith, before, then)

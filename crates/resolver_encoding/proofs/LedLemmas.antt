@@ -1,4 +1,4 @@
--- Which variables come: lists of origins, notes, and what calls bring with them.
+-- The variables that are added: lists of origins, notes, and the variables that calls bring.
 use Rattle.std.proofs.Common.{◌≡◌, ◌⊎◌, ℕ, ◌<◌, ◌≤◌, ◌^◌, length, arith, List, [], ◌∷◌, ◌++◌, refl, sym, ◌∙◌, subst, ⊎_elim, inl, inr}
 use Rattle.std.proofs.Common.{Contains, All}
 use Rattle.std.specs.Prelude.{Option, slice_get, ◌≢◌, None, Some}
@@ -52,7 +52,7 @@ module _ {N S : Type 0} where
     only = λ o h. ⊎_elim (λ (earlier : Contains old o). inl earlier) (λ (added : Added o). inr (more o added)) (adds.only o h);
   }
 
-  -- the origin is there already, or comes last
+  -- the origin is in the list already, or is added at its end
   pub AddsSuch-push : (origin : Origin N S) (old new : List (Origin N S)) → (new ≡ old) ⊎ (new ≡ old ++ origin ∷ []) → AddsSuch (λ o. o ≡ origin) old new
   AddsSuch-push origin old new added = record {
     only = λ o h. let Has : List (Origin N S) → Type 0 = λ list. Contains list o in
@@ -104,7 +104,7 @@ module _ {N S : Type 0} (u : Universe N S) where
   pub Brings-same : (Called : Call N S → Type 0) (Own : Origin N S → Type 0) (notes : Notes N S) → Brings u Called Own notes notes
   Brings-same Called Own notes = record { only = λ o h. inl h }
 
-  -- one after another, where what was registered by the first is called for
+  -- one step after another, where the second may call for the candidates that the first registered
   pub Brings-trans : (Called : Call N S → Type 0) (Own : Origin N S → Type 0) (one two three : Notes N S) →
       ((s : S) → Contains two.seen s → Contains one.seen s ⊎ Called (to_see s)) →
       Brings u Called Own one two → Brings u Called Own two three → Brings u Called Own one three
@@ -122,7 +122,7 @@ module _ {N S : Type 0} (u : Universe N S) where
           (All-weaker (λ s. (u.name s ≡ n) × (Contains two.seen s ⊎ Called (to_see s))) (λ s. (u.name s ≡ n) × (Contains one.seen s ⊎ Called (to_see s)))
           (λ s h. (h.0, ⊎_elim (λ (was : Contains two.seen s). seen s was) (λ (called : Called (to_see s)). inr called) h.1)) list all) below is
 
-  -- with more called for, and more of its own
+  -- an origin that is brought, with more calls and more own origins
   pub IsBrought-weaker : (Called More : Call N S → Type 0) → ((call : Call N S) → Called call → More call) → (Own Other : Origin N S → Type 0) →
       ((o : Origin N S) → Own o → Other o) →
       (seen : List S) (o : Origin N S) → IsBrought u Called Own seen o → IsBrought u More Other seen o
@@ -143,7 +143,7 @@ module _ {N S : Type 0} (u : Universe N S) where
         (brings.only o h);
   }
 
-  -- variables that are brought, and nothing put off
+  -- variables are brought, and nothing is deferred
   pub Brings-of : (Called : Call N S → Type 0) (Own Added : Origin N S → Type 0) (old new : Notes N S) →
       ((o : Origin N S) → Added o → IsThere u old o ⊎ IsBrought u Called Own old.seen o) →
       AddsOnly Added old new → Brings u Called Own old new
@@ -155,7 +155,7 @@ module _ {N S : Type 0} (u : Universe N S) where
         h;
   }
 
-  -- the numbers of those of a name differ
+  -- the solvables in the group of a name have different numbers
   module _ (root : Demands) (notes : Notes N S) (encoding : IsEncoding u root notes) (n : N) (list : List S)
       (each_at : (k : ℕ) (t : S) → slice_get list k ≡ Some t → IsAt notes.groups n k t) where
     no_later : (j k : ℕ) (t : S) → slice_get list j ≡ Some t → slice_get list k ≡ Some t → j < k → ⊥
@@ -196,13 +196,13 @@ module _ {N S : Type 0} (u : Universe N S) where
             coded.2
 
 module _ {N S : Type 0} where
-  -- the literals of a digit that begins
+  -- the literals of the clause of a new digit
   pub begun_coded : (groups : Groups N S) (n : N) (number : ℕ) (s t : S) (index : ℕ) → number ≡ 2 ^ index → IsNamed groups n t → (o : Origin N S) →
       (o ≡ Solvable t) ⊎ (o ≡ Bit n index) → IsCoded groups n number s o
   begun_coded groups n number s t index begins named o is =
       (t, inr named, ⊎_elim (λ (it : o ≡ Solvable t). inl it) (λ (digit : o ≡ Bit n index). inr (index, omega (arith, begins), digit)) is)
 
-  -- the literals of a digit
+  -- the literals of a clause of a code
   pub code_digit : (n : N) (number : ℕ) (s : S) (index : ℕ) → 2 ^ index ≤ number → (o : Origin N S) → (o ≡ Solvable s) ⊎ (o ≡ Bit n index) →
       IsDigitOf n number s o
   code_digit n number s index below o is = ⊎_elim (λ (it : o ≡ Solvable s). inl it) (λ (digit : o ≡ Bit n index). inr (index, below, digit)) is
@@ -210,47 +210,47 @@ module _ {N S : Type 0} where
   pub own_code : (groups : Groups N S) (n : N) (number : ℕ) (s : S) (o : Origin N S) → IsDigitOf n number s o → IsCoded groups n number s o
   own_code groups n number s o digit = (s, inl refl, digit)
 
-  -- variables, and then more
+  -- variables were added in two steps
   pub AddsOnly-then-such : (Added : Origin N S → Type 0) (one three : Notes N S) (origins : List (Origin N S)) → AddsSuch Added one.origins origins →
       AddsSuch Added origins three.origins → three.deferred ≡ one.deferred → AddsOnly Added one three
   AddsOnly-then-such Added one three list first second deferred =
       record { origins = AddsSuch-trans Added one.origins list three.origins first second; deferred = deferred }
 
-  -- in notes that have no other variables
+  -- and a further step that keeps the variables and the deferred disjuncts
   pub AddsOnly-same_as : (Added : Origin N S → Type 0) (one two three : Notes N S) → AddsOnly Added one two → three.origins ≡ two.origins →
       three.deferred ≡ two.deferred → AddsOnly Added one three
   AddsOnly-same_as Added one two three adds origins deferred = AddsOnly-trans Added one two three adds (AddsOnly-equal Added two three origins deferred)
 
 module _ {N S : Type 0} (u : Universe N S) where
-  -- the literals of a helper's clause
+  -- the literals of a clause of a condition helper
   pub helper_pair : (v : VersionSetId) (s : S) → Contains (matching u v) s → (o : Origin N S) → (o ≡ ConditionHelper v) ⊎ (o ≡ Solvable s) → IsOfHelper u v o
   helper_pair v s matches o is = ⊎_elim (λ (helper : o ≡ ConditionHelper v). inl helper) (λ (it : o ≡ Solvable s). inr (s, matches, it)) is
 
-  -- packages that are asked bring what they bar
+  -- packages that are asked bring the solvables that they lock out or exclude
   pub barred_brings : (Called More : Call N S → Type 0) → ((call : Call N S) → Called call → More call) → (Own : Origin N S → Type 0) (old new : Notes N S) →
       AddsOnly (IsBarred u Called) old new → Brings u More Own old new
   barred_brings Called More more Own old new adds =
       Brings-of u More Own (IsBarred u Called) old new (λ o barred. inr (brought_barred (IsBarred-weaker u Called More more o barred))) adds
 
-  -- the clause of a requirement brings its own, and candidates
+  -- a requirement clause brings variables of its own, and candidates
   pub choices_brings : (Own Added : Origin N S → Type 0) (r : Requirement) (old new : Notes N S) → ((o : Origin N S) → Added o → Own o) →
       AddsOnly (λ o. Added o ⊎ IsCandidate u r o) old new → Brings u (IsWantedBy u r) Own old new
   choices_brings Own Added r old new own adds = Brings-of u (IsWantedBy u r) Own (λ o. Added o ⊎ IsCandidate u r o) old new
       (λ o added. ⊎_elim (λ (mine : Added o). inr (brought_own (own o mine))) (λ w. inr (brought_candidate w.0 w.1 w.2)) added) adds
 
-  -- what a list of version sets brings is the requirement's own, where it is one of its condition's
+  -- the helpers of a disjunct are the requirement's own
   pub helped_own : (by : By S) (r : ConditionalRequirement) (list kept : List VersionSetId) → IsDisjunctOf u r.condition list → IsWithin kept list →
       (o : Origin N S) → IsHelped u by kept o → IsOwn u by (with_requirements (r ∷ [])) o
   helped_own by r list kept disjunct within o (helped_itself is) = own_itself is
   helped_own by r list kept disjunct within o (helped_by v inside is) = own_helped r list (here r []) disjunct (helped_by v (within v inside) is)
 
-  -- with no version set, it is the root or the solvable itself
+  -- without a version set, only the root or the solvable itself is its own
   pub bare_own : (by : By S) (demands : Demands) (list : List VersionSetId) → list ≡ [] → (o : Origin N S) → IsHelped u by list o → IsOwn u by demands o
   bare_own by demands list none o (helped_itself is) = own_itself is
   bare_own by demands list none o (helped_by v inside is) = let Has : List VersionSetId → Type 0 = λ l. Contains l v in
       absurd (none_in v (subst Has none inside))
 
-  -- demands among more demands
+  -- variables of some demands are those of more demands
   pub IsOwn-within : (by : By S) (demands more : Demands) → IsWithin demands.requirements more.requirements → IsWithin demands.constraints more.constraints →
       (o : Origin N S) → IsOwn u by demands o → IsOwn u by more o
   IsOwn-within by demands more rs vs o (own_itself is) = own_itself is
@@ -258,7 +258,7 @@ module _ {N S : Type 0} (u : Universe N S) where
   IsOwn-within by demands more rs vs o (own_gate r inside is) = own_gate r (rs r inside) is
   IsOwn-within by demands more rs vs o (own_constraint v inside is) = own_constraint v (vs v inside) is
 
-  -- the helpers of a list, for the clause of a requirement
+  -- the literals of a requirement clause with these helpers
   pub helped_choices : (by : By S) (r : Requirement) (list kept : List VersionSetId) → kept ≡ list → (old new : Notes N S) →
       AddsOnly (λ o. (v : VersionSetId) × Contains kept v × IsOfHelper u v o) old new →
       AddsOnly (λ o. IsHelped u by list o ⊎ IsCandidate u r o) old new
@@ -267,7 +267,7 @@ module _ {N S : Type 0} (u : Universe N S) where
       AddsOnly-weaker (λ o. (v : VersionSetId) × Contains kept v × IsOfHelper u v o) (λ o. IsHelped u by list o ⊎ IsCandidate u r o)
       (λ o is. inl (helped_by is.0 (subst (Has is.0) same is.1) is.2)) old new adds
 
-  -- a disjunct that is put off, with what it would bring
+  -- a deferred disjunct would bring these variables
   pub deferral_brings : (Called : Call N S → Type 0) (Own : Origin N S → Type 0) (e : Deferred S) (old new : Notes N S) →
       ((o : Origin N S) → IsHelped u e.by e.disjunct o → Own o) →
       new.origins ≡ old.origins → new.deferred ≡ old.deferred ++ Some e ∷ [] → Brings u Called Own old new
@@ -286,12 +286,12 @@ module _ {N S : Type 0} (u : Universe N S) where
       same_entry : (d f : Deferred S) → Some d ≡ Some f → d ≡ f
       same_entry d f e = cc
 
-  -- notes with the same variables, and the same put off
+  -- a step that keeps the variables and the deferred disjuncts
   pub Brings-equal : (Called : Call N S → Type 0) (Own : Origin N S → Type 0) (old new : Notes N S) → new.origins ≡ old.origins → new.deferred ≡ old.deferred →
       Brings u Called Own old new
   Brings-equal Called Own old new origins deferred = Brings-of u Called Own NoneOwn old new (λ o h. absurd h) (AddsOnly-equal NoneOwn old new origins deferred)
 
-  -- and then such notes
+  -- and a further step of this kind
   pub Brings-same_as : (Called : Call N S → Type 0) (Own : Origin N S → Type 0) (one two three : Notes N S) → Brings u Called Own one two →
       three.origins ≡ two.origins → three.deferred ≡ two.deferred → Brings u Called Own one three
   Brings-same_as Called Own one two three brings origins deferred = record {
@@ -301,25 +301,25 @@ module _ {N S : Type 0} (u : Universe N S) where
         h);
   }
 
-  -- variables that are such are the own
+  -- the added variables are its own
   pub own_brings : (Called : Call N S → Type 0) (Own Added : Origin N S → Type 0) (old new : Notes N S) → ((o : Origin N S) → Added o → Own o) →
       AddsOnly Added old new → Brings u Called Own old new
   own_brings Called Own Added old new own adds = Brings-of u Called Own Added old new (λ o added. inr (brought_own (own o added))) adds
 
-  -- the literals of the gate of a solvable
+  -- the literals of the clause by which a solvable implies a gate
   pub gate_own : (s : S) (r : Requirement) (o : Origin N S) → (o ≡ Gate r) ⊎ (o ≡ Solvable s) →
       IsOwn u (BySolvable s) (with_requirements (record { condition = None; requirement = r } ∷ [])) o
   gate_own s r o is = ⊎_elim (λ (gate : o ≡ Gate r).
       own_gate (record { condition = None; requirement = r }) (here (record { condition = None; requirement = r }) []) gate) (λ (it : o ≡ Solvable s).
       own_itself it) is
 
-  -- the literals of a constraint
+  -- the literals of a constraint's clause
   pub constrained_own : (by : By S) (v : VersionSetId) (s : S) → Contains (others u v) s → (x o : Origin N S) → x ≡ origin_by by → (o ≡ x) ⊎ (o ≡ Solvable s) →
       IsOwn u by (with_constraints (v ∷ [])) o
   constrained_own by v s other x o same is =
       ⊎_elim (λ (parent : o ≡ x). own_itself (parent ∙ same)) (λ (it : o ≡ Solvable s). own_constraint v (here v []) (inr (s, other, it))) is
 
-  -- and of its helper
+  -- the literals of the clause of a constraint helper and its parent
   pub parent_own : (by : By S) (v : VersionSetId) (x o : Origin N S) → x ≡ origin_by by → (o ≡ x) ⊎ (o ≡ ConstraintHelper v) →
       IsOwn u by (with_constraints (v ∷ [])) o
   parent_own by v x o same is = ⊎_elim (λ (parent : o ≡ x). own_itself (parent ∙ same)) (λ (helper : o ≡ ConstraintHelper v).
@@ -329,7 +329,7 @@ module _ {N S : Type 0} (u : Universe N S) where
       IsOfConstraint u v o
   excluded_own v s other o is = ⊎_elim (λ (it : o ≡ Solvable s). inr (s, other, it)) (λ (helper : o ≡ ConstraintHelper v). inl helper) is
 
-  -- a requirement of a solvable without a condition
+  -- an unconditional requirement of a solvable
   pub plain_brings : (set : List S) (by : By S) (requirer : S) (r : ConditionalRequirement) (old new : Notes N S) → by ≡ BySolvable requirer →
       r.condition ≡ None →
       Brings u (IsWantedBy u r.requirement)

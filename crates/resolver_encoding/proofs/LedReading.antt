@@ -1,4 +1,4 @@
--- What reading brings with it is led to, where what is read is near.
+-- The problem leads to each variable that reading brings, if everything that is read is near.
 use Rattle.std.proofs.Common.{◌≡◌, ◌⊎◌, ◌≤◌, ◌^◌, ℕ, length, List, [], ◌∷◌, ◌∙◌, subst, ⊎_elim, inl, inr, map, Contains, All}
 use Rattle.std.specs.Prelude.{Option, None, Some, slice_set}
 use Rattle.std.proofs.lemmas.List.Elements.{All-contains, All-weaker}
@@ -35,7 +35,7 @@ use Rattle.resolver_clause_store.proofs.ListLemmas.{Contains-one}
 
 module _ {N S : Type 0} (u : Universe N S) where
   module _ (root : Demands) (seeds : List S) (packages : List N) where
-    -- what is brought is led to, where it is called for and owned by what is near
+    -- the problem leads to each origin that is brought, if it leads to the calls, and something near owns the others
     since : (Called : Call N S → Type 0) (Own : Origin N S → Type 0) (old : Notes N S) → AreNear u root seeds packages old →
         ((call : Call N S) → Called call → IsLedCall u root seeds packages call) →
         ((o : Origin N S) → Own o → IsOwnOfNear u root seeds packages o) → (o : Origin N S) → IsBrought u Called Own old.seen o → IsLed u root seeds packages o
@@ -57,25 +57,25 @@ module _ {N S : Type 0} (u : Universe N S) where
         ⊎_elim (λ (earlier : IsThere u old o). led o earlier) (λ (brought : IsBrought u Called Own old.seen o). since Called Own old near called own o brought)
         (brings.only o there)
 
-    -- packages that are led to bring what they bar
+    -- packages that the problem leads to bring the solvables that they lock out or exclude
     pub led_asked : (Called : Call N S → Type 0) (old new : Notes N S) → AreNear u root seeds packages old →
         ((call : Call N S) → Called call → IsLedCall u root seeds packages call) →
         AddsOnly (IsBarred u Called) old new → AreLed u root seeds packages old → AreLed u root seeds packages new
     led_asked Called old new near called adds =
         led_brings Called NoneOwn old new near called (λ o h. absurd h) (barred_brings u Called Called (λ call h. h) NoneOwn old new adds)
 
-    -- what is called for in one way is so in the other
+    -- the two notions of a call that the problem leads to agree
     led_call : (call : Call N S) → LeadsTo u root seeds packages call → IsLedCall u root seeds packages call
     led_call (to_ask n) h = h
     led_call (to_see s) h = h
 
-    -- what was asked or registered is led to
+    -- the problem leads to each package that was asked and each candidate that was registered
     pub followed_call : (notes : Notes N S) → AreNear u root seeds packages notes → (call : Call N S) → IsFollowed notes call →
         IsLedCall u root seeds packages call
     followed_call notes near (to_ask n) h = near.asked n h
     followed_call notes near (to_see s) h = near.seen s h
 
-    -- what the root demands
+    -- the variables that the root's demands bring
     pub led_root : (old new : Notes N S) → AreNear u root seeds packages old → Brings u (IsDemanded u [] root) (IsOwn u ByRoot root) old new →
         AreLed u root seeds packages old → AreLed u root seeds packages new
     led_root old new near brings = led_brings (IsDemanded u [] root) (IsOwn u ByRoot root) old new near
@@ -83,7 +83,7 @@ module _ {N S : Type 0} (u : Universe N S) where
         (demanded_led u root seeds packages [] [] (λ s k. absurd (none_in s k)) (λ s k. absurd (none_in s k)) ByRoot tt call demanded)) (λ o own.
         inl own) brings
 
-    -- nothing but the root
+    -- the notes of the root alone are near
     pub bare_near : (notes : Notes N S) → IsBare notes → AreNear u root seeds packages notes
     bare_near notes bare = record {
       seen = λ s h. let Has : List S → Type 0 = λ list. Contains list s in absurd (none_in s (subst Has bare.none_seen h));
@@ -101,7 +101,7 @@ module _ {N S : Type 0} (u : Universe N S) where
         absurd (none_in (Some w.0) (subst Has (adds.deferred ∙ deferred) w.1)))
         there
 
-    -- disjuncts that are met in a set that is near
+    -- the variables that deferred disjuncts bring if they are met in a set of near solvables
     pub led_fired : (set : List S) (old new : Notes N S) → IsHalfRead u root old → AreNear u root seeds packages old → All (IsNear u root seeds) set →
         Brings u (IsFired u set old) NoneOwn old new →
         AreLed u root seeds packages old → AreLed u root seeds packages new
@@ -110,7 +110,7 @@ module _ {N S : Type 0} (u : Universe N S) where
         (half.encoding.left_true w.0 w.1) (half.left_read w.0 w.1) w.2 call w.3))
         (λ o h. absurd h) brings
 
-  -- a solvable that is near
+  -- the variables that a near solvable brings
   pub led_read : (set : List S) (s : S) (old new : Notes N S) →
       ((root : Demands) (seeds : List S) (packages : List N) → AreNear u root seeds packages old → All (IsNear u root seeds) set → IsNear u root seeds s) →
       Brings u (IsDemanded u set (demands_of (u.needs s))) (IsOwn u (BySolvable s) (demands_of (u.needs s))) old new → KeepsLed u set old new
@@ -137,7 +137,7 @@ module _ {N S : Type 0} (u : Universe N S) where
         (first.led root seeds packages near all led);
   }
 
-  -- a disjunct is taken out, and encoded
+  -- the variables that a deferred disjunct brings when it is removed and encoded
   pub fire_brings : (set : List S) (number : ℕ) (e : Deferred S) (old mid new : Notes N S) → IsTakenOut number e old mid →
       AllMeet set (map (matching u) e.disjunct) →
       Brings u (IsWantedBy u e.requirement) (IsHelped u e.by e.disjunct) mid new → Brings u (IsFired u set old) NoneOwn old new
@@ -175,20 +175,20 @@ module _ {N S : Type 0} (u : Universe N S) where
                 (λ (it : IsWantedBy u e.requirement (to_see s)). inr (e, left_before, met, it)) h.1,
           )) list all) below is)
 
-  -- what is left now was left before
+  -- a disjunct that is left now was left before
   pub fired_before : (set : List S) (old mid : Notes N S) → IsFiring u set old mid → (call : Call N S) → IsFired u set mid call → IsFired u set old call
   fired_before set old mid firing call w =
       let at = place_of_member mid.deferred (Some w.0) w.1 in
       (w.0, place_in old.deferred at.0 (Some w.0) (firing.stays at.0 w.0 at.1), w.2, w.3)
 
-  -- a package that was asked
+  -- a call to ask a package that was asked is followed
   pub asked_followed : (notes : Notes N S) (n : N) → Contains notes.asked n → (call : Call N S) → IsAsking n call → IsFollowed notes call
   asked_followed notes n asked (to_ask m) same = let Has : N → Type 0 = λ k. Contains notes.asked k in subst Has same asked
   asked_followed notes n asked (to_see s) none = absurd none
 
--- what a solver does between readings
+-- the steps of a solver between readings
 module _ {N S : Type 0} (u : Universe N S) (root : Demands) (seeds : List S) (packages : List N) where
-  -- with more seeds, and more packages
+  -- the same with more seeds and more packages
   pub AreLed-more : (more : List S) (others : List N) → IsWithin seeds more → IsWithin packages others → (notes : Notes N S) →
       AreLed u root seeds packages notes → AreLed u root more others notes
   AreLed-more more others within besides notes led o there =
@@ -204,7 +204,7 @@ module _ {N S : Type 0} (u : Universe N S) (root : Demands) (seeds : List S) (pa
           inl (IsNamed-within u root (IsNear u root seeds) (IsNear u root more) on n named)) (λ (own : Contains packages n). inr (besides n own)) h
       call_on (to_see s) h = on s h
 
-  -- a package of these was asked
+  -- the variables that a package of these brings
   pub led_package : (n : N) (old new : Notes N S) → Contains packages n → AreNear u root seeds packages old → AddsOnly (IsBarred u (IsAsking n)) old new →
       AreLed u root seeds packages old → AreLed u root seeds packages new
   led_package n old new inside near adds = led_asked u root seeds packages (IsAsking n) old new near called adds
@@ -213,7 +213,7 @@ module _ {N S : Type 0} (u : Universe N S) (root : Demands) (seeds : List S) (pa
       called (to_ask m) same = let Has : N → Type 0 = λ k. Contains packages k in inr (subst Has same inside)
       called (to_see s) none = absurd none
 
-  -- a solvable that is near was registered
+  -- the variables that a near solvable brings when it is registered
   pub led_registered : (s : S) (old new : Notes N S) → IsNear u root seeds s → AreNear u root seeds packages old → Brings u (IsSeeing s) NoneOwn old new →
       AreLed u root seeds packages old → AreLed u root seeds packages new
   led_registered s old new it near brings = led_brings u root seeds packages (IsSeeing s) NoneOwn old new near called (λ o h. absurd h) brings
@@ -222,13 +222,13 @@ module _ {N S : Type 0} (u : Universe N S) (root : Demands) (seeds : List S) (pa
       called (to_ask n) none = absurd none
       called (to_see t) same = let Near : S → Type 0 = λ r. IsNear u root seeds r in subst Near same it
 
-  -- clauses that were spared came
+  -- the variables of clauses that an exemption had spared
   pub led_restored : (old new : Notes N S) → AreNear u root seeds packages old → AddsOnly (IsBarred u (IsFollowed old)) old new →
       AreLed u root seeds packages old →
       AreLed u root seeds packages new
   led_restored old new near adds = led_asked u root seeds packages (IsFollowed old) old new near (followed_call u root seeds packages old near) adds
 
--- A gate that the problem leads to is that of a requirement of the root, or of what is near.
+-- A gate that the problem leads to is the gate of a requirement of the root, or of a near solvable.
 module _ {N S : Type 0} where
   gate_itself : (r : Requirement) (by : By S) (o : Origin N S) → o ≡ Gate r → o ≡ origin_by by → ⊥
   gate_itself r ByRoot o it is = cc
@@ -274,7 +274,7 @@ module _ {N S : Type 0} where
     led_gate root seeds packages (brought_candidate s called is) = absurd (gate_solvable r s o it is)
     led_gate root seeds packages (brought_digit n i list distinct all below is) = absurd (gate_digit r n i o it is)
 
--- A digit is one of the numbers of solvables of its package that are near, and a helper is that of a condition or a constraint.
+-- A digit is a digit of the numbers of near solvables of its package, and a helper is the helper of a condition or a constraint.
 module _ {N S : Type 0} where
   digit_solvable : (n : N) (i : ℕ) (s : S) (o : Origin N S) → o ≡ Bit n i → o ≡ Solvable s → ⊥
   digit_solvable n i s o it is = cc
@@ -346,7 +346,7 @@ module _ {N S : Type 0} where
   same_constraint v w o it is = cc
 
   module _ (u : Universe N S) (root : Demands) (seeds : List S) (packages : List N) where
-    -- solvables of the package that are near, no two alike, at least as many as the digit is worth
+    -- near solvables of the package, no two alike, at least as many as the digit is worth
     pub record AreWorth (n : N) (i : ℕ) : Type 0 where
       pub list : List S
       pub distinct : AreDistinct list
@@ -381,7 +381,7 @@ module _ {N S : Type 0} where
             enough = subst Enough (same_digit m n j i o it is) below;
           }
 
-    -- a disjunct of a condition of the root, or of what is near, has the version set
+    -- a disjunct of a condition of the root, or of a near solvable, has the version set
     abbrev pub IsCondition : VersionSetId → Type 0
     IsCondition v = (q : ConditionalRequirement) × (list : List VersionSetId) × Requires u root (λ s. IsNear u root seeds s) q ×
         IsDisjunctOf u q.condition list × Contains list v

@@ -1,4 +1,4 @@
--- What is left out fits into no answer.
+-- A solvable that is left out fits into no answer.
 use Rattle.std.proofs.Common.{◌≡◌, ℕ, List, [], ◌∷◌, ◌++◌, arith, length-append, Bool, true, false, inl, inr, refl, sym, ap, ◌∙◌, subst, ⊎_elim, Contains}
 use Rattle.std.proofs.Common.{Some, Vec, Global}
 use Rattle.std.specs.Prelude.{map, slice_get}
@@ -30,7 +30,7 @@ use Rattle.resolver_encoding.proofs.Satisfied.{has-contains}
 use Rattle.resolver_clause_store.proofs.ListLemmas.{Contains-cons_cases as cons_cases, Contains-map_back}
 use Rattle.resolver_encoding.proofs.Spared.{Spares-further}
 
--- fewer clauses are true where more are
+-- values that satisfy more clauses satisfy fewer
 pub satisfies_fewer : (values : ℕ → Bool) (table more : List (Vec Literal Global)) → Extends table more → Satisfies values more → Satisfies values table
 satisfies_fewer values table more extends holds =
     let True : Vec Literal Global → Type 0 = λ clause. clause_true values clause.items ≡ true in
@@ -38,7 +38,7 @@ satisfies_fewer values table more extends holds =
     let all : Holds (table ++ extends.more) = subst Holds extends.is holds in
     λ k d below. subst True (get_or-append table extends.more d k below) (all k d (omega (arith, below, length-append table extends.more)))
 
--- what is left out stays so
+-- a solvable that is left out stays left out
 pub left_out_more : {N S : Type 0} (origins more : List (Origin N S)) (table longer : List (Vec Literal Global)) (set larger : List S) (s : S) →
     Keeps origins more → Extends table longer → IsWithin set larger → IsLeftOut origins table set s → IsLeftOut more longer larger s
 left_out_more origins more table longer set larger s keeps extends within out = record {
@@ -48,7 +48,7 @@ left_out_more origins more table longer set larger s keeps extends within out = 
 }
 
 module _ {N S : Type 0} (u : Universe N S) where
-  -- among positive atoms there are solvables alone
+  -- the atom of a candidate stands for a solvable
   candidate_in : (candidates : List S) (a : Atom N S) → Contains (map (λ s. atom (Solvable s) true) candidates) a → (s : S) × (a.origin ≡ Solvable s)
   candidate_in candidates a h = let w = Contains-map_back (λ s. atom (Solvable s) true) candidates a h in (w.0, ap (λ (b : Atom N S). b.origin) (sym w.2))
 
@@ -86,7 +86,7 @@ module _ {N S : Type 0} (u : Universe N S) where
       asks
 
   module _ (root : Demands) (notes : Notes N S) (encoding : IsEncoding u root notes) where
-    -- a positive literal of a clause that asks for candidates
+    -- a positive literal of a requirement clause stands for a candidate
     pub asked_candidate : (number : ℕ) → Contains notes.requirements number → (l : Literal) → Contains (clause_at notes.table number) l → l.positive ≡ true →
         (s : S) × (slice_get notes.origins l.variable ≡ Some (Solvable s))
     asked_candidate number listed l stands on =
@@ -95,7 +95,7 @@ module _ {N S : Type 0} (u : Universe N S) where
         let w = candidate_of ask.0 ask.2 a.0 a.1 (sym a.2.positive ∙ on) in
         (w.0, a.2.origin ∙ ap Some w.1)
 
-    -- what is left out fits into no answer with exemptions that the clauses spare
+    -- a solvable that is left out fits into no answer with exemptions that the clauses spare
     pub left_out_nowhere : HasLawfulSolvables u → (set exempt : List S) (s : S) → Spares u exempt notes.kinds → IsLeftOut notes.origins notes.table set s →
         FitsNowhere u root set exempt s
     left_out_nowhere lawful set exempt s spares out = λ larger within inside ok.
@@ -108,7 +108,7 @@ module _ {N S : Type 0} (u : Universe N S) where
         both_ways _ (out.never (extension u (follows u encoding.codes) notes.origins larger) holds (λ x t h is. on x t (within t h) is))
         (on out.variable s inside out.stands)
 
-  -- the clauses spare what is exempt, and what becomes so in a package that was not asked for
+  -- the clauses spare the exempt solvables, and those of packages that were not asked
   pub spares_present : (asked : List N) (exempt : List S) (kinds : List (ClauseKind N S)) → AreDue u asked exempt kinds → Spares u exempt kinds
   spares_present asked exempt kinds due = Spares-further u asked exempt exempt kinds due (λ s h. inl h)
 

@@ -11,7 +11,7 @@ use Rattle.resolver_clause_store.proofs.ListLemmas.{Contains-none as none_in}
 use Rattle.resolver_encoding.specs.declared.listing.Instance.{Instance}
 
 module _ {N S : Type 0} (old new : Listing N S) where
-  -- one more rule, whose instance may be noted
+  -- one more rule, whose instance may be listed
   pub pushed_with : (rule : Rule N S) → HasInstances old → new.rules.items ≡ old.rules.items ++ rule ∷ [] →
       ((m : Instance N S) → Contains new.instances.keys m → Contains old.instances.keys m ⊎ (one_per_package m.name m.instance ≡ statement_of rule)) →
       AddsRules (λ st. st ≡ statement_of rule) old new
@@ -39,7 +39,7 @@ module _ {N S : Type 0} (old new : Listing N S) where
   pushed rule instances items noted = let Has : List (Instance N S) → Instance N S → Type 0 = λ list m. Contains list m in
       pushed_with rule instances items (λ m h. inl (subst (λ list. Has list m) noted h))
 
-  -- one more instance, which is noted
+  -- one more instance, which is listed
   pub marked_first : (m : Instance N S) → HasInstances old → new.rules.items ≡ old.rules.items ++ OnePerPackage m.name m.instance ∷ [] →
       new.instances.keys ≡ old.instances.keys ++ m ∷ [] → AddsRules (λ st. st ≡ one_per_package m.name m.instance) old new
   marked_first m instances items noted =
@@ -50,7 +50,7 @@ module _ {N S : Type 0} (old new : Listing N S) where
       (λ (e : m ≡ q). inr (ap Of (sym e)))
       (Contains-push_cases old.instances.keys m q (subst (λ list. Has list q) noted h)))
 
-  -- the same statements in other words
+  -- the same statements, in other words
   pub added_same : (P Q : Statement N S → Type 0) → ((st : Statement N S) → P st → Q st) → ((st : Statement N S) → Q st → P st) → AddsRules P old new →
       AddsRules Q old new
   added_same P Q there back adds = record {
@@ -60,12 +60,12 @@ module _ {N S : Type 0} (old new : Listing N S) where
     only = λ r h. ⊎_elim (λ a. inl a) (λ p. inr (there (statement_of r) p)) (adds.only r h);
   }
 
-  -- all of a list were added
+  -- the rules of a whole list
   pub added_done : {X : Type 0} (xs : List X) (i : ℕ) (Says : X → Statement N S → Type 0) → length xs ≤ i → AddsRules (SomeOf (take i xs) Says) old new →
       AddsRules (SomeOf xs Says) old new
   added_done {X} xs i Says end adds = let Adds : List X → Type 0 = λ list. AddsRules (SomeOf list Says) old new in subst Adds (take_all i xs end) adds
 
-  -- rules of a list, and of one more
+  -- the rules of a list and of one more element
   pub rules_next : {X : Type 0} (xs : List X) (x : X) (Says : X → Statement N S → Type 0) → AreRulesOf (SomeOf xs Says) old.rules.items →
       AddsRules (Says x) old new → AreRulesOf (SomeOf (xs ++ x ∷ []) Says) new.rules.items
   rules_next {X} xs x Says are adds = record {
@@ -80,7 +80,7 @@ module _ {N S : Type 0} (old new : Listing N S) where
   }
 
 module _ {N S : Type 0} (old : Listing N S) where
-  -- an empty list states nothing
+  -- an empty list gives no rules
   pub no_rules : {X : Type 0} (Says : X → Statement N S → Type 0) → old.rules.items ≡ [] → AreRulesOf (SomeOf [] Says) old.rules.items
   no_rules Says none = let Has : List (Rule N S) → Rule N S → Type 0 = λ list r. Contains list r in
       record {
@@ -88,7 +88,7 @@ module _ {N S : Type 0} (old : Listing N S) where
         only = λ r h. absurd (none_in r (subst (λ list. Has list r) none h));
       }
 
-  -- an instance that is there already
+  -- an instance that is listed already
   pub marked_before : (m : Instance N S) → HasInstances old → Contains old.instances.keys m → AddsRules (λ st. st ≡ one_per_package m.name m.instance) old old
   marked_before m instances inside = record {
     instances = instances;
@@ -98,7 +98,7 @@ module _ {N S : Type 0} (old : Listing N S) where
   }
 
 module _ {N S : Type 0} (old mid new : Listing N S) where
-  -- rules and then more rules
+  -- some rules, and then more rules
   pub added_both : (P Q : Statement N S → Type 0) → AddsRules P old mid → AddsRules Q mid new → AddsRules (λ st. P st ⊎ Q st) old new
   added_both P Q first second = record {
     instances = second.instances;
@@ -113,7 +113,7 @@ module _ {N S : Type 0} (old mid new : Listing N S) where
         (second.only r h);
   }
 
-  -- rules of a list, and then of one more
+  -- the rules of a list, and then those of one more element
   pub added_next : {X : Type 0} (xs : List X) (x : X) (Says : X → Statement N S → Type 0) → AddsRules (SomeOf xs Says) old mid → AddsRules (Says x) mid new →
       AddsRules (SomeOf (xs ++ x ∷ []) Says) old new
   added_next {X} xs x Says first second = added_same old new (λ st. SomeOf xs Says st ⊎ Says x st) (SomeOf (xs ++ x ∷ []) Says)
@@ -124,7 +124,7 @@ module _ {N S : Type 0} (old mid new : Listing N S) where
       (Contains-push_cases xs x h.0 h.1))
       (added_both (SomeOf xs Says) (Says x) first second)
 
-  -- the same of the element at hand
+  -- the same for the next element of the list
   pub added_item : {X : Type 0} (xs : List X) (i : ℕ) (x : X) (Says : X → Statement N S → Type 0) → i < length xs → x ≡ get_or xs i x →
       AddsRules (SomeOf (take i xs) Says) old mid → AddsRules (Says x) mid new → AddsRules (SomeOf (take (i + 1) xs) Says) old new
   added_item {X} xs i x Says below is first second =

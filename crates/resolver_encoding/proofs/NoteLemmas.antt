@@ -26,7 +26,7 @@ use Rattle.resolver_encoding.proofs.EncodingLemmas.{AreEncoded-keeps, Contains-k
 use Rattle.resolver_encoding.proofs.EncodingLemmas.{IsStep-same, IsWithin-push, StaysRight}
 use Rattle.resolver_clause_store.proofs.ListLemmas.{Contains-cons_cases as cons_cases, Contains-here as here, Contains-there as there}
 
--- one more element of a list, by facts that grew
+-- one more element of a list, with a weaker property
 pub All-grown : {X : Type 0} (P P' : X → Type 0) (xs : List X) (i : ℕ) (x : X) → ((y : X) → P y → P' y) → i < length xs → x ≡ get_or xs i x →
     All P (take i xs) → P' x → All P' (take (i + 1) xs)
 All-grown P P' xs i x grown below is all here = All-next P' xs i x below is (All-weaker P P' grown (take i xs) all) here
@@ -35,22 +35,22 @@ pub All-grown_at : {X : Type 0} (P P' : X → Type 0) (xs : List X) (i : ℕ) (d
     P' (get_or xs i d) → All P' (take (i + 1) xs)
 All-grown_at P P' xs i d grown below all here = All-more P' xs i d below (All-weaker P P' grown (take i xs) all) here
 
--- what holds of each one of a list, and of one more
+-- a property of each element of a list, and of one more element
 pub holds_also : {X : Type 0} (P : X → Type 0) (xs : List X) (x : X) → ((y : X) → Contains xs y → P y) → P x → (y : X) → Contains (xs ++ x ∷ []) y → P y
 holds_also P xs x each here y h = ⊎_elim (λ (earlier : Contains xs y). each y earlier) (λ (is : x ≡ y). subst P is here) (Contains-push_cases xs x y h)
 
--- two that the test tells apart are not the same
+-- two elements that the test tells apart are not equal
 pub not_same : {X : Type 0} (same : X → X → Bool) → IsIdentity same → (x y : X) (b : Bool) → b ≡ same x y → b ≡ false → x ≡ y → ⊥
 not_same {X} same identity x y b tested denied e =
     let Itself : X → Type 0 = λ z. same x z ≡ true in
     true≢false (sym (subst Itself e (identity.itself x)) ∙ sym tested ∙ denied)
 
--- of a package by another name
+-- a call that asks a package asks each package of the same name
 pub asking_same : {N S : Type 0} (n m : N) → n ≡ m → (call : Call N S) → IsAsking n call → IsAsking m call
 asking_same n m same (to_ask q) asking = sym same ∙ asking
 asking_same n m same (to_see s) asking = asking
 
--- an element of a list
+-- a call that registers an element of a list
 pub seen_here : {N S : Type 0} (list : List S) (i : ℕ) (s : S) → i < length list → s ≡ get_or list i s → (call : Call N S) → IsSeeing s call →
     IsSeeingEach list call
 seen_here list i s below is (to_ask n) seeing = seeing
@@ -58,13 +58,13 @@ seen_here {N} {S} list i s below is (to_see t) same = let Has : S → Type 0 = �
     subst Has same (subst Has (sym is) (All-get_or (Contains list) list i s below (All-contains_itself list)))
 
 module _ {N S : Type 0} (u : Universe N S) where
-  -- the package of an element of a list
+  -- the package of a version set in a list
   pub named_here : (list : List VersionSetId) (i : ℕ) (d : VersionSetId) (n : N) (call : Call N S) → i < length list →
       n ≡ u.version_set_name (get_or list i d) → IsAsking n call → IsNamedBy u list call
   named_here list i d n (to_ask m) below is same = (get_or list i d, All-get_or (Contains list) list i d below (All-contains_itself list), sym is ∙ same)
   named_here list i d n (to_see s) below is asking = asking
 
-  -- one more clause, where what it needs depends on no problem
+  -- one more clause, if its conditions do not depend on the problem
   pub IsStep-kind : (doing : Doing N S) (Premise : Demands → Type 0) (old new : Notes N S) (kind : ClauseKind N S) → AddsKind u kind old new →
       ((root : Demands) → Premise root → IsEncodingWhile u doing root old → (codes : N → ℕ → S → Bool) → HasCodes u doing old codes →
       IsTrueClause u codes root kind) → HasProperHelper kind → IsDue u (doing.asking ++ old.asked) old.exempt kind → IsPrepared u doing old kind →
@@ -84,7 +84,7 @@ module _ {N S : Type 0} (u : Universe N S) where
       λ root premise before. search (grows.keeps.kept 0 Root, grows.distinct, Contains-kept old.origins origins grows.keeps, before.registered) in
       subst Step (sym is) (assumption (IsStep-same u doing Premise old, grows.keeps))
 
-  -- the package's locks and exclusions have their clauses
+  -- the locks and exclusions of the package have their clauses
   pub record IsPackageRead (kinds : List (ClauseKind N S)) (exempt : List S) (p : Package S) : Type 0 where
     pub lock : IsLockRead kinds exempt p.locked p.listed
     pub exclusions : All (λ e. (Contains exempt e.0 → ⊥) → Contains kinds (Excluded e.0 e.1)) p.excluded
@@ -102,20 +102,20 @@ module _ {N S : Type 0} (u : Universe N S) where
     exclusions = λ s reason h. ⊎_elim (λ w. inl (within _ w.0, w.1)) (λ e. inr e) (due.exclusions s reason h);
   }
 
-  -- a package that is going to be asked
+  -- a package that is about to be asked
   opened : (n : N) (root : Demands) (old : Notes N S) → IsEncodingWhile u idle root old → IsEncodingWhile u (asking_for n) root old
   opened n root old start =
       let due = AreDue-within old.asked (n ∷ old.asked) old.exempt old.kinds (λ m h. there n old.asked m h) start.due in
       search
 
-  -- of a package that is noted as asked, and of nothing else
+  -- only a package that is noted as asked is a new call
   asked_alone : (old mid : Notes N S) (n : N) → mid.asked ≡ old.asked → mid.seen ≡ old.seen → (call : Call N S) →
       IsFollowed (record mid { asked = mid.asked ++ n ∷ [] }) call → IsFollowed old call ⊎ IsAsking n call
   asked_alone old mid n asked seen (to_ask m) h = let Has : List N → Type 0 = λ list. Contains list m in
       ⊎_elim (λ (earlier : Contains mid.asked m). inl (subst Has asked earlier)) (λ (is : n ≡ m). inr is) (Contains-push_cases mid.asked n m h)
   asked_alone old mid n asked seen (to_see s) h = let Has : List S → Type 0 = λ list. Contains list s in inl (subst Has seen h)
 
-  -- a package is asked: its locks and exclusions are made, and then it is noted
+  -- a package is asked: its locks and exclusions get their clauses, and then it is noted
   pub IsStep-asked : (old mid new : Notes N S) (n : N) → IsStepWhile u (asking_for n) (λ root. ⊤) old mid → mid.asked ≡ old.asked →
       new ≡ record mid { asked = mid.asked ++ n ∷ [] } → IsPackageRead mid.kinds mid.exempt (u.package_named n) → IsAskStep u (IsAsking n) (λ root. ⊤) old new
   IsStep-asked old mid new n step same e read =
@@ -152,7 +152,7 @@ module _ {N S : Type 0} (u : Universe N S) where
           (Contains-push_cases mid.asked n (u.name s) h) in
           search (IsWithin-push mid.asked n, before.packages, before.gate_packages)
 
-  -- a package's lists, as they were found
+  -- the lists of a package, as they were found
   pub IsPackageRead-found : (kinds more : List (ClauseKind N S)) (exempt exempt' : List S) → IsWithin kinds more → exempt' ≡ exempt →
       (p : Package S) (listed : List S) (locked : Option S) (excluded : List (S × StringId)) → listed ≡ p.listed → locked ≡ p.locked → excluded ≡ p.excluded →
       IsLockRead kinds exempt locked listed → All (λ e. (Contains exempt' e.0 → ⊥) → Contains more (Excluded e.0 e.1)) excluded → IsPackageRead more exempt' p
@@ -171,7 +171,7 @@ module _ {N S : Type 0} (u : Universe N S) where
       grown (Some t) h = All-weaker (λ s. (s ≡ t → ⊥) → (Contains exempt s → ⊥) → Contains kinds (Lock t s)) (λ s.
           (s ≡ t → ⊥) → (Contains exempt s → ⊥) → Contains more (Lock t s)) (λ s k apart free. within (Lock t s) (k apart free)) listed h
 
-  -- one more helper, which follows from each that matches
+  -- one more condition helper, which each matching candidate implies
   pub IsStep-helped : (old new : Notes N S) (v : VersionSetId) → new ≡ record old { helped = old.helped ++ v ∷ [] } →
       ((s : S) → Contains (matching u v) s → Contains old.kinds (AnyOf (ConditionHelper v) s)) → IsStep u (λ root. ⊤) old new
   IsStep-helped old new v e follows =
@@ -182,7 +182,7 @@ module _ {N S : Type 0} (u : Universe N S) where
       λ root premise before. search (before.helpers, holds_also Follows old.helped v before.follow follows) in
       subst Step (sym e) (assumption (IsStep-same u idle (λ root. ⊤) old))
 
-  -- one more gate, whose clause is there
+  -- one more gate, whose clause is in the table
   pub IsStep-gated : (old new : Notes N S) (r : Requirement) → new ≡ record old { gates = old.gates ++ r ∷ [] } → Contains old.kinds (GateRequires r) →
       IsStep u (λ root. ⊤) old new
   IsStep-gated old new r e has =
@@ -192,7 +192,7 @@ module _ {N S : Type 0} (u : Universe N S) where
       λ root premise before. search (holds_also Gated old.gates r before.gated has) in
       subst Step (sym e) (assumption (IsStep-same u idle (λ root. ⊤) old, IsWithin-push old.gates r))
 
-  -- one more helper of a constraint, which follows from each that it forbids
+  -- one more constraint helper, which each candidate that it forbids implies
   pub IsStep-constrained : (old new : Notes N S) (v : VersionSetId) → new ≡ record old { constrained = old.constrained ++ v ∷ [] } →
       ((s : S) → Contains (others u v) s → Contains old.kinds (ConstrainsExcluded s v)) → IsStep u (λ root. ⊤) old new
   IsStep-constrained old new v e follows =

@@ -1,4 +1,4 @@
--- Where first choices are promised, a trail on which nothing was assumed takes them and nothing else.
+-- If first choices are promised, a trail without assumptions takes only first choices.
 use Rattle.std.proofs.Common.{ℕ, ◌≡◌, ◌⊎◌, List, [], ◌∷◌, ◌++◌, length, Bool, true, inl, inr, refl, sym, ap, ◌∙◌, subst, ⊎_elim, Contains, All}
 use Rattle.std.specs.Prelude.{map, Option, Some, slice_get}
 use Rattle.std.specs.Bool.{beq}
@@ -56,7 +56,7 @@ first_listed : {X : Type 0} (xs : List X) (x : X) → slice_get xs 0 ≡ Some x 
 first_listed [] x e = absurd cc
 first_listed {X} (y ∷ ys) x e = let Has : X → Type 0 = λ z. Contains (y ∷ ys) z in subst Has (same_Some _ _ e) (here y ys)
 
--- the first one is the one at hand, or stands before it
+-- the first element is the present one, or stands before it
 first_is : {X : Type 0} (before after : List X) (s f : X) (xs : List X) → xs ≡ before ++ s ∷ after → slice_get xs 0 ≡ Some f → (s ≡ f) ⊎ Contains before f
 first_is {X} [] after s f xs e h = let First : List X → Type 0 = λ ys. slice_get ys 0 ≡ Some f in inl (same_Some _ _ (subst First e h))
 first_is {X} (x ∷ more) after s f xs e h =
@@ -70,7 +70,7 @@ module _ {N S : Type 0} (u : Universe N S) (root : Demands) (lawful : HasLawfulS
   first_in s h = (promised.members s).1
       (IsFirst-closed u root s (IsFirstNext-within u root (Contains firsts) (IsFirst u root) (λ t i. (promised.members t).0 i) s h))
 
-  -- an active requirement is of one version set, and its first choice is there
+  -- an active requirement has one version set, and its first choice is chosen
   record IsMet (r : Requirement) : Type 0 where
     v : VersionSetId
     single : r ≡ Single v
@@ -91,7 +91,7 @@ module _ {N S : Type 0} (u : Universe N S) (root : Demands) (lawful : HasLawfulS
     abbrev value : Origin N S → Bool
     value o = is_on u (follows u codes) firsts o
 
-    -- each atom is as the first choices have it
+    -- each atom has the value that the first choices give it
     abbrev Agrees : List (Atom N S) → Type 0
     Agrees trail = (a : Atom N S) → Contains trail a → value a.origin ≡ a.positive
 
@@ -102,7 +102,7 @@ module _ {N S : Type 0} (u : Universe N S) (root : Demands) (lawful : HasLawfulS
     of_firsts : (s : S) → Contains firsts s → value (Solvable s) ≡ true
     of_firsts s inside = has-contains u (follows u codes) lawful.same_solvable firsts s inside
 
-    -- the first candidate that is not false is the first of all
+    -- the first candidate that is not false is the first of all candidates
     decided : (earlier : List (Atom N S)) → Agrees earlier → (r : ConditionalRequirement) (q : Requirement) (s : S) → r.requirement ≡ q →
         valid.Requires u root (Contains firsts) r → IsActive u (Contains firsts) r → IsFirstOpen u earlier q s → Contains firsts s
     decided earlier before r q s e requires active it =
@@ -150,7 +150,7 @@ module _ {N S : Type 0} (u : Universe N S) (root : Demands) (lawful : HasLawfulS
     chosen_within trail chosen trailed are s inside =
         contains-has u (follows u codes) lawful.same_solvable firsts s (agrees trail trailed (atom (Solvable s) true) (are.each_true s inside))
 
-  -- an answer of first choices has all of them
+  -- an answer of first choices has each of them
   module _ (packages : HasLawfulPackages u) (chosen exempt : List S) (within : IsWithin chosen firsts) (ok : IsValid u root chosen exempt) where
     named : (v : VersionSetId) (s : S) → Contains (sorted_candidates u v) s → u.name s ≡ u.version_set_name v
     named v s h = matching_named u packages v s (sorted_matches u packages lawful.same_solvable v s h)
@@ -167,7 +167,7 @@ module _ {N S : Type 0} (u : Universe N S) (root : Demands) (lawful : HasLawfulS
     all_firsts : HaveSameMembers chosen firsts
     all_firsts = record { left_within = within; right_within = λ s inside. IsFirst-least u root (Contains chosen) step s ((promised.members s).0 inside) }
 
--- a finished search on whose trail nothing was assumed answers the first choices
+-- a finished search without assumptions answers the first choices
 pub finished_is_first : {N S : Type 0} (u : Universe N S) (root : Demands) (notes : Notes N S) (requirements : List RequirementClause) (trail : Trail) →
     HasLawfulSolvables u → HasLawfulPackages u → IsReadSoFar u root (solvables_before notes.origins trail (length_of trail)) notes →
     AreAssumed notes.origins [] [] trail →

@@ -1,4 +1,4 @@
--- How far reading goes: what is demanded in a set that is near is near, too.
+-- How far reading goes: the demands of near solvables, in a set of near ones, are near, too.
 use Rattle.std.proofs.Common.{◌≡◌, ◌⊎◌, ◌<◌, true, false, List, [], ◌∷◌, ◌++◌, arith, refl, sym, ap, ◌∙◌, subst, ⊎_elim, inl, inr, length, map, get_or}
 use Rattle.std.proofs.Common.{Contains, All, Vec, Global}
 use Rattle.std.specs.Option.{option_map_or}
@@ -43,7 +43,7 @@ module _ {N S : Type 0} (u : Universe N S) (root : Demands) (seeds : List S) (pa
   abbrev Near : S → Type 0
   Near s = IsNear u root seeds s
 
-  -- the package is named by what is near or one of the packages, or the candidate is near
+  -- a near solvable or one of the packages names the package, or the candidate is near
   abbrev pub IsLed : Call N S → Type 0
   IsLed (to_ask n) = IsNamed u root Near n ⊎ Contains packages n
   IsLed (to_see s) = Near s
@@ -58,7 +58,7 @@ module _ {N S : Type 0} (u : Universe N S) (root : Demands) (seeds : List S) (pa
   constrains_by ByRoot read present near v asks = inl asks
   constrains_by (BySolvable s) read present near v asks = inr (s, near s present, asks)
 
-  -- a requirement that is active leads no farther
+  -- an active requirement leads no farther
   wanted_led : (r : ConditionalRequirement) → Requires u root Near r → IsActive u Near r → (call : Call N S) → IsWantedBy u r.requirement call → IsLed call
   wanted_led r asked active (to_ask n) named = inl (inr (r, named.0, asked, active, named.1, named.2))
   wanted_led r asked active (to_see s) listed = IsNear-closed u root seeds s (r, asked, active, listed)
@@ -68,7 +68,7 @@ module _ {N S : Type 0} (u : Universe N S) (root : Demands) (seeds : List S) (pa
   named_led list constrains (to_ask n) named = inl (inl (named.0, constrains named.0 named.1, named.2))
   named_led list constrains (to_see s) named = absurd named
 
-  -- nor does what the root, or what was read, demands in a set
+  -- the demands of the root, and of solvables that were read, lead no farther
   pub demanded_led : (set read : List S) → ((s : S) → Contains set s → Near s) → ((s : S) → Contains read s → Near s) → (by : By S) → IsPresent by read →
       (call : Call N S) → IsDemanded u set (demands_by u root by) call → IsLed call
   demanded_led set read set_near near by present call demanded = ⊎_elim
@@ -77,7 +77,7 @@ module _ {N S : Type 0} (u : Universe N S) (root : Demands) (seeds : List S) (pa
       (λ named. named_led (demands_by u root by).constraints (constrains_by by read present near) call named)
       demanded
 
-  -- nor does a disjunct that was put off, and is met in the set
+  -- a deferred disjunct that is met in the set leads no farther
   pub entry_led : (set read : List S) → ((s : S) → Contains set s → Near s) → ((s : S) → Contains read s → Near s) → (e : Deferred S) → IsTrueEntry u root e →
       IsPresent e.by read → AllMeet set (map (matching u) e.disjunct) → (call : Call N S) → IsWantedBy u e.requirement call → IsLed call
   entry_led set read set_near near e entry present met call wanted =
@@ -96,7 +96,7 @@ module _ {N S : Type 0} (u : Universe N S) (root : Demands) (seeds : List S) (pa
       AreNear u root seeds packages notes
   near_where notes read led = record { seen = λ s h. led (to_see s) h; read = read; asked = λ n h. led (to_ask n) h }
 
-  -- after what is near was read, in a set that is near
+  -- after near solvables were read, in a set of near solvables
   pub near_read : (set : List S) (Reads : S → Type 0) (old new : Notes N S) → IsReadingOf u set Reads old new → AreNear u root seeds packages old →
       All (IsNear u root seeds) set → ((s : S) → Reads s → IsNear u root seeds s) → AreNear u root seeds packages new
   near_read set Reads old new reading near all reads =
@@ -108,7 +108,7 @@ module _ {N S : Type 0} (u : Universe N S) (root : Demands) (seeds : List S) (pa
       (λ w. demanded_led set new.read set_near new_near (BySolvable w.0) w.1 call w.2)
       (reading.called call h))
 
-  -- after one more reading of a set that is near
+  -- after one more reading of a set of near solvables
   pub near_after : (set : List S) (old mid new : Notes N S) → IsReadingOf u set (Contains set) old mid → IsFiring u set mid new → IsHalfRead u root old →
       AreNear u root seeds packages old → All (IsNear u root seeds) set → AreNear u root seeds packages new
   near_after set old mid new reading firing before near all =
@@ -123,7 +123,7 @@ module _ {N S : Type 0} (u : Universe N S) (root : Demands) (seeds : List S) (pa
       (λ w. entry_led set mid.read set_near mid_near w.0 (half.encoding.left_true w.0 w.1) (half.left_read w.0 w.1) w.2 call w.3)
       (firing.called call h))
 
-  -- what is near stays so with more seeds, and more packages
+  -- solvables that are near stay near with more seeds and more packages
   pub AreNear-more : (more : List S) (others : List N) → IsWithin seeds more → IsWithin packages others → (notes : Notes N S) →
       AreNear u root seeds packages notes → AreNear u root more others notes
   AreNear-more more others within besides notes near =
@@ -135,7 +135,7 @@ module _ {N S : Type 0} (u : Universe N S) (root : Demands) (seeds : List S) (pa
             (near.asked n h);
       }
 
--- the root alone leads to what it demands without a condition
+-- the root alone leads to its unconditional demands
 module _ {N S : Type 0} (u : Universe N S) (root : Demands) (seeds : List S) (packages : List N) (bare new : Notes N S)
     (step : IsReadStep u (IsUnmet u [] ByRoot) (IsDemanded u [] root) (λ r. demands_by u r ByRoot ≡ root) bare new) (nothing : IsBare bare) where
   none_followed : (call : Call N S) → IsFollowed bare call → ⊥
@@ -152,7 +152,7 @@ module _ {N S : Type 0} (u : Universe N S) (root : Demands) (seeds : List S) (pa
       (λ demanded. demanded_led u root seeds packages [] [] (λ s k. absurd (none_in s k)) (λ s k. absurd (none_in s k)) ByRoot tt call demanded)
       (step.called call h))
 
--- what the root and a set that was read name was asked
+-- each package that the root and the solvables that were read name was asked
 pub asked_named : {N S : Type 0} (u : Universe N S) (root : Demands) (set : List S) (notes : Notes N S) → IsReadSoFar u root set notes → (n : N) →
     IsNamed u root (Contains set) n → Contains notes.asked n
 asked_named u root set notes so n named = ⊎_elim
@@ -166,9 +166,9 @@ asked_named u root set notes so n named = ⊎_elim
     w.2)
     named
 
--- a positive atom of a solvable stands in a clause that asks for candidates, and is one of them
+-- a positive atom of a solvable is in a requirement clause, and the solvable is one of its candidates
 module _ {N S : Type 0} (u : Universe N S) (s : S) where
-  -- the clause asks for the solvable among its candidates
+  -- the clause has the solvable among its candidates
   abbrev AsksForIt : ClauseKind N S → Type 0
   AsksForIt (RequiresKind by disjunct r) = Contains (requirement_candidates u r) s
   AsksForIt (GateRequires r) = Contains (requirement_candidates u r) s
@@ -255,7 +255,7 @@ module _ {N S : Type 0} (u : Universe N S) (s : S) where
   asked_seen root notes encoding (Lock t q) inside asks = absurd asks
   asked_seen root notes encoding (Excluded t reason) inside asks = absurd asks
 
--- what a clause asks for was seen
+-- the solvables of positive literals are registered
 pub positives_seen : {N S : Type 0} (u : Universe N S) (root : Demands) (notes : Notes N S) → IsEncoding u root notes → (clause : Vec Literal Global) →
     Contains notes.table clause → (l : Literal) → Contains clause.items l →
     l.positive ≡ true → (s : S) → origin_at notes.origins l.variable ≡ Solvable s → Contains notes.seen s

@@ -1,4 +1,4 @@
--- What a finished trail makes true is an answer, and each of it is there by need.
+-- A finished trail makes an answer true, and each of its solvables is reached by need.
 use Rattle.resolver_encoding.specs.Truth.{HasLawfulSolvables}
 use Rattle.std.proofs.Common.{ℕ, ◌≡◌, List, ◌∷◌, Bool, true, inl, inr, sym, ◌∙◌, subst, ⊎_elim, Contains, All}
 use Rattle.std.specs.Prelude.{map, Option}
@@ -56,7 +56,7 @@ module _ {N S : Type 0} (u : Universe N S) (root : Demands) (lawful : HasLawfulS
   next_by (BySolvable t) r s part h listed active candidate =
       inr (inr (record { by = t; among = h; lists_it = record { r = r; listed = listed; active = active; candidate = candidate } }))
 
-  -- what a gate needs that follows from one of the part
+  -- the candidates of a gate that a reached solvable implies are reached
   gate_closed : (cl : Closure u root lawful chosen seeds) (t : S) (r : Requirement) (s : S) → Contains cl.part t → follows u codes (Gate r) t ≡ true →
       Contains (requirement_candidates u r) s → Contains trail (atom (Solvable s) true) → Contains cl.part s
   gate_closed cl t r s inside e candidate taken =
@@ -134,11 +134,11 @@ module _ {N S : Type 0} (u : Universe N S) (root : Demands) (lawful : HasLawfulS
         contains-has u (follows u codes) lawful.same_solvable cl.part s
         (agrees trail is_trail (λ x h. h) (atom (Solvable s) true) (is_chosen.each_true s inside))
 
-  -- each chosen one is there by need
+  -- each chosen solvable is reached by need
   pub all_reached : IsTrail u kinds seeds refused trail → AllReached u root chosen seeds
   all_reached is_trail s inside = c.reached s (chosen_in_part c is_trail s inside)
 
-  -- the chosen ones are an answer
+  -- the chosen solvables are an answer
   pub chosen_is_valid : IsTrail u kinds seeds refused trail → IsValid u root chosen exempt
   chosen_is_valid is_trail = closed_part_is_valid u root kinds (Takes trail) settled lawful chosen exempt (covers chosen (λ x h. h) (all_reached is_trail))
       (record {

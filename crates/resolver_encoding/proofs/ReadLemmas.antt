@@ -1,4 +1,4 @@
--- What was read stays read, and when all was.
+-- Solvables that were read stay read; the clauses when everything was read.
 use Rattle.std.proofs.Common.{◌≡◌, ℕ, ◌<◌, ◌≤◌, length, List, [], ◌∷◌, ◌++◌, refl, sym, ap, ◌∙◌, subst, ⊎_elim, inl, inr, arith, Contains}
 use Rattle.std.proofs.Common.{All, Bool, true, get_or}
 use Rattle.std.specs.Prelude.{Some, slice_get}
@@ -63,7 +63,7 @@ module _ {N S : Type 0} (u : Universe N S) (kinds more : List (ClauseKind N S)) 
   IsConstraintRead-within by v h =
       All-weaker (IsForbidden kinds by v) (IsForbidden more by v) (λ s k. IsForbidden-within kinds more within by v s k) (others u v) h
 
--- what was read stays read when the notes grow
+-- requirements and constraints that were read stay read when the notes grow
 module _ {N S : Type 0} (u : Universe N S) (old new : Notes N S) (kinds : IsWithin old.kinds new.kinds) (left : (e : Deferred S) → IsLeft old e → IsLeft new e)
     (asked : IsWithin old.asked new.asked) where
   pub AreDemandsRead-grown : (by : By S) (demands : Demands) → AreDemandsRead u old by demands → AreDemandsRead u new by demands
@@ -119,7 +119,7 @@ module _ {N S : Type 0} where
       ⊎_elim (λ (is : ConditionHelper v ≡ Solvable s). absurd cc) (λ (later : Contains os (Solvable s)). solvable_in os s later)
       (cons_cases (ConditionHelper v) os (Solvable s) h)
 
-  -- there are no more solvables than variables, where each has one
+  -- there are no more registered solvables than variables
   pub seen_fit : (same : S → S → Bool) → IsIdentity same → IsEquivalence same → (seen : List S) (os : List (Origin N S)) → IsDistinct same seen →
       ((s : S) → Contains seen s → Contains os (Solvable s)) → length seen ≤ length os
   seen_fit same identity laws seen os distinct each =
@@ -152,7 +152,7 @@ module _ {N S : Type 0} (u : Universe N S) where
   candidates_of root notes encoding by list r (has_direct disjunct is h) s k = encoding.candidates by disjunct r h s k
   candidates_of root notes encoding by list r (has_gate t is none h g) s k = encoding.gate_candidates r g s k
 
-  -- the clauses say all that is asked of what was read, but for what is put off
+  -- the clauses cover everything that was read, except for deferred disjuncts
   pub so_far_read : (root : Demands) (notes : Notes N S) → IsHalfRead u root notes →
       IsRead u root notes.kinds (IsLeft notes) notes.read notes.asked notes.seen notes.exempt
   so_far_read root notes half =
@@ -176,7 +176,7 @@ module _ {N S : Type 0} (u : Universe N S) where
   none_at : {X : Type 0} (xs : List X) (i : ℕ) (x : X) → xs ≡ [] → slice_get xs i ≡ Some x → ⊥
   none_at {X} xs i x e at = let below : i < length xs = slice_get_within xs i x at in let nothing : length xs ≡ 0 = ap length e in omega (arith, below, nothing)
 
-  -- the root alone
+  -- the clause of the root alone
   pub installed : (old new : Notes N S) → IsUnread old → AddsKind u InstallRoot old new → AddsOnly (λ o. o ≡ Root) old new → (root : Demands) →
       IsEncoding u root new
   installed old new unread adds only root =
@@ -233,7 +233,7 @@ module _ {N S : Type 0} (u : Universe N S) where
         sound_deferred_by_name = unread.sound_deferred_by_name;
       })
     where
-      -- some variable stands for the root, and none for anything else
+      -- variable 0 stands for the root, since no variable stands for anything else
       root_at : slice_get new.origins 0 ≡ Some Root
       root_at =
           let w = adds.clause.atoms.each_atom (atom Root true) (here (atom Root true) []) in

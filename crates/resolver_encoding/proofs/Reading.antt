@@ -1,4 +1,4 @@
--- What was read covers what is there by need.
+-- The clauses of the solvables that were read cover everything that is reached by need.
 use Rattle.resolver_encoding.specs.Truth.{HasLawfulSolvables}
 use Rattle.std.proofs.Common.{◌⊎◌, List, inr, sym, subst, ⊎_elim, Contains}
 use Rattle.std.specs.Prelude.{map}
@@ -27,7 +27,7 @@ module _ {N S : Type 0} (u : Universe N S) (ids : HasLawfulSolvables u) (package
       (state : IsRead u root kinds IsLeft read asked registered exempt)
       (chosen seeds : List S) (seeded : AreSeeds u seeds chosen asked registered exempt)
       (all_read : (s : S) → Contains chosen s → Contains registered s → Contains read s) (quiet : NoneFires u IsLeft chosen) where
-    -- an active requirement has its clauses under a disjunct that holds
+    -- an active requirement has its clauses under a disjunct that is met
     has_clause : (part : List S) → IsWithin part chosen → (by : By S) (r : ConditionalRequirement) → IsPresent by read →
         Contains (demands_by u root by).requirements r → IsActive u (Contains part) r →
         (list : List VersionSetId) × AllMeet part (map (matching u) list) × HasClause kinds by list r.requirement

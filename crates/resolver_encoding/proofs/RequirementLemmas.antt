@@ -33,7 +33,7 @@ use Rattle.resolver_clause_store.proofs.ListLemmas.{Contains-cons_cases as cons_
 use Rattle.resolver_clause_store.proofs.ListLemmas.{list_any-contains}
 use Rattle.resolver_clause_store.proofs.SameRequirementLemmas.{same_requirement-same}
 
--- what holds of each image holds of each element
+-- a property of each image is one of each element
 pub All-unmap : {X Y : Type 0} (P : Y → Type 0) (f : X → Y) (xs : List X) → All P (map f xs) → All (λ x. P (f x)) xs
 All-unmap P f [] all = All-nil (λ x. P (f x))
 All-unmap P f (x ∷ xs) all = All-cons (λ y. P (f y)) x xs (All-head P (f x) (map f xs) all) (All-unmap P f xs (All-tail P (f x) (map f xs) all))
@@ -45,7 +45,7 @@ nothing_within : {X : Type 0} (ys : List X) → IsWithin ys [] → ys ≡ []
 nothing_within [] within = refl
 nothing_within (y ∷ ys) within = absurd (none_in y (within y (here y ys)))
 
--- what a test says
+-- the meaning of a test that passed
 pub holds_if : (b : Bool) (A B : Type 0) → b ≡ true → MatchBool b A B → A
 holds_if b A B is h = let Says : Bool → Type 0 = λ x. MatchBool x A B in subst Says is h
 
@@ -72,7 +72,7 @@ module _ {N S : Type 0} (u : Universe N S) where
       let AllNone : List (List VersionSetId) → Type 0 = λ ds. All (λ d. d ≡ []) ds in
       All-contains (λ d. d ≡ []) lists disjunct (subst AllNone (sym are) (All-cons (λ d. d ≡ []) [] [] refl (All-nil (λ d. d ≡ [])))) listed
 
-  -- where each version set of a disjunct is met, its condition holds
+  -- if each version set of a disjunct is met, its condition holds
   pub disjunct_implies : (c : Option ConditionId) (lists : List (List VersionSetId)) (disjunct list : List VersionSetId) → AreDisjuncts u c lists →
       Contains lists disjunct → HaveSameMembers list disjunct → Implies u (map (matching u) list) c
   disjunct_implies None lists disjunct list are listed same =
@@ -86,7 +86,7 @@ module _ {N S : Type 0} (u : Universe N S) where
         all_taken = All-within (IsTaken u (Contains set)) list disjunct same.right_within (all_taken set list meet);
       })
 
-  -- where the condition holds, a disjunct is met
+  -- if the condition holds, a disjunct is met
   disjunct_met : (set : List S) (c : Option ConditionId) (lists : List (List VersionSetId)) → AreDisjuncts u c lists →
       OptionalConditionHolds u (Contains set) c → SomeHolds u (Contains set) lists
   disjunct_met set None lists are holds =
@@ -95,7 +95,7 @@ module _ {N S : Type 0} (u : Universe N S) where
   disjunct_met set (Some c) lists are holds = disjunct_holds u (Contains set) c lists are holds
 
   module _ (notes : Notes N S) (by : By S) (requirement : Requirement) where
-    -- the disjuncts of the clauses, and those that are put off
+    -- the disjuncts of the clauses, and the deferred disjuncts
     abbrev chosen : (lists : List (List VersionSetId)) → All (IsDisjunctRead notes by requirement) lists → List (List VersionSetId)
     chosen [] all = []
     chosen (list ∷ lists) all =
@@ -129,7 +129,7 @@ module _ {N S : Type 0} (u : Universe N S) where
         (λ (later : Contains lists list). let w = chosen_of lists rest list later in (w.0, there first.kept (chosen lists rest) w.0 w.1, w.2))
         (cons_cases one lists list h)
 
-  -- a requirement each of whose disjuncts has a clause or is put off
+  -- a requirement is read if each of its disjuncts has a clause or is deferred
   pub requirement_read : (notes : Notes N S) (by : By S) (r : ConditionalRequirement) (lists : List (List VersionSetId)) → AreDisjuncts u r.condition lists →
       All (IsDisjunctRead notes by r.requirement) lists → IsReadRequirement u notes.kinds (IsLeft notes) by r
   requirement_read notes by r lists are all = record {
@@ -141,7 +141,7 @@ module _ {N S : Type 0} (u : Universe N S) where
     each = λ list h. chosen_each notes by r.requirement lists all list h;
   }
 
-  -- a disjunct's clause or its place among what is put off stays when the notes grow
+  -- a disjunct keeps its clause, or stays deferred, when the notes grow
   pub IsDisjunctRead-grown : (old new : Notes N S) → IsWithin old.kinds new.kinds → ((e : Deferred S) → IsLeft old e → IsLeft new e) →
       (by : By S) (r : Requirement) (list : List VersionSetId) → IsDisjunctRead old by r list → IsDisjunctRead new by r list
   IsDisjunctRead-grown old new kinds left by r list h = record {
@@ -150,7 +150,7 @@ module _ {N S : Type 0} (u : Universe N S) where
     either = ⊎_elim (λ has. inl (HasClause-within u old.kinds new.kinds kinds by h.kept r has)) (λ later. inr (left _ later)) h.either;
   }
 
-  -- a requirement without a condition that has its clauses
+  -- an unconditional requirement that has its clauses
   pub plain_read : (kinds : List (ClauseKind N S)) (Left : Deferred S → Type 0) (by : By S) (r : ConditionalRequirement) → HasClause kinds by [] r.requirement →
       IsReadRequirement u kinds Left by r
   plain_read kinds Left by r has =
@@ -161,7 +161,7 @@ module _ {N S : Type 0} (u : Universe N S) where
         each = λ list h. inl (subst Has (sym (only_one list ([] ∷ []) refl h)) has);
       }
 
-  -- what one of the requirements calls for
+  -- a call of one of the requirements
   pub called_here : (set : List S) (list : List ConditionalRequirement) (i : ℕ) (d : ConditionalRequirement) (call : Call N S) → i < length list →
       IsCalledBy u set (get_or list i d) call → IsCalledByEach u set list call
   called_here set list i d call below called = (get_or list i d, All-get_or (Contains list) list i d below (All-contains_itself list), called)
@@ -170,7 +170,7 @@ module _ {N S : Type 0} (u : Universe N S) where
       IsPlainlyNamed u (get_or list i d) call → (r : ConditionalRequirement) × Contains list r × IsPlainlyNamed u r call
   plainly_here list i d call below named = (get_or list i d, All-get_or (Contains list) list i d below (All-contains_itself list), named)
 
-  -- what a requirement wants: that the packages be asked that it names, and that its candidates be registered
+  -- the packages that a requirement names are wanted
   pub named_wanted : (r : Requirement) (call : Call N S) → IsNamedBy u (version_sets u r) call → IsWantedBy u r call
   named_wanted r (to_ask n) named = named
   named_wanted r (to_see s) named = absurd named
@@ -179,7 +179,7 @@ module _ {N S : Type 0} (u : Universe N S) where
   listed_wanted r list same (to_ask n) listed = absurd listed
   listed_wanted r list same (to_see s) listed = let Has : List S → Type 0 = λ xs. Contains xs s in subst Has same listed
 
-  -- a requirement without a condition is active
+  -- an unconditional requirement is active
   pub plainly_called : (set : List S) (requirements : List ConditionalRequirement) (call : Call N S) → (r : ConditionalRequirement) × Contains requirements r ×
       IsPlainlyNamed u r call → IsCalledByEach u set requirements call
   plainly_called set requirements call (r, listed, plain) =
@@ -206,21 +206,21 @@ module _ {N S : Type 0} (u : Universe N S) where
       (HasRequirement u (BySolvable requirer) (record { condition = None; requirement = r.requirement })) (HasRequirement u by r) (λ root asks.
       subst (λ q. Asks (BySolvable requirer) q root) plain (subst (λ b. Asks b r root) same asks)) old new step)
 
-  -- a gate follows from a solvable that asks for its requirement
+  -- a solvable implies the gates of its unconditional requirements
   pub gate_follows : (codes : N → ℕ → S → Bool) (s : S) (r : Requirement) →
       Contains (demands_of (u.needs s)).requirements (record { condition = None; requirement = r }) → follows u codes (Gate r) s ≡ true
   gate_follows codes s r asks =
       let plain : ConditionalRequirement = record { condition = None; requirement = r } in
       list_any-contains (is_plain r) (demands_of (u.needs s)).requirements plain asks (same_requirement-same r)
 
-  -- a requirement of a solvable from which its gate follows
+  -- a solvable has a clause for a requirement whose gate it implies
   pub gate_read : (Premise : Demands → Type 0) (old new : Notes N S) (s : S) (r : Requirement) → IsEncodingOf u Premise old → IsStep u Premise old new →
       Contains new.gates r → Contains new.kinds (AnyOf (Gate r) s) → HasClause new.kinds (BySolvable s) [] r
   gate_read Premise old new s r before step gate implied =
       let now = IsEncodingOf-step u Premise old new before step in
       has_gate s refl refl implied (now.encoding.gated r gate)
 
-  -- a constraint of the root or of a solvable that is apart from its helper
+  -- a constraint of the root or of a solvable whose clause excludes the helper
   pub constraint_read : (old new : Notes N S) (by : By S) (v : VersionSetId) → IsEncodingOf u (HasConstraint u by v) old →
       IsStep u (HasConstraint u by v) old new →
       Contains new.constrained v → Contains new.kinds (ConstrainsParent by v) → IsConstraintRead u new.kinds by v

@@ -1,4 +1,4 @@
--- Room for variables and clauses, over steps.
+-- Room for variables and clauses, over several steps.
 use Rattle.std.proofs.Common.{refl, ◌∙◌}
 use Rattle.resolver_encoding.specs.Encodings.{KeepsLimits}
 use Rattle.resolver_encoding.specs.Notes.{IsBounded, KeepsRoom, notes_in}

@@ -1,4 +1,4 @@
--- A set that obeys what clauses state makes each of them true.
+-- A set that obeys the statements of clauses makes each clause true.
 use Rattle.std.proofs.Common.{arith, ◌≡◌, List, Bool, true, false, refl, sym, ap, ◌∙◌, Contains}
 use Rattle.std.specs.Prelude.{not, map}
 use Rattle.std.specs.List.{list_any}
@@ -46,7 +46,7 @@ module _ {N S : Type 0} (u : Universe N S) (implies : Origin N S → S → Bool)
   on-helper (ConstraintHelper v) h = refl
   on-helper (ConditionHelper v) h = refl
 
-  -- in a clause that is false each atom has the other value
+  -- each atom of a false clause has the opposite value
   pub record IsFalse (atoms : List (Atom N S)) : Type 0 where
     pub each : (o : Origin N S) (b : Bool) → In atoms (atom o b) → value o ≡ not b
 

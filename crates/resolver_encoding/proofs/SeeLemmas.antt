@@ -25,7 +25,7 @@ use Rattle.resolver_encoding.proofs.CodeLemmas.{no_digit, pow_same}
 use Rattle.resolver_encoding.proofs.NoteLemmas.{IsStep-kind, holds_also}
 use Rattle.resolver_clause_store.proofs.ListLemmas.{Contains-at as place_in, Contains-cons_cases as cons_cases, Contains-here as here, Contains-none as none_in}
 
--- the first where the test says so, and else the second
+-- the first value if the test passes, and the second one otherwise
 abbrev pick : Bool → Bool → Bool → Bool
 pick true a b = a
 pick false a b = b
@@ -41,7 +41,7 @@ pick_second false a b e = refl
 pub place_of_item : {X : Type 0} (xs : List X) (i : ℕ) (x : X) → i < length xs → x ≡ get_or xs i x → slice_get xs i ≡ Some x
 place_of_item xs i x below is = slice_get-get_or xs i x below ∙ ap Some (sym is)
 
--- each one of a list has the digit that begins with the number
+-- each element of a list has the digit that begins with the number
 pub digit_begun : {N S : Type 0} (kinds : List (ClauseKind N S)) (n : N) (list : List S) (number index i k : ℕ) (t : S) →
     All (λ r. Contains kinds (HasBit n r index false)) list → number ≡ 2 ^ index → number ≡ 2 ^ i →
     slice_get list k ≡ Some t → k < number → Contains kinds (HasBit n t i (bit k i))
@@ -51,7 +51,7 @@ digit_begun {N} {S} kinds n list number index i k t all one other at below =
     subst (λ b. Has i b) (sym (no_digit k i (omega (arith, below, other))))
     (subst (λ j. Has j false) same (All-contains (λ r. Contains kinds (HasBit n r index false)) list t all (place_in list k t at)))
 
--- one more digit has its clause
+-- one more digit has its clauses
 pub more_digits : {N S : Type 0} (kinds more : List (ClauseKind N S)) (n : N) (k : ℕ) (s : S) (count : ℕ) (b : Bool) → IsWithin kinds more →
     ((i : ℕ) → i < count → Contains kinds (HasBit n s i (bit k i))) →
     b ≡ bit k count → Contains more (HasBit n s count b) → (i : ℕ) → i < count + 1 → Contains more (HasBit n s i (bit k i))
@@ -65,7 +65,7 @@ more_digits {N} {S} kinds more n k s count b within before is added i below =
 module _ {N S : Type 0} (u : Universe N S) where
   module _ (same_name : N → N → Bool) (same_solvable : S → S → Bool) (names : IsIdentity same_name) (solvables : IsIdentity same_solvable) (n : N) (k : ℕ)
       (s : S) where
-    -- the codes, with one for one more solvable
+    -- the codes with the code of one more solvable
     abbrev coded_also : (N → ℕ → S → Bool) → N → ℕ → S → Bool
     coded_also codes m i t = pick (same_name m n) (pick (same_solvable t s) (bit k i) (codes m i t)) (codes m i t)
 
@@ -93,7 +93,7 @@ module _ {N S : Type 0} (u : Universe N S) where
           (cases_Bool (same_name m n));
     }
 
-    -- a clause that says nothing of the solvable's bits is still true
+    -- a clause that mentions no digit of the solvable is still true
     still_true : (codes : N → ℕ → S → Bool) (root : Demands) (kind : ClauseKind N S) → HasProperHelper kind →
         ((m : N) (t : S) (i : ℕ) (b : Bool) → kind ≡ HasBit m t i b → t ≡ s → ⊥) → IsTrueClause u codes root kind → IsTrueClause u (coded_also codes) root kind
     still_true codes root InstallRoot proper apart h = tt
@@ -112,7 +112,7 @@ module _ {N S : Type 0} (u : Universe N S) where
     still_true codes root (Lock t r) proper apart h = h
     still_true codes root (Excluded t reason) proper apart h = h
 
-    -- a solvable that is going to get its code
+    -- a solvable that is about to get its code
     pub coding_opened : (root : Demands) (old : Notes N S) → u.name s ≡ n → (Contains old.seen s → ⊥) → IsEncoding u root old →
         IsEncodingWhile u (coding_for n k s) root old
     coding_opened root old name absent start =
@@ -138,7 +138,7 @@ module _ {N S : Type 0} (u : Universe N S) where
         λ m t i b h. ⊎_elim (λ seen. inl seen) (λ none. absurd (none_in t none)) (start.coded m t i b h) in
         search
 
-    -- one more clause of the solvable's code
+    -- one more clause of the code of the solvable
     pub IsStep-own : (old new : Notes N S) (i : ℕ) (b : Bool) → AddsKind u (HasBit n s i b) old new → u.name s ≡ n → b ≡ bit k i →
         IsStepWhile u (coding_for n k s) (λ root. ⊤) old new
     IsStep-own old new i b adds name is =
@@ -146,7 +146,7 @@ module _ {N S : Type 0} (u : Universe N S) where
         IsStep-kind u (coding_for n k s) (λ root. ⊤) old new (HasBit n s i b) adds
         (λ root _ before codes has. (name, has.coding one (here one []) i ∙ sym is)) tt tt (inr (here s []))
 
-    -- an earlier one has the digit that begins with the solvable's number, and it is not set
+    -- an earlier solvable has the digit that begins with the new number, and it is not set
     pub IsStep-begun : (old new : Notes N S) (i j : ℕ) (t : S) → AddsKind u (HasBit n t i false) old new → k ≡ 2 ^ i →
         (AreGroups old.groups → j < k) → IsAt old.groups n j t → IsStepWhile u (coding_for n k s) (λ root. ⊤) old new
     IsStep-begun old new i j t adds begins below at =
@@ -161,14 +161,14 @@ module _ {N S : Type 0} (u : Universe N S) where
           prepared = inl member.1;
         })
 
-    -- of a solvable that is noted as seen, and of nothing else
+    -- only a solvable that is noted as registered is a new call
     seen_alone : (old mid : Notes N S) (groups : Groups N S) → mid.asked ≡ old.asked → mid.seen ≡ old.seen → (call : Call N S) →
         IsFollowed (record mid { seen = mid.seen ++ s ∷ []; groups = groups }) call → IsFollowed old call ⊎ IsSeeing s call
     seen_alone old mid groups asked seen (to_ask m) h = let Has : List N → Type 0 = λ list. Contains list m in inl (subst Has asked h)
     seen_alone old mid groups asked seen (to_see t) h = let Has : List S → Type 0 = λ list. Contains list t in
         ⊎_elim (λ (earlier : Contains mid.seen t). inl (subst Has seen earlier)) (λ (is : s ≡ t). inr is) (Contains-push_cases mid.seen s t h)
 
-    -- A solvable gets its code while no others come, and is then noted. The list has those of its name, by their numbers.
+    -- A solvable gets its code while no others are registered, and is then noted. The list has the group of its name, by their numbers.
     pub IsStep-seen : (old mid new : Notes N S) (groups : Groups N S) (list : List S) → u.name s ≡ n → (Contains old.seen s → ⊥) →
         IsStepWhile u (coding_for n k s) (λ root. ⊤) old mid → mid.groups ≡ old.groups → mid.seen ≡ old.seen →
         new ≡ record mid { seen = mid.seen ++ s ∷ []; groups = groups } →
@@ -192,7 +192,7 @@ module _ {N S : Type 0} (u : Universe N S) where
         Sound : Groups N S → Type 0
         Sound gs = AreGroups gs
 
-        -- an earlier one has the digits of the new one's number: the digit began with it, or was there before
+        -- an earlier solvable has the digits of the new number: a digit began with it, or was there before
         earlier_digit : {root : Demands} → IsEncodingWhile u (coding_for n k s) root mid → (j : ℕ) (t : S) → IsAt mid.groups n j t → (i : ℕ) → 2 ^ i ≤ k →
             Contains mid.kinds (HasBit n t i (bit j i))
         earlier_digit before j t at i reached =

@@ -1,4 +1,4 @@
--- One more reading: its two halves, what they leave of what was put off, and which packages they asked for.
+-- One more reading: its two halves, the disjuncts that they leave deferred, and the packages that they asked.
 use Rattle.std.proofs.Common.{◌≡◌, ◌⊎◌, ℕ, ◌+◌, ◌<◌, Bool, true, false, length, length-append, take, drop, map, List, [], ◌∷◌, ◌++◌, refl, sym, ap, ◌∙◌, subst}
 use Rattle.std.proofs.Common.{⊎_elim, inl, inr, arith, Contains, All}
 use Rattle.std.specs.Prelude.{Some, slice_get, ⊤}
@@ -46,7 +46,7 @@ place_on {X} xs ys more k x at =
 pub IsWithin-equal : {X : Type 0} (xs ys : List X) → ys ≡ xs → IsWithin xs ys
 IsWithin-equal {X} xs ys same x h = let Has : List X → Type 0 = λ list. Contains list x in subst Has (sym same) h
 
--- each list of the disjunct is met in the first part of the set, or one in the second
+-- each version set of the disjunct is met in the first part of the set, or one of them in the second part
 met_in_parts : {N S : Type 0} (u : Universe N S) (first second : List S) (list : List VersionSetId) → AllMeet (first ++ second) (map (matching u) list) →
     AllMeet first (map (matching u) list) ⊎ ((v : VersionSetId) × Contains list v × (s : S) × Contains second s × Contains (matching u v) s)
 met_in_parts u first second [] met = inl (All-nil (λ xs. Meets xs first))
@@ -85,7 +85,7 @@ module _ {N S : Type 0} (u : Universe N S) (set : List S) where
       λ s k. ⊎_elim (λ before. inl before) (λ may. inr (weaker s may)) (h.reads s k) in
       assumption
 
-  -- disjuncts were taken out
+  -- disjuncts were removed
   module _ (mid new : Notes N S) (firing : IsFiring u set mid new) where
     left_before : (e : Deferred S) → IsLeft new e → IsLeft mid e
     left_before e h =
@@ -137,7 +137,7 @@ module _ {N S : Type 0} (u : Universe N S) (set : List S) where
       left_read = λ e h. IsPresent-within e.by mid.read new.read (IsWithin-equal mid.read new.read firing.read) (half.left_read e (left_before e h));
     }
 
-  -- what is demanded was asked for
+  -- each package that is demanded was asked
   pub demanded_asked : (root : Demands) (notes : Notes N S) → IsHalfRead u root notes → NoneFires u (IsLeft notes) set → (by : By S) → IsPresent by notes.read →
       (n : N) → IsDemanded u set (demands_by u root by) (to_ask n) → Contains notes.asked n
   demanded_asked root notes half quiet by present n demanded =
@@ -160,7 +160,7 @@ module _ {N S : Type 0} (u : Universe N S) (set : List S) where
       (All-contains (λ v. Contains notes.asked (u.version_set_name v)) demands.constraints named.0 read.packages named.1))
       demanded
 
-  -- solvables were read, and then disjuncts taken out
+  -- solvables were read, and then disjuncts were removed
   module _ (old mid new : Notes N S) (reading : IsReadingOf u set (Contains set) old mid) (firing : IsFiring u set mid new) where
     pub read_more : IsReadMore u set old new
     read_more =
@@ -189,7 +189,7 @@ module _ {N S : Type 0} (u : Universe N S) (set : List S) where
           (λ (behind : Contains (drop from set) s). All-contains (Contains mid.read) (drop from set) s rest_read behind)
           (Contains-append_cases (take from set) (drop from set) s (IsWithin-equal set (take from set ++ drop from set) (take-append-drop from set) s h)))
 
-      -- one that was left before, of which a version set is met behind the first part
+      -- a disjunct that was left before, with a version set that is met behind the first part
       quiet_behind : (i : ℕ) (e : Deferred S) → slice_get new.deferred i ≡ Some (Some e) → AllMeet set (map (matching u) e.disjunct) → (v : VersionSetId) →
           Contains e.disjunct v → (s : S) → Contains (drop from set) s → Contains (matching u v) s → ⊥
       quiet_behind i e at met v inside s behind matches =
@@ -248,7 +248,7 @@ module _ {N S : Type 0} (u : Universe N S) (set : List S) where
         all = λ n called. demanded_asked root new half_after so_far.none called.0 called.1 n called.2;
       }
 
-  -- what changed by both
+  -- the changes of both halves
   pub progress : (old mid new : Notes N S) (read fired : Bool) → HasRead old mid read → HasFired mid new fired → IsFiring u set mid new →
       IsProgress old new (progress_by read fired)
   progress old mid new true true read fired firing = let Longer : List S → Type 0 = λ list. length old.read < length list in subst Longer (sym firing.read) read
@@ -259,12 +259,12 @@ module _ {N S : Type 0} (u : Universe N S) (set : List S) where
       (firing.read ∙ ap (λ (n : Notes N S). n.read) read, subst Fewer read fired)
   progress old mid new false false read fired firing = fired ∙ read
 
--- an encoding says nothing of what was read
+-- the notes stay an encoding whichever solvables were read
 pub IsEncoding-read : {N S : Type 0} (u : Universe N S) (root : Demands) (notes : Notes N S) (read : List S) → IsEncoding u root notes →
     IsEncoding u root (record notes { read = read })
 IsEncoding-read u root notes read before = search
 
--- the clauses of a solvable are there, and it is noted as read
+-- a solvable has its clauses, and is noted as read
 module _ {N S : Type 0} (u : Universe N S) (set : List S) (s : S) (old mid new : Notes N S)
     (step : IsReadStep u (IsUnmet u set (BySolvable s)) (IsDemanded u set (demands_of (u.needs s))) (λ root. ⊤) old mid)
     (needs : AreNeedsRead u mid s (u.needs s)) (has_variable : Contains old.origins (Solvable s)) (is : new ≡ record mid { read = mid.read ++ s ∷ [] }) where
@@ -322,7 +322,7 @@ module _ {N S : Type 0} (u : Universe N S) (set : List S) (s : S) (old mid new :
       let before : length mid.read ≡ length old.read = ap length step.read in
       omega (arith, now, long, before)
 
--- the root's clauses are there
+-- the root has its clauses
 module _ {N S : Type 0} (u : Universe N S) (root : Demands) (bare new : Notes N S)
     (step : IsReadStep u (IsUnmet u [] ByRoot) (IsDemanded u [] root) (λ r. demands_by u r ByRoot ≡ root) bare new)
     (nothing : IsBare bare) (start : IsEncoding u root bare) (read : AreDemandsRead u new ByRoot root) where
@@ -356,7 +356,7 @@ module _ {N S : Type 0} (u : Universe N S) (root : Demands) (bare new : Notes N 
         (IsPresent-within called.0 [] new.read (λ s h. absurd (none_in s h)) called.1) n called.2;
   }
 
--- the elements between two places
+-- each element between two places
 pub record AreEach {X : Type 0} (P : X → Type 0) (xs : List X) (from place : ℕ) : Type 0 where
   pub each : (k : ℕ) (d : X) → from ≤ k → k < place → P (get_or xs k d)
 
@@ -383,7 +383,7 @@ AreEach-done P xs from place end all k d below =
     let inside : from + k < length xs = omega (arith, shorter, below) in
     subst P (sym (get_or-drop from xs k d)) (all.each (from + k) d (omega arith) (omega (arith, inside, end)))
 
--- one step more, after the others
+-- one more step after the others
 pub IsMoreOrSame-trans : {N S : Type 0} (one two three : Notes N S) → IsMoreOrSame one two → IsMoreOrSame two three → IsMoreOrSame one three
 IsMoreOrSame-trans {N} {S} one two three first second =
     let From : Notes N S → Type 0 = λ n. IsMoreOrSame n three in
@@ -396,11 +396,11 @@ IsMoreOrSame-trans {N} {S} one two three first second =
     second)
     first
 
--- where there are no more, nothing changed
+-- if no more solvables were read, nothing changed
 pub no_more_read : {N S : Type 0} (old new : Notes N S) → IsMoreOrSame old new → length new.read ≤ length old.read → new ≡ old
 no_more_read old new more most = ⊎_elim (λ same. same) (λ (less : length old.read < length new.read). absurd (omega (arith, less, most))) more
 
--- solvables that a provider's own test takes for the same are the same
+-- solvables that the provider's test takes for equal are equal
 pub lawful_solvables : {N S : Type 0} (u : Universe N S) (eq : S → S → Bool) → HasLawfulIds u → u.same_solvable ≡ eq → IsIdentity eq → HasLawfulSolvables u
 lawful_solvables {N} {S} u eq ids compare same = record {
   ids = ids;

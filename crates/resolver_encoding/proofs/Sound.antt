@@ -1,4 +1,4 @@
--- What true clauses and listed rules say of a set.
+-- The meaning of true clauses and of listed rules for a set.
 use Rattle.std.proofs.Common.{ℕ, ◌≡◌, List, Bool, true, refl, sym, ap, ◌∙◌, subst, ⊎_elim, Contains, All}
 use Rattle.std.specs.Prelude.{Option, Some, None, is_none, nat_eq}
 use Rattle.std.proofs.lemmas.List.Elements.{All-contains}
@@ -90,7 +90,7 @@ module _ {N S : Type 0} (u : Universe N S) (root : Demands) (kinds : List (Claus
         (λ none. not_unknown _ reason (ok.known_needs s chosen) none)
         (truth (Excluded s reason) inside)
 
-    -- an answer obeys what true clauses state
+    -- an answer obeys the statements of true clauses
     pub valid_obeys : ObeysAll set (IsStated u (follows u codes) kinds)
     valid_obeys = record {
       each = obeys_alone;
@@ -106,7 +106,7 @@ module _ {N S : Type 0} (u : Universe N S) (implies : Origin N S → S → Bool)
   is_mark (RuleExcluded t reason) n s e = absurd cc
   is_mark (OnePerPackage m t) n s e = cc
 
-  -- a set that obeys the rules that state what the clauses state obeys the clauses
+  -- a set that obeys the rules of the clauses obeys the statements of the clauses
   pub rules_obey : AreListed u implies kinds rules → ObeysAll set (IsStated u implies kinds)
   rules_obey listed = record {
     each = λ st stated.

@@ -1,4 +1,4 @@
--- Sources of helpers after one more clause.
+-- Sources of gates and helpers after one more clause.
 use Rattle.std.proofs.Common.{◌≡◌, ◌⊎◌, ℕ, ◌<◌, ◌+◌, length, get_or, take, List, [], ◌∷◌, ◌++◌, inl, inr, sym, ap, ◌∙◌, subst, ⊎_elim, Contains}
 use Rattle.std.specs.Prelude.{slice_index_or}
 use Rattle.std.proofs.lemmas.List.{take_more, map-append}
@@ -40,7 +40,7 @@ module _ {N S : Type 0} (kinds : List (ClauseKind N S)) (k : ClauseKind N S) whe
       (λ rest. ⊎_elim (λ e. absurd (not_excluded s v e)) (λ e. absurd (not_helped v s e)) rest)
       (excluded_cases v s h)
 
-  -- a clause of which nothing is noted
+  -- a clause that gives no source
   pub sources_same : (sources : Sources S) → ((r : Requirement) (s : S) → k ≡ AnyOf (Gate r) s → ⊥) →
       ((s : S) (v : VersionSetId) → k ≡ ConstrainsExcluded s v → ⊥) → ((v : VersionSetId) (s : S) → k ≡ AnyOf (ConstraintHelper v) s → ⊥) →
       AreSources kinds sources → AreSources (kinds ++ k ∷ []) sources
@@ -77,7 +77,7 @@ module _ {N S : Type 0} (kinds : List (ClauseKind N S)) (k : ClauseKind N S) whe
             let clash : AnyOf (Gate r) s ≡ AnyOf (ConstraintHelper w) x = sym is ∙ e in absurd cc) v t h));
       }
 
-  -- one more solvable of a constraint's helper
+  -- one more solvable of a constraint helper
   pub excluded_noted : (old new : Sources S) (v : VersionSetId) (s : S) → (k ≡ ConstrainsExcluded s v) ⊎ (k ≡ AnyOf (ConstraintHelper v) s) →
       AddsNamed old.helpers new.helpers v s → new.gates ≡ old.gates → AreSources kinds old → AreSources (kinds ++ k ∷ []) new
   excluded_noted old new v s is adds gates are =
@@ -127,7 +127,7 @@ sources_next {N} {S} kinds numbers i n k sources below is kind_is are =
     let Are : List (ClauseKind N S) → Type 0 = λ ks. AreSources ks sources in
     subst Are (sym (kinds_next kinds numbers i n k below is kind_is)) are
 
--- no clauses have no sources
+-- without clauses there are no sources
 pub no_sources : {N S : Type 0} (sources : Sources S) → HasGroups sources → ((r : Requirement) (s : S) → IsNamed sources.gates r s → ⊥) →
     ((v : VersionSetId) (s : S) → IsNamed sources.helpers v s → ⊥) → AreSources {N = N} [] sources
 no_sources {N} {S} sources groups no_requirer no_excluded = record {

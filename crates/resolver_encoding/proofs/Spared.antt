@@ -1,10 +1,10 @@
--- Which exemptions the clauses spare.
+-- The exemptions that the clauses spare.
 use Rattle.std.proofs.Common.{◌⊎◌, List, ⊎_elim, Contains}
 use Rattle.resolver_clause_store.specs.Universe.{Universe}
 use Rattle.resolver_clause_store.specs.declared.ClauseKind.{ClauseKind}
 use Rattle.resolver_encoding.specs.Truth.{Spares, AreDue}
 
--- those of now, and any further ones in packages that were not asked for
+-- the present exemptions, and further ones in packages that were not asked
 pub Spares-further : {N S : Type 0} (u : Universe N S) (asked : List N) (exempt more : List S) (kinds : List (ClauseKind N S)) → AreDue u asked exempt kinds →
     ((s : S) → Contains more s → Contains exempt s ⊎ (Contains asked (u.name s) → ⊥)) → Spares u more kinds
 Spares-further u asked exempt more kinds due further = record {

@@ -1,4 +1,4 @@
--- Rules that state what the clauses of a core state.
+-- Rules that state the statements of the clauses of a core.
 use Rattle.std.proofs.Common.{◌≡◌, ◌⊎◌, ℕ, List, Bool, true, inl, inr, refl, sym, subst, ⊎_elim, Contains, All, length, get_or, ◌<◌}
 use Rattle.std.specs.declared.alloc.Global.{Global}
 use Rattle.std.specs.Prelude.{Vec}
@@ -33,7 +33,7 @@ module _ {N S : Type 0} (u : Universe N S) (same_name : N → N → Bool) (names
   abbrev Stated : Statement N S → Type 0
   Stated st = IsStated u implies kinds st
 
-  -- the instance from which a helper follows
+  -- the instance that implies a helper
   bit_stated : (helper : Origin N S) (s : S) (st : Statement N S) → Contains kinds (AnyOf helper s) → ListsBit helper s st → IsStated u implies kinds st
   bit_stated Root s st inside h = absurd h
   bit_stated (Solvable t) s st inside h = absurd h
@@ -45,7 +45,7 @@ module _ {N S : Type 0} (u : Universe N S) (same_name : N → N → Bool) (names
   helped : (v : _) (s : S) → Contains kinds (ConstrainsExcluded s v) ⊎ Contains kinds (AnyOf (ConstraintHelper v) s) → implies (ConstraintHelper v) s ≡ true
   helped v s h = ⊎_elim (λ a. implied-excluded u same_name names same kinds v s a) (λ b. implied-any u same_name names same kinds (ConstraintHelper v) s tt b) h
 
-  -- what a clause states by these sources
+  -- the statements of a clause, by these sources
   kind_states : (kind : ClauseKind N S) → Contains kinds kind → (st : Statement N S) → States u sources kind st → IsStated u implies kinds st
   kind_states InstallRoot inside st h = ⊎_elim (λ a. absurd a) (λ b. absurd b) h
   kind_states (Requires by disjunct r) inside st h = ⊎_elim (λ a. subst Stated (sym a) (states_requires by disjunct r inside)) (λ b. absurd b) h
@@ -62,7 +62,7 @@ module _ {N S : Type 0} (u : Universe N S) (same_name : N → N → Bool) (names
   kind_states (Lock s t) inside st h = ⊎_elim (λ a. subst Stated (sym a) (states_lock s t inside)) (λ b. absurd b) h
   kind_states (Excluded s reason) inside st h = ⊎_elim (λ a. subst Stated (sym a) (states_excluded s reason inside)) (λ b. absurd b) h
 
-  -- which clause states it
+  -- the clause that makes a statement
   has_statement : (st : Statement N S) → IsStated u implies kinds st → SomeOf kinds (States u sources) st
   has_statement st (states_requires by disjunct r inside) = (Requires by disjunct r, inside, inl refl)
   has_statement st (states_constrains by v s inside) = (Constrains by v s, inside, inl refl)
@@ -85,7 +85,7 @@ module _ {N S : Type 0} (u : Universe N S) (same_name : N → N → Bool) (names
     pub all_stated : AreStated u implies kinds rules
     all_stated rule inside = let w = stating.only rule inside in kind_states w.0 w.1 (statement_of rule) w.2
 
--- the rules that the clauses of a core state
+-- the rules of the clauses of a core explain
 pub numbered_core_explained : {N S : Type 0} (u : Universe N S) (same_name : N → N → Bool) (codes : N → ℕ → S → Bool) (root : Demands)
     (origins : List (Origin N S)) (table : List (Vec Literal Global)) (kinds : List (ClauseKind N S)) (numbers : List ℕ) (rules : List (Rule N S)) →
     HasLawfulSolvables u → IsIdentity same_name → AreCodes u codes → AreEncoded u origins table kinds → All (IsTrueClause u codes root) kinds →
@@ -99,7 +99,7 @@ numbered_core_explained u same_name codes root origins table kinds numbers rules
     (core_true u codes root kinds numbers within are_true) listed stated
     (core_contradicts u origins table kinds numbers encoded within core.refuted)
 
--- the same of an encoding
+-- the same for an encoding
 pub encoding_core_explained : {N S : Type 0} (u : Universe N S) (same_name : N → N → Bool) (root : Demands) (notes : Notes N S) (numbers : List ℕ)
     (rules : List (Rule N S)) →
     HasLawfulSolvables u → IsIdentity same_name → IsEncoding u root notes → IsCore notes.table numbers →

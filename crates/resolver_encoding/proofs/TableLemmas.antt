@@ -1,4 +1,4 @@
--- The literals of a clause against its kind, and what a clause mentions.
+-- The literals of a clause, its kind, and the origins that it mentions.
 use Rattle.std.proofs.Common.{◌≡◌, ◌<◌, ◌⊎◌, ℕ, List, [], ◌∷◌, ◌++◌, map, refl, sym, ap, ◌∙◌, subst, ⊎_elim, inl, inr}
 use Rattle.std.proofs.Common.{Bool, true, false, Contains, Vec, Global, length, arith}
 use Rattle.std.specs.Prelude.{Option, Some, None, get_or, slice_get, take}
@@ -53,7 +53,7 @@ pub IsSecond-beside : {N S : Type 0} (by : By S) (v : VersionSetId) (s : S) (sec
 IsSecond-beside by v s second (beside_it is) = second_is is
 IsSecond-beside by v s second (is_itself same none) = second_again by v s refl same none
 
--- the table has the clause, after variables were added
+-- the table has one more clause, after variables were added
 pub kind_added : {N S : Type 0} (u : Universe N S) (kind : ClauseKind N S) (old mid new : Table N S) (literals : Vec Literal Global) →
     Grows old.origins mid.origins → mid ≡ record old { origins = mid.origins } → IsClauseOf u mid.origins literals.items kind →
     new ≡ record mid {
@@ -70,7 +70,7 @@ kind_added {N} {S} u kind old mid new literals grows same clause is =
     let Added : Table N S → Type 0 = λ t. HasAdded u kind old t in
     subst Added (sym (is ∙ ap with_clause same)) (record { origins = grows; literals = literals; clause = clause; is = refl })
 
--- a list that grew has the old one in front
+-- a list that grew has the old list in front
 pub take_kept : {X : Type 0} (old new : List X) → Keeps old new → take (length old) new ≡ old
 take_kept [] new keeps = refl
 take_kept (x ∷ old) new keeps =
@@ -83,18 +83,18 @@ take_kept (x ∷ old) new keeps =
     let within : i < length all = omega (arith, below, size) in
     get_or-take (length all) new i x within ∙ get_or_from_slice_get new i (get_or all i x) x (at i within))
 
--- the variables as they were, once those that were made are gone
+-- the variables are as before, once the new ones are removed
 pub origins_back : {N S : Type 0} (old mid new : List (Origin N S)) (count : ℕ) → Grows old mid → count ≡ length old → new ≡ take count mid → new ≡ old
 origins_back old mid new count grows all is = is ∙ ap (λ n. take n mid) all ∙ take_kept old mid grows.keeps
 
--- the table as it was then
+-- the table is as before
 pub table_back : {N S : Type 0} (old mid new : Table N S) → mid ≡ record old { origins = mid.origins } → new.origins ≡ old.origins →
     new.variable_limit ≡ mid.variable_limit → new ≡ record mid { origins = new.origins; variable_limit = new.variable_limit } → new ≡ old
 table_back {N} {S} old mid new same origins limit is =
     is ∙ ap (λ (n : ℕ). record mid { origins = new.origins; variable_limit = n }) limit ∙ ap (λ (t : Table N S). record t { origins = new.origins }) same ∙
     ap (λ (list : List (Origin N S)). record old { origins = list }) origins
 
--- the notes with what such a table holds
+-- the notes with the contents of such a table
 abbrev pub with_table : {N S : Type 0} → Notes N S → Table N S → Notes N S
 with_table notes t = record notes {
   origins = t.origins;
@@ -106,7 +106,7 @@ with_table notes t = record notes {
 }
 
 module _ {N S : Type 0} where
-  -- what one atom, or two, are about
+  -- the origins that one atom or two mention
   pub mentioned_one : (a : Atom N S) (o : Origin N S) → IsMentioned (a ∷ []) o → o ≡ a.origin
   mentioned_one a o w = ⊎_elim (λ (is : a ≡ w.0). w.2 ∙ sym (ap (λ (b : Atom N S). b.origin) is)) (λ (none : Contains [] w.0). absurd (none_in w.0 none))
       (cons_cases a [] w.0 w.1)
@@ -115,7 +115,7 @@ module _ {N S : Type 0} where
   mentioned_two a b o w = ⊎_elim (λ (is : a ≡ w.0). inl (w.2 ∙ sym (ap (λ (c : Atom N S). c.origin) is)))
       (λ (later : Contains (b ∷ []) w.0). inr (mentioned_one b o (w.0, later, w.2))) (cons_cases a (b ∷ []) w.0 w.1)
 
-  -- the first of the front is there in any case
+  -- the first atom of the front is always there
   front_within : (first : Origin N S × Bool) (second : Option (Origin N S × Bool)) (a : Atom N S) → Contains (front first None) a →
       Contains (front first second) a
   front_within first None a h = h
@@ -124,7 +124,7 @@ module _ {N S : Type 0} where
       ⊎_elim (λ (is : atom first.0 first.1 ≡ a). subst Has is (here (atom first.0 first.1) (atom second.0 second.1 ∷ [])))
       (λ (none : Contains [] a). absurd (none_in a none)) (cons_cases (atom first.0 first.1) [] a h)
 
-  -- variables of the first of the front, and of the second
+  -- the variables of the first atom of the front, and of the second
   pub front_one : (first : Origin N S × Bool) (second : Option (Origin N S × Bool)) (old new : List (Origin N S)) → AddsSuch (λ o. o ≡ first.0) old new →
       AddsSuch (IsMentioned (front first second)) old new
   front_one first second old new adds =
@@ -144,7 +144,7 @@ module _ {N S : Type 0} (u : Universe N S) where
   mentioned_made : (kind : ClauseKind N S) (o : Origin N S) → IsMentioned (made_of u (second_atom kind) kind) o → IsMentioned (atoms_of u kind) o
   mentioned_made kind o w = let Mentioned : List (Atom N S) → Type 0 = λ atoms. IsMentioned atoms o in subst Mentioned (made_is u kind) w
 
-  -- the variables of the front, of the helpers and of the candidates are those of the clause
+  -- the variables of the front, the helpers and the candidates are those of the clause
   module _ (kind : ClauseKind N S) (start : List (Origin N S)) where
     pub front_adds : (new : List (Origin N S)) (first : Origin N S × Bool) (second : Option (Origin N S × Bool)) → first ≡ first_atom kind →
         IsSecond kind second → AddsSuch (IsMentioned (front first second)) start new → AddsSuch (IsMentioned (atoms_of u kind)) start new
@@ -190,14 +190,14 @@ module _ {N S : Type 0} (u : Universe N S) where
       let back = Contains-map_back (λ s. atom (Solvable s) true) (requirement_candidates u r) w.0 w.1 in
       (back.0, back.1, w.2 ∙ sym (ap (λ (b : Atom N S). b.origin) back.2))
 
-  -- what the clause of a gate is about
+  -- the origins that the clause of a gate mentions
   pub gate_mentions : (r : Requirement) (o : Origin N S) → IsMentioned (atoms_of u (GateRequires r)) o → (o ≡ Gate r) ⊎ IsCandidate u r o
   gate_mentions r o w = ⊎_elim
       (λ (is : atom (Gate r) false ≡ w.0). inl (w.2 ∙ sym (ap (λ (b : Atom N S). b.origin) is)))
       (λ (later : Contains (map (λ s. atom (Solvable s) true) (requirement_candidates u r)) w.0). inr (candidate_mentioned r o (w.0, later, w.2)))
       (cons_cases (atom (Gate r) false) (map (λ s. atom (Solvable s) true) (requirement_candidates u r)) w.0 w.1)
 
-  -- what the clause of a requirement is about
+  -- the origins that a requirement clause mentions
   pub requirement_mentions : (by : By S) (disjunct : Vec VersionSetId Global) (r : Requirement) (o : Origin N S) →
       IsMentioned (atoms_of u (Requires by disjunct r)) o → IsHelped u by disjunct.items o ⊎ IsCandidate u r o
   requirement_mentions by disjunct r o w =

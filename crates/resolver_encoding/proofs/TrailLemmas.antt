@@ -1,4 +1,4 @@
--- What a variable stands for, looked up, and a list of chosen solvables that follows a trail.
+-- The solvable that a variable stands for, and a list of chosen solvables that follows a trail.
 use Rattle.std.proofs.Common.{◌≡◌, ℕ, zero, suc, ◌+◌, ◌<◌, ◌≤◌, List, [], ◌∷◌, ◌++◌, length, Option, Some, None, Bool, arith, refl, sym, ap, ◌∙◌, subst, ⊎_elim}
 use Rattle.std.proofs.Common.{Contains, take, true, false}
 use Rattle.std.specs.Prelude.{slice_get}
@@ -21,7 +21,7 @@ use Rattle.resolver_clause_store.proofs.KeptLemmas.{slot_placed}
 use Rattle.resolver_clause_store.proofs.ListLemmas.{Contains-here as here, slice_get-append_left as slice_get-earlier, slice_get-last}
 use Rattle.resolver_encoding.proofs.EncodingLemmas.{Extends-same, Extends-trans}
 
--- what the look-up of a variable's origin found
+-- the solvable that a look-up of a variable's origin found
 found_some : {N S : Type 0} (origins : List (Origin N S)) (x : ℕ) (s : S) → solvable_found (slice_get origins x) ≡ Some s →
     solvable_if (origin_at origins x) true ≡ s ∷ []
 found_some [] x s e = absurd cc
@@ -44,7 +44,7 @@ found_none (ConstraintHelper v ∷ os) zero b e = refl
 found_none (ConditionHelper v ∷ os) zero b e = refl
 found_none (o ∷ os) (suc x) b e = found_none os x b e
 
--- what a true variable stands for, and what a false one gives
+-- the solvable that a true variable stands for
 pub found_at : {N S : Type 0} (origins : List (Origin N S)) (x : ℕ) (b : Bool) (o : Option S) → b ≡ true → o ≡ solvable_found (slice_get origins x) →
     option_to_list o ≡ solvable_if (origin_at origins x) b
 found_at origins x b None on e = sym (found_none origins x b (sym e))
@@ -61,15 +61,15 @@ false_if (ConditionHelper v) = refl
 pub none_at : {N S : Type 0} (o : Origin N S) (b : Bool) → b ≡ false → [] ≡ solvable_if o b
 none_at o b e = sym (ap (solvable_if o) e ∙ false_if o)
 
--- what was found is there
+-- an element that was found
 pub found_there : {X : Type 0} (o : Option X) (x : X) → o ≡ Some x → Contains (option_to_list o) x
 found_there {X} o x is = let P : Option X → Type 0 = λ p. Contains (option_to_list p) x in subst P (sym is) (here x [])
 
--- a list behind which something was found
+-- a list at whose end an element was found
 pub found_last : {X : Type 0} (xs list : List X) (o : Option X) (x : X) → o ≡ Some x → option_to_list o ≡ list → xs ++ x ∷ [] ≡ xs ++ list
 found_last xs list o x is e = ap (λ more. xs ++ more) (sym (ap option_to_list is) ∙ e)
 
--- elements of a part of a list
+-- elements of the front part of a list
 slice_get-take : {X : Type 0} (xs : List X) (n k : ℕ) → k < n → slice_get (take n xs) k ≡ slice_get xs k
 slice_get-take xs zero k below = absurd (omega arith)
 slice_get-take [] (suc n) k below = refl
@@ -77,7 +77,7 @@ slice_get-take (x ∷ xs) (suc n) zero below = refl
 slice_get-take (x ∷ xs) (suc n) (suc k) below = slice_get-take xs n k (omega arith)
 
 module _ {N S : Type 0} (origins : List (Origin N S)) (trail : Trail) where
-  -- what more places make true stands behind
+  -- the solvables of more places extend the list
   pub before_extends : (k n : ℕ) → k ≤ n → Extends (solvables_before origins trail k) (solvables_before origins trail n)
   before_extends k zero h = let same : k ≡ zero = omega (arith, h) in
       let P : ℕ → Type 0 = λ j. Extends (solvables_before origins trail j) [] in subst P (sym same) (Extends-same [])
@@ -89,7 +89,7 @@ module _ {N S : Type 0} (origins : List (Origin N S)) (trail : Trail) where
       subst P (sym same) (Extends-same (solvables_before origins trail (suc n))))
       (below_or (suc n) k h)
 
-  -- what a place makes true was not there
+  -- the solvable of a place is not in the list before
   pub absent_before : AreDistinct origins → variable_count trail ≡ length origins → (c : Chosen S) (n : ℕ) → n < length_of trail → Follows c origins trail n →
       (s : S) → Contains (solvable_if (origin_at origins (variable_at trail n)) (value_of trail (variable_at trail n))) s → Contains (chosen_in c) s → ⊥
   absent_before distinct size c n below follows s here inside =
@@ -97,7 +97,7 @@ module _ {N S : Type 0} (origins : List (Origin N S)) (trail : Trail) where
       not_before origins trail distinct size n s below
       (solvable_of origins trail (origin_at origins (variable_at trail n)) (value_of trail (variable_at trail n)) s here) (subst Among follows.is inside)
 
-  -- one more place
+  -- the count of one more place
   counts_next : (cs : List ℕ) (n : ℕ) → length cs ≡ n → ((k : ℕ) → k < n → slice_get cs k ≡ Some (length (solvables_before origins trail k))) →
       (k : ℕ) → k < suc n → slice_get (cs ++ length (solvables_before origins trail n) ∷ []) k ≡ Some (length (solvables_before origins trail k))
   counts_next cs n size counts k below = ⊎_elim
@@ -143,7 +143,7 @@ module _ {N S : Type 0} (origins : List (Origin N S)) (trail : Trail) where
         counts = λ k below. ap (λ list. slice_get list k) counts ∙ slice_get-take old.counts.items kept k below ∙ follows.counts k (omega (arith, below, less));
       }
 
--- where the first places of a trail stay, and each variable stands for what it did
+-- the first places of a trail stay, and each variable keeps its origin
 module _ {N S : Type 0} (origins more : List (Origin N S)) (old new : Trail) (count : ℕ) (keeps : Keeps origins more)
     (size : variable_count old ≤ length origins) (stay : KeepsPlaces old new count) where
   pub same_origin : (x : ℕ) → x < length origins → origin_at more x ≡ origin_at origins x

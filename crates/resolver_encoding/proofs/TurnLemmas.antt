@@ -1,4 +1,4 @@
--- Turns of soft requirements: a solvable is registered, exempt, and exempt no longer.
+-- Turns of soft requirements: a solvable is registered, becomes exempt, and stops being exempt.
 use Rattle.std.proofs.Common.{◌≡◌, ◌≢◌, ◌⊎◌, ℕ, length, Bool, true, false, List, [], ◌∷◌, ◌++◌, refl, sym, ap, ◌∙◌, subst, ⊎_elim, inl, inr, All, Contains}
 use Rattle.std.specs.Prelude.{Option, Some, ⊤}
 use Rattle.std.proofs.lemmas.Bool.{cases_Bool, true≢false}
@@ -26,7 +26,7 @@ use Rattle.resolver_encoding.proofs.SoFarLemmas.{IsWithin-equal}
 use Rattle.resolver_clause_store.proofs.DemandLemmas.{IsPresent-within}
 
 module _ {N S : Type 0} (u : Universe N S) where
-  -- what was read stays read where clauses are added, and nothing is read or put off
+  -- solvables that were read stay read when clauses are added, and nothing is read or deferred
   module _ (old new : Notes N S) (origins : Keeps old.origins new.origins) (kinds : IsWithin old.kinds new.kinds) (asked_on : IsWithin old.asked new.asked)
       (read : new.read ≡ old.read) (deferred : new.deferred ≡ old.deferred)
       (keeps : (root : Demands) → IsEncoding u root old → IsEncoding u root new) where
@@ -61,7 +61,7 @@ module _ {N S : Type 0} (u : Universe N S) where
   pub StaysRead-same : (notes : Notes N S) → StaysRead u notes notes
   StaysRead-same notes = record { half = λ root h. h; so_far = λ root set h. h }
 
-  -- a step that saw one solvable
+  -- a step that registered one solvable
   pub IsRegistered-of : (s : S) (old new : Notes N S) → IsAskStep u (IsSeeing s) (λ root. ⊤) old new → Contains new.seen s →
       ((t : S) → Contains new.seen t → Contains old.seen t ⊎ (t ≡ s)) → new.requirements ≡ old.requirements → new.asked ≡ old.asked → IsRegistered u s old new
   IsRegistered-of s old new step seen only plain asked =
@@ -69,12 +69,12 @@ module _ {N S : Type 0} (u : Universe N S) where
       step.keeps root tt before) in
       assumption
 
-  -- other exemptions, of which the clauses make nothing wrong
+  -- other exemptions for which the locks and exclusions are still due
   with_exempt : (root : Demands) (old : Notes N S) (exempt : List S) → AreDue u old.asked exempt old.kinds →
       ((t : S) → Contains old.exempt t → Contains exempt t) → IsEncoding u root old → IsEncoding u root (record old { exempt = exempt })
   with_exempt root old exempt due wider start = search (start.locks, start.exclusions)
 
-  -- of a package that was not asked no lock and no exclusion speaks
+  -- no lock and no exclusion is about a package that was not asked
   AreDue-exempting : (asked : List N) (exempt : List S) (kinds : List (ClauseKind N S)) (s : S) → (Contains asked (u.name s) → ⊥) →
       AreDue u asked exempt kinds → AreDue u asked (exempt ++ s ∷ []) kinds
   AreDue-exempting asked exempt kinds s unasked due =
@@ -86,7 +86,7 @@ module _ {N S : Type 0} (u : Universe N S) where
         exclusions = λ t reason h. ⊎_elim (λ w. inl (w.0, free t w.0 w.1)) (λ e. inr e) (due.exclusions t reason h);
       }
 
-  -- a solvable becomes exempt whose package was not asked
+  -- a solvable whose package was not asked becomes exempt
   pub StaysRead-exempting : (s : S) (old new : Notes N S) → (Contains old.asked (u.name s) → ⊥) → new ≡ record old { exempt = old.exempt ++ s ∷ [] } →
       StaysRead u old new
   StaysRead-exempting s old new unasked is =
@@ -96,7 +96,7 @@ module _ {N S : Type 0} (u : Universe N S) where
       (λ root start. with_exempt root old (old.exempt ++ s ∷ []) (AreDue-exempting old.asked old.exempt old.kinds s unasked start.due) (λ t h.
       Contains-append_left old.exempt (s ∷ []) t h) start))
 
-  -- the last exempt one is exempt no longer, and its clauses are owed
+  -- the last exempt solvable stops being exempt, and its clauses are owed
   module _ (s : S) (old : Notes N S) (shorter : List S) (last : old.exempt ≡ shorter ++ s ∷ []) where
     abbrev pub opened_notes : Notes N S
     opened_notes = record old { exempt = shorter }
@@ -120,7 +120,7 @@ module _ {N S : Type 0} (u : Universe N S) where
         } in
         search (start.locks, start.exclusions, still_free)
 
-    -- the clauses were made
+    -- the clauses were added
     module _ (same : S → S → Bool) (solvables : IsIdentity same) (new : Notes N S) (restored : IsRestored u s new) where
       abbrev LockOf : S → S → Type 0
       LockOf t r = Contains new.asked (u.name r) → (Contains new.exempt r → ⊥) → (u.package_named (u.name r)).locked ≡ Some t →
@@ -156,7 +156,7 @@ module _ {N S : Type 0} (u : Universe N S) where
           owing_closed root (step.keeps root tt (owing_opened root before))) in
           assumption
 
-  -- what a package lists, locks and excludes, as it was found
+  -- the candidates, the lock and the exclusions of a package, as they were found
   pub IsRestored-found : (s : S) (old mid new : Notes N S) (n : N) → n ≡ u.name s → IsWithin mid.kinds new.kinds → mid.exempt ≡ old.exempt →
       new.exempt ≡ mid.exempt → (listed : List S) (locked : Option S) (excluded : List (S × StringId)) →
       listed ≡ (u.package_named n).listed → locked ≡ (u.package_named n).locked → excluded ≡ (u.package_named n).excluded →

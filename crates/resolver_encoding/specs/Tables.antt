@@ -1,4 +1,4 @@
--- A table of clauses, and what one more clause does to it.
+-- Tables of clauses, and the step that adds a clause.
 use Rattle.std.specs.Prelude.{ℕ, ◌≡◌, ◌⊎◌, Bool, false, List, [], ◌∷◌, ◌++◌, Option, Some, None, Vec, length}
 use Rattle.std.specs.declared.alloc.Global.{Global}
 use Rattle.resolver_clause_store.specs.Universe.{Universe}
@@ -16,8 +16,8 @@ use Rattle.resolver_encoding.specs.Atoms.{second_atom}
 use Rattle.resolver_encoding.specs.Encodings.{Grows, numbers_with}
 use Rattle.resolver_encoding.specs.Values.{IsClauseOf}
 
--- what each variable stands for, the literals and the kind of each clause, the numbers of those that ask for candidates, and how
--- many variables and clauses there may be
+-- the origin of each variable; the literals and the kind of each clause; the numbers of the requirement clauses; and the
+-- limits of variables and clauses
 pub record Table (N S : Type 0) : Type 0 where
   pub origins : List (Origin N S)
   pub literals : List (Vec Literal Global)
@@ -26,26 +26,26 @@ pub record Table (N S : Type 0) : Type 0 where
   pub variable_limit : ℕ
   pub clause_limit : ℕ
 
--- the candidate, or nothing where it is the parent
+-- the second atom is that of the candidate, or there is none if the candidate is the parent
 pub data IsBeside {N S : Type 0} (by : By S) (s : S) (second : Option (Origin N S × Bool)) : Type 0 where
   beside_it : second ≡ Some (Solvable s, false) → IsBeside by s second
   is_itself : by ≡ BySolvable s → second ≡ None → IsBeside by s second
 
--- the second atom, which is left out where a solvable forbids itself: it would be the first one again
+-- the second atom, which is left out if a solvable forbids itself, since it would equal the first atom
 pub data IsSecond {N S : Type 0} (kind : ClauseKind N S) (second : Option (Origin N S × Bool)) : Type 0 where
   second_is : second ≡ second_atom kind → IsSecond kind second
   second_again : (by : By S) (v : VersionSetId) (s : S) → kind ≡ Constrains by v s → by ≡ BySolvable s → second ≡ None → IsSecond kind second
 
--- the numbers of the clauses that ask for candidates, with one more where there is one
+-- the numbers of the requirement clauses, with the number of the new clause if it is one
 abbrev pub with_number : List ℕ → Option RequirementClause → List ℕ
 with_number numbers None = numbers
 with_number numbers (Some clause) = numbers ++ clause.number ∷ []
 
--- there are as many variables, no two alike, or as many clauses, as there may be
+-- the table has as many variables, no two alike, or as many clauses, as its limit
 abbrev pub IsTableFull : {N S : Type 0} → Table N S → Type 0
 IsTableFull t = ((length t.origins ≡ t.variable_limit) × AreDistinct t.origins) ⊎ (length t.kinds ≡ t.clause_limit)
 
--- one more clause, with the literals of its kind
+-- one more clause was added, with the literals of its kind
 pub record HasAdded {N S : Type 0} (u : Universe N S) (kind : ClauseKind N S) (old new : Table N S) : Type 0 where
   pub origins : Grows old.origins new.origins
   pub literals : Vec Literal Global

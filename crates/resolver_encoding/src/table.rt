@@ -23,7 +23,7 @@ use std::hash::Hash;
 
 /// The clauses, and the origin of each variable.
 ///
-/// A clause is added by its kind alone, from which its literals follow.
+/// A clause is added by its kind alone, which determines its literals.
 #[derive(Drop)]
 pub(crate) struct ClauseTable<N: Copy + Eq + Hash + Drop, S: Copy + Eq + Hash + Drop> {
     alloc: Global,
@@ -34,7 +34,7 @@ pub(crate) struct ClauseTable<N: Copy + Eq + Hash + Drop, S: Copy + Eq + Hash + 
     clause_limit: usize,
 }
 
-/// Returns the entry of a clause among the requirement clauses, or `None` for a clause of another kind.
+/// Returns the entry of a requirement clause, or `None` for a clause of another kind.
 fn listing_of<N, S>(
     kind: &ClauseKind<N, S>,
     number: u32,
@@ -57,7 +57,7 @@ fn listing_of<N, S>(
     }
 }
 
-/// Boxes the places where the candidates of each version set of a union end, or returns `None` without any.
+/// Boxes the places where the candidates of each version set of a union end, or returns `None` if there are none.
 fn boxed(alloc: Global, ends: Vec<usize>) -> Result<Option<Box<Vec<usize>>>, AllocError> {
     if ends.is_empty() {
         return Ok(None);
@@ -90,10 +90,10 @@ impl<N: Copy + Eq + Hash + Drop, S: Copy + Eq + Hash + Drop> ClauseTable<N, S> {
         }
     }
 
-    /// Adds a clause. Its literals follow from its kind, and from the candidates of a requirement clause.
+    /// Adds a clause, with the literals of its kind. Those of a requirement clause are made for the given candidates.
     ///
-    /// An error leaves the table as it was, with one exception: if the variables reach their limit amid the literals of the clause, the new
-    /// ones stay, since `Ids` says that the table is full.
+    /// An error leaves the table as it was, with one exception: if the variables reach their limit while the literals are
+    /// made, the new variables stay, since `Ids` means that the table is full.
     pub(crate) fn add(
         &mut self,
         kind: ClauseKind<N, S>,
@@ -155,7 +155,7 @@ impl<N: Copy + Eq + Hash + Drop, S: Copy + Eq + Hash + Drop> ClauseTable<N, S> {
         Ok(())
     }
 
-    /// Appends the literals of a clause to an empty list. Returns the places after the candidates of each version set.
+    /// Appends the literals of a clause to an empty list. Returns the place after the candidates of each version set.
     fn push_literals(
         &mut self,
         kind: &ClauseKind<N, S>,

@@ -1,4 +1,4 @@
--- Nodes that are alike have one class.
+-- Alike nodes have one class.
 use Rattle.std.proofs.Common.{◌≡◌, ◌⊎◌, ℕ, ◌+◌, Bool, true, false, cond, List, [], ◌∷◌, length, refl, sym, ◌∙◌, ap, inl, inr, rules, arith}
 use Rattle.std.specs.Prelude.{◌==◌, ◌&&◌, nat_eq, count_by, filter, Option, Some, None, slice_get}
 use Rattle.std.specs.List.{list_all, range_with_len}
@@ -35,9 +35,9 @@ side_alone a b e =
     let other : a.other.0 ≡ b.other.0 = same_numbers a.other.0 b.other.0 (and_right (same_required a.required b.required) (a.other.0 == b.other.0) e) in
     λ i. record { required = required i; other = record { 0 = other i } }
 
--- Of counts.
+-- Counts of elements.
 module _ {X : Type 0} (same : X → X → Bool) (alone : (a b : X) → same a b ≡ true → a ≡ b) (xs ys : List X) where
-  -- among these x does not stand, or it stands as often in both lists
+  -- none of these elements is x, or both lists have x the same number of times
   counted : (x : X) (zs : List X) → list_all (has_count same xs ys) zs ≡ true → (count_by (same x) zs ≡ 0) ⊎ (has_count same xs ys x ≡ true)
   counted x [] h = inl refl
   counted x (z ∷ zs) h = rw (sum_by-cons (λ y. cond (same x y) 1 0) z zs)
@@ -69,7 +69,7 @@ module _ {X : Type 0} (same : X → X → Bool) (alone : (a b : X) → same a b 
   pub agree_counts : ((x : X) → count_by (same x) xs ≡ count_by (same x) ys) → same_counts same xs ys ≡ true
   agree_counts agree = and_from (list_all (has_count same xs ys) xs) (list_all (has_count same xs ys) ys) (all_agree agree xs) (all_agree agree ys)
 
--- lists with the same counts have the same counts as a third
+-- two lists with the same counts agree on each third list
 counts_alike : {X : Type 0} (same : X → X → Bool) (alone : (a b : X) → same a b ≡ true → a ≡ b) (xs ys zs : List X) → same_counts same xs ys ≡ true →
     same_counts same xs zs ≡ same_counts same ys zs
 counts_alike same alone xs ys zs h =
@@ -91,7 +91,7 @@ texts_alone (Some a) (Some b) e = ap Some (texts_pointwise a b e)
 texts_alone None b e = absurd (false≢true e)
 texts_alone (Some a) None e = absurd (false≢true e)
 
--- keys that are alike are alike with the same keys
+-- alike keys are alike to the same keys
 keys_alike : (k l z : Key) → are_alike k l ≡ true → are_alike k z ≡ are_alike l z
 keys_alike k l z h =
     let texts : Bool = same_texts k.name l.name in
@@ -110,11 +110,11 @@ there_alike (Some k) (Some l) None h = refl
 there_alike None l z h = absurd (false≢true h)
 there_alike (Some k) None z h = absurd (false≢true h)
 
--- nodes that are alike have one class
+-- alike nodes have one class
 pub class_alike : (ks : List Key) (n m : ℕ) → are_alike_if_there (slice_get ks n) (slice_get ks m) ≡ true → class_in ks n ≡ class_in ks m
 class_alike ks n m h = λ i. filter (λ k. there_alike (slice_get ks n) (slice_get ks m) (slice_get ks k) h i) (range_with_len 0 (length ks))
 
--- the first of at least two that pass a test passes it
+-- the first of at least two elements that pass a test passes it
 pub first_passes : (p : ℕ → Bool) (xs : List ℕ) (m : ℕ) → first_of_two (filter p xs) ≡ Some m → p m ≡ true
 first_passes p [] m e = absurd cc
 first_passes p (x ∷ xs) m e = at_test (p x) refl e (first_passes p xs m)

@@ -1,4 +1,4 @@
--- What is written of a candidate.
+-- The lines of a candidate.
 use Rattle.std.proofs.Common.{◌≡◌, ℕ, zero, suc, Bool, true, false, List, [], ◌∷◌, ◌++◌, map, refl, sym, ◌∙◌, ap, append_assoc}
 use Rattle.std.specs.Prelude.{◌||◌, not, codes, Option, slice_get, slice_set}
 use Rattle.std.specs.Option.{is_some}
@@ -89,14 +89,14 @@ last_false a b true e = absurd (true≢false (sym (or_last a b) ∙ e))
 last_false a b false e = refl
 
 module _ {I N S : Type 0} (universe : I → Universe N S) (outline : Outline I N S) (branch : List Bool) (n : ℕ) (reported : List Bool) where
-  -- nothing is told of a quiet candidate
+  -- a quiet candidate has no lines
   pub quiet_candidate : (depth : ℕ) →
       is_quiet (meaning universe outline) (graph_in universe outline) (keys_in universe outline) (marks_in universe outline) branch n reported ≡ true →
       candidate_in universe outline depth branch n reported ≡ record { value = quiet; reported = reported }
   quiet_candidate zero e = refl
   quiet_candidate (suc depth) e = rw e refl
 
-  -- what is told of the others
+  -- the lines of any other candidate
   pub told_candidate : (node : NodeOutline) → IsToldNode universe outline branch n reported node → (depth : ℕ) →
       candidate_in universe outline (suc depth) branch n reported ≡ tell_verdict (meaning universe outline) (graph_in universe outline)
       (keys_in universe outline)

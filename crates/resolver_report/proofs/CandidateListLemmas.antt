@@ -5,7 +5,7 @@ use Rattle.std.proofs.lemmas.List.{append-nil, take_more}
 use Rattle.std.proofs.lemmas.List.Elements.{Contains-append_left, Contains-append_right, Contains-append_cases}
 use Rattle.std.proofs.lemmas.Grind.{flat_map-append}
 
--- a list gathered from elements, and one element more
+-- a list gathered from elements, and from one more element
 pub flat_map_next : {X Y : Type 0} (f : X → List Y) (xs : List X) (found : List Y) (i : ℕ) (x : X) → i < length xs → x ≡ get_or xs i x →
     found ≡ flat_map f (take i xs) → found ++ f x ≡ flat_map f (take (i + 1) xs)
 flat_map_next f xs found i x h is are =
@@ -13,7 +13,7 @@ flat_map_next f xs found i x h is are =
     ap (λ ys. ys ++ f x) are ∙ ap (λ ys. flat_map f (take i xs) ++ ys) (sym (append-nil (f x))) ∙ sym (flat_map-append f (take i xs) (x ∷ [])) ∙
     ap (flat_map f) (sym next)
 
--- what one of the elements gives is gathered
+-- each value of an element is gathered
 pub gathered : {X Y : Type 0} (f : X → List Y) (xs : List X) (x : X) (y : Y) → Contains xs x → Contains (f x) y → Contains (flat_map f xs) y
 gathered f [] x y h inside = absurd (omega (arith, h.1))
 gathered {X} f (z ∷ zs) x y (zero, below, is) inside =
@@ -21,7 +21,7 @@ gathered {X} f (z ∷ zs) x y (zero, below, is) inside =
     Contains-append_left (f z) (flat_map f zs) y (subst Gives (sym is) inside)
 gathered f (z ∷ zs) x y (suc k, below, is) inside = Contains-append_right (f z) (flat_map f zs) y (gathered f zs x y (k, omega (arith, below), is) inside)
 
--- what is gathered is given by one of the elements
+-- a gathered value comes from one of the elements
 pub gathered_from : {X Y : Type 0} (f : X → List Y) (xs : List X) (y : Y) → Contains (flat_map f xs) y → (x : X) × Contains xs x × Contains (f x) y
 gathered_from f [] y h = absurd (omega (arith, h.1))
 gathered_from f (z ∷ zs) y h = by (Contains-append_cases (f z) (flat_map f zs) y h) (gathered_from f zs y)

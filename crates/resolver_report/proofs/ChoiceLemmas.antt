@@ -15,11 +15,11 @@ use Rattle.resolver_report.specs.Searching.{AllUntried, IsChoice, IsChosen, IsRe
 use Rattle.resolver_report.specs.Searching.{count_outside, search_work, untried_view, work_at, work_of_choice}
 use Rattle.resolver_report.proofs.SearchLemmas.{AllNeeded-nil, AllNeeded-push, HasNoRepeats-nil, HasNoRepeats-push, IsOpen-refuted, count_outside-falls}
 
--- a list is put on the others
+-- a list is put on top of the others
 pub untried_pushed : {S : Type 0} (us : List (Untried S)) (u : Untried S) → untried_view (us ++ u ∷ []) ≡ u.candidates.now ∷ untried_view us
 untried_pushed {S} us u = ap (map (λ (x : Untried S). x.candidates.now)) (reverse-append us (u ∷ []))
 
--- what was said of a set holds of one that has the same choices up to there
+-- a property of the choices of a set is one of another set with the same choices up to there
 AllUntried-same : {S : Type 0} (P : List S → S → Type 0) (set other : List S) (n : ℕ) (lists : List (List S)) → length lists ≤ suc n →
     ((i : ℕ) → i ≤ n → take i set ≡ take i other) → AllUntried P set lists → AllUntried P other lists
 AllUntried-same P set other n [] below same h = tt
@@ -35,7 +35,7 @@ search_work-same equal rules set other n (list ∷ lists) below same =
     let rest = search_work-same equal rules set other n lists (omega (arith, below)) same in
     λ i. 1 + length list * work_at equal rules (here i) + rest i
 
--- the choices of a set before its last one
+-- the choices of a set before its last choice
 before_last : {S : Type 0} (set shorter : List S) → shorter ≡ take (length set - 1) set → (i : ℕ) → i ≤ length set - 1 → take i set ≡ take i shorter
 before_last set shorter is i below = sym (take-take i (length set - 1) set below) ∙ ap (take i) (sym is)
 
@@ -45,7 +45,7 @@ before_push set s i below = sym (take-append-le i set (s ∷ []) below)
 one_shorter : {S : Type 0} (set shorter : List S) → shorter ≡ take (length set - 1) set → length shorter ≡ length set - 1
 one_shorter set shorter is = ap length is ∙ length-take-le (length set - 1) set (omega arith)
 
--- one list is no longer than all
+-- the candidates of one rule are no more than those of all rules
 candidates_fit : {N S : Type 0} (rules : List (Rule N S)) (rule : Rule N S) → Contains rules rule → length (candidates_in rule) ≤ length (all_candidates rules)
 candidates_fit [] rule h = absurd (omega (arith, h.1))
 candidates_fit {N} {S} (r ∷ rules) rule (zero, below, is) =
@@ -90,7 +90,7 @@ module _ {N S : Type 0} (equal : S → S → Bool) (rules : List (Rule N S)) whe
     once = HasNoRepeats-nil;
   }
 
-  -- the set obeys nothing: its last choice is taken back
+  -- no larger set obeys the rules, and the last choice is undone
   pub enter_refuted : (set shorter : List S) (lists : List (List S)) → IsChosen rules set lists → IsRefutedFrom set rules →
       shorter ≡ take (length set - 1) set →
       IsSearching rules shorter lists × (search_work equal rules shorter lists < work_of_choice equal rules set lists)
@@ -108,7 +108,7 @@ module _ {N S : Type 0} (equal : S → S → Bool) (rules : List (Rule N S)) whe
         omega (arith, equal_work, some),
       )
 
-  -- a requirement is open: its candidates are next
+  -- the candidates of an open requirement are next
   pub enter_open : (set wanted : List S) (lists : List (List S)) → IsChosen rules set lists → IsOpen set rules wanted →
       IsSearching rules set (wanted ∷ lists) × (search_work equal rules set (wanted ∷ lists) < work_of_choice equal rules set lists)
   enter_open set wanted lists h is_open =
@@ -132,7 +132,7 @@ module _ {N S : Type 0} (equal : S → S → Bool) (rules : List (Rule N S)) whe
         rw here (omega (arith, fits)),
       )
 
-  -- no candidate is left: the choice before is taken back
+  -- no candidate is left, and the choice before is undone
   pub advance_up : (set shorter : List S) (lists : List (List S)) → IsSearching rules set ([] ∷ lists) → shorter ≡ take (length set - 1) set →
       IsSearching rules shorter lists × (search_work equal rules shorter lists < search_work equal rules set ([] ∷ lists))
   advance_up set shorter lists h is =

@@ -12,15 +12,15 @@ use Rattle.resolver_report.specs.declared.tree.Outline.{Outline}
 use Rattle.resolver_report.specs.Messages.{RunTold, conflict_part, conflict_text, missing_part, tree}
 use Rattle.resolver_report.specs.Shapes.{ConflictShape}
 
--- what one step wrote is what is less to tell
+-- the bytes that one step writes are no longer to be told
 pub counted_step : (line rest all : List ℕ) (count : ℕ) → count ≡ length line → line ++ rest ≡ all → count + length rest ≡ length all
 counted_step line rest all count is same = omega (arith, is, length-append line rest, ap length same)
 
--- a sum that stops at the largest number, and is above a limit
+-- a sum that is cut at the largest number, and is above a limit
 sum_above : (a b most sum limit : ℕ) → sum ≡ min (a + b) most → limit < sum → limit < a + b
 sum_above a b most sum limit is above = omega (arith, is, min-le_left (a + b) most, above)
 
--- all that is to be told of a whole tree is its text
+-- the text still to be told of a whole tree is the text of the tree
 pub whole_told : {I N S : Type 0} (universe : I → Universe N S) (outline : Outline I N S) (top_indent : Bool) (limit : ℕ) (runs : List RunTold) →
     pending_text universe outline (whole_tree top_indent limit runs) ≡
     text_of top_indent [] (tree_in universe outline limit (replicate limit false) true runs (replicate limit false)).value
@@ -39,7 +39,7 @@ module _ {N S : Type 0} (u : Universe N S) (g : ConflictShape S) (ks : List Key)
   abbrev tree_length : Bool → List (Edge S) → ℕ
   tree_length top edges = length (text_of top [] (tree u g ks marks edges))
 
-  -- each part has at least its tree
+  -- each part is at least as long as its tree
   missing_has_tree : (lost : List (Edge S)) → tree_length false lost ≤ length (missing_part u g ks marks lost)
   missing_has_tree [] = omega arith
   missing_has_tree (e ∷ es) = at_most_itself (length (missing_part u g ks marks (e ∷ es)))

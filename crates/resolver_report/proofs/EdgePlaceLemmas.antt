@@ -83,7 +83,7 @@ module _ {S : Type 0} (count : ℕ) (test : ℕ → Edge S → Bool) (edges : Li
 turned : (rest before : List ℕ) (last : ℕ) → rest ≡ before ++ last ∷ [] → reverse rest ≡ last ∷ reverse before
 turned rest before last is = ap reverse is ∙ reverse-append before (last ∷ [])
 
--- Of the places of the elements that pass a test.
+-- The places of the elements that pass a test.
 module _ {X : Type 0} where
   abbrev pub at_places : List X → List ℕ → List X
   at_places xs ks = filter_map (slice_get xs) ks
@@ -102,7 +102,7 @@ module _ {X : Type 0} where
       at_places xs (reverse rest) ≡ at_places xs (reverse before)
   left_none xs rest before last is e = ap (at_places xs) (turned rest before last is) ∙ at_none xs last (reverse before) e
 
-  -- the elements that pass, the last first
+  -- the elements that pass, the last one first
   module _ (p : X → Bool) (xs : List X) where
     one_more : (k : ℕ) → k < length xs → at_places xs (reverse (places_passing p xs k)) ≡ filter p (reverse (take k xs)) →
         at_places xs (reverse (places_passing p xs (k + 1))) ≡ filter p (reverse (take (k + 1) xs))

@@ -1,4 +1,4 @@
--- What a loop over rules adds, and first mentions.
+-- The results of loops over rules, and first mentions.
 use Rattle.std.proofs.Common.{◌≡◌, ◌≢◌, ℕ, suc, ◌+◌, ◌<◌, Bool, true, false, cond, not, ◌||◌, List, [], ◌∷◌, ◌++◌, length, map, reverse, refl, subst, sym, ◌∙◌}
 use Rattle.std.proofs.Common.{ap, arith, append_assoc, rules, All, Bor}
 use Rattle.std.specs.Prelude.{filter}
@@ -28,7 +28,7 @@ pub links-push : {N S : Type 0} (same : N → N → Bool) (xs : List (Rule N S))
     links_of same (reverse xs) r
 links-push same xs r = rw (← append-nil (reverse xs)) (links_after-push same [] xs r)
 
--- an element passes the test, and stands before the end; or none does
+-- an element before the end passes the test, or none does
 abbrev pub IsFinding : Bool → ℕ → ℕ → Type 0
 IsFinding true place len = place < len
 IsFinding false place len = place ≡ len
@@ -49,7 +49,7 @@ push_cons true false z x ys = refl
 push_cons false true z x ys = refl
 push_cons false false z x ys = refl
 
--- Of first mentions.
+-- First mentions.
 module _ {X : Type 0} (same : X → X → Bool) (identity : IsIdentity same) where
   abbrev pub has : List X → X → Bool
   has ys x = list_any (λ y. same y x) ys
@@ -71,7 +71,7 @@ module _ {X : Type 0} (same : X → X → Bool) (identity : IsIdentity same) whe
   apart_from : (x y z : X) → same z y ≡ true → same x y ≡ false → same z x ≡ false
   apart_from x y z e apart = let e' : z ≡ y = identity.alone z y e in rw e' (same_sym x y false apart)
 
-  -- leaving out others of y keeps what is not y
+  -- a list without some element keeps all others
   has-others : (x y : X) (ys : List X) → same x y ≡ false → has (others y ys) x ≡ has ys x
   has-others x y [] apart = refl
   has-others x y (z ∷ zs) apart = has_cons (same z y) refl (has-others x y zs apart)
@@ -97,7 +97,7 @@ module _ {X : Type 0} (same : X → X → Bool) (identity : IsIdentity same) whe
   without_repeats-push (y ∷ ys) x =
       rw (without_repeats-push ys x) (first_step x y (without_repeats same ys) (same x y) (has (without_repeats same ys) x) refl refl)
 
-  -- first mentions keep what is mentioned, and nothing stands twice
+  -- first mentions keep each mentioned node, without repeats
   pub has-without_repeats : (xs : List X) (x : X) → has (without_repeats same xs) x ≡ has xs x
   has-without_repeats [] x = refl
   has-without_repeats (y ∷ ys) x = at_test (same x y) refl (has-without_repeats ys x)
@@ -118,7 +118,7 @@ module _ {X : Type 0} (same : X → X → Bool) (identity : IsIdentity same) whe
       (All-weaker (λ y. not (same y x) ≡ true) (λ y. x ≢ y) (λ y p e. apart_of x y e p) (others x (without_repeats same xs)) passed)
       (AllPairs-filter ◌≢◌ (λ y. not (same y x)) (without_repeats same xs) (without_repeats_once xs))
 
-  -- What equals nothing before it, where an iterator lends the elements and tests them by eq.
+  -- The elements that equal none before them, if an iterator lends the elements and tests them by `eq`.
   module _ {eq : Bor X → Bor X → Bool} (agree : (a b : Bor X) → eq a b ≡ same a.now b.now) where
     abbrev read : List (Bor X) → List X
     read rs = map (λ r. r.now) rs

@@ -23,7 +23,7 @@ use Rattle.resolver_report.proofs.GraphLemmas.{same_node_is_identity}
 use Rattle.std.proofs.lemmas.Option.{get_or_from_slice_get}
 use Rattle.resolver_report.proofs.ListLemmas.{filter_none}
 
--- what a function makes of numbers in a row, at a place
+-- the value of a function for the number at a place
 made_at : {X : Type 0} (f : ℕ → X) (a count n : ℕ) → (slice_get (map f (range_with_len a count)) n ≡ None) ⊎
     (slice_get (map f (range_with_len a count)) n ≡ Some (f (a + n)))
 made_at f a zero n = inl refl
@@ -49,7 +49,7 @@ nameless_right None l h = refl
 nameless_right (Some k) None h = refl
 nameless_right (Some k) (Some l) h = rw (h l refl, nameless_text k.name) refl
 
--- a node's place is where it stands
+-- the place of a solvable's node
 place_is : {S : Type 0} (same : S → S → Bool) → IsIdentity same → (ms : List (ConflictNode S)) → HasNoRepeats ms → (k : ℕ) (s : S) →
     slice_get ms k ≡ Some (Solvable s) → place_in same ms (Solvable s) ≡ k
 place_is {S} same identity ms once k s e =
@@ -67,7 +67,7 @@ place_is {S} same identity ms once k s e =
 not_empty : {X : Type 0} (x : X) (xs : List X) → length (x ∷ xs) ≡ 0 → ⊥
 not_empty x xs h = omega (arith, h)
 
--- what is found for one thing, by a fact of another search
+-- the result of one search, by the result of another
 pub match_found : {X R : Type 0} (r : Option R) (value : R → X) (o : Option X) (A : Type 0) (P : X → Type 0) →
     MatchOption r (o ≡ None) (λ x. o ≡ Some (value x)) → MatchOption o A P → MatchOption r A (λ x. P (value x))
 match_found {X} {R} None value o A P e m = let M : Option X → Type 0 = λ p. MatchOption p A P in subst M e m
@@ -77,7 +77,7 @@ pub is_none : {X : Type 0} (o : Option X) → o ≡ None → IsNone o
 is_none o e = ap is_some e
 
 module _ {N S : Type 0} (u : Universe N S) (g : Shape S) where
-  -- the key of what is no solvable has no name
+  -- the key of a node that is no solvable has no name
   nameless : (n : ℕ) → solvable_at g n ≡ None → (key : Key) → slice_get (keys u g) n ≡ Some key → key.name ≡ None
   nameless n none key e = at_key (made_at (key_of u g) 0 (length g.nodes) n)
     where
@@ -89,13 +89,13 @@ module _ {N S : Type 0} (u : Universe N S) (g : Shape S) where
           let is : key ≡ key_of u g n = cc in
           ap (λ k. k.name) is ∙ ap (option_map (λ s. u.name_text (u.name s))) none
 
-  -- what is no solvable has no group
+  -- a node that is no solvable has no group
   pub no_group : (n : ℕ) → solvable_at g n ≡ None → group_in (keys u g) n ≡ None
   no_group n none = ap first_of_two
       (filter_none (λ m. are_alike_if_there (slice_get (keys u g) n) (slice_get (keys u g) m)) (range_with_len 0 (length (keys u g))) (λ m.
       nameless_left (slice_get (keys u g) n) (slice_get (keys u g) m) (nameless n none)))
 
-  -- the first node of a group is that of its first solvable
+  -- the first node of a group is the node of its first solvable
   pub record HasFirst (n : ℕ) (ids : List S) : Type 0 where
     pub place : ℕ
     pub solvable : S
@@ -131,7 +131,7 @@ module _ {N S : Type 0} (u : Universe N S) (g : Shape S) where
   pub has_first : (n : ℕ) (group : Group S) → IsGroupOf (keys u g) g n group → HasFirst n group.value.ids.items
   has_first n group is = several_have n group.value.ids.items (class_in (keys u g) n) refl is.several is.ids
 
-  -- the group of a node, as it is found by the place of its first solvable
+  -- the group of a node, found by the place of its first solvable
   pub found_first : (same : S → S → Bool) → IsIdentity same → HasNoRepeats g.nodes → (n : ℕ) (group : Group S) (s : S) → IsGroupOf (keys u g) g n group →
       s ≡ get_or group.value.ids.items 0 s → Some (place_in same g.nodes (Solvable s)) ≡ group_in (keys u g) n
   found_first same identity once n group s is e =
@@ -152,7 +152,7 @@ module _ {N S : Type 0} (u : Universe N S) (g : Shape S) where
       let first = has_first n group is in
       not_empty first.solvable first.rest (sym (ap length first.ids_are) ∙ e)
 
-  -- the groups that are made for all nodes
+  -- the groups of all nodes
   pub made_groups : (made : List (Option ℕ)) (count : ℕ) → made ≡ map (group_in (keys u g)) (range_with_len 0 count) → length g.nodes ≤ count → (n : ℕ) →
       group_at made n ≡ group_in (keys u g) n
   made_groups made count are long n = ap (λ xs. group_at xs n) are ∙ at_made (made_at (group_in (keys u g)) 0 count n)

@@ -1,4 +1,4 @@
--- What the nodes of a graph imply is what the rules of marking say.
+-- The implications of the nodes of a graph mark the same nodes as the rules of marking.
 use Rattle.std.proofs.Common.{◌≡◌, ◌≢◌, ◌⊎◌, ℕ, zero, suc, ◌+◌, ◌<◌, ◌≤◌, Bool, true, false, cond, not, ◌||◌, List, [], ◌∷◌, ◌++◌, length, map, refl, sym, ◌∙◌}
 use Rattle.std.proofs.Common.{ap, subst, inl, inr, arith, All}
 use Rattle.std.specs.Prelude.{◌==◌, ◌&&◌}
@@ -26,7 +26,7 @@ pub of_range_next : {X : Type 0} (f : ℕ → List X) (n : ℕ) → flat_map f (
 of_range_next f n = ap (flat_map f) (range-next n) ∙ flat_map-append f (range_with_len 0 n) (n ∷ []) ∙
     ap (λ xs. flat_map f (range_with_len 0 n) ++ xs) (append-nil (f n))
 
--- all of these imply marks of one node
+-- each of these implies the mark of this node
 abbrev AreOf : ℕ → List Implied → Type 0
 AreOf n is = All (λ (i : Implied). i.node ≡ n) is
 
@@ -74,7 +74,7 @@ module _ (by : ℕ → List Implied) (own : (n : ℕ) → AreOf n (by n)) where
         at_place (inl same) rest = (λ i. follows (by (same i)) marks n || of_later (a + 1) many (omega (arith, same)) i) ∙ or_none (follows (by n) marks n)
         at_place (inr apart) rest = (λ i. of_other a (by a) (own a) apart i || rest apart i)
 
-  -- the marks that are least by what the nodes imply are least by the rule that says the same
+  -- the least marks for the implications of the nodes are the least marks for an equivalent rule
   pub least_by : {S : Type 0} (g : ConflictShape S) (rule : List Bool → ℕ → Bool) (marks : List Bool) →
       ((ms : List Bool) (n : ℕ) → follows (by n) ms n ≡ rule ms n) → IsMonotone rule → HasLeastMarks (length g.shape.nodes) (of_each_node g by) marks →
       marks ≡ marked g.shape rule

@@ -1,4 +1,4 @@
--- The items of a run of an iterator that went on to its end.
+-- The items of a complete run of an iterator.
 use Rattle.std.proofs.Common.{◌≡◌, ◌∙◌, Bor, List, [], ◌∷◌, Option, ap, map, map-id, refl, subst, sym, true}
 use Rattle.std.specs.Prelude.{IsPermutation}
 use Rattle.std.specs.Iterator.{AlwaysYields}
@@ -17,12 +17,12 @@ use Rattle.itertools.proofs.AdaptorLemmas.{items_from_whole_run}
 use Rattle.resolver_report.specs.declared.graph.Side.{Side}
 use Rattle.resolver_report.specs.Keys.{IsInOrder}
 
--- they are the list that the iterator yields
+-- the items are the list that the iterator yields
 pub items_of_run : {S A : Type 0} {steps : S → Option A → S → Type 0} {s : S} (p : Run steps) → p.from ≡ s → p.whole ≡ true → {all : List A} →
     YieldsList steps (λ x. x) s all → p.items ≡ all
 items_of_run p at whole road = sym (map-id p.items) ∙ items_from_whole_run road p at whole
 
--- those of a vector, and of copies of what a vector of references lends
+-- the items of a vector, and copies of the elements that a vector of references lends
 pub items_of_vec : {X Z : Type 0} {s : IntoIter X Z} (p : Run (into_iter_steps {X = X} {Z = Z})) → p.from ≡ s → p.whole ≡ true → p.items ≡ into_iter_items s
 items_of_vec {s = s} p at whole = items_of_run p at whole (YieldsList-from_vec {s = s} (into_iter_items s) refl s.rest.ok.0)
 
@@ -39,7 +39,7 @@ items_of_copies {X = X} {Z = Z} {s = s} p at whole =
     items_of_run p at whole (YieldsList-from_copied {steps = into_iter_steps {X = Bor X} {Z = Z}} {s = s}
     (record { runs = read_as (into_iter_steps {X = Bor X} {Z = Z}) (λ x. x.now) (into_iter_items it) it lent.runs }))
 
--- sides that were sorted and then collected stand in order
+-- sides that were sorted and then collected are in order
 pub sides_in_order : (cmp : Side → Side → Ordering) (given sorted sides collected : List Side) → given ≡ sides → collected ≡ sorted →
     IsPermutation given sorted → IsSorted cmp sorted → IsInOrder cmp sides collected
 sides_in_order cmp given sorted sides collected same kept moved up = record {

@@ -1,4 +1,4 @@
--- Keys whose sides stand in order are the same just where the keys are alike.
+-- Keys with ordered sides are equal exactly if they are alike.
 use Rattle.std.proofs.Common.{◌≡◌, ℕ, zero, suc, ◌+◌, ◌<◌, ◌≤◌, Bool, true, false, cond, List, [], ◌∷◌, ◌++◌, length, refl, sym, ◌∙◌, ap, subst, ⊎_elim, arith}
 use Rattle.std.proofs.Common.{get_or}
 use Rattle.std.specs.Prelude.{◌==◌, ◌&&◌, count_by, filter, nat_eq, Option, Some, None, slice_get, string_bytes}
@@ -75,7 +75,7 @@ module _ (cmp : Side → Side → Ordering) (total : IsTotalOrder cmp) (matches 
   tie : (x y : Side) → is_lt (cmp x y) ≡ false → is_lt (cmp y x) ≡ false → x ≡ y
   tie x y up down = side_alone x y (matches x y ∙ ap is_eq (not_apart (cmp x y) (cmp y x) (total.antisymm x y) up down))
 
-  -- a list has the counts of one in order
+  -- an ordered list has the same counts as the list
   count_in_order : (xs ordered : List Side) → IsInOrder cmp xs ordered → (z : Side) → count_by (same_side z) ordered ≡ count_by (same_side z) xs
   count_in_order xs ordered h z = sum_by-IsPermutation (λ y. cond (same_side z y) 1 0) xs ordered h.permutes
 
@@ -129,7 +129,7 @@ module _ (cmp : Side → Side → Ordering) (total : IsTotalOrder cmp) (matches 
       (nothing_alike (same_texts k.name l.name) (same_counts same_side k.sides_in l.sides_in) (same_counts same_side k.sides_out l.sides_out)
       (no_text k.name l.name e))
 
-  -- Of the keys of all nodes.
+  -- The keys of all nodes.
   module _ (ks : List Key) (os : List (Option NodeKey)) (are : AreKeysOf cmp ks os) where
     at_place : (k : Key) (a : NodeKey) → IsOrderedKey cmp k a → (m : ℕ) → has_key a (slice_get os m) ≡ are_alike_if_there (Some k) (slice_get ks m)
     at_place k a h m = ⊎_elim (λ (lt : m < length ks). inside lt) (λ (le : length ks ≤ m). outside le) (cases_lt m (length ks))
@@ -147,7 +147,7 @@ module _ (cmp : Side → Side → Ordering) (total : IsTotalOrder cmp) (matches 
     key_there : (n : ℕ) → n < length os → slice_get ks n ≡ Some (get_or ks n (record { name = None; sides_in = []; sides_out = [] }))
     key_there n lt = slice_get-get_or ks n (record { name = None; sides_in = []; sides_out = [] }) (omega (arith, lt, are.long))
 
-    -- the places of a node's key are its class
+    -- the places with the key of a node are its class
     pub class_of_key : (n : ℕ) (o : Option NodeKey) (a : NodeKey) → n < length os → o ≡ get_or os n o → o ≡ Some a →
         places_of_key os (length os) a ≡ class_in ks n
     class_of_key n o a lt at some =
@@ -178,7 +178,7 @@ module _ (cmp : Side → Side → Ordering) (total : IsTotalOrder cmp) (matches 
         alone (Some l) k e = nothing_alike (same_texts k.name l.name) (same_counts same_side k.sides_in l.sides_in)
             (same_counts same_side k.sides_out l.sides_out) (first_none k.name l.name e)
 
--- one place more
+-- one more place
 pub places_next : (os : List (Option NodeKey)) (n : ℕ) (o : Option NodeKey) (q : NodeKey) → n < length os → o ≡ get_or os n o → places_of_key os n q ++
     items_if (has_key q (Some o)) (n ∷ []) ≡ places_of_key os (n + 1) q
 places_next os n o q lt at =
@@ -192,7 +192,7 @@ slice_get-range a zero k h = absurd (omega (arith, h))
 slice_get-range a (suc n) zero h = let same : a ≡ a + 0 = omega arith in ap Some same
 slice_get-range a (suc n) (suc k) h = let same : (a + 1) + k ≡ a + suc k = omega arith in slice_get-range (a + 1) n k (omega (arith, h)) ∙ ap Some same
 
--- the keys of all nodes, from the key of each
+-- the keys of all nodes
 pub keys_told : {N S : Type 0} (cmp : Side → Side → Ordering) (u : Universe N S) (g : Shape S) (os : List (Option NodeKey)) → length os ≡ length g.nodes →
     ((n : ℕ) → n < length g.nodes → IsKeyOf cmp (key_of u g n) (get_or os n None)) → AreKeysOf cmp (keys u g) os
 keys_told cmp u g os long each = record { long = long ∙ sym size; each = told }

@@ -7,7 +7,7 @@ use Rattle.std.proofs.lemmas.List.FromFn.{length-range_with_len}
 use Rattle.resolver_report.specs.Shapes.{Shape, places}
 use Rattle.resolver_report.specs.Marks.{is_marked, marked_in, marked, IsClosed, IsLeastClosed}
 
--- each place that is marked in the first is marked in the second
+-- each place that is marked in the first list is marked in the second
 abbrev pub IsWithinMarks : List Bool → List Bool → Type 0
 IsWithinMarks xs ys = (n : ℕ) → is_marked xs n ≡ true → is_marked ys n ≡ true
 
@@ -15,7 +15,7 @@ IsWithinMarks xs ys = (n : ℕ) → is_marked xs n ≡ true → is_marked ys n �
 abbrev pub IsMonotone : (List Bool → ℕ → Bool) → Type 0
 IsMonotone rule = (xs ys : List Bool) → IsWithinMarks xs ys → (n : ℕ) → rule xs n ≡ true → rule ys n ≡ true
 
--- how many are marked
+-- the number of marks
 abbrev count : List Bool → ℕ
 count [] = 0
 count (b ∷ bs) = cond b 1 0 + count bs
@@ -41,7 +41,7 @@ count_within (false ∷ xs) (true ∷ ys) h = let rest : count xs ≤ count ys =
 count_within (false ∷ xs) (false ∷ ys) h = let rest : count xs ≤ count ys = count_within xs ys (λ n. h (suc n)) in
     omega (arith, rest, count_false xs, count_false ys)
 
--- nothing is new, or more are marked
+-- the first list has no new mark, or the second has more marks
 compare : (xs ys : List Bool) → IsWithinMarks xs ys → IsWithinMarks ys xs ⊎ (count xs < count ys)
 compare xs [] h = inl (λ n e. absurd (false≢true e))
 compare [] (true ∷ ys) h = inr (omega (arith, count_none, count_true ys))
@@ -81,7 +81,7 @@ count_most [] = omega (arith, count_none)
 count_most (true ∷ xs) = let rest : count xs ≤ length xs = count_most xs in omega (arith, rest, count_true xs)
 count_most (false ∷ xs) = let rest : count xs ≤ length xs = count_most xs in omega (arith, rest, count_false xs)
 
--- where all are marked, each is
+-- if all places are counted, each is marked
 all_counted : (xs : List Bool) → length xs ≤ count xs → (n : ℕ) → n < length xs → is_marked xs n ≡ true
 all_counted [] h n lt = absurd (omega (arith, lt))
 all_counted (true ∷ xs) h zero lt = refl
@@ -122,7 +122,7 @@ module _ {S : Type 0} (g : Shape S) (rule : List Bool → ℕ → Bool) (monoton
   grows zero n e = absurd (false≢true e)
   grows (suc rounds) n e = next_within (marked_in g rule rounds) (marked_in g rule (suc rounds)) (grows rounds) n e
 
-  -- nothing is new after so many rounds, or as many are marked
+  -- after so many rounds no mark is new, or there are as many marks
   progress : (rounds : ℕ) → IsWithinMarks (marked_in g rule (suc rounds)) (marked_in g rule rounds) ⊎ (rounds ≤ count (marked_in g rule rounds))
   progress zero = inr (omega arith)
   progress (suc rounds) = at_progress (progress rounds)

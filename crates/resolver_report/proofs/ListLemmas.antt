@@ -1,4 +1,4 @@
--- Lists of numbers, and one element more.
+-- Lists of numbers with one more element.
 use Rattle.std.proofs.Common.{◌≡◌, ℕ, zero, suc, ◌+◌, Bool, true, false, [], ◌∷◌, ◌++◌, map, refl, ◌∙◌, ap, arith, List}
 use Rattle.std.proofs.Common.{add-zero, add-one}
 use Rattle.std.specs.Prelude.{filter}
@@ -17,7 +17,7 @@ range-next n = let same : 0 + n ≡ n = omega arith in rw add-one (range-suc 0 n
 pub map-range-next : {X : Type 0} (f : ℕ → X) (n : ℕ) → map f (range_with_len 0 (n + 1)) ≡ map f (range_with_len 0 n) ++ f n ∷ []
 map-range-next f n = ap (map f) (range-next n) ∙ map-append f (range_with_len 0 n) (n ∷ [])
 
--- one more number, which the test passes or not
+-- one more number, which passes the test or not
 pub filter-range-pass : (p : ℕ → Bool) (n : ℕ) → p n ≡ true → filter p (range_with_len 0 (n + 1)) ≡ filter p (range_with_len 0 n) ++ n ∷ []
 filter-range-pass p n e = ap (filter p) (range-next n) ∙ filter-append p (range_with_len 0 n) (n ∷ []) ∙ rw e refl
 

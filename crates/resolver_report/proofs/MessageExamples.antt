@@ -15,7 +15,7 @@ use Rattle.resolver_report.specs.Messages.{message, joined_texts}
 abbrev pick : {X : Type 0} → X → List X → ℕ → X
 pick d xs n = unwrap_or (slice_get xs n) d
 
--- the rows' solvables, sorted by name and version
+-- the solvables of the rows, sorted by name and version
 abbrev names : List ℕ
 names = 0 ∷ 0 ∷ 1 ∷ 2 ∷ 3 ∷ 3 ∷ []
 

@@ -1,4 +1,4 @@
--- Of equal neighbours the first alone.
+-- The first one of each run of equal neighbours.
 use Rattle.std.proofs.Common.{◌≡◌, ◌∙◌, Bool, true, false, cond, List, [], ◌∷◌, ap, refl}
 use Rattle.std.specs.Prelude.{◌==◌}
 use Rattle.std.specs.List.{dedup_from}

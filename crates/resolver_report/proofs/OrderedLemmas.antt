@@ -1,4 +1,4 @@
--- Lists in order with the same counts are the same.
+-- Ordered lists with the same counts are equal.
 use Rattle.std.proofs.Common.{◌≡◌, ℕ, zero, suc, ◌+◌, ◌<◌, Bool, true, false, cond, List, [], ◌∷◌, refl, sym, ◌∙◌, ap, subst, arith, get_or, Contains}
 use Rattle.std.specs.Prelude.{count_by}
 use Rattle.std.specs.Cmp.{IsStrictWeakOrder}
@@ -45,7 +45,7 @@ module _ {X : Type 0} (same : X → X → Bool) (identity : IsIdentity same) (lt
   count_itself : (x : X) (xs : List X) → count_by (same x) (x ∷ xs) ≡ 1 + count_by (same x) xs
   count_itself x xs = count_first x x xs ∙ ap (λ b. cond b 1 0 + count_by (same x) xs) (identity.itself x)
 
-  -- what is counted in a sorted list is not less than its first
+  -- a counted element of a sorted list is not less than its first element
   not_less : (x y : X) (ys : List X) → IsSortedBy lt (y ∷ ys) → 0 < count_by (same x) (y ∷ ys) → lt x y ≡ false
   not_less x y ys sorted h = at_place (counted_in x (y ∷ ys) h)
     where

@@ -1,4 +1,4 @@
--- What is told of nodes, as the code finds it.
+-- The outline of nodes, as the code makes it.
 use Rattle.std.proofs.Common.{◌≡◌, ℕ, zero, suc, ◌+◌, ◌<◌, Bool, true, false, cond, not, ◌||◌, List, [], ◌∷◌, ◌++◌, length, map, filter, take, refl, sym, ◌∙◌}
 use Rattle.std.proofs.Common.{ap, arith, rules, get_or}
 use Rattle.std.specs.Prelude.{◌==◌, Option, Some, None, IsSome, slice_get}
@@ -16,7 +16,7 @@ use Rattle.resolver_report.specs.Messages.{RunTold, same_group_as}
 use Rattle.resolver_report.specs.Shapes.{Shape, as_solvable, places, solvable_at}
 use Rattle.resolver_report.specs.Outlines.{NodeTold, group_at, node_view}
 
--- An element at the end is left out if one that is the same stands before it.
+-- An element at the end is left out if an equal one stands before it.
 module _ {X : Type 0} (same : X → X → Bool) (passes : (z y x : X) → same z y ≡ true → same y x ≡ true → same z x ≡ true) where
   any_kept : (x y : X) → same y x ≡ false → (zs : List X) → list_any (λ z. same y z) (filter (λ z. not (same z x)) zs) ≡ list_any (λ z. same y z) zs
   any_kept x y apart [] = refl
@@ -78,7 +78,7 @@ first_of_groups_next groups xs i y made h is are =
     without_repeats_next (λ m n. same_group_as (group_at groups m.0) (group_at groups n.0)) (λ z y' x e f.
     groups_pass (group_at groups z.0) (group_at groups y'.0) (group_at groups x.0) e f) xs i y made h is are
 
--- a node without a group is of no node's group
+-- a node without a group shares no group
 no_group : (groups : List (Option ℕ)) (found : List NodeId) → list_any (λ m. same_group_as None (group_at groups m.0)) found ≡ false
 no_group groups [] = refl
 no_group groups (n ∷ ns) = no_group groups ns
@@ -88,7 +88,7 @@ pub add_alone : (groups : List (Option ℕ)) (found : List NodeId) (n : NodeId) 
 add_alone groups found n e = ap (λ o. cond (list_any (λ m. same_group_as o (group_at groups m.0)) found) found (found ++ n ∷ [])) e ∙
     ap (λ b. cond b found (found ++ n ∷ [])) (no_group groups found)
 
--- what is told of a node, by its place
+-- the outline has an entry for each node
 pub outline_long : {S : Type 0} (g : Shape S) (f : ℕ → NodeTold) (nodes : List NodeOutline) → map node_view nodes ≡ map f (places g) → length nodes ≡
     length g.nodes
 outline_long g f nodes e = sym (length-map nodes node_view) ∙ ap length e ∙ length-map (places g) f ∙ length-range_with_len 0 (length g.nodes)
@@ -112,7 +112,7 @@ outline_at g f nodes n node e lt is =
     ap node_view is ∙ sym (viewed_at nodes n node) ∙ ap (λ ts. get_or ts n (node_view node)) e ∙
     told_at f 0 (length g.nodes) n (node_view node) (omega (arith, lt, long)) ∙ ap f zeros
 
--- a solvable stands among the nodes
+-- each solvable has a node
 pub solvable_below : {S : Type 0} (g : Shape S) (n : ℕ) → IsSome (solvable_at g n) → n < length g.nodes
 solvable_below g n h = below g.nodes n h
   where
@@ -121,7 +121,7 @@ solvable_below g n h = below g.nodes n h
     below (m ∷ ms) zero e = omega arith
     below (m ∷ ms) (suc k) e = let rest : k < length ms = below ms k e in omega (arith, rest)
 
--- the viable ones, and then the others
+-- the viable runs, and then the others
 pub stories_both : {X : Type 0} (told : X → RunTold) (p q : X → Bool) (made first second : List RunTold) (runs : List X) → made ≡ [] → first ≡ made ++
     map told (filter p runs) → second ≡ first ++ map told (filter q runs) → second ≡ map told (filter p runs ++ filter q runs)
 stories_both told p q made first second runs d e f =

@@ -23,7 +23,7 @@ use Rattle.resolver_report.proofs.CandidateLemmas.{told_candidate}
 use Rattle.resolver_report.proofs.ConflictLemmas.{some_left}
 use Rattle.resolver_report.proofs.TreeLemmas.{side_step, unset}
 
--- a frame is put on the others
+-- a frame is put on top of the others
 pub frames_pushed : (fs : List Frame) (f : Frame) → frames_view (fs ++ f ∷ []) ≡ frame_view f ∷ frames_view fs
 frames_pushed fs f = ap (map frame_view) (reverse-append fs (f ∷ []))
 
@@ -45,7 +45,7 @@ pub some_frame : (fs : List FrameTold) (b : Bool) → b ≡ not (is_none fs) →
 some_frame [] b e h = absurd (true≢false (sym h ∙ e))
 some_frame (f ∷ fs) b e h = refl
 
--- the levels of a run's line, and of a candidate's
+-- the levels of the lines of a run and of a candidate
 pub run_levels : (levels have : List Bool) (last : Bool) (rest : List RunOutline) → levels ≡ have → last ≡ (length rest == 0) → levels ++ last ∷ [] ≡ have ++
     (length (map run_told_view rest) == 0) ∷ []
 run_levels levels have last rest same is = λ i. same i ++ (is ∙ ap (λ n. n == 0) (sym (length-map rest run_told_view))) i ∷ []
@@ -111,7 +111,7 @@ module _ {I N S : Type 0} (universe : I → Universe N S) (outline : Outline I N
         ∙ (λ i. out ++ ((piece i ++ text_of top_indent lv (tree (grew i)).value) ++ after (tree (grew i)).reported))
         )
 
-    -- the line of a run is written
+    -- a step writes the line of a run
     pub run_step : (cs : List NodeId) (all : List RunTold) (r : RunTold) (rs : List RunTold) (reported : List Bool) (out out' : List ℕ) → cs ≡ [] → all ≡ r ∷
         rs →
         out' ≡ out ++ (indent_from top_indent (levels_of fs ++ (length rs == 0) ∷ []) ++
@@ -150,7 +150,7 @@ module _ {I N S : Type 0} (universe : I → Universe N S) (outline : Outline I N
         after (tree (side (grew i)).reported).reported))
         )
 
-    -- a candidate with nothing below it is written
+    -- a step writes a candidate with nothing below it
     pub candidate_step : (all : List NodeId) (n : NodeId) (cs : List NodeId) (rs : List RunTold) (reported reported' : List Bool) (w out out' : List ℕ) →
         all ≡ n ∷ cs →
         text_at top_indent ((levels_of fs ++ (length rs == 0) ∷ []) ++ (length cs == 0) ∷ [])
@@ -166,7 +166,7 @@ module _ {I N S : Type 0} (universe : I → Universe N S) (outline : Outline I N
           work = omega (arith, before, work_some (limit - length fs) n.0);
         }
 
-    -- a candidate is entered
+    -- a step enters the tree of a candidate
     pub enter_step : (all : List NodeId) (n : NodeId) (cs : List NodeId) (rs runs : List RunTold) (reported reported' : List Bool) (w out out' : List ℕ) →
         all ≡ n ∷ cs →
         let f : FrameTold = record { node = n.0; candidates = cs; runs = rs } in
@@ -220,7 +220,7 @@ module _ {I N S : Type 0} (universe : I → Universe N S) (outline : Outline I N
           work = omega (arith, before, work);
         }
 
-    -- a tree is left
+    -- a step leaves a tree
     pub leave_step : (f : FrameTold) (cs : List NodeId) (rs : List RunTold) (all : List FrameTold) (b reported : List Bool) (out : List ℕ) → cs ≡ [] → rs ≡ [] →
         all ≡ f ∷ fs → branch ≡ slice_set b f.node false →
         IsTellStep universe outline (record {
@@ -247,7 +247,7 @@ module _ {I N S : Type 0} (universe : I → Universe N S) (outline : Outline I N
           work = omega (arith, before);
         }
 
-  -- what is told of a node, where one more may stand on the branch
+  -- the text of a node if the branch may have one more candidate
   pub node_whole : (limit : ℕ) (fs : List FrameTold) (branch : List Bool) (n : ℕ) (reported : List Bool) (node : NodeOutline) →
       IsToldNode universe outline branch n reported node → length fs < limit →
       candidate_in universe outline (limit - length fs) branch n reported ≡ tell_verdict (meaning universe outline) (graph_in universe outline)

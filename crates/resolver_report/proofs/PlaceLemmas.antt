@@ -1,4 +1,4 @@
--- A map of places, one node earlier.
+-- A map of places, before and after one more node.
 use Rattle.std.proofs.Common.{◌≡◌, ℕ, ◌+◌, ◌-◌, ◌<◌, ◌≤◌, Bool, true, false, cond, not, List, [], ◌∷◌, ◌++◌, length, sym, ◌∙◌, ap, arith, get_or, take}
 use Rattle.std.proofs.Common.{append_assoc}
 use Rattle.std.specs.Prelude.{Option, Some}
@@ -11,7 +11,7 @@ use Rattle.resolver_report.specs.Same.{same_node}
 use Rattle.resolver_report.specs.Graphs.{place_in}
 use Rattle.resolver_report.specs.Places.{Places, HasPlaces, HasPlacesFrom}
 
--- tests that agree find the same
+-- equivalent tests find the same
 pub found_alike : {X : Type 0} (test other : X → Bool) (entries : List (X × ℕ)) → ((x : X) → test x ≡ other x) → lookup test entries ≡ lookup other entries
 found_alike test other entries agree = ap (λ t. lookup t entries) (λ i x. agree x i)
 

@@ -31,13 +31,13 @@ use Rattle.resolver_report.proofs.GraphLemmas.{same_node_is_identity, has-withou
 use Rattle.resolver_clause_store.proofs.ListLemmas.{Contains-map as mapped}
 use Rattle.resolver_report.proofs.ShapeLemmas.{at_other, at_one, swapped_once, AllByRecursion-append, Has, EndsIn, first_ends, without_unresolved, without_ends}
 
--- links that require lead from the root to the node, over solvables alone
+-- links of requirements lead from the root to the node, through solvables only
 pub data IsWalkedNode {S : Type 0} (ls : List (Link S)) : ConflictNode S → Type 0 where
   from_root : IsWalkedNode ls Root
   by_required : (source : ConflictNode S) (r : Requirement) (s : S) → Contains ls (requirement_link source r (Solvable s)) → IsWalkedNode ls source →
       IsWalkedNode ls (Solvable s)
 
--- so, or it is no solvable, and a link leads to it from such a node
+-- the same, or the node is no solvable, and a link from such a node leads to it
 pub data IsReachedNode {S : Type 0} (ls : List (Link S)) : ConflictNode S → Type 0 where
   by_nodes : {n : ConflictNode S} → IsWalkedNode ls n → IsReachedNode ls n
   by_link : (l : Link S) → Contains ls l → as_solvable (Some l.target) ≡ None → IsWalkedNode ls l.source → IsReachedNode ls l.target
@@ -48,7 +48,7 @@ requirement_link_in source r [] s h = absurd (omega (arith, h.1))
 requirement_link_in source r (c ∷ cs) s h = mapped (λ d. requirement_link source r (Solvable d)) (c ∷ cs) s h
 
 module _ {N S : Type 0} (same_name : N → N → Bool) where
-  -- what a rule links after whichever rules is among the links
+  -- a link of a rule, after any earlier rules, is among the links
   link_in : (earlier rs : List (Rule N S)) (rule : Rule N S) (l : Link S) → Contains rs rule →
       ((before : List (Rule N S)) → Contains (links_of same_name before rule) l) → Contains (links_after same_name earlier rs) l
   link_in earlier [] rule l h f = absurd (omega (arith, h.1))
@@ -134,7 +134,7 @@ module _ {N S : Type 0} (same_name : N → N → Bool) where
           at_test true e k rest = subst P ((same_node_is_identity same identity).alone x n e) all.0
           at_test false e k rest = rest k
 
-      -- the place of the node that stands at a place
+      -- the place of a node is where it stands
       place_is : (ms : List (ConflictNode S)) → HasNoRepeats ms → (k : ℕ) → k < length ms → place_in same ms (get_or ms k Root) ≡ k
       place_is ms once k below = position_or_len_is (λ m. same_node same m (get_or ms k Root)) ms k Root (omega arith) (λ j h.
           apart j h (same_node same (get_or ms j Root) (get_or ms k Root)) refl) (λ h. itself (get_or ms k Root))
@@ -144,7 +144,7 @@ module _ {N S : Type 0} (same_name : N → N → Bool) where
           apart j h true e = absurd (once j k Root h below ((same_node_is_identity same identity).alone (get_or ms j Root) (get_or ms k Root) e))
           apart j h false e = e
 
-      -- Of nodes that have both ends of each link.
+      -- Nodes that include both ends of each link.
       module _ (ms : List (ConflictNode S)) (unresolved : Option ℕ) (ends : AllByRecursion (EndsIn same identity ms) (links same_name rules)) where
         abbrev graph : ConflictShape S
         graph = graph_with same ms (links same_name rules) unresolved
@@ -200,7 +200,7 @@ module _ {N S : Type 0} (same_name : N → N → Bool) where
             at_test true e k rest = (x, (zero, omega arith, refl), (same_node_is_identity same identity).alone x.target UnresolvedDependency e)
             at_test false e k rest = let found = rest k in (found.0, Contains-append_right (x ∷ []) xs found.0 found.1, found.2)
 
-        -- what is linked to the unresolved node is walked to
+        -- if the link leads to the unresolved node, its source is walked to
         abbrev IsFromWalked : Link S → Type 0
         IsFromWalked l = l.target ≡ UnresolvedDependency → Walked l.source
 
@@ -242,7 +242,7 @@ module _ {N S : Type 0} (same_name : N → N → Bool) where
         entered_node : is_entered same (links same_name rules) ≡ true → (k : ℕ) → k < length firsts → Reached (get_or firsts k Root)
         entered_node h k below = elim (first_node k below) [ inl r ↦ r | inr e ↦ subst (IsReachedNode (links same_name rules)) (sym e) (unresolved_reached h) ]
 
-        -- the unresolved node stands at 1 alone
+        -- the unresolved node stands only at place 1
         not_unresolved : (k : ℕ) → k < length firsts → k ≢ 1 → get_or firsts k Root ≢ UnresolvedDependency
         not_unresolved zero below apart e = firsts_once 0 1 Root (omega arith) (omega arith) e
         not_unresolved (suc zero) below apart e = apart refl

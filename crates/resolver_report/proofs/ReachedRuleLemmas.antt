@@ -1,4 +1,4 @@
--- Why rules that are about something that is not reached can go.
+-- Rules about anything that is not reached can be left out.
 use Rattle.std.proofs.Common.{zero, suc, ◌⊎◌, List, [], ◌∷◌, sym, subst, inl, inr, arith, Contains, All, Vec, Global}
 use Rattle.std.proofs.lemmas.List.Elements.{All-cons, All-head, All-tail, All-weaker, All-contains, Contains-append_right}
 use Rattle.resolver_clause_store.specs.Lists.{IsCut, cut_none, cut_left, cut_right, IsWithin, Meets}
@@ -22,14 +22,13 @@ in_part (cut_right {x = y} {zs = zs} rest) x (zero, below, is) = inr (zero, omeg
 in_part (cut_right {x = y} {zs = zs} rest) x (suc k, below, is) =
     elim (in_part rest x (k, omega (arith, below), is)) [ inl h ↦ inl h | inr h ↦ inr (Contains-append_right (y ∷ []) zs x h) ]
 
--- a kept rule of the list is left
+-- a kept rule of the list stays in it
 Contains-kept : {N S : Type 0} (rules kept : List (Rule N S)) → LeavesKept rules kept → (rule : Rule N S) → Contains rules rule → IsKept rules rule →
     Contains kept rule
 Contains-kept rules kept left rule listed is =
     elim (in_part left.cut rule listed) [ inl h ↦ h | inr h ↦ absurd (All-contains (λ r. IsKept rules r → ⊥) left.dropped rule left.none_dropped h is) ]
 
--- The part of a set that is reached. Whether a solvable is reached is not decided, but each proof of a contradiction may
--- take it as decided.
+-- The reached part of a set. Whether a solvable is reached is not decided, but each proof of a contradiction may assume it to be decided.
 pub record IsReachedPart {N S : Type 0} (rules : List (Rule N S)) (set part : List S) : Type 0 where
   pub within : IsWithin part set
   pub reached : (s : S) → Contains part s → IsReachedBy rules s
@@ -116,11 +115,11 @@ module _ {N S : Type 0} (rules kept : List (Rule N S)) (left : LeavesKept rules 
         (Contains-kept rules kept left (OnePerPackage n t) second (is.reached t also)) (is.within s inside) (is.within t also);
   }
 
--- what no set obeys, none obeys with the kept rules alone
+-- the kept rules of refuted rules are refuted
 pub IsRefuted-kept : {N S : Type 0} (rules kept : List (Rule N S)) → LeavesKept rules kept → IsRefuted rules → IsRefuted kept
 IsRefuted-kept rules kept left refuted set obeys = reached_part rules set (λ part is. refuted part (Obeys-part rules kept left set part obeys is))
 
--- what holds of each rule holds of each that is left
+-- a property of each rule is one of each kept rule
 pub All-left : {X : Type 0} {xs ys zs : List X} (P : X → Type 0) → IsCut xs ys zs → All P xs → All P ys
 All-left P cut_none all = all
 All-left P (cut_left {x = x} {xs = xs} {ys = ys} rest) all = All-cons P x ys (All-head P x xs all) (All-left P rest (All-tail P x xs all))
@@ -145,6 +144,6 @@ IsKept-kept rules kept left (Lock locked forbidden) h = IsReachedBy-kept rules k
 IsKept-kept rules kept left (Excluded solvable reason) h = IsReachedBy-kept rules kept left solvable h
 IsKept-kept rules kept left (OnePerPackage name instance) h = IsReachedBy-kept rules kept left instance h
 
--- of the rules that are left each would be left again
+-- each kept rule would be kept again
 pub AllKept-kept : {N S : Type 0} (rules kept : List (Rule N S)) → LeavesKept rules kept → All (IsKept kept) kept
 AllKept-kept rules kept left = All-weaker (IsKept rules) (IsKept kept) (λ rule h. IsKept-kept rules kept left rule h) kept left.all_left

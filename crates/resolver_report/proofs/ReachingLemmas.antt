@@ -1,4 +1,4 @@
--- Why following what is reached ends, and with just what is reached.
+-- The loop that follows requirements ends with exactly the reached solvables.
 use Rattle.std.proofs.Common.{◌≡◌, ◌⊎◌, ℕ, zero, suc, ◌+◌, ◌-◌, ◌<◌, ◌≤◌, Bool, true, false, List, [], ◌∷◌, ◌++◌, length, append_assoc, length-append, refl}
 use Rattle.std.proofs.Common.{sym, ◌∙◌, ap, subst, inl, inr, arith, Contains, MatchBool, Vec, Global}
 use Rattle.std.specs.Cmp.{IsEquivalence}
@@ -29,7 +29,7 @@ use Rattle.resolver_report.proofs.SearchLemmas.{Contains-all_candidates, count_o
 use Rattle.resolver_clause_store.proofs.MemberLemmas.{list_any-member}
 
 module _ {S : Type 0} (same : S → S → Bool) where
-  -- solvables of one list were added at the end, each of which was not there
+  -- new solvables of one list were added at the end
   pub record IsGrowth (all old new : List S) : Type 0 where
     pub more : List S
     pub is : new ≡ old ++ more
@@ -51,7 +51,7 @@ module _ {S : Type 0} (same : S → S → Bool) where
       let Has : List S → Type 0 = λ list. Contains list s in
       subst Has (sym h.is) (Contains-append_left old h.more s inside)
 
--- what is there is reached; what the root requires is there, and what each of the first members requires
+-- each member is reached, and the set has the candidates of the root's requirements and of those of its first members
 pub record IsUnderway {N S : Type 0} (same : S → S → Bool) (rules : List (Rule N S)) (set : List S) (next : ℕ) : Type 0 where
   pub sound : (s : S) → Contains set s → IsReachedBy rules s
   pub first : IsWithin (flat_map root_candidates_of rules) set
@@ -95,7 +95,7 @@ module _ {S : Type 0} (same : S → S → Bool) (identity : IsIdentity same) (la
     all_sound old (c ∷ cs) h here =
         all_sound (insert_key same old c) cs (key_sound old c h (here c (head_in c cs))) (λ s inside. here s (Contains-there c cs s inside))
 
-  -- Of the candidates of requirements.
+  -- The candidates of requirements.
   module _ {N : Type 0} (rules : List (Rule N S)) where
     root_reached_in : (rule : Rule N S) → Contains rules rule → (s : S) → Contains (root_candidates_of rule) s → IsReachedBy rules s
     root_reached_in (Requires Root requirement candidates when) listed s inside = by_root listed inside
@@ -198,12 +198,12 @@ module _ {S : Type 0} (same : S → S → Bool) (identity : IsIdentity same) (la
           followed : (k : ℕ) (v : S) → k < next + 1 → slice_get new k ≡ Some v → IsWithin (flat_map (candidates_for same v) rules) new
           followed k v below e = at_place k v (sym (before k below) ∙ e) (cases_lt_suc k next below)
 
-      -- the measure of the steps
+      -- the measure gets smaller with each step
       pub falls_next : (count_outside same new (all_candidates rules) + length new) - (next + 1) <
           (count_outside same old (all_candidates rules) + length old) - next
       falls_next = omega (arith, growth.counts, slice_get_within old next u at_next)
 
-    -- a set whose members were all followed is all that is reached
+    -- a set whose members were all followed has exactly the reached solvables
     pub underway_done : (set : List S) (next : ℕ) → length set ≤ next → IsUnderway same rules set next → IsReachedSet rules set
     underway_done set next end h = record { sound = h.sound; complete = complete }
       where
@@ -216,7 +216,7 @@ module _ {S : Type 0} (same : S → S → Bool) (identity : IsIdentity same) (la
             (gathered (candidates_for same t) rules (Requires (Solvable t) requirement candidates when) s listed
             (candidates_itself t requirement candidates when s inside))
 
--- what `retain` leaves, where each call tells whether P holds, and leaves the closure as it was
+-- the elements that `retain` leaves, if each call tells whether P holds and does not change the closure
 module _ {X F : Type 0} (R : F → X → Bool → F → Type 0) (P : X → Type 0) (f : F)
     (h : (x : X) (b : Bool) (f' : F) → R f x b f' → MatchBool b (P x) (P x → ⊥) × (f' ≡ f)) where
   one_more : (x : X) (xs : List X) (bs : List Bool) (b : Bool) → MatchBool b (P x) (P x → ⊥) → LeavesJust P xs (items_where_true bs xs) →
@@ -245,7 +245,7 @@ module _ {X F : Type 0} (R : F → X → Bool → F → Type 0) (P : X → Type 
   pub LeavesJust-from_retain : (xs ys : List X) → IsFiltered R f xs ys → LeavesJust P xs ys
   LeavesJust-from_retain xs ys k = subst (λ (list : List X). LeavesJust P xs list) (sym k.4) (told_just k.0 xs k.1 k.2 k.3)
 
--- to be about members of the set and about what is reached are one
+-- rules about members of the set are the rules about reached solvables
 module _ {N S : Type 0} (rules : List (Rule N S)) (set : List S) (is : IsReachedSet rules set) where
   requirer_kept : (by : By S) → IsPresent by set → IsRequirerReached rules by
   requirer_kept Root here = tt

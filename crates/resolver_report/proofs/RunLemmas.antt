@@ -1,4 +1,4 @@
--- Runs of edges, one edge after the other.
+-- Runs of edges, one edge after another.
 use Rattle.std.proofs.Common.{◌≡◌, ℕ, ◌+◌, ◌<◌, Bool, true, false, cond, List, [], ◌∷◌, ◌++◌, length, map, take, refl, sym, ◌∙◌, ap, get_or}
 use Rattle.std.proofs.lemmas.List.{take_more, map-append}
 use Rattle.resolver_clause_store.specs.declared.Requirement.{Requirement}
@@ -12,7 +12,7 @@ use Rattle.resolver_report.specs.Runs.{Run, joined, with_edge, runs_of}
 use Rattle.resolver_report.specs.EdgeRuns.{run_view, and_then, new_run}
 use Rattle.resolver_clause_store.proofs.SameRequirementLemmas.{same_requirement-true}
 
--- putting an edge in front and one at the end
+-- an edge is put in front and another at the end
 joined_and_then : (q : Requirement) (m : NodeId) (r : Requirement) (n : NodeId) (runs : List Run) →
     joined q m (and_then r n runs) ≡ and_then r n (joined q m runs)
 joined_and_then q m r n [] = elim (same_requirement q r) as (λ b.
@@ -54,7 +54,7 @@ pub runs_of_next : {S : Type 0} (es : List (Edge S)) (i : ℕ) (e : Edge S) → 
     runs_of (take (i + 1) es) ≡ and_edge e.weight e.target (runs_of (take i es))
 runs_of_next es i e h same = ap runs_of (take_more es i e h ∙ ap (λ x. take i es ++ x ∷ []) (sym same)) ∙ runs_of-push (take i es) e
 
--- the last run takes the edge, or a new one does
+-- the last run takes the edge, or a new run does
 pub and_then-same : (r : Requirement) (n : NodeId) (runs : List Run) (last : Run) → same_requirement last.requirement r ≡ true →
     and_then r n (runs ++ last ∷ []) ≡ runs ++ new_run last.requirement (last.targets ++ n ∷ []) ∷ []
 and_then-same r n [] last e = rw e refl
@@ -67,7 +67,7 @@ and_then-other r n [] last e = rw e refl
 and_then-other r n (run ∷ []) last e = ap (λ rs. run ∷ rs) (rw e refl)
 and_then-other r n (run ∷ next ∷ runs) last e = ap (λ rs. run ∷ rs) (and_then-other r n (next ∷ runs) last e)
 
--- by the lists of the code: the last run is taken out, changed and put back
+-- in the lists of the code, the last run is removed, changed and put back
 pub add_same : (r : Requirement) (n : NodeId) (old rest new : List EdgeRun) (last last' : EdgeRun) → old ≡ rest ++ last ∷ [] →
     same_requirement last.requirement r ≡ true → last'.requirement ≡ last.requirement → last'.targets.items ≡ last.targets.items ++ n ∷ [] → new ≡ rest ++
     last' ∷ [] → map run_view new ≡ and_then r n (map run_view old)

@@ -1,4 +1,4 @@
--- Why the plain search is right, and why it ends.
+-- The plain search is right, and it ends.
 use Rattle.std.proofs.Common.{◌≡◌, ◌≢◌, ℕ, zero, suc, ◌<◌, ◌≤◌, Bool, true, false, cond, ◌||◌, List, [], ◌∷◌, ◌++◌, refl, sym, ◌∙◌, subst, inl, inr, arith}
 use Rattle.std.proofs.Common.{Contains, All, Vec, Global}
 use Rattle.std.specs.List.{list_any}
@@ -21,7 +21,7 @@ use Rattle.resolver_report.specs.Plain.{HasNoOtherInstance, HasOtherInstance}
 use Rattle.resolver_clause_store.proofs.DemandLemmas.{IsPresent-within}
 use Rattle.std.proofs.lemmas.Bool.{false_from_ne_true}
 
--- what is there in a set is there in a larger one
+-- a larger set has the members of the set
 
 Meets-within : {S : Type 0} (list set larger : List S) → IsWithin set larger → Meets list set → Meets list larger
 Meets-within list set larger within met = record { shared = met.shared; in_first = met.in_first; in_second = within met.shared met.in_second }
@@ -36,7 +36,7 @@ pub AllMeet-none : {S : Type 0} (lists : List (Vec S Global)) (set : List S) (li
 AllMeet-none lists set list inside none all =
     none (All-contains (λ xs. Meets xs set) (lists_of lists) list.items all (Contains-map (λ (one : Vec _ Global). one.items) lists list inside))
 
--- what is forbidden stays forbidden in a larger set
+-- a forbidden rule stays forbidden in a larger set
 forbidden_stays : {N S : Type 0} (rule : Rule N S) (set larger : List S) → IsForbidden set rule → IsWithin set larger → ObeysAlone larger (statement_of rule) →
     ⊥
 forbidden_stays (Requires by requirement candidates when) set larger h within obeys = absurd h
@@ -49,7 +49,7 @@ forbidden_stays (OnePerPackage name instance) set larger h within obeys = absurd
 pub BreaksSome-refuted : {N S : Type 0} (set : List S) (rules : List (Rule N S)) → BreaksSome set rules → IsRefutedFrom set rules
 BreaksSome-refuted set rules h larger within obeys = forbidden_stays h.rule set larger h.forbidden within (obeys.each h.rule h.listed)
 
--- two marked instances of one name
+-- two listed instances of one name
 clash_refuted : {N S : Type 0} (rule : Rule N S) (set : List S) (rules : List (Rule N S)) → Contains rules rule → Clashes set rules rule →
     IsRefutedFrom set rules
 clash_refuted (Requires by requirement candidates when) set rules listed h larger within obeys = absurd h
@@ -74,7 +74,7 @@ clash_refuted {N} {S} (OnePerPackage name instance) set rules listed (inside, ot
 pub HasTwo-refuted : {N S : Type 0} (set : List S) (rules : List (Rule N S)) → HasTwo set rules → IsRefutedFrom set rules
 HasTwo-refuted set rules h = clash_refuted h.rule set rules h.listed h.clash
 
--- nothing is forbidden, nobody stands twice, nothing is open
+-- the set breaks no rule, has no second instance, and meets each requirement
 obeys_alone : {N S : Type 0} (rule : Rule N S) (set : List S) → IsAllowed set rule → IsMet set rule → ObeysAlone set (statement_of rule)
 obeys_alone (Requires by requirement candidates when) set allowed met = met
 obeys_alone (Constrains by version_set candidate) set allowed met = allowed
@@ -97,7 +97,7 @@ IsWithin-push {S} set larger s within inside x h =
     let Inside : S → Type 0 = λ y. Contains larger y in
     elim (Contains-push_cases set s x h) [ inl old ↦ within x old | inr same ↦ subst Inside same inside ]
 
--- each candidate fails, so the set does
+-- each candidate is refuted, and with them the set
 unmet_refuted : {N S : Type 0} (rule : Rule N S) (set wanted : List S) (rules : List (Rule N S)) → IsUnmet set wanted rule →
     All (λ s. IsRefutedFrom (set ++ s ∷ []) rules) wanted → Contains rules rule → IsRefutedFrom set rules
 unmet_refuted {N} {S} (Requires by requirement candidates when) set wanted rules (here, meet, none, are) refuted listed larger within obeys =
@@ -116,7 +116,7 @@ pub IsOpen-refuted : {N S : Type 0} (set wanted : List S) (rules : List (Rule N 
     All (λ s. IsRefutedFrom (set ++ s ∷ []) rules) wanted → IsRefutedFrom set rules
 IsOpen-refuted set wanted rules h refuted = unmet_refuted h.rule set wanted rules h.unmet refuted h.listed
 
--- Why it ends: of all candidates that the rules name, fewer are outside the set.
+-- The search ends, since fewer and fewer candidates of the rules are outside the set.
 
 fewer_or_same : (b c : Bool) (m n : ℕ) → m ≤ n → cond (b || c) m (suc m) ≤ cond b n (suc n)
 fewer_or_same true c m n h = h
@@ -190,7 +190,7 @@ count_outside-falls same rules set wanted s identity h is =
     count_outside-lt same set s (all_candidates rules) (Contains-all_candidates rules h.rule s h.listed (unmet_named h.rule set wanted s h.unmet is))
     (list_any-outside same identity set s (unmet_outside h.rule set wanted s h.unmet is)) (identity.itself s)
 
--- Why each member is there by need, once.
+-- Each member of the set is needed, and is there once.
 
 AllMeet-push : {S : Type 0} (lists : List (List S)) (set : List S) (s : S) → AllMeet set lists → AllMeet (set ++ s ∷ []) lists
 AllMeet-push lists set s all = AllMeet-within lists set (set ++ s ∷ []) (λ x h. Contains-append_left set (s ∷ []) x h) all

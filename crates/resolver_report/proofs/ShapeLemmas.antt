@@ -1,4 +1,4 @@
--- The graph of a list of rules is a graph: its edges' ends are among its nodes, and no node stands twice.
+-- The graph of a list of rules is well formed: the ends of its edges are among its nodes, and no node stands twice.
 use Rattle.std.proofs.Common.{◌≡◌, ◌≢◌, ◌⊎◌, ℕ, zero, suc, ◌-◌, ◌<◌, Bool, true, false, cond, ◌||◌, List, [], ◌∷◌, ◌++◌, length, map, refl, sym, ◌∙◌, ap, subst}
 use Rattle.std.proofs.Common.{inl, inr, arith, get_or, take, set}
 use Rattle.std.specs.Prelude.{Option, Some, None, IsPermutation}
@@ -23,7 +23,7 @@ use Rattle.resolver_report.specs.Graphs.{node_by, mentioned, mentions, first_men
 use Rattle.resolver_report.specs.Graphs.{links_of, links_after, links, is_entered, place_in, edge_in}
 use Rattle.resolver_report.proofs.GraphLemmas.{IsFinding, finding, same_node_is_identity, has-without_repeats, without_repeats_once}
 
--- A list with its element at 1 gone and its last one in that place.
+-- A list without its element at 1, whose last element takes that place.
 module _ {X : Type 0} (xs : List X) (d : X) (two : 1 < length xs) where
   abbrev swapped : List X
   swapped = swap_remove xs 1 d
@@ -87,7 +87,7 @@ module _ {S : Type 0} (same : S → S → Bool) (identity : IsIdentity same) whe
   abbrev pub Has : List (ConflictNode S) → ConflictNode S → Type 0
   Has ms n = list_any (λ y. same_node same y n) ms ≡ true
 
-  -- both ends are there, or the target is the unresolved node
+  -- both ends are in the list, or the target is the unresolved node
   abbrev pub HasEnds : List (ConflictNode S) → Link S → Type 0
   HasEnds ms l = Has ms l.source × (Has ms l.target ⊎ (l.target ≡ UnresolvedDependency)) × (l.source ≢ UnresolvedDependency)
 
@@ -148,7 +148,7 @@ module _ {S : Type 0} (same : S → S → Bool) (identity : IsIdentity same) whe
       AllByRecursion-append (HasEnds ms) (links_of same_name earlier r) (links_after same_name (r ∷ earlier) rs)
       (links_of_ends same_name ms root earlier before r h.0) (links_after_ends same_name ms root (r ∷ earlier) rs (h.0, before) h.1)
 
-  -- what is mentioned is among the mentions
+  -- each mentioned node is among the mentions
   all_within : (ms xs : List (ConflictNode S)) → ((x : ConflictNode S) → Has xs x → Has ms x) → AllByRecursion (Has ms) xs
   all_within ms [] up = tt
   all_within ms (x ∷ xs) up =
@@ -164,7 +164,7 @@ module _ {S : Type 0} (same : S → S → Bool) (identity : IsIdentity same) whe
   links_ends same_name rs = links_after_ends same_name (mentions rs) refl [] rs tt
       (by_rule (mentions rs) rs (all_within (mentions rs) (mentions rs) (λ x h. h)).1.1)
 
-  -- the place of what is there is below the length
+  -- the place of a node is below the length
   place_below : (ms : List (ConflictNode S)) (n : ConflictNode S) → Has ms n → place_in same ms n < length ms
   place_below ms n h = let P : Bool → Type 0 = λ b. IsFinding b (place_in same ms n) (length ms) in subst P h (finding (λ y. same_node same y n) ms)
 
@@ -184,7 +184,7 @@ module _ {S : Type 0} (same : S → S → Bool) (identity : IsIdentity same) whe
     once = once;
   }
 
-  -- the nodes with the unresolved one
+  -- the nodes with the unresolved node
   ends_in_first : {N : Type 0} (rs : List (Rule N S)) (l : Link S) → HasEnds (mentions rs) l → EndsIn (first_mentions same rs) l
   ends_in_first rs l h =
       let up : (n : ConflictNode S) → Has (mentions rs) n → Has (first_mentions same rs) n =
@@ -201,7 +201,7 @@ module _ {S : Type 0} (same : S → S → Bool) (identity : IsIdentity same) whe
       (without_repeats_once (same_node same) (same_node_is_identity same identity) (mentions rs))
       (first_ends same_name rs)
 
-  -- the nodes without the unresolved one
+  -- the nodes without the unresolved node
   abbrev pub without_unresolved : {N : Type 0} → List (Rule N S) → List (ConflictNode S)
   without_unresolved rs = swap_remove (first_mentions same rs) 1 Root
 

@@ -1,4 +1,4 @@
--- One node more of which the groups are told.
+-- One more node in the map of groups.
 use Rattle.std.proofs.Common.{◌≡◌, ℕ, ◌+◌, ◌<◌, ◌≤◌, Bool, true, false, cond, List, [], ◌∷◌, length, refl, sym, ◌∙◌, ap, subst, ⊎_elim, arith}
 use Rattle.std.specs.Prelude.{Option, Some, None, IsSome, IsNone, MatchOption, slice_get, slice_index}
 use Rattle.std.specs.Option.{is_some}
@@ -33,7 +33,7 @@ node_of (Some UnresolvedDependency) s e = absurd cc
 node_of (Some (Excluded r)) s e = absurd cc
 node_of None s e = absurd cc
 
--- one node stands at one place
+-- an element of a list without repeats stands at only one place
 one_place : {X : Type 0} (xs : List X) → HasNoRepeats xs → (n k : ℕ) (x : X) → slice_get xs n ≡ Some x → slice_get xs k ≡ Some x → n ≡ k
 one_place xs once n k x e f =
     ⊎_elim
@@ -50,7 +50,7 @@ first_is (x ∷ []) h = absurd (omega (arith, h))
 first_is (x ∷ y ∷ xs) h = refl
 
 module _ {S : Type 0} (same : S → S → Bool) (ks : List Key) (g : Shape S) (n : ℕ) where
-  -- the group of the first of a class is the group of the class
+  -- the group of the first node of a class is the group of the class
   pub shared_group : (groups : Groups S) (group copy : Group S) (class : List ℕ) → class ≡ class_in ks n → 2 ≤ length class →
       IsSimplifiedBefore same ks g n groups → IsMadeAt same g (slice_index class 0) groups group → copy.value ≡ group.value → IsGroupOf ks g n copy
   shared_group groups group copy class are several before made is =
@@ -64,7 +64,7 @@ module _ {S : Type 0} (same : S → S → Bool) (ks : List Key) (g : Shape S) (n
   longer : (k : ℕ) (group : Group S) → IsEarlierGroup ks g n k group → IsEarlierGroup ks g (n + 1) k group
   longer k group h = let lt : k < n = h.before in record { before = omega arith; of_node = h.of_node }
 
-  -- nothing is mapped for a node without a group
+  -- a node without a group adds nothing to the map
   pub skipped : (m : Groups S) → ((s : S) → solvable_at g n ≡ Some s → IsNone (group_in ks n)) → IsSimplifiedBefore same ks g n m →
       IsSimplifiedBefore same ks g (n + 1) m
   skipped m alone before = record { members = members; only = before.only }

@@ -1,4 +1,4 @@
--- Pieces side by side, one after the other.
+-- Lines side by side, one after another.
 use Rattle.std.proofs.Common.{◌≡◌, ℕ, zero, suc, Bool, true, false, List, [], ◌∷◌, ◌++◌, length, map, refl, sym, ◌∙◌, ap}
 use Rattle.std.proofs.Common.{append_assoc}
 use Rattle.std.specs.Prelude.{◌==◌, slice_set}
@@ -31,13 +31,13 @@ side_step top levels tell x xs reported =
     put_text top levels (tell x reported).value after ∙
     ap (λ b. text_at top (levels ++ b ∷ []) (tell x reported).value ++ text_of top levels after) (is_last_side tell xs (tell x reported).reported)
 
--- a mark that is set and taken away again
+-- a mark that is set and cleared again
 pub unset : (marks : List Bool) (n : ℕ) → is_marked marks n ≡ false → slice_set (slice_set marks n true) n false ≡ marks
 unset [] n h = refl
 unset (m ∷ marks) zero h = ap (λ b. b ∷ marks) (sym h)
 unset (m ∷ marks) (suc n) h = ap (λ bs. m ∷ bs) (unset marks n h)
 
--- the line of a version set, given those after it
+-- a line is the last one if no version sets come after it
 lines_last : (ts : List (List ℕ)) → is_last (lines_of ts) ≡ (length ts == 0)
 lines_last [] = refl
 lines_last (t ∷ ts) = sym (some_left (length ts))

@@ -94,7 +94,7 @@ module _ {N S : Type 0} (u : Universe N S) (root : Demands) where
     pub links_true : (rs : List (Rule N S)) → All (IsTrueRule u root) rs → AllByRecursion IsTrueLink (links same_name rs)
     links_true rs h = links_after_true [] rs (All-nil (IsTrueRule u root)) h
 
--- what is there is found if it alone passes the test
+-- an element is found if only this element passes the test
 found : {X : Type 0} (test : X → Bool) (n : X) → ((x : X) → test x ≡ true → x ≡ n) → (xs : List X) → list_any test xs ≡ true → find test xs ≡ Some n
 found test n alone [] h = absurd (false≢true h)
 found test n alone (x ∷ xs) h = at_test (test x) refl h (found test n alone xs)
@@ -105,7 +105,7 @@ found test n alone (x ∷ xs) h = at_test (test x) refl h (found test n alone xs
     at_test false e k rest = rest k
 
 module _ {S : Type 0} (same : S → S → Bool) (identity : IsIdentity same) where
-  -- at the place of a node that is there it stands
+  -- a node stands at its place
   pub stands : (ms : List (ConflictNode S)) (n : ConflictNode S) → Has same identity ms n → slice_get ms (place_in same ms n) ≡ Some n
   stands ms n h = sym (find_at (λ m. same_node same m n) ms) ∙ found (λ m. same_node same m n) n (λ m e. (same_node_is_identity same identity).alone m n e) ms h
 

@@ -1,4 +1,4 @@
--- Steps of a work list of marks.
+-- Steps of a work list of implications.
 use Rattle.std.proofs.Common.{◌≡◌, ◌≢◌, ◌⊎◌, ℕ, zero, suc, ◌+◌, ◌-◌, ◌<◌, ◌≤◌, Bool, true, false, cond, List, [], ◌∷◌, ◌++◌, length, refl, sym, ◌∙◌, ap, subst}
 use Rattle.std.proofs.Common.{inl, inr, arith, get_or, set, drop, sum, Contains}
 use Rattle.std.specs.Prelude.{◌==◌, ◌&&◌, ◌||◌, All, map, replicate}
@@ -69,7 +69,7 @@ module _ (marks : List Bool) (groups : List (List NodeId)) where
   down_smaller k h = let some : 0 < k = marked_some k h in
       let least : up_to_unmarked marks groups (k - 1) ≤ k - 1 = down_least (k - 1) in omega (arith, some, least, down_marked k h)
 
--- a mark
+-- a mark that was set
 marked_at : (marks : List Bool) (n : ℕ) → n < length marks → is_marked (set marks n true) n ≡ true
 marked_at [] n lt = absurd (omega (arith, lt))
 marked_at (m ∷ ms) zero lt = refl
@@ -89,7 +89,7 @@ marked_more (m ∷ ms) zero (suc k) h = h
 marked_more (m ∷ ms) (suc n) zero h = h
 marked_more (m ∷ ms) (suc n) (suc k) h = marked_more ms n k h
 
--- marks that are there after one more are there before, or are the new one
+-- a mark after one more was set was there before, or is the new one
 marked_cases : (marks : List Bool) (n k : ℕ) → is_marked (set marks n true) k ≡ true → (is_marked marks k ≡ true) ⊎ (k ≡ n)
 marked_cases marks n k h = at_place (cases_eq k n)
   where
@@ -102,7 +102,7 @@ groups_within xs ys within [] h = refl
 groups_within xs ys within (g ∷ gs) h =
     and_within (some_marked xs g) (each_marked xs gs) (some_marked ys g) (each_marked ys gs) (some_within xs ys within g) (groups_within xs ys within gs) h
 
--- what waits at more nodes
+-- an implication that waits at a node still waits when more do
 appended_kept : (table : List (List Waiting)) (n k : ℕ) (x y : Waiting) → Contains (get_or table k []) y → Contains (get_or (appended table n x) k []) y
 appended_kept [] n k x y h = h
 appended_kept (t ∷ ts) zero zero x y h = Contains-append_left t (x ∷ []) y h
@@ -157,7 +157,7 @@ some_marked_in marks (m ∷ ns) e = at_mark (is_marked marks m.0) refl (some_mar
     at_mark true f rest = (m, (0, omega arith, refl), f)
     at_mark false f rest = let found = rest (rw f at e) in (found.0, Contains-append_right (m ∷ []) ns found.0 found.1, found.2)
 
--- what waited, waits or is woken after one more mark
+-- an implication that waited at a node waits or is woken after one more mark
 module _ (marks : List Bool) (waiting : List (List Waiting)) (woken : List Waiting) (n : ℕ) (below : n < length marks) (listed : n < length waiting)
     (group : List NodeId) (x : Waiting) where
   waits_marked : WaitsAt marks waiting woken group x → WaitsAt (set marks n true) (set waiting n []) (woken ++ get_or waiting n []) group x
@@ -196,7 +196,7 @@ left_other : (left : List ℕ) (c d k : ℕ) → c ≢ d → get_or (set left d 
 left_other left c d k apart = get_or-set_other left d c k 0 apart
 
 module _ (is : List Implied) (w : Work) where
-  -- an implication that is another than the one that goes on
+  -- the other implications after one is advanced
   pub moved_others : (c k : ℕ) → (implied_at is c).node < length w.marks → length w.waiting ≡ length w.marks →
       KeepsOthersTended is w (moved (implied_at is c) w c k) c
   moved_others c zero node tables d apart (inl h) = inl (marked_more w.marks (implied_at is c).node (implied_at is d).node h)
@@ -218,7 +218,7 @@ module _ (is : List Implied) (w : Work) where
             (get_or (implied_at is d).groups (left_at w d - 1) []) (waits c (suc k)) (waits d (left_at w d)) h.there;
       }))
 
-  -- the one that goes on
+  -- the implication that is advanced
   pub moved_tended : (c k : ℕ) → c < length w.left → (implied_at is c).node < length w.marks → has_mark w.marks (implied_at is c).groups k ≡ false →
       IsTended is (moved (implied_at is c) w c k) c
   moved_tended c zero below node h = inl (marked_at w.marks (implied_at is c).node node)
@@ -236,12 +236,12 @@ module _ (is : List Implied) (w : Work) where
       } in
       inr (subst With (sym (get_or-set_same w.left c (suc k) 0 below)) (record { some = omega arith; there = subst At (sym same) there }))
 
-  -- what is right stays so
+  -- the invariant is kept
   module _ (c : ℕ) (below : c < length is) (right : IsRight is w) where
     node_below : (implied_at is c).node < length w.marks
     node_below = right.nodes c below
 
-    -- of each implication the groups that are not left have marks
+    -- for each implication, the groups that are not left have marks
     met_at : (marks : List Bool) (k : ℕ) → IsWithinMarks w.marks marks → each_marked w.marks (drop k (implied_at is c).groups) ≡ true → (d : ℕ) →
         d < length is → each_marked marks (drop (get_or (set w.left c k) d 0) (implied_at is d).groups) ≡ true
     met_at marks k within met d lt = at_place (cases_eq d c)
@@ -263,7 +263,7 @@ module _ (is : List Implied) (w : Work) where
             subst At (sym same) (omega (arith, le, right.most c below, get_or-set_same w.left c k 0 (omega (arith, below, right.long))))
         at_place (inr apart) = omega (arith, right.most d lt, left_other w.left d c k apart)
 
-    -- an implication all of whose groups have marks marks its node in all marks that obey
+    -- if each group of an implication has a mark, its node is marked in all marks that obey the implications
     followed : (others : List Bool) → IsClosed (length w.marks) (follows is) others → IsWithinMarks w.marks others →
         each_marked w.marks (implied_at is c).groups ≡ true → is_marked others (implied_at is c).node ≡ true
     followed others closed within met =
@@ -350,7 +350,7 @@ module _ (is : List Implied) (w : Work) where
         let same : sum (advanced is w c).left ≡ sum (set w.left c reached) = ap sum advanced_left in
         omega (arith, one, fewer, same)
 
-  -- where nothing is woken any more, the marks obey the implications
+  -- if no implication is woken, the marks obey the implications
   pub ends_least : IsRight is w → AreTended is w → w.woken ≡ [] → HasLeastMarks (length w.marks) is w.marks
   ends_least right tended none = record { long = refl; least = record { closed = closed; least = right.sound } }
     where
@@ -398,7 +398,7 @@ module _ (is : List Implied) (w : Work) where
           at_place : (k : ℕ) × (k < length is) × (implies w.marks n (implied_at is k) ≡ true) → is_marked w.marks n ≡ true
           at_place (c, below, e) = at_tended c below e (tended c below)
 
--- what was woken last is taken out
+-- the implication that was woken last is removed
 module _ (is : List Implied) (w : Work) (ws : List Waiting) where
   abbrev taken : Work
   taken = record { marks = w.marks; left = w.left; waiting = w.waiting; woken = ws }
@@ -473,7 +473,7 @@ module _ (is : List Implied) (w : Work) (ws : List Waiting) where
         at_place (inr past) = absurd (true≢false
             (sym there ∙ ap (λ i. has_mark w.marks i.groups x.left) (get_or_past is x.implication (record { groups = []; node = 0 }) past) ∙ none x.left))
 
--- what is right is right of the same work
+-- the invariant of equal work
 pub same_right : (is : List Implied) (v w : Work) → IsSameWork v w → IsRight is v → IsRight is w
 same_right is v w same h =
     let Right : Work → Type 0 = λ u. IsRight is u in
@@ -481,7 +481,7 @@ same_right is v w same h =
     λ i. record { marks = sym same.marks i; left = sym same.left i; waiting = sym same.waiting i; woken = w.woken } in
     subst Right path (taken_right is v w.woken h)
 
--- nothing is marked, and all groups are left
+-- no node is marked, and all groups are left
 nodes_of : (is : List Implication) (count : ℕ) → All (λ i. i.node.0 < count) is → (c : ℕ) → c < length (map implied is) →
     (implied_at (map implied is) c).node < count
 nodes_of [] count all c lt = absurd (omega (arith, lt))
@@ -515,7 +515,7 @@ unmarked_right is count w all none lefts tables = record {
     left : (c : ℕ) → left_at w c ≡ length (implied_at (map implied is) c).groups
     left c = ap (λ ks. get_or ks c 0) lefts ∙ lefts_of is c
 
--- one implication more waits
+-- one more implication waits
 pub record AreTendedBelow (is : List Implied) (w : Work) (count nodes : ℕ) : Type 0 where
   pub right : IsRight is w
   pub tended : (d : ℕ) → d < count → IsTended is w d
@@ -537,7 +537,7 @@ start_next is w v c long lt made h = let Goal : Work → Type 0 = λ u. AreTende
           h.long;
     }
 
--- an implication that was woken goes on
+-- an implication that was woken is advanced
 pub record IsFollowed (is : List Implied) (w v : Work) : Type 0 where
   pub right : IsRight is v
   pub tended : AreTended is v
@@ -564,7 +564,7 @@ follow_next is w v u c same ready others made h tended = let Goal : Work → Typ
           omega (arith, fewer, ap sum same.left);
     }
 
--- what the code does as an implication goes on
+-- the steps of the code that advance an implication
 module _ (is : List Implication) (i : Implication) (w : Work) (c left : ℕ) (lt : c < length is) (at : i ≡ get_or is c i)
     (reached : left ≡ up_to_unmarked w.marks (lists_in i.groups.items) (left_at w c)) where
   implied_there : implied_at (map implied is) c ≡ implied i

@@ -1,4 +1,4 @@
--- What attaching clauses, cutting a trail and more variables keep of what propagation keeps.
+-- The invariant of propagation is kept when clauses are attached, the trail is cut, or variables are added.
 use Rattle.std.proofs.Common.{◌≡◌, ◌≢◌, ℕ, ◌+◌, ◌*◌, ◌-◌, ◌<◌, ◌≤◌, ◌⊎◌, List, [], ◌∷◌, ◌++◌, length, get_or, take, min, Some, None, Option}
 use Rattle.std.proofs.Common.{true, append_assoc, arith, inl, inr, refl, sym, ap, ◌∙◌, subst, ⊎_elim, length-append}
 use Rattle.std.specs.Prelude.{Vec, slice_get}
@@ -65,7 +65,7 @@ propagator-grown table old new variables p watches size lists pairs grown it =
           (covers-kept table old new _ _ _ _ keeps it.head it.covers);
     }
 
--- a clause that has a literal is one of the table
+-- a clause that has a literal is in the table
 within-contains : (table : List (Vec Literal Global)) (number : ℕ) (literal : Literal) → Contains (clause_at table number) literal → number < length table
 within-contains table number literal contains = ⊎_elim
     (λ (less : number < length table). less)
@@ -75,7 +75,7 @@ within-contains table number literal contains = ⊎_elim
     absurd (omega (arith, here.1)))
     (cases_lt number (length table))
 
--- more clauses behind the others
+-- more clauses after the others
 module _ (old new : List (Vec Literal Global)) (longer : length old ≤ length new)
     (same : (number : ℕ) → number < length old → clause_at new number ≡ clause_at old number) where
   late-longer : (trail : Trail) (late : List Late) (attached : ℕ) → attached ≤ length old → All (λ (l : Late). l.number < attached) late →
@@ -100,7 +100,7 @@ module _ (old new : List (Vec Literal Global)) (longer : length old ≤ length n
     constant = covers.constant;
   }
 
--- a trail that is cut
+-- a trail that was cut
 pub lower-undone : (old new : Trail) (level : ℕ) → IsUndone old new level → IsLower old new
 lower-undone old new level undone = record {
   size = undone.size;
@@ -109,12 +109,12 @@ lower-undone old new level undone = record {
   whole = λ v w s t at other low. undone.kept w t other (omega (arith, low, (undone.stays v s at).1));
 }
 
--- the first places are left
+-- the first entries are left
 places-cut : (old new : Trail) (count : ℕ) → IsCut old new count → count ≤ length_of old → KeepsPlaces old new (length_of new)
 places-cut old new count cut within =
     keeps_places old new (length_of new) (omega (arith, within, cut.length)) (λ v s at below. cut.kept v s at (omega (arith, below, cut.length)))
 
--- late clauses of which some at the end are gone
+-- the late clauses when some at the end were removed
 late-fewer : (table : List (Vec Literal Global)) (old new : Trail) (late left gone : List Late) → late ≡ left ++ gone → KeepsPlaces old new (length_of new) →
     All (λ (l : Late). l.length ≤ length_of new) left → AreLate table old late → AreLate table new left
 late-fewer table old new late left gone is places within are =
@@ -174,7 +174,7 @@ propagator-forgot table old new count p late pending recalls within cut it = rec
   };
 }
 
--- what stands at the last place of a list stands behind the rest
+-- a list is its front and its last element
 pub ends : {X : Type 0} (xs : List X) (x : X) → slice_get xs (length xs - 1) ≡ Some x → xs ≡ take (length xs - 1) xs ++ x ∷ []
 ends {X} xs x at =
     let below : length xs - 1 < length xs = slice_get_within xs (length xs - 1) x at in
@@ -192,7 +192,7 @@ ends-with all number count e is =
     let Ended : ℕ → Type 0 = λ n. all ≡ take (n - 1) all ++ number ∷ [] in
     subst Ended (sym is) (ends all number at)
 
--- late clauses at the end that have to be looked at again, one after the other
+-- late clauses at the end become pending, one after another
 pub record Moves (old new : List Late) (pending more : List ℕ) : Type 0 where
   pub gone : List Late
   pub late : old ≡ new ++ gone
@@ -229,7 +229,7 @@ moves-more old late last pending more moves = record {
       (All-contains (λ (l : Late). l.number < bound) (late ++ last ∷ []) last here (Contains-append_right late (last ∷ []) last (0, omega arith, refl)));
 }
 
--- where the last one that is left is noted with few places, all are
+-- if the last late clause was noted with few entries, so was each late clause before it
 within-last : (late : List Late) (last : Late) (count : ℕ) → IsRising (late ++ last ∷ []) → last.length ≤ count →
     All (λ (l : Late). l.length ≤ count) (late ++ last ∷ [])
 within-last late last count rising short = All-push (λ (l : Late). l.length ≤ count) late last (λ k d below.
@@ -252,7 +252,7 @@ moves-all old late pending more count none moves =
     let within : IsRising old → All (λ (l : Late). l.length ≤ count) late = λ rising k d below. absurd (omega (arith, below, none)) in
     search moves
 
--- One clause fewer has to be looked at again.
+-- a clause that is not pending any more
 noted-fewer : (late : List Late) (rest : List ℕ) (number other : ℕ) → other ≢ number → IsNoted late (rest ++ number ∷ []) other → IsNoted late rest other
 noted-fewer late rest number other differ noted = ⊎_elim
     (λ (one : Any (λ (l : Late). l.number ≡ other) late). inl one)
@@ -293,7 +293,7 @@ module _ (table : List (Vec Literal Global)) (trail : Trail) (pairs : List Watch
 all-fewer : (rest : List ℕ) (number bound : ℕ) → All (λ n. n < bound) (rest ++ number ∷ []) → All (λ n. n < bound) rest
 all-fewer rest number bound all = all-left (λ n. n < bound) rest (number ∷ []) all
 
--- a true literal of a clause, of which no watched literal is false below the highest level
+-- a satisfied clause has a true literal of no higher level than a literal that is false at the highest level
 excused-high : (trail : Trail) (literal : Literal) (clause : List Literal) (place : ℕ) → IsHigh trail literal → (fails : IsFalseBefore trail place literal) →
     IsSatisfied trail clause → Any (IsTrueAt trail fails.slot.level) clause
 excused-high trail literal clause place high fails satisfied = any-map _ _ _ (λ l holds.
@@ -357,7 +357,7 @@ passed-late table trail p late pending number ends is satisfied it =
     covers) in
     assumption
 
--- a clause two literals of which have no value
+-- a clause with two literals without a value
 pub reopened : (table : List (Vec Literal Global)) (trail : Trail) (p : Propagator) (pending : Vec ℕ Global) (number head first second : ℕ) →
     pending_of p ≡ pending.items ++ number ∷ [] → head ≡ min (min p.head first) second →
     ((literal : Literal) → (pair_at (pairs_of p.watches) number).first ≡ Some literal → IsNotBefore trail first literal) →
@@ -381,7 +381,7 @@ reopened table trail p pending number head first second ends is first_place seco
     covers in
     assumption
 
--- a clause behind the others
+-- the watches of a clause after the others
 pair-two : (clause : List Literal) (pair : Option (Literal × Literal)) → MatchOption pair (IsConstant clause) (λ two. AreApart clause two.0 two.1) →
     (pair_from pair ≡ unwatched) ⊎ WatchesTwo (pair_from pair)
 pair-two clause None constant = inl refl
@@ -448,7 +448,7 @@ pair-has clause (Some (one, other)) first second e chosen =
       subst (λ (l : Literal). Contains clause l) (ap (λ (two : Literal × Literal). two.1) same) chosen.has_second,
     )
 
--- a clause behind those of the table
+-- a clause after those of the table
 module _ (table : List (Vec Literal Global)) (clause : Vec Literal Global) (pairs : List WatchedPair) (size : length pairs ≡ length table) where
   abbrev added : List (Vec Literal Global)
   added = table ++ clause ∷ []
@@ -526,7 +526,7 @@ attached-added table clause trail p watches pending pair pairs lists blockers is
           (covers-push before pair more trail (late_of p) (pending_of p) (head_of p) covers));
     }
 
--- the last one of the clauses that have to be looked at again
+-- the last pending clause is attached
 pub last-inside : (table : List (Vec Literal Global)) (trail : Trail) (p : Propagator) (number : ℕ) → EndsWith (pending_of p) number →
     IsPropagator table trail p → number < attached_of p
 last-inside table trail p number e it =

@@ -1,4 +1,4 @@
--- A clause behind the others, a trail that was undone, and what a finished search has found.
+-- A clause after the others, a trail that was undone, and the result of a finished search.
 use Rattle.std.proofs.Common.{◌≡◌, ◌≢◌, ℕ, zero, suc, ◌+◌, ◌<◌, ◌≤◌, List, [], ◌∷◌, ◌++◌, length, get_or, take, drop, Some, None, Bool, true, arith, inl, inr}
 use Rattle.std.proofs.Common.{refl, sym, ap, ◌∙◌, subst, ⊎_elim, length-append}
 use Rattle.std.specs.Prelude.{Vec}
@@ -34,7 +34,7 @@ use Rattle.resolvo.proofs.SourceLemmas.{causes_at-last, causes_at-push, given_at
 pub grows-push : (table : List (Vec Literal Global)) (clause : Vec Literal Global) → Grows table (table ++ clause ∷ [])
 grows-push table clause = record { longer = simp length-append (omega arith); same = clause_at-push table clause }
 
--- what holds of clauses that stay, holds in the longer table
+-- a property of clauses that stay holds in the longer table
 pub holds-grows : (old new : List (Vec Literal Global)) (values : ℕ → Bool) (numbers : List ℕ) → Grows old new → All (λ n. n < length old) numbers →
     MakesTrue values new numbers → MakesTrue values old numbers
 holds-grows old new values numbers grows within holds =
@@ -62,7 +62,7 @@ below-push variables table clause below here = λ n. ⊎_elim
     (cases_eq n (length table)))
     (cases_lt n (length table))
 
--- where a literal is drawn from stays
+-- the source of a drawn literal stays
 drawn-grows : (old new : List (Vec Literal Global)) (numbers : List ℕ) (clause : List Literal) → Grows old new → All (λ n. n < length old) numbers →
     All (IsDrawn old numbers) clause → All (IsDrawn new numbers) clause
 drawn-grows old new numbers clause grows within drawn = λ k d below.
@@ -74,7 +74,7 @@ drawn-grows old new numbers clause grows within drawn = λ k d below.
           (sym (grows.same w.number (All-contains (λ n. n < length old) numbers w.number within w.listed))) w.stands;
     }
 
--- a clause behind the others, given or learnt
+-- a clause after the others, given or learnt
 pub derived-push : (table : List (Vec Literal Global)) (sources : List Source) (clause : Vec Literal Global) (source : Source) → IsDerived table sources →
     All (λ n. n < length table) (causes_of source) → (number_of source ≡ None → FollowsFrom table (causes_of source) clause.items) →
     (number_of source ≡ None → All (IsDrawn table (causes_of source)) clause.items) → IsDerived (table ++ clause ∷ []) (sources ++ source ∷ [])
@@ -137,7 +137,7 @@ pub satisfied-at : (values : ℕ → Bool) (clauses : List (Vec Literal Global))
 satisfied-at values [] n holds within = absurd (omega arith)
 satisfied-at values (d ∷ clauses) n holds within = subst (λ c. clause_true values c ≡ true) (sym (clause_at-get_or (d ∷ clauses) n d within)) (holds n d within)
 
--- values that make the given clauses true make the learnt ones true
+-- values that make the given clauses true make the learnt clauses true
 derived-below : (given table : List (Vec Literal Global)) (sources : List Source) (values : ℕ → Bool) → IsDerived table sources → AreGiven given table sources →
     Satisfies values given → (bound place : ℕ) → place < bound → place < length table → clause_true values (clause_at table place) ≡ true
 derived-below given table sources values derived are holds zero place below within = absurd (omega arith)
@@ -149,13 +149,13 @@ derived-below given table sources values derived are holds (suc bound) place bel
     derived-below given table sources values derived are holds bound _ (omega (arith, early)) (omega (arith, early))))
     (some_or_none (given_at sources place))
 
--- each clause of the table is implied by the given ones
+-- the given clauses imply each clause of the table
 pub implied : (given table : List (Vec Literal Global)) (sources : List Source) (place : ℕ) → IsDerived table sources → AreGiven given table sources →
     place < length table → IsImplied given (clause_at table place)
 implied given table sources place derived are within =
     λ values holds. derived-below given table sources values derived are holds (suc place) place (omega arith) within
 
--- a choice is a reason for what it decides
+-- a choice is a reason for its decision
 chosen-made : (table : List (Vec Literal Global)) (requirements : List StoredRequirement) (old new : Trail) (literal : Literal) (choice : Choice) (level : ℕ) →
     Gains old new literal level (Decided choice.number) → slot_of old literal.variable ≡ None →
     literal ≡ get_or (clause_at table choice.number) choice.place literal → IsChoice old table requirements choice → (variable : ℕ) (slot : Slot) →
@@ -195,7 +195,7 @@ chosen-decides table requirements old new literal choice level gains free is cho
       (gains-cases old new literal level _ gains v s at);
 }
 
--- what is false before is so still where the levels above are undone
+-- a literal that was false before an entry still is after higher levels are undone
 false_before-undone : (old new : Trail) (level : ℕ) (slot : Slot) (variable : ℕ) (literal : Literal) → IsUndone old new level →
     slot_of old variable ≡ Some slot → slot.level ≤ level → IsFalseBefore old slot.place literal → IsFalseBefore new slot.place literal
 false_before-undone old new level slot variable literal undone at low f =
@@ -233,7 +233,7 @@ chosen-grows old new requirements trail grows inside chosen = record {
       search;
 }
 
--- the one literal of the highest level has no value after a jump back
+-- the asserting literal has no value after backtracking
 pub asserted-free : (old new : Trail) (backtrack_level level : ℕ) (literal : Literal) (literals : List Literal) →
     IsAsserting old backtrack_level literal literals →
     level < level_in old literal.variable → IsUndone old new level → slot_of new literal.variable ≡ None
@@ -241,7 +241,7 @@ asserted-free old new backtrack_level level literal literals asserting above und
     let was = undone.stays _ s at in
     omega (arith, was.1, above, level-in old literal.variable s was.0))
 
--- and the others are false still
+-- the other literals are still false
 pub asserted-unit : (old new : Trail) (backtrack_level level : ℕ) (literal : Literal) (literals : List Literal) →
     IsAsserting old backtrack_level literal literals → backtrack_level ≤ level →
     IsUndone old new level → IsUnit new literal literals

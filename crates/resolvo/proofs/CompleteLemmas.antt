@@ -136,7 +136,7 @@ module _ {N S : Type 0} (propositions : List (Proposition N S)) (values : ℕ �
     abbrev chosen : List S
     chosen = members values propositions
 
-    -- a member is not left out
+    -- a member of the set has a variable that is not false
     not_left_out : (s : S) → Contains chosen s → Is (Member s) false → ⊥
     not_left_out s inside out = false≢true (one_value distinct (Member s) false true out (member_from values propositions s inside))
 
@@ -150,7 +150,7 @@ module _ {N S : Type 0} (propositions : List (Proposition N S)) (values : ℕ �
         (λ (none : ⊥). none)
         absent
 
-    -- where the only atom says that the solvable is left out
+    -- a line with this atom alone leaves the solvable out
     out_alone : (s : S) → Some_of (atom (Member s) false ∷ []) → Contains chosen s → ⊥
     out_alone s some inside = ⊎_elim
         (λ (out : Is (Member s) false). not_left_out s inside out)
@@ -161,7 +161,7 @@ module _ {N S : Type 0} (propositions : List (Proposition N S)) (values : ℕ �
     abbrev AreTrue : ℕ → ℕ → ℕ → Rule N S → Type 0
     AreTrue width place code rule = (line : Line N S) → Contains (lines_of width place code rule) line → Some_of line.atoms
 
-    -- a list with a member has its variable true
+    -- the variable of a list with a member in the set is true
     list_met : (place j : ℕ) (lists : List (Vec S Global)) → ((line : Line N S) → Contains (condition_lines place 0 lists) line → Some_of line.atoms) →
         AllMeet chosen (lists_of lists) → j < length lists → Is (Listed place j) false → ⊥
     list_met place j lists are_true meet below out =
@@ -204,7 +204,7 @@ module _ {N S : Type 0} (propositions : List (Proposition N S)) (values : ℕ �
         out_alone solvable (are_true only (here only [])) inside
     alone width place code (OnePerPackage name instance) are_true = tt
 
-    -- the name has the bits of a chosen instance's code
+    -- the name has the bits of the code of a chosen instance
     bits_hold : (width place code : ℕ) (n : N) (s : S) → AreTrue width place code (OnePerPackage n s) → Contains chosen s → (i : ℕ) → i < width →
         Is (Bit n i) (bit code i)
     bits_hold width place code n s are_true inside i below = ⊎_elim
@@ -215,7 +215,7 @@ module _ {N S : Type 0} (propositions : List (Proposition N S)) (values : ℕ �
         rest)
         (are_true (bit_line place n s code i) (bit_line_in place n s code width i below))
 
-    -- two codes with the same bits are one
+    -- codes with the same bits are equal
     less_apart : (width j k : ℕ) (n : N) → ((i : ℕ) → i < width → Is (Bit n i) (bit j i)) → ((i : ℕ) → i < width → Is (Bit n i) (bit k i)) → k < 2 ^ width →
         j < k → ⊥
     less_apart width j k n first second short less =

@@ -23,7 +23,7 @@ marked-begin table sources old marks start size unmarked so within refuted = rec
   given = λ k past m. absurd (both_ways _ (so.only k (unmarked k) (λ i d below. λ e. absurd (omega (arith, within i d below)))) m);
 }
 
--- a learnt clause is replaced by its causes
+-- the causes of a learnt clause take its place
 replaced-learnt : (table : List (Vec Literal Global)) (sources : List Source) (old new : List Bool) (bound place : ℕ) → bound ≡ place + 1 →
     place < length table → IsDerived table sources → MarkedRefute table sources old bound → given_at sources place ≡ None →
     MarksNumbers (set old place false) new (causes_at sources place) → MarkedRefute table sources new place

@@ -21,7 +21,7 @@ use Rattle.resolvo.specs.declared.minimal.rule_clauses.Proposition.TheVariants.{
 use Rattle.resolver_clause_store.proofs.ListLemmas.{Contains-cons_cases as cons_cases, Contains-none as none_in, AllZip-left}
 use Rattle.resolvo.specs.declared.minimal.rule_clauses.RuleClause.{RuleClause}
 
--- one atom or two, of which the first is a negation
+-- an atom or two, of which the first is negative
 abbrev pub AreGuarded : {N S : Type 0} → List (Atom N S) → Type 0
 AreGuarded [] = ⊥
 AreGuarded (first ∷ []) = first.positive ≡ false
@@ -33,7 +33,7 @@ requirer_guarded N Root s = refl
 requirer_guarded N (Solvable t) s = refl
 
 module _ {N S : Type 0} where
-  -- the line is that of a requirement, or is guarded
+  -- the line belongs to a requirement, or is guarded
   abbrev IsOrderly : Line N S → Type 0
   IsOrderly line = line.is_requirement ≡ false → AreGuarded line.atoms
 

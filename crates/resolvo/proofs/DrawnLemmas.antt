@@ -1,4 +1,4 @@
--- Where the literals of learnt clauses and of the trail come from.
+-- The clauses from which the literals of learnt clauses and of the trail are drawn.
 use Rattle.std.proofs.Common.{◌≡◌, ◌≢◌, ℕ, zero, suc, ◌<◌, ◌⊎◌, List, [], ◌∷◌, ◌++◌, length, get_or, set, Some, None, Bool, true, false, arith, inl, inr, refl}
 use Rattle.std.proofs.Common.{sym, ap, ◌∙◌, subst, ⊎_elim, get_or-set_other}
 use Rattle.std.specs.Prelude.{Vec, not}
@@ -41,7 +41,7 @@ named variable (x ∷ xs) = ⊎_elim
     (named variable xs))
     (cases_eq x.variable variable)
 
--- a false literal negates the slot of its variable
+-- a false literal is the negation of the value of its variable
 negates-slot : (trail : Trail) (l : Literal) (variable : ℕ) (slot : Slot) → l.variable ≡ variable → slot_of trail l.variable ≡ Some slot →
     l.positive ≡ not slot.value → l ≡ negation variable slot
 negates-slot trail l variable slot name at sign = λ i. record { variable = name i; positive = sign i }
@@ -67,7 +67,7 @@ drawn-begin table trail old marks number falsified unmarked so = record {
 drawn-more : (table : List (Vec Literal Global)) (causes : List ℕ) (number : ℕ) (l : Literal) → IsDrawn table causes l → IsDrawn table (causes ++ number ∷ []) l
 drawn-more table causes number l d = record { number = d.number; listed = Contains-append_left causes (number ∷ []) d.number d.listed; stands = d.stands }
 
--- a variable's reason in its place
+-- the literals of its reason take the place of a variable
 pub drawn-resolve : (table : List (Vec Literal Global)) (trail : Trail) (old mid : List Bool) (causes : List ℕ) (variable number : ℕ) →
     AreDrawn table trail old causes → IsJustified table trail → IsReason trail variable number → MarksAlso old mid (clause_at table number) →
     AreDrawn table trail (set mid variable false) (causes ++ number ∷ [])
@@ -92,7 +92,7 @@ drawn-resolve table trail old mid causes variable number drawn justified reason 
       (cases_Bool (is_marked old v));
 }
 
--- the literals that negate the marked variables
+-- the literals that negate the marked variables are drawn from the causes
 pub drawn-learnt : (table : List (Vec Literal Global)) (trail : Trail) (marks : List Bool) (causes : List ℕ) (literals : List Literal) →
     AreDrawn table trail marks causes → Negates trail marks literals → All (IsDrawn table causes) literals
 drawn-learnt table trail marks causes literals drawn negates = λ k d below.
@@ -123,14 +123,14 @@ drawn-below given table sources derived are (suc bound) place literal below with
     drawn-below given table sources derived are bound d.number literal (omega (arith, early, below)) (omega (arith, early, within)) d.stands)
     (some_or_none (given_at sources place))
 
--- each literal of the table stands in a given clause
+-- each literal of the table is in a given clause
 pub table_drawn : (given table : List (Vec Literal Global)) (sources : List Source) → IsDerived table sources → AreGiven given table sources →
     (place : ℕ) (literal : Literal) → place < length table → Contains (clause_at table place) literal → (clause : Vec Literal Global) × Contains given clause ×
     Contains clause.items literal
 table_drawn given table sources derived are place literal within stands =
     drawn-below given table sources derived are (suc place) place literal (omega arith) within stands
 
--- and so does each literal of the trail that was not assumed
+-- so is each literal of the trail that was not assumed
 pub values_drawn : (it : ClauseSearch) (given : List (Vec Literal Global)) (numbers : List ℕ) → IsConsistent it → IsLoaded given numbers it →
     (variable : ℕ) (slot : Slot) → slot_of it.trail variable ≡ Some slot → (slot.reason ≡ Assumed → ⊥) → (clause : Vec Literal Global) × Contains given clause ×
     Contains clause.items (record { variable = variable; positive = slot.value })

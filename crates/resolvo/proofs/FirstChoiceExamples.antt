@@ -1,5 +1,5 @@
--- A promise that is kept: the provider that writes down its questions, and a root with a requirement for one version set, whose first candidate is
--- the favored one.
+-- An example of a promise that is kept: a provider that writes down its questions, and a root with a requirement for
+-- one version set, whose first candidate is the favored one.
 use Rattle.std.proofs.Common.{◌≡◌, ℕ, [], ◌∷◌, Some, None, Contains, inl, inr, refl, sym, ap, ◌∙◌, subst}
 use Rattle.std.proofs.lemmas.Option.{none-some, same_Some}
 use Rattle.std.proofs.lemmas.List.Elements.{All-contains, All-cons, All-nil}
@@ -29,7 +29,7 @@ root = record { requirements = asked ∷ []; constraints = [] }
 only : {X : Type 0} (x y : X) → Contains (x ∷ []) y → y ≡ x
 only {X} x y h = All-contains (λ z. z ≡ x) (x ∷ []) y (All-cons (λ z. z ≡ x) x [] refl (All-nil (λ z. z ≡ x))) h
 
--- what the chosen one requires_it for is nothing
+-- the chosen solvable has no requirements
 one_requires : (s : ℕ) (r : ConditionalRequirement) → s ≡ 11 → Contains (demands_of ((test_universe []).needs s)).requirements r → ⊥
 one_requires s r e h = let Asks : ℕ → Type 0 = λ t. Contains (demands_of ((test_universe []).needs t)).requirements r in Contains-none r (subst Asks e h)
 
@@ -37,7 +37,7 @@ requires_is : (r : ConditionalRequirement) → Requires (test_universe []) root 
 requires_is r (inl h) = only asked r h
 requires_is r (inr (s, inside, h)) = absurd (one_requires s r (only 11 s inside) h)
 
--- no other version set is asked for
+-- no other version set is wanted
 named : (r : ConditionalRequirement) (v : VersionSetId) → r ≡ asked → r.requirement ≡ Single v → v ≡ wanted
 named r v e single =
     let same : Single v ≡ Single wanted = sym single ∙ ap (λ (q : ConditionalRequirement). q.requirement) e in
@@ -49,7 +49,7 @@ next_in s (r, v, requires_it, active, single, choice) =
     let In : ℕ → Type 0 = λ t. Contains (11 ∷ []) t in
     subst In (same_Some 11 s (subst Chooses (named r v (requires_is r requires_it) single) choice)) (first_in 11 [])
 
--- it is in the set after one round
+-- the solvable is among the first choices after one step
 is_first : (s : ℕ) → s ≡ 11 → IsFirst (test_universe []) root s
 is_first s e = let First : ℕ → Type 0 = λ t. IsFirst (test_universe []) root t in
     subst First (sym e) (1, inr (asked, wanted, inl (first_in asked []), tt, refl, refl))

@@ -48,7 +48,7 @@ use Rattle.resolvo.proofs.TurnLemmas.{decided-assumed, forced-assumed, keeps-non
 use Rattle.resolver_clause_store.proofs.KeptLemmas.{at_most}
 use Rattle.resolvo.proofs.RoundLemmas.{keeps_itself, keeps_more, keeps_searched, keeps_trans, read_first}
 
--- a trail in which nothing was set is not longer
+-- a trail in which no variable got a value is no longer than before
 pub not_longer : (old new : Trail) → SetsNone old new → length_of new ≤ length_of old
 not_longer old new set = at_most (length_of new) (length_of old) (λ place below.
     let s = slot_at new place below in
@@ -60,7 +60,7 @@ assumed_or_not (Decided n) = inr (λ e. decided-assumed n e)
 assumed_or_not (Forced n) = inr (λ e. forced-assumed n e)
 assumed_or_not Assumed = inl refl
 
--- a value that was not assumed stands in a given clause
+-- a value that was not assumed is in a given clause
 pub drawn_or_assumed : (it : ClauseSearch) (given : List (Vec Literal Global)) (numbers : List ℕ) → IsConsistent it → IsLoaded given numbers it →
     (variable : ℕ) (slot : Slot) → slot_of (trail_of it) variable ≡ Some slot →
     (slot.reason ≡ Assumed) ⊎ ((clause : Vec Literal Global) × Contains given clause ×
@@ -71,7 +71,7 @@ drawn_or_assumed it given numbers consistent loaded variable slot at = ⊎_elim
     (assumed_or_not slot.reason)
 
 module _ {N S : Type 0} where
-  -- what is loaded undoes nothing that is held
+  -- loading leaves the held entries
   pub still_loaded : (u : Universe N S) (old : Rounds N S) (new : ClauseSearch) → AreRounds u old → IsConsistent new →
       SetsNone (trail_of old.search) (trail_of new) → StaysBookmarked old.search new → KeepsTurn old.search new → IsStill old →
       IsStill (record old { search = new })
@@ -91,7 +91,7 @@ module _ {N S : Type 0} where
         chosen = still.chosen ∙ sym same ∙ ap (solvables_before origins (trail_of new)) (sym size);
       }
 
-  -- what is chosen is near what was asked for softly
+  -- the chosen solvables are near the seeds
   module _ (u : Universe N S) (root : Demands) (notes : Notes N S) (trail : Trail) (size : variable_count trail ≡ length notes.origins)
       (drawn : (variable : ℕ) (slot : Slot) → slot_of trail variable ≡ Some slot → (slot.reason ≡ Assumed) ⊎
       ((clause : Vec Literal Global) × Contains notes.table clause × Contains clause.items (record { variable = variable; positive = slot.value })))
@@ -125,7 +125,7 @@ module _ {N S : Type 0} where
         let Has : List S → Type 0 = λ list. Contains list s in
         chosen_near s (subst Has is (Contains-get_or keys k d below))
 
-  -- what is assumed stays so
+  -- the assumed variables stay assumed
   pub assumed_still : (origins more : List (Origin N S)) (old new : Trail) (taken refused : List S) → Keeps origins more → variable_count old ≤ length origins →
       ((variable : ℕ) (slot : Slot) → slot_of new variable ≡ Some slot → slot.reason ≡ Assumed → slot_of old variable ≡ Some slot) →
       AreAssumed origins taken refused old → AreAssumed more taken refused new
@@ -160,7 +160,7 @@ module _ {N S : Type 0} where
     turn = turn-trans one.search two.search three.search first.turn second.turn;
   }
 
-  -- a search alone goes on
+  -- a search alone is a part of a turn
   pub goes_searched : (u : Universe N S) (old new : Rounds N S) → IsSearchOf old new → KeepsTurn old.search new.search → GoesOn u old new
   goes_searched u old new same turn =
       let WithEncoding : Encoding N S → Type 0 = λ e. Keeps (notes_of old).origins (notes_in e).origins in
@@ -177,7 +177,7 @@ module _ {N S : Type 0} where
         turn = turn;
       }
 
-  -- what one reading does goes on
+  -- one reading is a part of a turn
   module _ (u : Universe N S) (old mid : Rounds N S) (from : ℕ) (keys : List S) (encoding : Encoding N S) (up : IsUpToDate old)
       (following : IsFollowing old mid from) (followed : HasFollowed old mid) (is : keys ≡ chosen_of mid)
       (more : IsReadMore u keys (notes_of mid) (notes_in encoding))
@@ -215,7 +215,7 @@ module _ {N S : Type 0} where
           turn = followed.turn;
         }
 
-  -- what is chosen is an answer, where a finished search read nothing new
+  -- the chosen solvables are an answer if a finished search left nothing to read
   pub answering : (u : Universe N S) (old new : Rounds N S) (requirements : List RequirementClause) → HasLawfulSolvables u → HasLawfulPackages u →
       IsUpToDate old → AreRounds u old → HasFollowed old new → notes_of new ≡ notes_of old → kept_of new.search ≡ length_of (trail_of new.search) →
       map (λ (r : RequirementClause). r.number) requirements ≡ (notes_of old).requirements →

@@ -1,4 +1,4 @@
--- The reasons stay right when a literal is set.
+-- Reasons stay right when a literal is set.
 use Rattle.std.proofs.Common.{◌≡◌, ℕ, ◌<◌, ◌⊎◌, List, length, get_or, None, inl, inr, refl, sym, ap, ◌∙◌, subst, ⊎_elim}
 use Rattle.std.specs.Prelude.{Vec}
 use Rattle.std.specs.List.{Contains}
@@ -28,7 +28,7 @@ forced-is n m e = cc
 pub decided-forced : (n m : ℕ) → Decided n ≡ Forced m → ⊥
 decided-forced n m e = absurd cc
 
--- the reason of the slot that a gain makes
+-- the reason of a slot that was set
 reason-made : (slot made : Slot) (reason : Reason) → slot ≡ made → slot.reason ≡ reason → made.reason ≡ reason
 reason-made slot made reason e is = sym (ap (λ (s : Slot). s.reason) e) ∙ is
 
@@ -64,7 +64,7 @@ justified-gains table old new literal level number justified gains free inside t
           (gains-cases old new literal level _ gains v s at);
     }
 
--- a decision or an assumption is forced by no clause
+-- no clause forces a decision or an assumption
 pub justified-decides : (table : List (Vec Literal Global)) (old new : Trail) (literal : Literal) (level : ℕ) (why : Reason) → ((n : ℕ) → why ≡ Forced n → ⊥) →
     IsJustified table old → Gains old new literal level why → slot_of old literal.variable ≡ None → IsJustified table new
 justified-decides table old new literal level why other justified gains free =
@@ -87,7 +87,7 @@ justified-decides table old new literal level why other justified gains free =
 same-slots : (old new : Trail) → IsSame old new → (v : ℕ) → slot_of new v ≡ slot_of old v
 same-slots old new same = λ v. ap (λ slots. get_or slots v None) same.slots
 
--- nothing changes where the slots stay
+-- reasons stay right if the slots stay
 pub justified-same : (table : List (Vec Literal Global)) (old new : Trail) → IsJustified table old → IsSame old new → IsJustified table new
 justified-same table old new justified same =
     let back = same-slots old new same in
@@ -105,7 +105,7 @@ extends-gains old new literal level number gains free = record {
   only = λ v s at. ⊎_elim (λ w. inr (ap (λ (slot : Slot). is_decided slot.reason) w.1)) (λ w. inl w) (gains-cases old new literal level _ gains v s at);
 }
 
--- what is decided stays so where a trail is extended
+-- decisions stay when the trail is extended
 pub chosen-kept : (table : List (Vec Literal Global)) (requirements : List StoredRequirement) (old new : Trail) (variable : ℕ) (slot : Slot) → Keeps old new →
     IsDecidedFor table requirements old variable slot → IsDecidedFor table requirements new variable slot
 chosen-kept table requirements old new variable slot keeps c =
@@ -121,7 +121,7 @@ chosen-extends table requirements old new chosen extends = record {
       (extends.only v s at);
 }
 
--- why a variable has its value
+-- the reason of a variable's value
 pub why : (r : Reason) → ((n : ℕ) × (r ≡ Decided n)) ⊎ (((n : ℕ) × (r ≡ Forced n)) ⊎ (r ≡ Assumed))
 why (Decided n) = inl (n, refl)
 why (Forced n) = inr (inl (n, refl))

@@ -1,4 +1,4 @@
--- What the problem leads to, while a turn goes on and from one turn to the next, also where a call was refused.
+-- The origins that the problem leads to, within a turn and from one turn to the next, also after a refused call.
 use Rattle.std.proofs.Common.{◌≡◌, ◌∙◌, ◌⊎◌, ℕ, ◌≤◌, List, [], ◌∷◌, ◌++◌, length, take, drop, refl, sym, subst, true, All, Contains, Option, Some}
 use Rattle.std.proofs.Common.{None, Vec, Global}
 use Rattle.std.specs.Iterator.{Drains, Yields}
@@ -35,7 +35,7 @@ use Rattle.resolvo.proofs.SoftLemmas.{registered_adds, root_assumed, rounds_adde
 use Rattle.resolvo.proofs.SoftTurnLemmas.{gathered_before}
 
 module _ {N S : Type 0} where
-  -- where the encoding is the same
+  -- the same encoding
   pub led_same : (u : Universe N S) (root : Demands) (seeds : List S) (packages : List N) (old new : Encoding N S) → new ≡ old →
       AreLed u root seeds packages (notes_in old) → AreLed u root seeds packages (notes_in new)
   led_same u root seeds packages old new same led =
@@ -56,7 +56,7 @@ module _ {N S : Type 0} where
       (goes.near root seeds taken refused packages so within assumed near)
       (first root seeds taken refused packages so within assumed near led)
 
-  -- what one reading does
+  -- one reading
   module _ (u : Universe N S) (old mid : Rounds N S) (from : ℕ) (keys : List S) (encoding : Encoding N S) (up : IsUpToDate old)
       (following : IsFollowing old mid from) (followed : HasFollowed old mid) (is : keys ≡ chosen_of mid)
       (leads : (root : Demands) (seeds : List S) (packages : List N) → IsReadSoFar u root (take from keys) (notes_of mid) →
@@ -76,7 +76,7 @@ module _ {N S : Type 0} where
         (positives root so.half.encoding) seeds taken refused packages within assumed near keys (is ∙ followed.chosen))
         (led_same u root seeds packages old.encoding mid.encoding following.encoding led)
 
-  -- the clauses came that a solvable was spared
+  -- the clauses that an exemption had spared were added
   pub stays_paid : (u : Universe N S) (old new : Rounds N S) (encoding : Encoding N S) → new.encoding ≡ encoding →
       AddsOnly (IsBarred u (IsFollowed (notes_of old))) (notes_of old) (notes_in encoding) → StaysLed u old new
   stays_paid u old new encoding same adds = λ root seeds packages near led.
@@ -90,7 +90,7 @@ module _ {N S : Type 0} where
   led_seed u root taken refused seeds packages s old encoding seed b brings led =
       led_registered u root seeds packages s (notes_of old) (notes_in encoding) (0, seed) b.near (brings root b.read.half.encoding) led
 
-  -- what stood before a seed was registered and loaded stands after it
+  -- the state after a seed was registered and loaded
   pub standing_seed : (u : Universe N S) (root : Demands) (taken refused seeds : List S) (packages : List N) (s : S) (old : Rounds N S)
       (encoding : Encoding N S) (new : Rounds N S) → AreRounds u old → IsBounded encoding → IsRegistered u s (notes_of old) (notes_in encoding) →
       IsSearchOf (record old { encoding = encoding }) new → KeepsTurn old.search new.search → Contains seeds s →
@@ -100,7 +100,7 @@ module _ {N S : Type 0} where
       standing_loaded u root taken refused seeds packages (record old { encoding = encoding }) new (rounds_added u old encoding rounds bounded adds).variables
       same turn (standing_registered u root taken refused seeds packages old encoding rounds adds registered.exempt b s seed registered.only registered.asked)
 
-  -- one more soft requirement leads to no less
+  -- one more soft requirement leads to all origins that the others led to
   pub led_wider : (u : Universe N S) (root : Demands) (done : List (SoftRequirement S)) (requirement : SoftRequirement S) (r : Rounds N S) →
       IsLedBy u root done r → IsLedBy u root (done ++ requirement ∷ []) r
   led_wider u root done requirement r led = record {
@@ -109,7 +109,7 @@ module _ {N S : Type 0} where
         (gathered_before (own_packages u) done requirement) (notes_of r) led.all;
   }
 
-  -- the root's turn
+  -- the turn of the root
   pub led_root_turn : (u : Universe N S) (root : Demands) (old rest : Rounds N S) → IsReadSoFar u root (chosen_of old) (notes_of old) →
       AreNear u root [] [] (notes_of old) → IsRootTurn old.search → LeadsOn u old rest → AreLed u root [] [] (notes_of old) →
       AreLed u root [] [] (notes_of rest)
@@ -121,11 +121,11 @@ pub none_first : {I X : Type 0} (gives : I → Option X → I → Type 0) (given
 none_first gives None = refl
 none_first gives (Some it) = record { rest = it; yields = refl }
 
--- no turn began yet
+-- no turn has begun yet
 pub none_begun : {I S : Type 0} (gives : I → Option S → I → Type 0) (given : Option I) (list : List (SoftRequirement S)) → HaveBegun gives given list []
 none_begun gives given list = first_given [] (none_first gives given)
 
--- what an iterator gave so far, from where a loop began with it; one item more; and all of them
+-- the items that an iterator has given since a loop began with it; one more item; and all items
 module _ {I X : Type 0} (gives : I → Option X → I → Type 0) (it begun mid : I) (same : begun ≡ it) (items : List X) (yields : Yields gives begun items mid)
   where
     yields_these : Yields gives it items mid
@@ -146,6 +146,6 @@ module _ {I X : Type 0} (gives : I → Option X → I → Type 0) (it begun mid 
         let Gives : Option X → Type 0 = λ o. gives mid o rest in
         (rest, (mid, yields_these, subst Gives is step))
 
--- the first ones of a list
+-- the first elements of a list
 pub Extends-take : {X : Type 0} (n : ℕ) (xs : List X) → Extends (take n xs) xs
 Extends-take n xs = record { more = drop n xs; is = sym (take-append-drop n xs) }

@@ -23,7 +23,7 @@ use Rattle.resolvo.specs.Resolvents.{is_marked, MarksAlso, StandsAt, IsLevelled,
 use Rattle.resolvo.proofs.MarkLemmas.{unmarked-set}
 use Rattle.resolvo.proofs.NegationLemmas.{negation}
 
--- what is known of the highest level after some literals
+-- the highest level of the first literals
 pub record HighestSo (trail : Trail) (clause : List Literal) (count level : ℕ) : Type 0 where
   pub top : All (λ (literal : Literal). level_in trail literal.variable ≤ level) (take count clause)
   pub reached : (level ≡ 0) ⊎ Any (λ (literal : Literal). level_in trail literal.variable ≡ level) clause
@@ -41,7 +41,7 @@ highest-next trail clause i e level here new within is so more least either = re
       either;
 }
 
--- what is known of the lowest place after some literals
+-- the lowest place of the first literals
 pub record LowestSo (trail : Trail) (clause : List Literal) (level start count lowest : ℕ) : Type 0 where
   pub low : lowest ≤ start
   pub least : All (λ (literal : Literal). (slot : Slot) → slot_of trail literal.variable ≡ Some slot → slot.level ≡ level → lowest ≤ slot.place)
@@ -64,7 +64,7 @@ lowest-next trail clause level start i e lowest new within so low least either =
           either;
     }
 
--- what is known of the jump level after some literals
+-- the backtrack level of the first literals
 pub record IsBacktrackLevelSoFar (trail : Trail) (clause : List Literal) (asserted count level : ℕ) : Type 0 where
   pub top : All (λ (literal : Literal). (literal.variable ≡ asserted) ⊎ (level_in trail literal.variable ≤ level)) (take count clause)
   pub reached : (level ≡ 0) ⊎ Any (λ (literal : Literal). (literal.variable ≢ asserted) × (level_in trail literal.variable ≡ level)) clause
@@ -140,7 +140,7 @@ levelled-begin trail old resolvent clause end end-is unmarked so falsified top h
       highest;
 }
 
--- where a mark that is left comes from
+-- a mark that is left was there before, or belongs to an earlier variable of the reason
 lowered : (table : List (Vec Literal Global)) (trail : Trail) (old mid : List Bool) (variable number : ℕ) (reason : IsReason trail variable number) →
     IsJustified table trail → MarksAlso old mid (clause_at table number) → (other : ℕ) (slot : Slot) → is_marked (set mid variable false) other ≡ true →
     slot_of trail other ≡ Some slot → (other ≢ variable) × (is_marked mid other ≡ true) ×
@@ -280,7 +280,7 @@ single-found trail resolvent high place levelled next here some =
           (cases_lt t.level resolvent.level);
     }
 
--- the last marked variable of a level that has another one was not decided
+-- if another marked variable has the level of the last one, the last one was not decided
 pub never-decided : (trail : Trail) (resolvent : Resolvent) (high place variable : ℕ) (slot : Slot) → IsLevelled trail resolvent high → high ≡ place + 1 →
     is_marked resolvent.marks.items variable ≡ true → slot_of trail variable ≡ Some slot → slot.place ≡ place →
     (0 < resolvent.level → place ≢ resolvent.lowest) → is_decided slot.reason ≡ true → ⊥
@@ -298,7 +298,7 @@ never-decided trail resolvent high place variable slot levelled next marked at h
     (λ (none : resolvent.level ≤ 0). absurd (omega (arith, levelled.at_most.top variable slot marked at, (trail.counted variable slot at).1 decided)))
     (cases_lt 0 resolvent.level)
 
--- the learnt clause has one literal of its highest level
+-- the learnt clause has only one literal of its highest level
 pub asserting : (trail : Trail) (marks : List Bool) (literals : List Literal) (literal : Literal) (level backtrack_level variable : ℕ) →
     IsSingle trail marks level variable → Negates trail marks literals → 0 < level →
     ((slot : Slot) → slot_of trail variable ≡ Some slot → literal ≡ record { variable = variable; positive = not slot.value }) →

@@ -25,7 +25,7 @@ some_at [] k below = absurd (omega (arith, below))
 some_at (x ∷ xs) zero below = (x, refl)
 some_at (x ∷ xs) (suc k) below = some_at xs k (omega (arith, below))
 
--- an element that is there where a test says so
+-- an element that is in the list if a test passes
 pub kept_here : {X : Type 0} (b : Bool) (x : X) (xs : List X) → b ≡ true → Contains (cond b (x ∷ xs) xs) x
 kept_here true x xs e = here x xs
 kept_here false x xs e = absurd (false≢true e)
@@ -98,7 +98,7 @@ bit_line_from {N} {S} rule name instance code (suc n) line h = ⊎_elim
     (λ (last : bit_line rule name instance code n ≡ line). (n, omega arith, last))
     (Contains-push_cases (bit_lines rule name instance code n) (bit_line rule name instance code n) line h)
 
--- the line of a member of the list at a place
+-- the line of a member of a list at a place
 pub record IsMemberLine {N S : Type 0} (rule from : ℕ) (lists : List (Vec S Global)) (line : Line N S) : Type 0 where
   pub index : ℕ
   pub members : Vec S Global
@@ -137,7 +137,7 @@ member_line_from {N} {S} rule from (first ∷ lists) line h =
     record { index = suc w.index; members = w.members; at = w.at; member = w.member; inside = w.inside; is = subst (λ l. Is l w.member) same w.is })
     (Contains-append_cases (member_lines rule from first.items) (condition_lines rule (suc from) lists) line h)
 
--- the line is one of the rule with its code at a place
+-- the line belongs to one of the rules, with the code of that rule
 pub record IsLineAt {N S : Type 0} (width from : ℕ) (rules : List (Rule N S)) (codes : List ℕ) (line : Line N S) : Type 0 where
   pub index : ℕ
   pub rule : Rule N S
@@ -177,7 +177,7 @@ line_from {N} {S} width from (r ∷ rules) (c ∷ codes) line h =
     record { index = suc w.index; rule = w.rule; code = w.code; at = w.at; coded = w.coded; inside = subst (λ p. Has p w.code w.rule) same w.inside })
     (Contains-append_cases (lines_of width from c r) (all_lines width (suc from) rules codes) line h)
 
--- the line is of the rule at the place
+-- the line belongs to the rule at the place
 only_one : {N S : Type 0} (place : ℕ) (only line : Line N S) → only.rule ≡ place → Contains (only ∷ []) line → line.rule ≡ place
 only_one {N} {S} place only line is h = ⊎_elim
     (λ (same : only ≡ line). let Of : Line N S → ℕ = λ (l : Line N S). l.rule in sym (ap Of same) ∙ is)

@@ -12,7 +12,7 @@ use Rattle.resolver_clause_store.specs.Outcomes.{IsFalsified}
 use Rattle.resolvo.specs.Resolvents.{AddsNegation, ListsMarks, Negates, is_marked}
 use Rattle.resolvo.proofs.NegationLemmas.{negation}
 
--- one whose mark is taken away
+-- the list of marked variables after a mark is cleared
 pub lists-fewer : (marks : List Bool) (marked : List ℕ) (variable : ℕ) → is_marked (set marks variable false) variable ≡ false → ListsMarks marks marked →
     ListsMarks (set marks variable false) marked
 lists-fewer marks marked variable gone lists = record {
@@ -23,12 +23,12 @@ lists-fewer marks marked variable gone lists = record {
       (cases_eq w variable);
 }
 
--- the marks of these variables are taken away, and no other mark is set
+-- the marks of these variables are cleared, and no other mark is set
 pub record Unmarks (old new : List Bool) (gone : List ℕ) : Type 0 where
   pub size : length new ≡ length old
   pub left : (variable : ℕ) → is_marked new variable ≡ true → (is_marked old variable ≡ true) × All (λ other. other ≢ variable) gone
 
--- the literals of these variables, as far as they are marked and have a value
+-- the literals of these variables, if they are marked and have a value
 pub record NegatesListed (trail : Trail) (marks : List Bool) (literals : List Literal) (listed : List ℕ) : Type 0 where
   pub falsified : IsFalsified trail literals
   pub only : All (λ (literal : Literal). is_marked marks literal.variable ≡ true) literals

@@ -1,4 +1,4 @@
--- Given clauses that are loaded, and what a finished search says of them.
+-- Given clauses that are loaded, and the meaning of a finished search for them.
 use Rattle.std.proofs.Common.{◌≡◌, ℕ, ◌+◌, ◌<◌, ◌≤◌, List, [], ◌∷◌, ◌++◌, length, get_or, take, min, Some, None, false, arith, inl, inr, refl, sym, ap}
 use Rattle.std.proofs.Common.{◌∙◌, ⊎_elim, subst, length-append}
 use Rattle.std.specs.Prelude.{Vec, map}
@@ -41,7 +41,7 @@ use Rattle.resolver_clause_store.proofs.QueueLemmas.{queued-grown, queued-longer
 use Rattle.resolver_clause_store.proofs.QueueLemmas.{places-fewer as keeps-fewer}
 use Rattle.resolvo.proofs.SourceLemmas.{given_at-cases, given_at-last, given_at-push, given_within}
 
--- a trail that only gains keeps what is kept
+-- a trail that only grows keeps its first entries
 pub first-after : (old new : Trail) (count : ℕ) → KeepsPlaces old new (length_of old) → KeepsFirst old count new count
 first-after old new count keeps = λ base k. keeps_through base old new count (length_of old) k keeps k.are
 
@@ -51,11 +51,11 @@ keeps_extended base old new count k extends = keeps_through base old new count (
 pub keeps_more : (base old new : Trail) (count : ℕ) → KeepsPlaces base old count → KeepsPlaces old new (length_of old) → KeepsPlaces base new count
 keeps_more base old new count k l = keeps_through base old new count (length_of old) k l k.are
 
--- a trail that is undone keeps what is left of it
+-- a trail that was undone keeps its first entries that are left
 pub first-undone : (old new : Trail) (count level : ℕ) → IsUndone old new level → KeepsFirst old count new (min count (length_of new))
 first-undone old new count level undone = λ base k. keeps_trans base old new count (length_of new) k (keeps_undone old new level undone)
 
--- a learnt clause behind the others
+-- a learnt clause after the others
 pub loaded-learnt : (given table : List (Vec Literal Global)) (sources : List Source) (places : List ℕ) (clause : Vec Literal Global) (source : Source) →
     length sources ≡ length table → number_of source ≡ None → AreLoaded given table sources places →
     AreLoaded given (table ++ clause ∷ []) (sources ++ source ∷ []) places
@@ -117,7 +117,7 @@ loaded-given given table sources places copy clause size same loaded =
       };
     }
 
--- the places that were there stay
+-- the places of earlier clauses stay
 map-agree : (f h : ℕ → ℕ) (xs : List ℕ) → All (λ x. f x ≡ h x) xs → map f xs ≡ map h xs
 map-agree f h [] all = refl
 map-agree f h (x ∷ xs) all = λ i. All-head (λ y. f y ≡ h y) x xs all i ∷ map-agree f h xs (All-tail (λ y. f y ≡ h y) x xs all) i
@@ -134,7 +134,7 @@ pub requirements-push : (requirements : List StoredRequirement) (places numbers 
 requirements-push requirements places numbers requirement number same here = map_push (λ (r : StoredRequirement). r.number) requirements requirement ∙
     (λ i. same i ++ here i ∷ []) ∙ sym (map_push (place_of places) numbers number)
 
--- requirements of the search and the given ones stand side by side
+-- there are as many requirements in the search as were given
 same-length : (requirements : List StoredRequirement) (wanted : List RequirementClause) (places : List ℕ) →
     stored_places requirements ≡ map (place_of places) (numbers_of wanted) → length requirements ≡ length wanted
 same-length requirements wanted places same = sym (length-map requirements (λ (r : StoredRequirement). r.number)) ∙ ap length same ∙
@@ -150,7 +150,7 @@ same-number requirements wanted places same k d e below =
     sym (get_or-map (λ (r : StoredRequirement). r.number) requirements k d 0 (omega (arith, below, size))) ∙ ap (λ ns. get_or ns k 0) same ∙
     get_or-map (place_of places) (numbers_of wanted) k 0 0 inside ∙ ap (λ n. place_of places n) (get_or-map number wanted k e 0 below)
 
--- a clause of a requirement at its place
+-- the clause of a requirement at its place
 given-clause : (given table : List (Vec Literal Global)) (sources : List Source) (places : List ℕ) (number : ℕ) → AreLoaded given table sources places →
     number < length given → clause_at table (place_of places number) ≡ clause_at given number
 given-clause given table sources places number loaded inside = loaded.are.same _ number (loaded.placed number inside)
@@ -173,7 +173,7 @@ chosen-wanted given table sources places requirements wanted trail variable slot
     let clause = sym (given-clause given table sources places _ loaded (inside k some below)) ∙ ap (λ n. clause_at table n) number ∙ c.clause in
     search (Contains-get_or wanted k some below)
 
--- what was found for the places holds for the given clauses
+-- a search that is finished over the table is finished over the given clauses
 pub finished : (given table : List (Vec Literal Global)) (sources : List Source) (places : List ℕ) (requirements : List StoredRequirement)
     (wanted : List RequirementClause) (trail : Trail) → IsDerived table sources → IsJustified table trail → AreChosen table requirements trail →
     AreLoaded given table sources places → stored_places requirements ≡ map (place_of places) (numbers_of wanted) →
@@ -204,7 +204,7 @@ finished given table sources places requirements wanted trail derived justified 
       subst (λ c. IsMet trail c) (ap (λ n. clause_at table n) at ∙ given-clause given table sources places _ loaded (inside k d below)) here;
 }
 
--- the same where the numbers are known
+-- the same with known numbers
 pub finished_for : (given table : List (Vec Literal Global)) (sources : List Source) (places : List ℕ) (requirements : List StoredRequirement)
     (wanted : List RequirementClause) (numbers : List ℕ) (trail : Trail) → numbers_of wanted ≡ numbers → IsDerived table sources → IsJustified table trail →
     AreChosen table requirements trail → AreLoaded given table sources places → stored_places requirements ≡ map (place_of places) numbers →
@@ -234,7 +234,7 @@ justified-grown table old new variables grown justified =
 pub extends-grown : (old new : Trail) (variables : ℕ) → IsGrown old new variables → Extends old new
 extends-grown old new variables grown = record { kept = λ v s at. grown.slots v ∙ at; only = λ v s at. inl (sym (grown.slots v) ∙ at) }
 
--- a requirement behind the others
+-- a requirement after the others
 pub chosen-listed : (table : List (Vec Literal Global)) (requirements : List StoredRequirement) (requirement : StoredRequirement) (trail : Trail) →
     AreChosen table requirements trail → AreChosen table (requirements ++ requirement ∷ []) trail
 chosen-listed table requirements requirement trail chosen = record {
@@ -243,7 +243,7 @@ chosen-listed table requirements requirement trail chosen = record {
       search (Contains-append_left requirements (requirement ∷ []) c.requirement c.listed);
 }
 
--- a trail that was undone, and how much of it is kept
+-- a trail that was undone, and the number of its entries that are kept
 pub same-undone : (old new : ClauseSearch) (level : ℕ) → IsConsistent old → IsUndone old.trail new.trail level → old.base ≤ level → new.learnt ≡ old.learnt →
     new.kept ≡ min old.kept (length_of new.trail) → new.base ≡ old.base → new.held ≡ old.held → IsSameSearch old new
 same-undone old new level it undone high learnt kept base held = record {
@@ -257,7 +257,7 @@ same-undone old new level it undone high learnt kept base held = record {
       (held-undone old.trail new.trail old.base old.held old.kept level it.turn undone high);
 }
 
--- a search in which a given clause stands behind the others
+-- a search with a given clause after the others
 pub consistent-given : (old new : ClauseSearch) (clause : Vec Literal Global) (number place level : ℕ) → IsConsistent old →
     IsBelow (variable_count old.trail) clause.items → place ≡ length old.table.items → new.table.items ≡ old.table.items ++ clause ∷ [] →
     new.sources.items ≡ old.sources.items ++ Given number ∷ [] → new.places.items ≡ old.places.items ++ place ∷ [] →
@@ -299,7 +299,7 @@ loaded-clause old new given numbers copy clause number place it first end same t
   inside = λ k d b. omega (arith, loaded.inside k d b, length-append given (copy ∷ []));
 }
 
--- the place that is read is that of the clause
+-- the place that was read is the place of the clause
 pub read-place : (places : List ℕ) (number place : ℕ) → number < length places → place ≡ get_or places number place → place ≡ place_of places number
 read-place places number place inside read = get_or_read places number place inside read 0
 
@@ -313,7 +313,7 @@ loaded-requirement old new given numbers requirement number inside here table so
   inside = All-push (λ n. n < length given) numbers number loaded.inside (omega (arith, inside, loaded.clauses.count));
 }
 
--- a search in which a requirement stands behind the others
+-- a search with a requirement after the others
 pub consistent-requirement : (old : ClauseSearch) (wanted : Vec StoredRequirement Global) (queue : DecideQueue)
     (in_lists : ∥ AreInLists old.table.items old.propagator.watches ∥₁) (requirement : StoredRequirement) → IsConsistent old →
     requirement.number < length old.table.items → wanted.items ≡ old.requirements.items ++ requirement ∷ [] →
@@ -365,7 +365,7 @@ clauses-next old new clauses literals numbers n within here step loaded =
     let Loaded : List (Vec Literal Global) → Type 0 = λ cs. IsLoaded cs numbers new in
     subst Loaded (sym w.1) (step (take n clauses) numbers w.0 (w.2 ∙ sym here) loaded)
 
--- what propagation keeps while one clause after another is attached
+-- the invariant of propagation while one clause after another is attached
 pub propagator-next : (clauses : List (Vec Literal Global)) (literals : List Literal) (trail : Trail) (old new : Propagator) (n : ℕ) → n < length clauses →
     literals ≡ clause_at clauses n →
     ((table : List (Vec Literal Global)) (clause : Vec Literal Global) → clause.items ≡ literals → IsPropagator table trail old →
@@ -387,7 +387,7 @@ clauses-end it clauses numbers n end loaded =
     let Loaded : List (Vec Literal Global) → Type 0 = λ cs. IsLoaded cs numbers it in
     subst Loaded (take_all n clauses end) loaded
 
--- and so are the requirements
+-- the requirements that were loaded are the first ones of a longer list
 pub requirements-begin : (it : ClauseSearch) (given : List (Vec Literal Global)) (wanted numbers more : List ℕ) (count : ℕ) →
     count ≡ length it.requirements.items → IsLoaded given numbers it → wanted ≡ numbers ++ more → IsLoaded given (take count wanted) it
 requirements-begin it given wanted numbers more count end loaded is =
@@ -431,7 +431,7 @@ consistent-grown it trail propagator queue variables in_lists holds room grown p
     (queued-longer it.queue it.trail trail it.table.items it.requirements.items places holds.queued) in
     assumption
 
--- what is loaded does not depend on the trail, or on what propagation keeps
+-- the loaded clauses do not depend on the trail or on the state of propagation
 pub loaded-trail : (it : ClauseSearch) (trail : Trail) (propagator : Propagator) (queue : DecideQueue)
     (in_lists : ∥ AreInLists it.table.items propagator.watches ∥₁) (given : List (Vec Literal Global)) (numbers : List ℕ) → IsLoaded given numbers it →
     IsLoaded given numbers (record it { trail = trail; propagator = propagator; queue = queue; in_lists = in_lists })

@@ -11,7 +11,7 @@ use Rattle.std.proofs.lemmas.List.Elements.{All-more, All-weaker}
 use Rattle.resolver_clause_store.specs.declared.Literal.{Literal}
 use Rattle.resolvo.specs.Resolvents.{is_marked, MarksAlso}
 
--- a mark that is set leaves the others
+-- setting a mark leaves the other marks
 pub marked-set : (marks : List Bool) (at variable : ℕ) → at < length marks → is_marked marks variable ≡ true → is_marked (set marks at true) variable ≡ true
 marked-set marks at variable inside m = grind (arith, elements, cases_eq at variable)
 
@@ -36,18 +36,18 @@ marks-more old mid clause i d so within inside = record {
       get_or-set_other mid (get_or clause i d).variable v true false (λ e. last (sym e)) ∙ so.only v unmarked before;
 }
 
--- a mark that is cleared
+-- a mark that was cleared
 pub unmarked-set : (marks : List Bool) (at : ℕ) → is_marked (set marks at false) at ≡ false
 unmarked-set marks at = ⊎_elim
     (λ (less : at < length marks). get_or-set_same marks at false false less)
     (λ (more : length marks ≤ at). get_or_past (set marks at false) at false (rw length-set more))
     (cases_lt at (length marks))
 
--- what indexing read, at the default that `is_marked` has
+-- the mark that indexing read, if `is_marked` has this default
 pub marked-read : (marks : List Bool) (at : ℕ) (read value : Bool) → at < length marks → read ≡ get_or marks at read → read ≡ value → is_marked marks at ≡ value
 marked-read marks at read value inside is e = get_or_default marks at false read inside ∙ sym is ∙ e
 
--- nothing is marked besides what is marked already
+-- marks that already include all variables of a clause
 pub marks-same : (marks : List Bool) (clause : List Literal) → All (λ (literal : Literal). is_marked marks literal.variable ≡ true) clause →
     MarksAlso marks marks clause
 marks-same marks clause all = record { size = refl; kept = λ v m. m; all = all; only = λ v unmarked none. unmarked }

@@ -1,4 +1,4 @@
--- The clauses of the marked rules, one clause more, and the marks of a core, one number more.
+-- The clauses of the marked rules with one more clause, and the marks of a core with one more number.
 use Rattle.std.proofs.Common.{◌≡◌, ◌≢◌, ℕ, ◌+◌, ◌<◌, ◌≤◌, List, [], ◌∷◌, ◌++◌, length, get_or, set, take, replicate, arith, refl, sym, ap, ◌∙◌}
 use Rattle.std.proofs.Common.{subst, length-append, length-set, get_or-set_same, get_or-set_other, Bool, true, false, Contains, All, ⊎_elim, Vec, Global}
 use Rattle.std.specs.List.{slice_index_or}
@@ -13,7 +13,7 @@ use Rattle.resolvo.specs.MarkedClauses.{AreMarkedClauses, AreMarksOf, IsMarkedCl
 use Rattle.std.proofs.lemmas.List.Elements.{Contains-push as at_end}
 use Rattle.resolvo.specs.declared.minimal.rule_clauses.RuleClause.{RuleClause}
 
--- before any clause
+-- no clauses yet
 pub no_clauses : (marks : List Bool) → AreMarkedClauses marks [] [] [] []
 no_clauses marks = record {
   size = refl;
@@ -124,7 +124,7 @@ added_requirement marks from clauses places numbers clause copy number same is m
     (All-weaker (λ n. n < length clauses) (λ n. n < length clauses + 1) (λ n below. omega (arith, below)) numbers so.inside)
     (All-cons (λ n. n < length clauses + 1) number [] (omega (arith, is)) (All-nil _)))
 
--- the clauses up to one, and that one
+-- the clauses up to one clause, and that clause
 pub next_clause : (marks : List Bool) (from : List RuleClause) (clauses : List (Vec (Literal) Global)) (places numbers : List ℕ) (index : ℕ)
     (clause : RuleClause) → index < length from → clause ≡ get_or from index clause →
     AreMarkedClauses marks (take index from ++ clause ∷ []) clauses places numbers → AreMarkedClauses marks (take (index + 1) from) clauses places numbers
@@ -133,7 +133,7 @@ next_clause marks from clauses places numbers index clause below is so =
     let same : take (index + 1) from ≡ take index from ++ clause ∷ [] = take_more from index clause below ∙ ap (λ z. take index from ++ z ∷ []) (sym is) in
     subst P (sym same) so
 
--- before any number
+-- no numbers yet
 unmarked : (count place : ℕ) (marks : List Bool) → marks ≡ replicate count false → get_or marks place false ≡ false
 unmarked count place marks is = ap (λ xs. get_or xs place false) is ∙ ⊎_elim
     (λ (less : place < count). get_or-replicate count place false false less)

@@ -1,4 +1,4 @@
--- What is left of rules that have their turns one after another.
+-- The rules that are left after they had their turns, one after another.
 use Rattle.std.proofs.Common.{◌≡◌, ℕ, zero, suc, ◌+◌, ◌-◌, ◌<◌, ◌≤◌, ◌⊎◌, inl, inr, List, [], ◌∷◌, ◌++◌, length, get_or, get_or-append-add, replicate, take}
 use Rattle.std.proofs.Common.{drop, drop-cons, arith, refl, sym, ap, ◌∙◌, subst, append_assoc, append-nil, length-append, Bool, true, false, cond, Contains}
 use Rattle.std.proofs.Common.{All, ⊎_elim}
@@ -21,14 +21,14 @@ use Rattle.resolvo.specs.Explanations.{Explains}
 use Rattle.resolver_clause_store.proofs.ListLemmas.{Contains-here as at_front, Contains-there as further, Contains-cons_cases}
 use Rattle.resolvo.specs.Minimal.{LeavesInTurn, CopiesLeft, CopiesPart, marked, others_of, AreAmong, IsRefutedPart, IsUnderway}
 
--- more rules, fewer sets
+-- fewer sets obey more rules
 pub IsRefuted-within : {N S : Type 0} (rules more : List (Rule N S)) → IsWithin rules more → IsRefuted rules → IsRefuted more
 IsRefuted-within rules more within refuted = λ set obeys. refuted set (record {
   each = λ rule inside. obeys.each rule (within rule inside);
   one_each = λ n s t first second. obeys.one_each n s t (within _ first) (within _ second);
 })
 
--- both behind the same front
+-- the same elements in front of both lists
 within_behind : {X : Type 0} (front xs ys : List X) → IsWithin xs ys → IsWithin (front ++ xs) (front ++ ys)
 within_behind front xs ys within x inside = ⊎_elim
     (λ here. Contains-append_left front ys x here)
@@ -41,7 +41,7 @@ within_shorter front y ys = within_behind front ys (y ∷ ys) (λ x inside. furt
 regroup : {X : Type 0} (front : List X) (y : X) (ys : List X) → (front ++ y ∷ []) ++ ys ≡ front ++ y ∷ ys
 regroup front y ys = append_assoc front (y ∷ []) ys
 
--- what is left is refuted where all is
+-- the rules that are left are refuted if all rules are
 pub left_refuted : {N S : Type 0} (rest kept left : List (Rule N S)) → LeavesInTurn kept rest left → IsRefuted (kept ++ rest) → IsRefuted left
 left_refuted {N} {S} [] kept left h refuted = let P : List (Rule N S) → Type 0 = λ q. IsRefuted q in subst P (sym h) (subst P (append-nil kept) refuted)
 left_refuted {N} {S} (rule ∷ rest) kept left h refuted = let P : List (Rule N S) → Type 0 = λ q. IsRefuted q in ⊎_elim
@@ -59,7 +59,7 @@ remove_last : {X : Type 0} (xs : List X) (x : X) → remove (xs ++ x ∷ []) (le
 remove_last [] x = refl
 remove_last (y ∷ ys) x = ap (λ q. y ∷ q) (remove_last ys x)
 
--- without any one of those that were kept, no set of those left is missing
+-- some set obeys the rules that are left without any single kept rule
 abbrev Needed : {N S : Type 0} → List (Rule N S) → List (Rule N S) → Type 0
 Needed kept rest = (k : ℕ) → k < length kept → IsRefuted (remove kept k ++ rest) → ⊥
 
@@ -91,11 +91,11 @@ left_needed {N} {S} (rule ∷ rest) kept left h needed k below refuted = ⊎_eli
     left_needed rest (kept ++ rule ∷ []) left stays.1 (needed_push kept rest rule needed stays.0) k below refuted)
     h
 
--- what is left in the end is irreducible
+-- the rules that are left in the end are irreducible
 pub left_irreducible : {N S : Type 0} (rules left : List (Rule N S)) → LeavesInTurn [] rules left → IsRefuted rules → IsIrreducible left
 left_irreducible rules left h refuted = (left_refuted rules [] left h refuted, left_needed rules [] left h (λ k below. absurd (omega (arith, below))))
 
--- what is left in the end is a part of what there was, in its order
+-- the rules that are left in the end are a part of all rules, in their order
 pub left_cut : {N S : Type 0} (rest kept left : List (Rule N S)) → LeavesInTurn kept rest left → (stays : List (Rule N S)) × (dropped : List (Rule N S)) ×
     (left ≡ kept ++ stays) × IsCut rest stays dropped
 left_cut [] kept left h = ([], [], h ∙ sym (append-nil kept), cut_none)
@@ -105,7 +105,7 @@ left_cut {N} {S} (rule ∷ rest) kept left h = ⊎_elim
     let w = left_cut rest (kept ++ rule ∷ []) left stays.1 in (rule ∷ w.0, w.1, w.2 ∙ regroup kept rule w.0, cut_left w.3))
     h
 
--- of rules that some set obeys all are left
+-- if some set obeys the rules, all are left
 pub all_left : {N S : Type 0} (rest kept : List (Rule N S)) → (IsRefuted (kept ++ rest) → ⊥) → LeavesInTurn kept rest (kept ++ rest)
 all_left [] kept obeyed = append-nil kept
 all_left {N} {S} (rule ∷ rest) kept obeyed =
@@ -117,7 +117,7 @@ all_left {N} {S} (rule ∷ rest) kept obeyed =
       subst Q same (all_left rest (kept ++ rule ∷ []) (λ refuted. obeyed (subst P same refuted))),
     )
 
--- a part has nothing else
+-- a part has no other elements
 pub cut_within : {X : Type 0} {xs ys zs : List X} → IsCut xs ys zs → IsWithin ys xs
 cut_within cut_none x inside = inside
 cut_within (cut_left {x = y} {xs = xs} {ys = ys} rest) x inside = ⊎_elim
@@ -126,7 +126,7 @@ cut_within (cut_left {x = y} {xs = xs} {ys = ys} rest) x inside = ⊎_elim
     (Contains-cons_cases y ys x inside)
 cut_within (cut_right {x = y} {xs = xs} rest) x inside = further y xs x (cut_within rest x inside)
 
--- a part is the whole, or lacks one of its places
+-- a part is the whole, or lacks an element at some place
 cut_or : {X : Type 0} {xs ys zs : List X} → IsCut xs ys zs → (ys ≡ xs) ⊎ ((k : ℕ) × (k < length xs) × IsWithin ys (remove xs k))
 cut_or cut_none = inl refl
 cut_or {X} (cut_left {x = y} {xs = xs} {ys = ys} rest) = ⊎_elim
@@ -143,7 +143,7 @@ cut_or {X} (cut_left {x = y} {xs = xs} {ys = ys} rest) = ⊎_elim
     (cut_or rest)
 cut_or (cut_right {x = y} {xs = xs} rest) = let less : 0 < length (y ∷ xs) = omega arith in inr (zero, less, cut_within rest)
 
--- a refuted part of what is irreducible is the whole
+-- a refuted part of an irreducible list is the whole
 pub irreducible_cut : {N S : Type 0} (rules left dropped : List (Rule N S)) → IsIrreducible rules → IsCut rules left dropped → IsRefuted left → left ≡ rules
 irreducible_cut rules left dropped irreducible cut refuted = ⊎_elim
     (λ (same : left ≡ rules). same)
@@ -192,7 +192,7 @@ marked_push [] b (y ∷ xs) x below is = ap (λ q. cond b (q ∷ []) []) (sym is
 marked_push (true ∷ kept) b (y ∷ xs) x below is = ap (λ q. y ∷ q) (marked_push kept b xs x (omega (arith, below)) is)
 marked_push (false ∷ kept) b (y ∷ xs) x below is = marked_push kept b xs x (omega (arith, below)) is
 
--- more marks, more elements
+-- more marks give more elements
 pub marked_among : {X : Type 0} (marks others : List Bool) (xs : List X) → AreAmong marks others → IsWithin (marked marks xs) (marked others xs)
 marked_among [] others xs among x inside = absurd (omega (arith, inside.1))
 marked_among (b ∷ marks) others [] among x inside = absurd (omega (arith, inside.1))
@@ -207,7 +207,7 @@ marked_among (false ∷ marks) (true ∷ others) (y ∷ xs) among x inside =
     further y (marked others xs) x (marked_among marks others xs (λ k is. among (suc k) is) x inside)
 marked_among (false ∷ marks) (false ∷ others) (y ∷ xs) among x inside = marked_among marks others xs (λ k is. among (suc k) is) x inside
 
--- which of the others there are
+-- the marks of the other rules
 pub others_before : (kept : List Bool) (n k : ℕ) → k < length kept → get_or (others_of kept n) k false ≡ get_or kept k false
 others_before kept n k below = get_or_append_left kept (false ∷ replicate n true) false k below
 
@@ -226,7 +226,7 @@ past_end [] k past is = false≢true is
 past_end (b ∷ marks) zero past is = absurd (omega (arith, past))
 past_end (b ∷ marks) (suc k) past is = past_end marks k (omega (arith, past)) is
 
--- marks that are still there, and not that of the one that has its turn, are among the others'
+-- the marks of remaining rules, without the rule that has its turn, are among those of the other rules
 among_others : (core kept : List Bool) (n : ℕ) → length core ≤ length kept + suc n →
     ((k : ℕ) → k < length kept → get_or core k false ≡ true → get_or kept k false ≡ true) → get_or core (length kept) false ≡ false →
     AreAmong core (others_of kept n)
@@ -280,7 +280,7 @@ module _ {N S : Type 0} (rules : List (Rule N S)) (kept : List Bool) (below : le
       let From : ℕ → Type 0 = λ n. LeavesInTurn (marked (kept ++ b ∷ []) rules) (drop n rules) left in
       so_far left (subst Rest (sym cut) (step left (subst Kept (marked_push kept b rules rule below is) (subst From (longer b) h))))
 
-  -- a rule that is outside of what no set obeys is left out
+  -- a rule outside a refuted part of the others is left out
   turn_out_by : (core next : List Bool) (rule : Rule N S) → rule ≡ get_or rules (length kept) rule → IsUnderway rules kept core → length next ≡ length rules →
       IsRefuted (marked next rules) → there_of next → get_or next (length kept) false ≡ false → IsUnderway rules (kept ++ false ∷ []) next
   turn_out_by core next rule is underway size refuted there off =
@@ -298,7 +298,7 @@ module _ {N S : Type 0} (rules : List (Rule N S)) (kept : List Bool) (below : le
             inl (others_refuted, subst Kept (append-nil (marked kept rules)) h));
       }
 
-  -- a rule without which some set obeys the others is kept
+  -- a rule is kept if some set obeys the others
   turn_kept_by : (core : List Bool) (rule : Rule N S) → rule ≡ get_or rules (length kept) rule → IsUnderway rules kept core →
       (IsRefuted (marked (others_of kept spare) rules) → ⊥) → IsUnderway rules (kept ++ true ∷ []) core
   turn_kept_by core rule is underway obeyed = record {
@@ -314,13 +314,13 @@ some_at [] k below = absurd (omega (arith, below))
 some_at (x ∷ xs) zero below = (x, refl)
 some_at (x ∷ xs) (suc k) below = some_at xs k (omega (arith, below))
 
--- a rule that is outside of the core is left out
+-- a rule outside the core is left out
 pub turn_skipped : {N S : Type 0} (rules : List (Rule N S)) (kept core : List Bool) → length kept < length rules → IsUnderway rules kept core →
     get_or core (length kept) false ≡ false → IsUnderway rules (kept ++ false ∷ []) core
 turn_skipped rules kept core below underway off = let w = some_at rules (length kept) below in
     turn_out_by rules kept below (length rules) (omega arith) core core w.0 w.1 underway underway.size underway.refuted underway.there off
 
--- a rule is left out where no set obeys the others, of which there is a new core
+-- a rule is left out if the others are refuted, and have a new core
 pub turn_left_out : {N S : Type 0} (rules : List (Rule N S)) (kept core next : List Bool) (spare : ℕ) → length kept < length rules →
     length rules ≤ length kept + suc spare → IsUnderway rules kept core → IsRefutedPart rules (others_of kept spare) next →
     IsUnderway rules (kept ++ false ∷ []) next
@@ -333,7 +333,7 @@ turn_left_out rules kept core next spare below fit underway part =
     (λ (off : get_or next (length kept) false ≡ false). off)
     (cases_Bool (get_or next (length kept) false)))
 
--- a rule is kept where some set obeys the others
+-- a rule is kept if some set obeys the others
 pub turn_kept : {N S : Type 0} (rules : List (Rule N S)) (kept core : List Bool) (spare : ℕ) → length kept < length rules →
     length rules ≤ length kept + suc spare → IsUnderway rules kept core → (IsRefuted (marked (others_of kept spare) rules) → ⊥) →
     IsUnderway rules (kept ++ true ∷ []) core
@@ -345,7 +345,7 @@ pub underway_first : {N S : Type 0} (rules : List (Rule N S)) (core others : Lis
 underway_first rules core others part =
     record { size = part.size; refuted = part.refuted; there = λ k below is. absurd (omega (arith, below)); so_far = λ left h. h }
 
--- after the last one
+-- after the last turn
 pub underway_done : {N S : Type 0} (rules : List (Rule N S)) (kept core : List Bool) → length kept ≡ length rules → IsUnderway rules kept core →
     LeavesInTurn [] rules (marked kept rules)
 underway_done {N} {S} rules kept core end underway =
@@ -387,13 +387,13 @@ pub copied_all : {N S : Type 0} (marks : List Bool) (rules copies : List (Rule N
 copied_all {N} {S} marks rules copies k end same = let P : List Bool → Type 0 = λ q. AllZip StatesTheSame (marked q rules) copies in
     subst P (take_all k marks end) same
 
--- copies of what is left, of which those about what is not reached went
+-- copies of the rules that are left, without those about anything that is not reached
 module _ {N S : Type 0} (rules left copies kept : List (Rule N S)) (in_turn : LeavesInTurn [] rules left) (same : AllZip StatesTheSame left copies)
     (leaves : LeavesKept copies kept) where
   abbrev Same : List (Rule N S) → Type 0
   Same q = AllZip StatesTheSame left q
 
-  -- nothing went where no set obeys the rules
+  -- all copies stay if the rules are refuted
   nothing_went : IsRefuted rules → (IsRefuted copies → IsRefuted kept) → kept ≡ copies
   nothing_went refuted stays =
       irreducible_cut copies kept leaves.dropped (IsIrreducible-same left copies same (left_irreducible rules left in_turn refuted)) leaves.cut
@@ -422,7 +422,7 @@ module _ {N S : Type 0} (rules left copies kept : List (Rule N S)) (in_turn : Le
     each_reached = again;
   }
 
--- marks of rules that no set obeys
+-- marks of refuted rules
 pub whole_part : {N S : Type 0} (rules : List (Rule N S)) (marks : List Bool) → length marks ≡ length rules → IsRefuted (marked marks rules) →
     IsRefutedPart rules marks marks
 whole_part rules marks size refuted = record { size = size; among = λ k is. is; refuted = refuted }

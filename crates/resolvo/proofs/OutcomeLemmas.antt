@@ -1,4 +1,4 @@
--- What the rounds found, and what the solver answers then.
+-- The result of the rounds, and the answer of the solver.
 use Rattle.std.proofs.Common.{◌≡◌, ◌≤◌, ◌^◌, ℕ, List, [], Vec, Global, arith, get_or, length, ◌∙◌, subst, sym, inl, inr, ⊎_elim}
 use Rattle.std.specs.Prelude.{IfOk, OnOk, Result, Ok, Err}
 use Rattle.std.proofs.lemmas.List.Elements.{Contains-get_or}
@@ -21,12 +21,12 @@ use Rattle.resolvo.specs.declared.solver.UnsolvableOrCancelled.{UnsolvableOrCanc
 use Rattle.resolvo.specs.declared.solver.UnsolvableOrCancelled.TheVariants.{Unsolvable, Cancelled, Exhausted}
 use Rattle.resolvo.proofs.SolveLemmas.{shortage_weaker}
 
--- what holds of a result that is right
+-- demands with these lists
 pub same_demands : (d : Demands) (rs : List ConditionalRequirement) (vs : List VersionSetId) → rs ≡ d.requirements → vs ≡ d.constraints →
     record { requirements = rs; constraints = vs } ≡ d
 same_demands d rs vs r v = λ i. record { requirements = r i; constraints = v i }
 
--- as many variables as there may be, where the problem leads to whatever there is
+-- all variables are used if the problem leads to all origins and their count is at its limit
 used_up : {N S : Type 0} (u : Universe N S) (root : Demands) (done : List (SoftRequirement S)) (r : Rounds N S) (limit : ℕ) →
     AreDistinct (notes_of r).origins → length (notes_of r).origins ≡ limit → IsLedBy u root done r → AreUsedUp u root done limit
 used_up u root done r limit distinct count led = record {
@@ -36,7 +36,7 @@ used_up u root done r limit distinct count led = record {
   led = λ k d below. led.all (get_or (notes_of r).origins k d) (inl (Contains-get_or (notes_of r).origins k d below));
 }
 
--- a count of the rounds at its limit is one of the solver's
+-- a count of the rounds at its limit is a count of the solver at its limit
 pub at_limit : {D C N S : Type 0} (u : Universe N S) (root : Demands) (Begun : List (SoftRequirement S) → Type 0) (old new : Rounds N S)
     (s : Solver D C N S) → KeepsRoom old new → (notes_of old).variable_limit ≡ s.variable_limit →
     (notes_of old).clause_limit ≡ s.clause_limit → old.clause_limit ≡ s.clause_limit → old.learnt_limit ≡ s.learnt_limit → HasCounted new s →
@@ -55,7 +55,7 @@ at_limit u root Begun old new s room variables kinds clauses learnt counts done 
     searched)
     stuck
 
--- a count at its limit stays there
+-- a count at its limit stays at its limit
 pub still_at_limit : {D C N S : Type 0} (u : Universe N S) (root : Demands) (Begun : List (SoftRequirement S) → Type 0) (old new : Solver D C N S) →
     KeepsLimits old new → KeepsCounts old new → IsAtLimit u root Begun old → IsAtLimit u root Begun new
 still_at_limit {D} {C} {N} {S} u root Begun old new limits counts at = ⊎_elim
@@ -69,14 +69,14 @@ still_at_limit {D} {C} {N} {S} u root Begun old new limits counts at = ⊎_elim
     rest))
     at
 
--- what stops the search may be told of by what a limit means
+-- a refusal with a weaker meaning of the limits
 pub refusal_weaker : {D N S C : Type 0} (u : Universe N S) (may_cancel : C → Type 0) (root : Demands) (at other : Type 0) → (at → other) →
     (e : UnsolvableOrCancelled D C N S) → IsRefusal u may_cancel root at e → IsRefusal u may_cancel root other e
 refusal_weaker u may_cancel root at other follows (Unsolvable conflict) h = h
 refusal_weaker u may_cancel root at other follows (Cancelled value) h = h
 refusal_weaker u may_cancel root at other follows (Exhausted e) h = shortage_weaker at other follows e h
 
--- what is kept of a provider's answers stays true where the counts alone change
+-- the cache stays true if only the counts change
 pub still_sound : {D C N S : Type 0} (universe : D → Universe N S) (old new : Solver D C N S) → IsTrueCache (universe old.provider) old.cache →
     old.variable_limit ≤ 2 ^ 31 → KeepsAllButCounts old new → IsSound (universe new.provider) new
 still_sound {D} {C} {N} {S} universe old new is_true fits rest =
@@ -87,7 +87,7 @@ still_sound {D} {C} {N} {S} universe old new is_true fits rest =
       fits = omega (arith, fits, rest.limits.variables);
     }
 
--- what the rounds were done with, and some list that the soft requirements are
+-- the property of the rounds, and the list of soft requirements
 pub soft_given : {A E X : Type 0} (Gives : List X → Type 0) (IsAt : A → Type 0) (Is : List X → A → Type 0) (r : Result A E) →
     IfOk r (λ a. (xs : List X) × (IsAt a → Gives xs) × Is xs a) → (xs : List X) × (IfOk r (λ a. IsAt a → Gives xs)) × IfOk r (Is xs)
 soft_given Gives IsAt Is (Ok a) h = (h.0, h.1, h.2)
@@ -116,7 +116,7 @@ pub OnOk-of : {A E : Type 0} (P : Type 0) → P → (r : Result A E) → OnOk r 
 OnOk-of P h (Ok x) = h
 OnOk-of P h (Err e) = tt
 
--- what holds of a result and of what it was made of
+-- a property of a result that another property and a fact imply
 pub IfOk-both : {A E : Type 0} (P Q : A → Type 0) (W : Type 0) → ((x : A) → P x → W → Q x) → (r : Result A E) → IfOk r P → OnOk r W → IfOk r Q
 IfOk-both P Q W follows (Ok x) h w = follows x h w
 IfOk-both P Q W follows (Err e) h w = tt

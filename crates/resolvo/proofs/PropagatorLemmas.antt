@@ -1,4 +1,4 @@
--- What propagation keeps is kept where the trail gains literals, and leaves no clause unsettled.
+-- The invariant of propagation is kept when the trail gains literals, and in the end each clause is settled.
 use Rattle.std.proofs.Common.{◌≡◌, ℕ, ◌*◌, ◌<◌, ◌≤◌, ◌⊎◌, List, [], length, get_or, Option, Some, None, Bool, true, false, inl, inr, refl, sym, ap, ◌∙◌, subst}
 use Rattle.std.proofs.Common.{⊎_elim, arith}
 use Rattle.std.specs.Prelude.{Any, Contains, Vec}
@@ -23,7 +23,7 @@ use Rattle.resolvo.specs.declared.propagator.Late.{Late}
 use Rattle.resolvo.specs.declared.propagator.Propagator.{Propagator}
 use Rattle.resolver_clause_store.specs.declared.WatchedPair.{WatchedPair}
 
--- what holds of some element
+-- a property of some element
 pub any-map : {X : Type 0} (P Q : X → Type 0) (xs : List X) → ((x : X) → P x → Q x) → Any P xs → Any Q xs
 any-map P Q xs f h = (h.0, h.1, h.2, h.3, f h.1 h.4)
 
@@ -32,7 +32,7 @@ any-contains P xs x c h = (c.0, x, c.1, c.2, h)
 
 -- a longer trail
 
--- a slot at a place that the old trail has stood there before
+-- a slot at a place of the old trail was there before
 pub slot-back : (old new : Trail) → Keeps old new → (variable : ℕ) (slot : Slot) → slot_of new variable ≡ Some slot → slot.place < length_of old →
     slot_of old variable ≡ Some slot
 slot-back old new keeps variable slot at less =
@@ -86,7 +86,7 @@ pub propagator-gains : (table : List (Vec Literal Global)) (old new : Trail) (it
 propagator-gains table old new it literal level reason gains free was =
     propagator-kept table old new it (keeps-gains old new literal level reason gains free) (was.lists ∙ ap (λ n. 2 * n) (sym gains.size)) was
 
--- what is left at the end
+-- the end of propagation
 
 value-cases : (o : Option Bool) → (o ≡ None) ⊎ ((o ≡ Some true) ⊎ (o ≡ Some false))
 value-cases None = inl refl
@@ -123,7 +123,7 @@ excused-true table trail late pending level number noted none excused = ⊎_elim
     (λ (n : IsNoted late pending number). noted-true table trail late pending number noted none n)
     excused
 
--- a literal that a clause watches is open, or the clause is true
+-- a watched literal has no value, or the clause is true
 watched-settled : (table : List (Vec Literal Global)) (trail : Trail) (it : Propagator) → IsPropagator table trail it → IsAttached table it →
     length_of trail ≤ head_of it → (number : ℕ) (literal : Literal) → IsWatching (pairs_of it.watches) number literal → (literal_value trail literal ≡ None) ⊎
     IsSatisfied trail (clause_at table number)

@@ -1,4 +1,4 @@
--- What the tests of the encoding read in turn.
+-- The readings in the tests of the encoding.
 use Rattle.std.specs.Prelude.{◌≡◌, ◌∷◌, ◌++◌, [], All, List, map}
 use Rattle.std.proofs.Common.{sym, subst}
 use Rattle.std.proofs.lemmas.List.Elements.{All-append, All-cons, All-nil, All-weaker}
@@ -16,7 +16,7 @@ All-put {X} P old new x is all at =
     subst AllOf (sym is) (All-append P old (x ∷ []) all (All-cons P x [] at (All-nil P)))
 
 module _ {N S : Type 0} (u : Universe N S) where
-  -- what is read for a set is read for none of it
+  -- notes that are read for a set are read for the empty set
   pub for_none : (root : Demands) (set : List S) (notes : Notes N S) → IsReadSoFar u root set notes → IsReadSoFar u root [] notes
   for_none root set notes so = record {
     half = so.half;
@@ -31,7 +31,7 @@ module _ {N S : Type 0} (u : Universe N S) where
       IsReading u [] new
   reading_again set old new reading step = record { root = reading.root; so_far = for_none reading.root set new (step reading.root reading.so_far) }
 
--- exemptions alone undo no reading
+-- a change of exemptions reads nothing
 pub unread_with : {N S : Type 0} (exempt : List S) (old new : Notes N S) → IsUnread old → new ≡ record old { exempt = exempt } → IsUnread new
 unread_with {N} {S} exempt old new unread is =
     let Unread : Notes N S → Type 0 = λ notes. IsUnread notes in

@@ -1,4 +1,4 @@
--- What is left of rules where new searches over them alone were made.
+-- The rules that are left after new searches over them alone.
 use Rattle.std.proofs.Common.{◌≡◌, List, [], ◌∷◌, Bool, true, false, All, length, replicate, ap, sym, subst, ◌∙◌}
 use Rattle.std.specs.List.{AllZip}
 use Rattle.resolver_clause_store.specs.Lists.{IsCut, cut_none, cut_left, cut_right}
@@ -14,7 +14,7 @@ use Rattle.resolvo.proofs.SameLemmas.{AllTrue-same, IsRefuted-same}
 use Rattle.resolvo.specs.Explanations.{Explains}
 use Rattle.resolvo.specs.Minimal.{CopiesPart, marked}
 
--- what is marked is a part, in its order
+-- the marked elements are a part, in order
 marked_cut : {X : Type 0} (marks : List Bool) (xs : List X) → (dropped : List X) × IsCut xs (marked marks xs) dropped
 marked_cut [] [] = ([], cut_none)
 marked_cut [] (x ∷ xs) = let w = marked_cut [] xs in (x ∷ w.0, cut_right w.1)
@@ -22,13 +22,13 @@ marked_cut (b ∷ marks) [] = ([], cut_none)
 marked_cut (true ∷ marks) (x ∷ xs) = let w = marked_cut marks xs in (w.0, cut_left w.1)
 marked_cut (false ∷ marks) (x ∷ xs) = let w = marked_cut marks xs in (x ∷ w.0, cut_right w.1)
 
--- where all is marked
+-- all elements are marked
 pub all_used : {N S : Type 0} (rules : List (Rule N S)) (marks : List Bool) → marks ≡ replicate (length rules) true → IsRefuted rules →
     IsRefuted (marked marks rules)
 all_used {N} {S} rules marks is refuted = let P : List (Rule N S) → Type 0 = λ q. IsRefuted q in
     subst P (sym (ap (λ q. marked q rules) is ∙ all_marked rules)) refuted
 
--- copies of what is marked, of which those about what is not reached went
+-- copies of the marked rules, without those about anything that is not reached
 module _ {N S : Type 0} (rules : List (Rule N S)) (marks : List Bool) (copies kept : List (Rule N S))
     (same : AllZip StatesTheSame (marked marks rules) copies) (leaves : LeavesKept copies kept) where
   pub refined_part : CopiesPart rules kept

@@ -1,4 +1,4 @@
--- Why a soft requirement that was refused fits nowhere.
+-- The reasons why a refused soft requirement fits nowhere.
 use Rattle.std.proofs.Common.{◌≡◌, ℕ, zero, suc, ◌<◌, ◌≤◌, ◌⊎◌, List, ◌∷◌, ◌++◌, length, Some, Bool, true, false, arith, refl, sym, ap, ◌∙◌, subst, ⊎_elim}
 use Rattle.std.proofs.Common.{Contains, Vec, Global}
 use Rattle.std.specs.Prelude.{slice_get}
@@ -32,13 +32,13 @@ use Rattle.resolver_clause_store.proofs.BoolLemmas.{beq-true}
 use Rattle.resolver_clause_store.proofs.ListLemmas.{Contains-here as here, Contains-map, Contains-map_back, list_any-witness}
 use Rattle.resolvo.proofs.JustifiedLemmas.{why}
 
--- clauses that contradict each other leave no values
+-- no values satisfy contradictory clauses
 pub unanswered_core : {N S : Type 0} (r : Rounds N S) (numbers : List ℕ) → IsCore (notes_of r).table numbers → IsUnanswered r
 unanswered_core r numbers core = record {
   none = λ values holds are. core.refuted values (λ k d below. satisfied-at values (notes_of r).table _ holds (core.within k d below));
 }
 
--- and neither does a clause that is false at the base
+-- no values satisfy a clause that is false at the base
 pub unanswered_refused : {N S : Type 0} (r : Rounds N S) → IsRefused (notes_of r).table (trail_of r.search) (base_of r.search) → IsUnanswered r
 unanswered_refused r refused = record {
   none = λ values holds are.
@@ -47,14 +47,14 @@ unanswered_refused r refused = record {
       both_ways _ (ap (λ b. beq b w.0.positive) (are w.0.variable f.slot f.is f.low) ∙ f.false_there) w.2;
 }
 
--- values that make the given clauses true and have what was decided and assumed have all else that the trail has
+-- values that make the given clauses true, and agree with the decisions and assumptions, agree with the whole trail
 module _ (it : ClauseSearch) (given : List (Vec Literal Global)) (numbers : List ℕ) (consistent : IsConsistent it) (loaded : IsLoaded given numbers it)
     (values : ℕ → Bool) (holds : Satisfies values given) (level : ℕ)
     (decided : (variable : ℕ) (slot : Slot) (number : ℕ) → slot_of (trail_of it) variable ≡ Some slot → slot.reason ≡ Decided number → slot.level ≤ level →
     values variable ≡ slot.value)
     (assumed : (variable : ℕ) (slot : Slot) → slot_of (trail_of it) variable ≡ Some slot → slot.reason ≡ Assumed → slot.level ≤ level →
     values variable ≡ slot.value) where
-  -- a literal that was forced
+  -- a forced literal
   forced_true : (variable : ℕ) (slot : Slot) (number : ℕ) → slot_of (trail_of it) variable ≡ Some slot → slot.reason ≡ Forced number →
       ((other : ℕ) (earlier : Slot) → slot_of (trail_of it) other ≡ Some earlier → earlier.place < slot.place → values other ≡ earlier.value) →
       values variable ≡ slot.value
@@ -88,7 +88,7 @@ module _ (it : ClauseSearch) (given : List (Vec Literal Global)) (numbers : List
   pub agrees : (variable : ℕ) (slot : Slot) → slot_of (trail_of it) variable ≡ Some slot → slot.level ≤ level → values variable ≡ slot.value
   agrees variable slot at low = agrees_before (suc slot.place) variable slot at (omega arith) low
 
--- what was decided is a solvable, and true
+-- each decided variable stands for a solvable, and is true
 module _ {N S : Type 0} (u : Universe N S) (root : Demands) (notes : Notes N S) (encoding : IsEncoding u root notes) (it : ClauseSearch)
     (consistent : IsConsistent it) (has : HasLoaded notes.table notes.requirements it) where
   given_at_place : (number : ℕ) → Contains has.numbers number → clause_at it.table.items (place_of it.places.items number) ≡ clause_at notes.table number
@@ -113,7 +113,7 @@ module _ {N S : Type 0} (u : Universe N S) (root : Demands) (notes : Notes N S) 
       let s = asked_candidate u root notes encoding w.0 asked literal (subst Stands (sym is) there) refl in
       (c.value, s.0, s.1)
 
-  -- all that the trail has at these levels, where what is chosen is true, and what was assumed is chosen or left out
+  -- the same for values that make the chosen solvables true, if each assumed solvable is chosen or left out
   module _ (chosen taken refused : List S) (sized : variable_count (trail_of it) ≤ length notes.origins)
       (assumed : AreAssumed notes.origins taken refused (trail_of it)) (left_out : (s : S) → Contains refused s → IsLeftOut notes.origins notes.table chosen s)
       (values : ℕ → Bool) (holds : Satisfies values notes.table) (are : AreTrueIn values notes.origins chosen) where
@@ -126,7 +126,7 @@ module _ {N S : Type 0} (u : Universe N S) (root : Demands) (notes : Notes N S) 
         slice_get notes.origins variable ≡ Some (Solvable s)
     origin_of variable slot s at is = slice_get-get_or notes.origins variable Root (inside variable slot at) ∙ ap Some is
 
-    -- one that was assumed to be false
+    -- a variable that was assumed to be false
     left_false : (variable : ℕ) (slot : Slot) → slot_of (trail_of it) variable ≡ Some slot → slot.reason ≡ Assumed → slot.value ≡ false →
         values variable ≡ false
     left_false variable slot at reason off =
@@ -150,7 +150,7 @@ module _ {N S : Type 0} (u : Universe N S) (root : Demands) (notes : Notes N S) 
         let w = decided_solvable variable slot number at reason in
         are variable w.1 (stays variable slot number w.1 at reason low w.0 w.2) w.2 ∙ sym w.0
 
-    -- so the trail at these levels agrees with the values
+    -- the trail at these levels agrees with the values
     pub trail_agrees : (level : ℕ) →
         ((s : S) → Contains taken s → (variable : ℕ) → slice_get notes.origins variable ≡ Some (Solvable s) → values variable ≡ true) →
         ((variable : ℕ) (slot : Slot) (number : ℕ) (s : S) → slot_of (trail_of it) variable ≡ Some slot → slot.reason ≡ Decided number → slot.level ≤ level →

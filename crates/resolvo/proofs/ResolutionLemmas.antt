@@ -1,4 +1,4 @@
--- What the marked variables contradict.
+-- The marked variables, and the causes that contradict their values.
 use Rattle.std.proofs.Common.{◌≡◌, ◌≢◌, ℕ, List, [], ◌∷◌, ◌++◌, length, get_or, set, Bool, true, false, arith, sym, ap, ◌∙◌, subst, ⊎_elim, get_or-set_other}
 use Rattle.std.proofs.Common.{length-append}
 use Rattle.std.proofs.Math.ListN.{get_or-append}
@@ -21,7 +21,7 @@ use Rattle.resolvo.specs.Resolvents.{is_marked, MarksAlso, Refutes, IsReason}
 use Rattle.resolver_clause_store.proofs.BoolLemmas.{beq-true}
 use Rattle.resolver_clause_store.proofs.TrailLemmas.{value-false}
 
--- the variables of a false clause contradict it
+-- a false clause contradicts the values of its variables
 pub refutes-begin : (table : List (Vec Literal Global)) (trail : Trail) (old marks : List Bool) (number : ℕ) → IsFalsified trail (clause_at table number) →
     MarksAlso old marks (clause_at table number) → Refutes table trail marks (number ∷ [])
 refutes-begin table trail old marks number falsified so = record {
@@ -32,7 +32,7 @@ refutes-begin table trail old marks number falsified so = record {
       both_ways _ (clause-false values _ each) (holds 0 0 (omega arith));
 }
 
--- a variable's reason in its place
+-- the literals of its reason take the place of a variable
 pub refutes-resolve : (table : List (Vec Literal Global)) (trail : Trail) (old mid : List Bool) (causes : List ℕ) (variable number : ℕ) →
     Refutes table trail old causes → IsJustified table trail → IsReason trail variable number → MarksAlso old mid (clause_at table number) →
     Refutes table trail (set mid variable false) (causes ++ number ∷ [])

@@ -1,4 +1,4 @@
--- A trail of which the first places are left, behind which a level began.
+-- A trail that was cut at a place where a level begins.
 use Rattle.std.proofs.Common.{◌≡◌, ◌≢◌, ℕ, ◌<◌, ◌≤◌, Some, true, arith, ap, sym, ◌∙◌, ⊎_elim}
 use Rattle.std.specs.Option.{option_map}
 use Rattle.std.proofs.lemmas.Bool.{cases_eq, cases_lt}
@@ -11,7 +11,7 @@ use Rattle.resolver_clause_store.proofs.KeptLemmas.{keeps_places}
 use Rattle.resolvo.specs.Attaching.{IsLower}
 use Rattle.resolvo.specs.Returning.{BeginsLevel}
 
--- whole levels were taken away
+-- only whole levels were removed
 pub lower-cut : (old new : Trail) (count : ℕ) → IsCut old new count → count ≤ length_of old → BeginsLevel old count → IsLower old new
 lower-cut old new count cut within begins = record {
   size = cut.size;

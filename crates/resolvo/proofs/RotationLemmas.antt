@@ -21,7 +21,7 @@ needed_mark clauses kept needed rule values below makes all place marked = ⊎_e
     (λ (other : place ≢ rule). all place (sym (get_or-set_other needed rule place true false other) ∙ marked))
     (cases_eq place rule)
 
--- whoever is there after a turn was there before
+-- a rule that remains after a turn remained before
 still_before : (kept : List Bool) (b : Bool) (rule : ℕ) → IsStillThere (kept ++ b ∷ []) rule → IsStillThere kept rule
 still_before kept b rule there = ⊎_elim
     (λ (before : rule < length kept). sym (get_or_append_left kept (b ∷ []) true rule before) ∙ there)
@@ -38,7 +38,7 @@ pub needed_next : (form : Option RuleClauses) (kept needed : List Bool) (b : Boo
 needed_next None kept needed b all = tt
 needed_next (Some form) kept needed b all = needed_push form.clauses.items kept needed b all
 
--- before the first search nothing is marked
+-- no rule is marked before the first search
 pub needed_none : (form : Option RuleClauses) (kept needed : List Bool) (count : ℕ) → needed ≡ replicate count false →
     IfSome form (λ form. AreNeeded form.clauses.items kept needed)
 needed_none None kept needed count are = tt
@@ -70,7 +70,7 @@ module _ {N S : Type 0} (rules : List (Rule N S)) (kept needed : List Bool) (spa
   needed_by variables clauses decide all = let w = all (length kept) marked_it in
       decide.complete (others_of kept spare) w.0 size (λ k d below mark. w.1 k d below (there _ mark) (other_one _ mark))
 
-  -- a rule that is marked is needed
+  -- a marked rule is needed
   pub marked_needed : (form : Option RuleClauses) → IsSome form → IfSome form (λ form. DecideRules rules form.variables form.clauses.items) →
       IfSome form (λ form. AreNeeded form.clauses.items kept needed) → IsRefuted (marked (others_of kept spare) rules) → ⊥
   marked_needed None some decide all = absurd (false≢true some)

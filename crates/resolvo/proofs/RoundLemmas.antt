@@ -1,4 +1,4 @@
--- What holds before each round of searching and reading, and after it.
+-- The invariants before each round of searching and reading, and after it.
 use Rattle.std.proofs.Common.{◌≡◌, ℕ, ◌+◌, ◌<◌, ◌≤◌, List, [], true, ◌++◌, length, length-append, get_or, take, append-nil, arith, refl, sym, ap, ◌∙◌, subst}
 use Rattle.std.proofs.Common.{⊎_elim, Contains, All, Vec, Global}
 use Rattle.std.specs.Prelude.{map}
@@ -65,7 +65,7 @@ Keeps-longer old new x keeps = ⊎_elim
     (λ (enough : length old ≤ length new). enough)
     (cases_lt (length new) (length old))
 
--- each solvable that a trail makes true has a variable
+-- each solvable that a trail makes true is registered
 pub chosen_known : {N S : Type 0} (origins : List (Origin N S)) (trail : Trail) → variable_count trail ≡ length origins → (set : List S) →
     set ≡ solvables_before origins trail (length_of trail) → All (λ s. Contains origins (Solvable s)) set
 chosen_known {N} {S} origins trail size set is = λ k d below.
@@ -82,7 +82,7 @@ chosen_known {N} {S} origins trail size set is = λ k d below.
         subst Has (ap (λ (a : Atom N S). a.origin) w.2)
         (Contains-at origins x (origin_at origins x) (stands origins trail size x (omega (arith, inside, size))))
 
--- what was read for a set was read for a part of it
+-- notes that are read for a set are read for each part of it
 pub so_far_less : {N S : Type 0} (u : Universe N S) (root : Demands) (part set : List S) (notes : Notes N S) → IsWithin part set →
     IsReadSoFar u root set notes → IsReadSoFar u root part notes
 so_far_less u root part set notes within h = record {
@@ -95,7 +95,7 @@ so_far_less u root part set notes within h = record {
   };
 }
 
--- all was loaded, and stays so while the search runs
+-- all clauses were loaded, and stay loaded while the search runs
 pub loaded_all : (table clauses : List (Vec Literal Global)) (numbers : List ℕ) (requirements : List RequirementClause) (old mid : ClauseSearch) →
     HasLoaded table numbers old → clauses ≡ table → numbers_of requirements ≡ numbers →
     ((given : List (Vec Literal Global)) (requiring : List ℕ) → IsLoaded given requiring old → (more : List (Vec Literal Global)) → clauses ≡ given ++ more →
@@ -137,7 +137,7 @@ module _ {N S : Type 0} where
         };
       }
 
-  -- what the search is given is well made
+  -- the clauses that the search is given have only variables with an origin
   pub given_below : (u : Universe N S) (set : List S) (notes : Notes N S) (count : ℕ) (table : List (Vec Literal Global)) → IsReading u set notes →
       count ≡ length notes.origins → table ≡ notes.table → AreBelow count table
   given_below u set notes count table reading counted are =
@@ -152,14 +152,14 @@ module _ {N S : Type 0} where
       let Inside : List (Vec Literal Global) → Type 0 = λ list. All (λ (r : RequirementClause). r.number < length list) requirements in
       subst Inside (sym are) (requirements_inside u reading.root notes reading.so_far.half.encoding requirements numbers)
 
-  -- the packages of variables do not matter
+  -- the invariant does not depend on the packages of the variables
   pub rounds_owned : (u : Universe N S) (r : Rounds N S) (owners : Owners N) → AreRounds u r → AreRounds u (record r { owners = owners })
   rounds_owned u r owners rounds = assumption
 
   pub still_owned : (r : Rounds N S) (owners : Owners N) → IsStill r → IsStill (record r { owners = owners })
   still_owned r owners still = assumption
 
-  -- the search has run over all that was read
+  -- the search has run over all clauses that were read
   pub searched : (u : Universe N S) (old : Rounds N S) (new : ClauseSearch) → AreRounds u old → IsConsistent new →
       IsLoaded (notes_of old).table (notes_of old).requirements new → variable_count (trail_of new) ≡ length (notes_of old).origins →
       KeepsBookmark old.search new → AreRounds u (record old { search = new })
@@ -184,7 +184,7 @@ module _ {N S : Type 0} where
     };
   }
 
-  -- the list of chosen solvables that was cut and follows the trail again
+  -- the list of chosen solvables was cut and follows the trail again
   record IsCutAgain (old : Rounds N S) (kept : ℕ) (cut new : Chosen S) : Type 0 where
     at_base : Follows cut (notes_of old).origins old.search.trail kept
     inside : IsWithin (chosen_in cut) (chosen_of old)
@@ -255,7 +255,7 @@ module _ {N S : Type 0} where
     chosen = (cut_again old kept cut new up bookmark is cuts follows).follows.is;
   }
 
-  -- what was read for the old list was read for the first ones of the new list
+  -- notes that are read for the old list are read for the first elements of the new list
   pub read_first : (u : Universe N S) (root : Demands) (old new : Rounds N S) (from : ℕ) (keys : List S) → IsFollowing old new from → keys ≡ chosen_of new →
       IsReadSoFar u root (chosen_of old) (notes_of old) → IsReadSoFar u root (take from keys) (notes_of new)
   read_first u root old new from keys following is h =
@@ -267,7 +267,7 @@ module _ {N S : Type 0} where
       IsReading u (chosen_of old) (notes_of old) → IsReading u (take from keys) (notes_of new)
   reading_first u old new from keys following is h = record { root = h.root; so_far = read_first u h.root old new from keys following is h.so_far }
 
-  -- more was read
+  -- one more reading
   pub read_more : (u : Universe N S) (old mid : Rounds N S) (from : ℕ) (keys : List S) (encoding : Encoding N S) → AreRounds u old → IsFollowing old mid from →
       keys ≡ chosen_of mid → IsBounded encoding → IsReadMore u keys (notes_of mid) (notes_in encoding) →
       ((root : Demands) → IsReadSoFar u root (take from keys) (notes_of mid) → IsReadSoFar u root keys (notes_in encoding)) →

@@ -19,14 +19,14 @@ use Rattle.resolvo.specs.declared.minimal.rule_clauses.Proposition.TheVariants.{
 use Rattle.resolver_clause_store.proofs.ListLemmas.{AllZip-append as zip_append}
 use Rattle.resolvo.specs.declared.minimal.rule_clauses.RuleClause.{RuleClause}
 
--- a relation that holds place by place gives way to a weaker one
+-- a relation between two lists implies a weaker one
 zip_weaker : {A B : Type 0} (R Q : A → B → Type 0) → ((x : A) (y : B) → R x y → Q x y) → (xs : List A) (ys : List B) → AllZip R xs ys → AllZip Q xs ys
 zip_weaker R Q weaker [] [] h = tt
 zip_weaker R Q weaker [] (y ∷ ys) h = h
 zip_weaker R Q weaker (x ∷ xs) [] h = h
 zip_weaker R Q weaker (x ∷ xs) (y ∷ ys) h = (weaker x y h.0, zip_weaker R Q weaker xs ys h.1)
 
--- a number is not above the power of two of its digits
+-- a number is at most two to the power of its digit count
 pub fits_width : (n width : ℕ) → ((i : ℕ) → 2 ^ i ≤ n → i < width) → n ≤ 2 ^ width
 fits_width n width every = ⊎_elim
     (λ (less : n < 2 ^ width). omega (arith, less))
@@ -40,7 +40,7 @@ HasCode-keeps old new keeps (Constrains by version_set candidate) code h = tt
 HasCode-keeps old new keeps (Lock locked forbidden) code h = tt
 HasCode-keeps old new keeps (Excluded solvable reason) code h = tt
 
--- the code of one rule more
+-- the code of one more rule
 pub codes_next : {N S : Type 0} (old new : List S) (rules : List (Rule N S)) (codes : List ℕ) (i : ℕ) (rule : Rule N S) (code : ℕ) →
     AllZip (HasCode old) (take i rules) codes → Keeps old new → i < length rules → rule ≡ get_or rules i rule → HasCode new rule code →
     AllZip (HasCode new) (take (i + 1) rules) (codes ++ code ∷ [])
@@ -53,7 +53,7 @@ codes_next {N} {S} old new rules codes i rule code before keeps below is has =
 IsLiteralOf-keeps : {N S : Type 0} (old new : List (Proposition N S)) → Keeps old new → (l : Literal) (a : Atom N S) → IsLiteralOf old l a → IsLiteralOf new l a
 IsLiteralOf-keeps old new keeps l a is = record { stands = keeps.kept _ _ is.stands; sign = is.sign }
 
--- the literal of one atom more
+-- the literal of one more atom
 pub literals_next : {N S : Type 0} (old new : List (Proposition N S)) (atoms : List (Atom N S)) (literals : List Literal) (i : ℕ) (a : Atom N S) (l : Literal) →
     AllZip (IsLiteralOf old) literals (take i atoms) → Keeps old new → i < length atoms → a ≡ get_or atoms i a → IsLiteralOf new l a →
     AllZip (IsLiteralOf new) (literals ++ l ∷ []) (take (i + 1) atoms)
@@ -83,7 +83,7 @@ Adds-trans {N} {S} old mid new one two three ls ms first second = record {
       (zip_weaker (IsClauseOf mid) (IsClauseOf new) (IsClauseOf-keeps mid new second.keeps) first.added ls first.are) second.are;
 }
 
--- the clauses of one element more
+-- the clauses of one more element
 Adds-next : {N S X : Type 0} (f : X → Line N S) (old mid new : List (Proposition N S)) (one two three : List RuleClause) (xs : List X) (i : ℕ) (x : X)
     (l : Line N S) →
     Adds old mid one two (map f (take i xs)) → i < length xs → x ≡ get_or xs i x → l ≡ f x → Adds mid new two three (l ∷ []) →
@@ -94,7 +94,7 @@ Adds-next {N} {S} {X} f old mid new one two three xs i x l before below is same 
     ap (λ y. map f (take i xs) ++ y ∷ []) (sym (same ∙ ap f is)) in
     subst P (sym taken) (Adds-trans old mid new one two three (map f (take i xs)) (l ∷ []) before more)
 
--- the clauses of one member more
+-- the clauses of one more member
 pub members_next : {N S : Type 0} (old mid new : List (Proposition N S)) (one two three : List RuleClause) (rule list : ℕ) (xs : List S) (i : ℕ) (x : S) →
     Adds old mid one two (member_lines rule list (take i xs)) → i < length xs → x ≡ get_or xs i x →
     Adds mid new two three (plain rule (atom (Member x) false ∷ atom (Listed rule list) true ∷ []) ∷ []) →
@@ -113,7 +113,7 @@ condition_lines-append {N} {S} rule list (x ∷ xs) ys =
     ∙ sym (append_assoc (member_lines {N = N} rule list x.items) (condition_lines {N = N} rule (suc list) xs)
     (condition_lines {N = N} rule (list + length (x ∷ xs)) ys))
 
--- the clauses of one list more
+-- the clauses of one more list
 pub condition_next : {N S : Type 0} (old mid new : List (Proposition N S)) (one two three : List RuleClause) (rule : ℕ) (xs : List (Vec S Global)) (i : ℕ)
     (x : Vec S Global) →
     Adds old mid one two (condition_lines rule 0 (take i xs)) → i < length xs → x ≡ get_or xs i x → Adds mid new two three (member_lines rule i x.items) →
@@ -140,7 +140,7 @@ all_lines-append width place (rule ∷ rules) more (code ∷ codes) others same 
     ∙ sym (append_assoc (lines_of width place code rule) (all_lines width (suc place) rules codes)
     (all_lines width (place + length (rule ∷ rules)) more others))
 
--- the clauses of one rule more
+-- the clauses of one more rule
 pub rules_next : {N S : Type 0} (old mid new : List (Proposition N S)) (one two three : List RuleClause) (width : ℕ) (rules : List (Rule N S)) (codes : List ℕ)
     (i : ℕ) (rule : Rule N S) (d : ℕ) →
     length rules ≡ length codes → Adds old mid one two (all_lines width 0 (take i rules) (take i codes)) → i < length rules → rule ≡ get_or rules i rule →
@@ -159,7 +159,7 @@ rules_next {N} {S} old mid new one two three width rules codes i rule d same bef
     ap (λ ls. all_lines width 0 (take i rules) (take i codes) ++ ls) (append-nil (lines_of width i code rule)) in
     subst P (sym taken) (Adds-trans old mid new one two three (all_lines width 0 (take i rules) (take i codes)) (lines_of width i code rule) before more)
 
--- the clause of one bit more
+-- the clause of one more bit
 pub bits_next : {N S : Type 0} (old mid new : List (Proposition N S)) (one two three : List RuleClause) (rule : ℕ) (name : N) (instance : S) (code i : ℕ)
     (digit : Bool) →
     Adds old mid one two (bit_lines rule name instance code i) → digit ≡ bit code i →
@@ -172,7 +172,7 @@ bits_next {N} {S} old mid new one two three rule name instance code i digit befo
     subst Q next (Adds-trans old mid new one two three (bit_lines rule name instance code i)
     (plain rule (atom (Member instance) false ∷ atom (Bit name i) (bit code i) ∷ []) ∷ []) before (subst P is more))
 
--- the atom of one list more
+-- the atom of one more list
 pub lists_next : {N S : Type 0} (start now next : List (Atom N S)) (rule i : ℕ) → now ≡ start ++ list_atoms rule i → next ≡ now ++ atom (Listed rule i) false ∷
     [] → next ≡ start ++ list_atoms rule (i + 1)
 lists_next {N} {S} start now next rule i before is =
@@ -180,7 +180,7 @@ lists_next {N} {S} start now next rule i before is =
     let more : suc i ≡ i + 1 = omega arith in
     is ∙ ap (λ as'. as' ++ last) before ∙ append_assoc start (list_atoms rule i) last ∙ ap (λ n. start ++ list_atoms rule n) more
 
--- the clauses of an empty list to which these were added
+-- an empty list of clauses to which these were added
 pub Adds-zip : {N S : Type 0} (old new : List (Proposition N S)) (before after : List RuleClause) (lines : List (Line N S)) → before ≡ [] →
     Adds old new before after lines → AllZip (IsClauseOf new) after lines
 Adds-zip {N} {S} old new before after lines none adds =

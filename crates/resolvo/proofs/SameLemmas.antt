@@ -1,4 +1,4 @@
--- What rules that state the same have in common.
+-- Properties that rules with the same statement share.
 use Rattle.std.proofs.Common.{◌≡◌, ℕ, zero, suc, List, [], ◌∷◌, get_or, take, drop, arith, sym, subst, Contains, All}
 use Rattle.std.specs.Prelude.{remove}
 use Rattle.std.specs.List.{AllZip}
@@ -18,7 +18,7 @@ pub ObeysAlone-same : {N S : Type 0} (set : List S) (rule other : Rule N S) → 
     ObeysAlone set (statement_of other)
 ObeysAlone-same set rule other same h = subst (ObeysAlone set) same h
 
--- what states the same is true of the same
+-- a rule with the statement of a true rule is true
 pub IsTrueRule-same : {N S : Type 0} (u : Universe N S) (root : Demands) (rule other : Rule N S) → StatesTheSame rule other → IsTrueRule u root rule →
     IsTrueRule u root other
 IsTrueRule-same u root rule other same h = subst (IsTrueStatement u root) same h
@@ -54,7 +54,7 @@ is_mark (Lock locked forbidden) name instance e = absurd cc
 is_mark (Excluded solvable reason) name instance e = absurd cc
 is_mark (OnePerPackage name' instance') name instance e = cc
 
--- the mark that states the same is the same one
+-- two marks with the same statement are equal
 marked_too : {N S : Type 0} (rules : List (Rule N S)) (name : N) (instance : S) (other : Rule N S) → StatesTheSame (OnePerPackage name instance) other →
     Contains rules other → Contains rules (OnePerPackage name instance)
 marked_too {N} {S} rules name instance other same inside = let Has : Rule N S → Type 0 = λ rule. Contains rules rule in

@@ -1,4 +1,4 @@
--- What a soft requirement's turn does to the rounds.
+-- The effect of the turn of a soft requirement on the rounds.
 use Rattle.std.proofs.Common.{◌≡◌, ◌≢◌, ℕ, suc, ◌+◌, ◌-◌, ◌<◌, ◌≤◌, ◌⊎◌, List, [], ◌∷◌, Bool, true, false, ◌++◌, append-nil, length, take}
 use Rattle.std.proofs.Common.{arith, inl, inr, refl, sym, ap, ◌∙◌, subst, ⊎_elim, Contains, Some, None, Vec, Global}
 use Rattle.std.specs.List.{flat_map}
@@ -60,7 +60,7 @@ use Rattle.resolver_clause_store.proofs.QueueLemmas.{slot-back as keeps-back}
 use Rattle.std.proofs.lemmas.List.Elements.{Contains-push as last_in}
 use Rattle.resolvo.proofs.TurnLemmas.{decided-assumed}
 
--- clauses were added, and nothing was read or put off
+-- clauses were added, and nothing was read or deferred
 pub record IsAddition {N S : Type 0} (u : Universe N S) (old new : Notes N S) : Type 0 where
   pub origins : Keeps old.origins new.origins
   pub table : Extends old.table new.table
@@ -89,7 +89,7 @@ ended_adds {N} {S} u old new e =
 pub earlier_in : {X : Type 0} (xs : List X) (x y : X) → Contains xs y → Contains (xs ++ x ∷ []) y
 earlier_in xs x y h = Contains-append_left xs (x ∷ []) y h
 
--- whether something is in a list, where equal values are one
+-- whether an element is in a list
 pub in_or_not : {X : Type 0} (eq : X → X → Bool) → IsIdentity eq → (xs : List X) (x : X) → Contains xs x ⊎ (Contains xs x → ⊥)
 in_or_not eq same [] x = inr (λ h. none_in x h)
 in_or_not eq same (y ∷ xs) x = ⊎_elim
@@ -100,7 +100,7 @@ in_or_not eq same (y ∷ xs) x = ⊎_elim
     (in_or_not eq same xs x))
     (cases_Bool (eq y x))
 
--- what was assumed last is so while the turn goes on
+-- the last assumption stays while the turn goes on
 pub still_assumed : (old new : ClauseSearch) (v : ℕ) → IsConsistent old → KeepsTurn old new → HasAssumed old v → HasAssumed new v
 still_assumed old new v consistent turn it =
     let places : KeepsPlaces (trail_of old) (trail_of new) (held_of new) =
@@ -119,7 +119,7 @@ assumed_inside it v consistent assumed =
     omega (arith, inside, assumed.place)
 
 module _ {N S : Type 0} where
-  -- the variable of a solvable that a trail makes true
+  -- a solvable that a trail makes true has a true variable
   pub chosen_slot : (origins : List (Origin N S)) (trail : Trail) → variable_count trail ≡ length origins → (s : S) →
       Contains (solvables_before origins trail (length_of trail)) s →
       (v : ℕ) × (slot : Slot) × (slot_of trail v ≡ Some slot) × (slice_get origins v ≡ Some (Solvable s)) × (slot.value ≡ true)
@@ -135,7 +135,7 @@ module _ {N S : Type 0} where
         sym (ap (λ o. option_map_or (λ (q : Slot). q.value) o false) p.1) ∙ ap (λ (a : Atom N S). a.positive) w.2,
       )
 
-  -- and back
+  -- a solvable with a true variable is one that the trail makes true
   pub slot_chosen : (origins : List (Origin N S)) (trail : Trail) → variable_count trail ≡ length origins → (v : ℕ) (slot : Slot) (s : S) →
       slot_of trail v ≡ Some slot → origin_at origins v ≡ Solvable s → slot.value ≡ true →
       Contains (solvables_before origins trail (length_of trail)) s
@@ -155,13 +155,13 @@ module _ {N S : Type 0} where
       let same : w.0 ≡ v = distinct.same w.0 v (Solvable s) w.3 origin in
       never w.1 (ap (slot_of trail) (sym same) ∙ w.2) w.4
 
-  -- what is asked for, where what was read is near the soft requirements
+  -- the packages that were asked, if everything that was read is near the soft requirements
   pub asked_for : (u : Universe N S) (root : Demands) (chosen : List S) (soft : List (SoftRequirement S)) (notes : Notes N S) →
       IsReadSoFar u root chosen notes → AreNear u root (flat_map (options u) soft) (flat_map (own_packages u) soft) notes →
       IsAsked u root chosen soft notes.asked
   asked_for u root chosen soft notes so near = record { named = asked_named u root chosen notes so; near = near.asked }
 
-  -- clauses that were added change nothing of the rounds
+  -- the rounds are right after clauses were added
   pub rounds_added : (u : Universe N S) (old : Rounds N S) (encoding : Encoding N S) → AreRounds u old → IsBounded encoding →
       IsAddition u (notes_of old) (notes_in encoding) → AreRounds u (record old { encoding = encoding })
   rounds_added u old encoding rounds bounded adds =
@@ -197,7 +197,7 @@ module _ {N S : Type 0} where
       assumption (still.chosen ∙ sym (same_before (notes_of old).origins (notes_in encoding).origins trail trail (length_of trail) keeps rounds.variables
       (keeps_itself trail (length_of trail) (omega arith)) (length_of trail) (omega arith)))
 
-  -- where clauses were added that are near, what stands goes on to stand
+  -- the state between turns stays right if clauses about near solvables were added
   module _ (u : Universe N S) (root : Demands) (taken refused seeds : List S) (packages : List N) (old : Rounds N S) (encoding : Encoding N S)
       (rounds : AreRounds u old) (adds : IsAddition u (notes_of old) (notes_in encoding)) (exempt : (notes_in encoding).exempt ≡ (notes_of old).exempt)
       (b : IsStanding u root taken refused seeds packages old) where
@@ -247,7 +247,7 @@ module _ {N S : Type 0} where
           asked = λ m h. ⊎_elim (λ was. b.near.asked m was) (λ is. inr (subst Own (sym is) own)) (alone.asked.only m h);
         })
 
-  -- what was added was loaded
+  -- the added clauses were loaded
   pub standing_loaded : (u : Universe N S) (root : Demands) (taken refused seeds : List S) (packages : List N) (old new : Rounds N S) →
       variable_count (trail_of old.search) ≤ length (notes_of old).origins → IsSearchOf old new → KeepsTurn old.search new.search →
       IsStanding u root taken refused seeds packages old → IsStanding u root taken refused seeds packages new
@@ -259,7 +259,7 @@ module _ {N S : Type 0} where
       (Keeps-same (notes_of old).origins) known turn.assumed.was b.assumed in
       subst WithChosen (sym same.chosen) (subst WithEncoding (sym same.encoding) (assumption))
 
-  -- a turn may be told of from an earlier state in which as much was chosen, exempt and asked for
+  -- a turn may be counted from an earlier state with the same chosen, exempt and asked lists
   pub turned_from : (u : Universe N S) (root : Demands) (taken refused seeds : List S) (packages : List N) (s : S) (before old new : Rounds N S)
       (is_chosen : Bool) → chosen_of old ≡ chosen_of before → (notes_of old).exempt ≡ (notes_of before).exempt →
       (notes_of old).asked ≡ (notes_of before).asked →
@@ -272,7 +272,7 @@ module _ {N S : Type 0} where
       let Asked : List N → Type 0 = λ a. IsWithin a (notes_of new).asked in
       search (subst WithAsked asked (subst WithExempt exempt (subst WithChosen chosen h.turned)), h.standing, subst Asked asked h.asked)
 
-  -- one that is decided is skipped
+  -- a decided soft requirement is skipped
   pub skipped : (u : Universe N S) → HasLawfulSolvables u → (eq : N → N → Bool) → IsIdentity eq →
       (root : Demands) (taken refused seeds : List S) (packages : List N) (s : S) (v : ℕ) (slot : Slot) (r : Rounds N S) → AreRounds u r →
       variable_count (trail_of r.search) ≡ length (notes_of r).origins → IsStill r →
@@ -317,7 +317,7 @@ module _ {N S : Type 0} where
       in
       record { taken_now = taken; refused_now = refused; turned = turned; standing = b; asked = λ n h. h }
 
-  -- what is chosen once the turn was undone was chosen before
+  -- the solvables that are chosen after a turn was undone were chosen before it
   pub refused_within : (u : Universe N S) (old : Rounds N S) (cut new : Trail) (v : ℕ) (chosen : List S) → AreRounds u old → 0 < base_of old.search →
       IsCut (trail_of old.search) cut (held_of old.search - 1) →
       Gains cut new (record { variable = v; positive = false }) (level_of cut + 1) Assumed → slot_of cut v ≡ None →
@@ -352,7 +352,7 @@ module _ {N S : Type 0} where
       (Extends-within (solvables_before origins bookmark.base n) (solvables_before origins bookmark.base (length_of bookmark.base))
       (before_extends origins bookmark.base n (length_of bookmark.base) (omega (arith, bookmarked, bookmark.kept.were))) t there_before)
 
-  -- a list that follows the trail again, and has no more than before
+  -- a list that follows the trail again, without new elements
   pub rounds_followed : (u : Universe N S) (before old new : Rounds N S) (from : ℕ) → AreRounds u before → old.encoding ≡ before.encoding →
       IsFollowing old new from → IsWithin (chosen_of new) (chosen_of before) → AreRounds u new
   rounds_followed u before old new from rounds same following within =
@@ -453,7 +453,7 @@ module _ {N S : Type 0} where
     within_now : IsWithin taken_now seeds
     within_now t h = ⊎_elim (λ was. b.within t was) (λ e. let Has : S → Type 0 = λ x. Contains seeds x in subst Has e seed) (Contains-push_cases taken s t h)
 
-    -- the problem leads to what there is when the turn begins, and to what there is while it goes on
+    -- the problem leads to all origins when the turn begins, and while it goes on
     pub led_begun : AreLed u root seeds packages (notes_of old) → AreLed u root seeds packages (notes_in encoding)
     led_begun led = let Led : Notes N S → Type 0 = λ n. AreLed u root seeds packages n in subst Led (sym only) led
 
@@ -490,7 +490,7 @@ module _ {N S : Type 0} where
       rest_near : AreNear u root seeds packages (notes_of rest)
       rest_near = goes.near root seeds taken_now refused packages (stays root (chosen_of old) b.read) within_now begun_assumed begun_near
 
-      -- and to what there is once it was undone
+      -- the problem leads to all origins after the turn is undone
       pub led_refused : (after : Rounds N S) → LeadsOn u begun rest → StaysLed u rest after → AreLed u root seeds packages (notes_of old) →
           AreLed u root seeds packages (notes_of after)
       led_refused after leads stays_led led = stays_led root seeds packages rest_near (led_tried rest leads led)
@@ -505,7 +505,7 @@ module _ {N S : Type 0} where
       table_rest = let From : List (Vec Literal Global) → Type 0 = λ table. Extends table (notes_of rest).table in
           subst From (ap (λ (n : Notes N S). n.table) only) goes.table
 
-      -- the assumption
+      -- the slot of the assumption
       abbrev assumed_slot : Slot
       assumed_slot = record { value = true; level = level_of t0 + 1; place = n0; reason = Assumed }
 
@@ -520,7 +520,7 @@ module _ {N S : Type 0} where
       left_rest larger within t h = left_out_more (notes_of old).origins o2 (notes_of old).table (notes_of rest).table
           (chosen_of old) larger t keeps_rest table_rest within (b.left_out t h)
 
-      -- it was accepted
+      -- the soft requirement was accepted
       module _ (answering : IsAnswering u rest) where
         stays_chosen : IsWithin (chosen_of old) (chosen_of rest)
         stays_chosen t h =
@@ -585,7 +585,7 @@ module _ {N S : Type 0} where
               asked = asked_rest;
             }
 
-      -- it was refused
+      -- the soft requirement was refused
       module _ (lawful : HasLawfulSolvables u) (base : base_of search ≡ level_of t0 + 1) (unanswered : IsUnanswered rest) (count : ℕ)
           (counted : count ≡ length (notes_of old).exempt) (rounds : AreRounds u rest) (after : Rounds N S) (refusing : IsRefusing u v count rest after)
           (quiet : IsStill after) where
@@ -705,7 +705,7 @@ module _ {N S : Type 0} where
               asked = subst Asked (sym refusing.ended.asked) rest_near.asked;
             }
 
-        -- what was decided at the levels up to the assumption's was chosen before
+        -- the decisions at levels up to the assumption's were made before it
         decided_before : (x : ℕ) (slot : Slot) (n : ℕ) → slot_of t2 x ≡ Some slot → slot.reason ≡ Decided n → slot.level ≤ base_of rest.search → slot.place < n0
         decided_before x slot n at reason low = ⊎_elim
             (λ (after_it : n0 < slot.place).
@@ -803,7 +803,7 @@ module _ {N S : Type 0} where
               asked = asked_after;
             }
 
-  -- before a turn, where nothing but the exemptions changed and a variable was assumed
+  -- the rounds before a turn, when only the exemptions changed and a variable was assumed
   pub rounds_assumed : (u : Universe N S) (old : Rounds N S) (encoding : Encoding N S) (search : ClauseSearch) (v : ℕ) → AreRounds u old → IsBounded encoding →
       notes_in encoding ≡ record (notes_of old) { exempt = (notes_in encoding).exempt } →
       ((d : Demands) (set : List S) → IsReadSoFar u d set (notes_of old) → IsReadSoFar u d set (notes_in encoding)) → IsConsistent search →
@@ -834,7 +834,7 @@ module _ {N S : Type 0} where
         };
       }
 
-  -- what is held from now on
+  -- the entries that are held from now on
   module _ (u : Universe N S) (old : Rounds N S) (search : ClauseSearch) (trail : trail_of search ≡ trail_of old.search)
       (count : kept_of search ≡ kept_of old.search) where
     pub rounds_held : AreRounds u old → IsConsistent search → KeepsLoaded old.search search → AreRounds u (record old { search = search })
@@ -880,14 +880,14 @@ just_assumed old new v gains base held =
     let place : held_of new - 1 ≡ length_of (trail_of old) = omega (arith, held, gains.count) in
     record { base = omega (arith, base); place = ap (variable_at (trail_of new)) place ∙ ((trail_of new).listed v made gains.here).1 }
 
--- in the root's turn nothing is assumed
+-- nothing is assumed in the turn of the root
 pub root_assumed : {N S : Type 0} (origins : List (Origin N S)) (it : ClauseSearch) → IsRootTurn it → AreAssumed origins [] [] (trail_of it)
 root_assumed origins it turn = record {
   taken = λ v slot at reason value. absurd (turn.none v slot at reason);
   left_out = λ v slot at reason value. absurd (turn.none v slot at reason);
 }
 
--- the root's turn ended with an answer: no soft requirement had its turn yet
+-- the turn of the root ended with an answer, and no soft requirement had its turn yet
 pub between_begun : {N S : Type 0} (u : Universe N S) (root : Demands) (old rest : Rounds N S) → IsReadSoFar u root (chosen_of old) (notes_of old) →
     AreNear u root [] [] (notes_of old) → (notes_of old).exempt ≡ [] → IsRootTurn old.search → GoesOn u old rest → IsAnswering u rest → IsBetween u root [] rest
 between_begun {N} {S} u root old rest read near exempt turn goes answering =

@@ -1,4 +1,4 @@
--- The run over the soft requirements goes on by the turn of one.
+-- The run over the soft requirements goes on with one more turn.
 use Rattle.std.proofs.Common.{◌≡◌, ◌⊎◌, Bool, true, false, List, [], ◌∷◌, ◌++◌, Contains, Option, Some, None, refl, sym, ap, ◌∙◌}
 use Rattle.std.proofs.Common.{subst, ⊎_elim}
 use Rattle.std.specs.List.{filter, flat_map, list_any}
@@ -25,7 +25,7 @@ use Rattle.resolver_clause_store.proofs.ListLemmas.{Contains-cons_cases as cons_
 use Rattle.resolvo.proofs.SoftLemmas.{asked_for}
 use Rattle.resolver_encoding.proofs.LedLemmas.{one_within}
 
--- a list gathered from parts has what one more part brings
+-- a gathered list with the elements of one more part
 gathered : {X A : Type 0} (f : X → List A) (xs : List X) (x : X) → flat_map f (xs ++ x ∷ []) ≡ flat_map f xs ++ (f x ++ [])
 gathered f xs x = flat_map-append f xs (x ∷ [])
 
@@ -39,14 +39,14 @@ gathered_last {X} {A} f xs x a h =
     let Has : List A → Type 0 = λ list. Contains list a in
     subst Has (sym (gathered f xs x)) (Contains-append_right (flat_map f xs) (f x ++ []) a (Contains-append_left (f x) [] a h))
 
--- a list of one
+-- a list of one element
 met_one : {X : Type 0} (x : X) (xs : List X) → Meets (x ∷ []) xs → Contains xs x
 met_one {X} x xs m =
     let Has : X → Type 0 = λ y. Contains xs y in
     ⊎_elim (λ (is : x ≡ m.shared). subst Has (sym is) m.in_second) (λ (none : Contains [] m.shared). absurd (none_in m.shared none))
     (cons_cases x [] m.shared m.in_first)
 
--- what a filter takes
+-- an element that passes the filter
 taken_by : {X : Type 0} (p : X → Bool) (xs : List X) (x : X) → Contains xs x → p x ≡ true → Contains (filter p xs) x
 taken_by p [] x h on = absurd (none_in x h)
 taken_by {X} p (y ∷ ys) x h on =
@@ -72,7 +72,7 @@ in_front {X} same identity y xs x h =
     (cases_Bool (list_any (λ z. same z y) xs))
 
 module _ {N S : Type 0} (u : Universe N S) where
-  -- what a version set takes is among its sorted candidates
+  -- a candidate that matches a version set is among its sorted candidates
   favored_kept : IsIdentity u.same_solvable → (o : Option S) (xs : List S) (s : S) → Contains xs s → Contains (favored_first u o xs) s
   favored_kept identity None xs s h = h
   favored_kept identity (Some f) xs s h = in_front u.same_solvable identity f xs s h
@@ -123,7 +123,7 @@ module _ {N S : Type 0} (u : Universe N S) where
         (asked_for u root (chosen_of new) (done ++ Solvable s ∷ []) (notes_of new) h.standing.read h.standing.near) in
         search (b.promise, h.standing)
 
-    -- the turn of a version set of which a candidate is chosen
+    -- the turn of a version set with a chosen candidate
     pub between_met : (done : List (SoftRequirement S)) (v : VersionSetId) (r : Rounds N S) → Meets (matching u v) (chosen_of r) → IsBetween u root done r →
         IsBetween u root (done ++ Matching v ∷ []) r
     between_met done v r meets b =
@@ -133,7 +133,7 @@ module _ {N S : Type 0} (u : Universe N S) where
         (asked_for u root (chosen_of r) (done ++ Matching v ∷ []) (notes_of r) standing.read standing.near) in
         search b.promise
 
-    -- the turn of one of which none is
+    -- the turn of a version set without a chosen candidate
     run_tried : (first : List S) (done : List (SoftRequirement S)) (taken chosen exempt : List S) (asked : List N) (v : VersionSetId)
         (candidates taken_now chosen_now : List S) (is_chosen : Bool) (asked_now : List N) →
         SoftRun u root first done taken chosen exempt asked → (Meets (matching u v) chosen → ⊥) → IsWithin candidates (matching u v) →
@@ -165,7 +165,7 @@ module _ {N S : Type 0} (u : Universe N S) where
         (asked_for u root (chosen_of new) (done ++ Matching v ∷ []) (notes_of new) h.standing.read h.standing.near)) in
         search (b.promise, h.standing)
 
-    -- what a turn was, by its answer
+    -- no candidate was taken if none is chosen after the turn
     none_taken : (taken chosen exempt candidates taken_now chosen_now : List S) (is_chosen : Bool) →
         IsOneTaken u root taken chosen exempt candidates taken_now chosen_now is_chosen → is_chosen ≡ false →
         (taken_now ≡ taken) × (chosen_now ≡ chosen) × ((s : S) → Contains candidates s → FitsNowhere u root chosen exempt s)

@@ -1,4 +1,4 @@
--- How a search's outcome answers a problem or explains that there is none.
+-- The outcome of a search gives an answer or a conflict that explains.
 use Rattle.std.proofs.Common.{ℕ, List, All, Bool}
 use Rattle.resolver_clause_store.specs.Laws.{IsIdentity}
 use Rattle.resolver_clause_store.specs.Outcomes.{IsCore}
@@ -18,7 +18,7 @@ use Rattle.resolver_clause_store.specs.declared.Rule.{Rule}
 use Rattle.resolver_report.proofs.ReachedRuleLemmas.{All-left}
 use Rattle.resolvo.specs.Explanations.{Explains}
 
--- a core of an encoding explains itself
+-- a core of an encoding explains
 pub explained : {N S : Type 0} (u : Universe N S) (same_name : N → N → Bool) (root : Demands) (notes : Notes N S) (core : List ℕ)
     (rules kept : List (Rule N S)) →
     HasLawfulSolvables u → IsIdentity same_name → IsEncoding u root notes → IsCore notes.table core →

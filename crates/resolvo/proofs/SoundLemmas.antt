@@ -32,7 +32,7 @@ use Rattle.resolver_clause_store.proofs.ListLemmas.{Contains-cons_cases as cons_
 use Rattle.resolver_clause_store.proofs.ListLemmas.{list_any-witness as any_from}
 use Rattle.resolvo.specs.declared.minimal.rule_clauses.RuleClause.{RuleClause}
 
--- whether the rule's list with this number has a member that passes
+-- whether the list of the rule with this number has a member that passes
 abbrev pub list_passes : {N S : Type 0} → (S → Bool) → ℕ → Rule N S → Bool
 list_passes has list (Requires by requirement candidates when) =
     option_map_or (λ (one : Vec _ Global). list_any has one.items) (slice_get when.items list) false
@@ -41,7 +41,7 @@ list_passes has list (Lock locked forbidden) = false
 list_passes has list (Excluded solvable reason) = false
 list_passes has list (OnePerPackage name instance) = false
 
--- whether the rule marks an instance that passes for such a name, and its code has the bit
+-- whether the rule marks an instance that passes, under a name that passes, and its code has the bit
 abbrev pub gives_bit : {N S : Type 0} → (N → Bool) → (S → Bool) → ℕ → Rule N S → ℕ → Bool
 gives_bit named has i (Requires by requirement candidates when) code = false
 gives_bit named has i (Constrains by version_set candidate) code = false
@@ -49,7 +49,7 @@ gives_bit named has i (Lock locked forbidden) code = false
 gives_bit named has i (Excluded solvable reason) code = false
 gives_bit named has i (OnePerPackage name instance) code = named name && (has instance && bit code i)
 
--- whether a marked rule does
+-- whether a marked rule gives the bit
 abbrev pub some_bit : {N S : Type 0} → (N → Bool) → (S → Bool) → ℕ → List Bool → List (Rule N S) → List ℕ → Bool
 some_bit named has i [] rules codes = false
 some_bit named has i (b ∷ marks) [] codes = false
@@ -188,7 +188,7 @@ module _ {N S : Type 0} (value : Proposition N S → Bool) where
       ap (λ b. b || clause_true (values_of propositions) literals) one ∙
       ap (λ b. beq (value a.proposition) a.positive || b) (clause_as_atoms propositions literals atoms rest)
 
--- what a proposition says of a set and the marked rules
+-- the value of a proposition, for a set and the marked rules
 abbrev pub value_in : {N S : Type 0} → (N → N → Bool) → (S → S → Bool) → List S → List Bool → List (Rule N S) → List ℕ → Proposition N S → Bool
 value_in names solvables set marks rules codes (Member s) = list_any (solvables s) set
 value_in names solvables set marks rules codes (Listed rule list) =
@@ -224,7 +224,7 @@ module _ {N S : Type 0} (names : N → N → Bool) (solvables : S → S → Bool
   abbrev passes : Option (Vec S Global) → Bool
   passes o = option_map_or (λ (one : Vec S Global). list_any has one.items) o false
 
-  -- lists whose variables are true have members in the set
+  -- lists with true variables have members in the set
   lists_meet : (lists : List (Vec S Global)) → ((j : ℕ) → j < length lists → passes (slice_get lists j) ≡ true) → AllMeet set (lists_of lists)
   lists_meet lists on = All-map (λ xs. Meets xs set) (λ (list : Vec S Global). list.items) lists (λ k d below.
       let one : Vec S Global = get_or lists k d in

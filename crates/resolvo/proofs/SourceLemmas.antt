@@ -1,4 +1,4 @@
--- Where the clauses of a table come from.
+-- The sources of the clauses of a table.
 use Rattle.std.proofs.Common.{◌≡◌, ℕ, ◌<◌, ◌≤◌, ◌⊎◌, List, [], ◌∷◌, ◌++◌, length, get_or, Option, Some, None, arith, inl, inr, refl, sym, ap, ◌∙◌, ⊎_elim}
 use Rattle.std.proofs.Common.{length-append}
 use Rattle.std.specs.Option.{option_map_or}
@@ -22,7 +22,7 @@ causes_at-get_or sources place d within = ap (λ o. option_map_or causes_of o []
 pub given_at-past : (sources : List Source) (place : ℕ) → length sources ≤ place → given_at sources place ≡ None
 given_at-past sources place past = ap (λ o. option_map_or number_of o None) (slice_get_past sources place past)
 
--- a given clause stands within the table
+-- a given clause is in the table
 pub given_within : (sources : List Source) (place number : ℕ) → given_at sources place ≡ Some number → place < length sources
 given_within sources place number is = ⊎_elim
     (λ less. less)
@@ -47,7 +47,7 @@ pub causes_at-last : (sources : List Source) (source : Source) → causes_at (so
 causes_at-last sources source = causes_at-get_or (sources ++ source ∷ []) (length sources) source (simp length-append (omega arith)) ∙
     ap causes_of (get_or-append_seam sources source [] source)
 
--- a clause of the longer table is one of the table or the last
+-- a clause of the longer table is in the old table, or is the last one
 pub given_at-cases : (sources : List Source) (source : Source) (place number : ℕ) → given_at (sources ++ source ∷ []) place ≡ Some number →
     ((place < length sources) × (given_at sources place ≡ Some number)) ⊎ ((place ≡ length sources) × (number_of source ≡ Some number))
 given_at-cases sources source place number is = ⊎_elim

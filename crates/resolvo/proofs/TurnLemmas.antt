@@ -1,4 +1,4 @@
--- Turns: what is held of a trail, and what begins and ends a turn.
+-- Turns: the held entries of a trail, and the start and the end of a turn.
 use Rattle.std.proofs.Common.{◌≡◌, ℕ, ◌+◌, ◌<◌, ◌≤◌, List, length, min, max, Some, None, arith, inl, inr, refl, sym, ap, ◌∙◌, subst, ⊎_elim}
 use Rattle.std.specs.Prelude.{Vec}
 use Rattle.std.specs.List.{All}
@@ -49,7 +49,7 @@ turn-kept old new base held kept left turn keeps bookmarked = record {
   bookmarked = bookmarked;
 }
 
--- what is held stays where the levels above the base are undone
+-- the held entries stay when levels above the base are undone
 pub held-undone : (old new : Trail) (base held kept level : ℕ) → IsTurn old base held kept → IsUndone old new level → base ≤ level → KeepsPlaces old new held
 held-undone old new base held kept level turn undone high =
     keeps_places old new held turn.inside (λ v s at below. undone.kept v s at (omega (arith, turn.low v s at below, high)))
@@ -60,7 +60,7 @@ turn-undone old new base held kept level left turn undone high is =
     let keeps = held-undone old new base held kept level turn undone high in
     turn-kept old new base held kept left turn keeps (omega (arith, turn.bookmarked, keeps.are, is))
 
--- and where a literal is set then
+-- they stay when a literal is set after that
 pub held-backtracked : (old middle new : Trail) (base held kept level : ℕ) → IsTurn old base held kept → IsUndone old middle level → base ≤ level →
     Keeps middle new → KeepsPlaces old new held
 held-backtracked old middle new base held kept level turn undone high keeps =
@@ -74,7 +74,7 @@ turn-backtracked old middle new base held kept level left turn undone high keeps
     turn-kept old new base held kept left turn (held-backtracked old middle new base held kept level turn undone high keeps)
     (omega (arith, turn.bookmarked, first.are, is))
 
--- no step but the beginning of a turn assumes a variable
+-- only the start of a turn assumes a variable
 pub none-undone : (old new : Trail) (level : ℕ) → IsUndone old new level → AssumesNone old new
 none-undone old new level undone = record { was = λ v s at reason. (undone.stays v s at).0 }
 
@@ -120,7 +120,7 @@ turn-trans a b c first second = record {
   places = λ base k. second.places base (first.places base k);
 }
 
--- the turn stays where the trail keeps what is held
+-- the turn is the same if the trail keeps the held entries
 pub keeps-turn : (old new : ClauseSearch) → new.base ≡ old.base → new.held ≡ old.held → AssumesNone old.trail new.trail →
     KeepsPlaces old.trail new.trail old.held → KeepsTurn old new
 keeps-turn old new base held assumed keeps = record {
@@ -130,7 +130,7 @@ keeps-turn old new base held assumed keeps = record {
   places = let Held : ℕ → Type 0 = λ n. KeepsFirst old.trail old.held new.trail n in subst Held (sym held) (first-held old.trail new.trail old.held keeps);
 }
 
--- where the whole trail is held
+-- the whole trail is held
 pub turn-whole : (trail : Trail) (base held kept : ℕ) → IsTop trail base → base ≤ length_of trail → held ≡ length_of trail → held ≤ kept + 1 →
     IsTurn trail base held kept
 turn-whole trail base held kept top bound whole bookmarked = record {
@@ -181,7 +181,7 @@ pub consistent-held : (it : ClauseSearch) (base held : ℕ) (in_lists : ∥ AreI
 consistent-held it base held in_lists bookmarked top bound whole holds =
     assumption (turn-whole it.trail base held it.kept top bound whole (omega (arith, whole, bookmarked)))
 
--- a trail of which the first places are left
+-- a trail that was cut
 false_before-cut : (old new : Trail) (count variable : ℕ) (slot : Slot) (literal : Literal) → IsCut old new count → slot_of new variable ≡ Some slot →
     IsFalseBefore old slot.place literal → IsFalseBefore new slot.place literal
 false_before-cut old new count variable slot literal cut at f =
@@ -231,13 +231,13 @@ first-cut old new kept count left cut within is =
     let Left : ℕ → Type 0 = λ n. KeepsFirst old kept new n in
     subst Left (sym is) (λ base k. keeps_trans base old new kept count k (keeps_places old new count within (λ v s at below. cut.kept v s at below)))
 
--- what is loaded does not depend on the turn
+-- the loaded clauses do not depend on the turn
 pub loaded-turn : (it : ClauseSearch) (trail : Trail) (propagator : Propagator) (queue : DecideQueue) (kept base held : ℕ)
     (in_lists : ∥ AreInLists it.table.items propagator.watches ∥₁) (given : List (Vec Literal Global)) (numbers : List ℕ) → IsLoaded given numbers it →
     IsLoaded given numbers (record it { trail = trail; propagator = propagator; queue = queue; kept = kept; base = base; held = held; in_lists = in_lists })
 loaded-turn it trail propagator queue kept base held in_lists given numbers loaded = assumption
 
--- more variables, and a descent
+-- more variables, and further entries
 pub turn-grown : (it : ClauseSearch) (trail : Trail) (propagator : Propagator) (queue : DecideQueue) (variables : ℕ)
     (in_lists : ∥ AreInLists it.table.items propagator.watches ∥₁) → IsConsistent it → IsGrown it.trail trail variables →
     KeepsTurn it (record it { trail = trail; propagator = propagator; queue = queue; in_lists = in_lists })
@@ -265,13 +265,13 @@ consistent-descended it trail propagator queue in_lists holds size justified cho
     (keeps-fewer it.trail trail (length_of it.trail) it.held keeps holds.turn.inside) holds.turn.bookmarked in
     assumption
 
--- a learnt clause is implied by the given ones
+-- the given clauses imply a learnt clause
 implied-learnt : (given table : List (Vec Literal Global)) (sources : List Source) (causes : List ℕ) (literals : List Literal) → IsDerived table sources →
     AreGiven given table sources → All (λ n. n < length table) causes → FollowsFrom table causes literals → IsImplied given literals
 implied-learnt given table sources causes literals derived are within follows =
     λ values holds. follows values (λ k d below. implied given table sources _ derived are (within k d below) values holds)
 
--- a learnt clause that is false at the base refuses
+-- a learnt clause that is false at the base refuses the assumption
 pub refused : (it : ClauseSearch) (given : List (Vec Literal Global)) (numbers : List ℕ) (learnt : Learnt) → IsConsistent it → IsLoaded given numbers it →
     IsLearnt it.table.items it.trail learnt → level_in it.trail learnt.literal.variable ≤ it.base → IsRefused given it.trail it.base
 refused it given numbers learnt holds loaded is low =
@@ -301,7 +301,7 @@ refused it given numbers learnt holds loaded is low =
           };
     }
 
--- the level that is jumped to is below the one of the literal that is set
+-- the level to which the search backtracks is lower than the level of the asserting literal
 pub below-asserted : (trail : Trail) (backtrack_level base back : ℕ) (literal : Literal) (literals : List Literal) →
     IsAsserting trail backtrack_level literal literals →
     base < level_in trail literal.variable → back ≡ max backtrack_level base → back < level_in trail literal.variable

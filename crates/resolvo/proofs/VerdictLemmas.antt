@@ -1,4 +1,4 @@
--- What a search over the clauses of the marked rules decides of these.
+-- The decision of a search over the clauses of the marked rules.
 use Rattle.std.proofs.Common.{◌≡◌, ℕ, zero, suc, ◌<◌, ◌≤◌, ◌⊎◌, inl, inr, List, [], ◌∷◌, length, get_or, arith, refl, sym, ◌∙◌, subst, Bool, true}
 use Rattle.std.proofs.Common.{false, Contains, All, Any, ⊎_elim, Vec, Global, Option, Some, None}
 use Rattle.std.specs.Bool.{beq}
@@ -91,7 +91,7 @@ guarded_true trail (first ∷ second ∷ []) guarded propagated = value_cases (l
     of_two is_false other (suc (suc k), below, is) = absurd (omega (arith, below))
 guarded_true trail (first ∷ second ∷ third ∷ rest) guarded propagated = absurd guarded
 
--- each number that a list of requirements names
+-- each number of a list of requirements
 named : (P : ℕ → Type 0) (requirements : List RequirementClause) → All (λ (requirement : RequirementClause). P requirement.number) requirements →
     All P (numbers_of requirements)
 named P requirements all = All-map P (λ (requirement : RequirementClause). requirement.number) requirements all
@@ -157,7 +157,7 @@ places_inside rules variables marks from clauses places numbers decide are = λ 
     let small : it.clause.rule < length rules = All-contains (λ (clause : RuleClause). clause.rule < length rules) from it.clause decide.places it.among in
     omega (arith, same, small)
 
--- the variables of the marked clauses are those of all
+-- the variables of the marked clauses are among all variables
 pub marked_below : {N S : Type 0} (rules : List (Rule N S)) (variables : ℕ) (marks : List Bool) (from : List RuleClause) (clauses : List (Vec Literal Global))
     (places numbers : List ℕ) → DecideRules rules variables from → AreMarkedClauses marks from clauses places numbers → AreBelow variables clauses
 marked_below rules variables marks from clauses places numbers decide are = λ number. ⊎_elim
@@ -178,7 +178,7 @@ requirements_inside count (r ∷ rest) all =
     (All-head (λ number. number < count) r.number (numbers_of rest) all)
     (requirements_inside count rest (All-tail (λ number. number < count) r.number (numbers_of rest) all))
 
--- nothing was assumed before, and so nothing is
+-- nothing is assumed in a later state of the turn of the root
 pub still_root : (old new : ClauseSearch) → IsRootTurn old → KeepsTurn old new → IsRootTurn new
 still_root old new root keeps = record {
   base = keeps.base ∙ root.base;

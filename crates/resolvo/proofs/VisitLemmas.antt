@@ -1,4 +1,4 @@
--- What a look at a clause that watches a false literal leaves.
+-- The effect of a visit to a clause that watches a false literal.
 use Rattle.std.proofs.Common.{◌≡◌, ◌≢◌, ℕ, ◌+◌, ◌-◌, ◌<◌, ◌≤◌, ◌⊎◌, List, [], ◌∷◌, ◌++◌, length, get_or, Option, Some, None, Bool, true, false, inl, inr, refl}
 use Rattle.std.proofs.Common.{sym, ap, ◌∙◌, subst, ⊎_elim, arith}
 use Rattle.std.specs.Prelude.{All, Any, Contains, Vec, slice_get, if◌then◌else◌}
@@ -54,7 +54,7 @@ satisfied-before trail clause h =
     any-map (λ (l : Literal). literal_value trail l ≡ Some true) (IsTrueBefore trail (length_of trail)) clause (λ l e.
     let v = value-true _ _ e in record { slot = v.0; is = v.1; true_there = v.2; earlier = (trail.listed _ _ v.1).0 }) h
 
--- what is noted of a clause that is true
+-- a true clause is noted
 pub record NotesMore (table : List (Vec Literal Global)) (trail : Trail) (old new : List Late) (pending : List ℕ) (attached level number : ℕ) : Type 0 where
   pub late : AreLate table trail new
   pub inside : All (λ (l : Late). l.number < attached) new
@@ -177,7 +177,7 @@ passes table trail old new falsified place number v stands inside satisfied watc
 abbrev pub with_watches : Propagator → Watches → Propagator
 with_watches it watches = record { watches = watches; late = it.late; pending = it.pending; head = it.head }
 
--- another blocker
+-- a new blocker
 pub sets : (table : List (Vec Literal Global)) (trail : Trail) (old : Propagator) (watches : Watches) (falsified : FalseLiteral) (place : ℕ) →
     IsVisiting table trail old falsified place → SameClauses (lists_of old.watches) (lists_of watches) → pairs_of watches ≡ pairs_of old.watches →
     HasBlockers table (lists_of watches) → IsVisiting table trail (with_watches old watches) falsified place
@@ -433,7 +433,7 @@ visited table trail it falsified count v all stands =
       };
     }
 
--- the other literal that is watched stands in the clause
+-- the other watched literal is in the clause
 pub own-other : (table : List (Vec Literal Global)) (trail : Trail) (it : Propagator) (number : ℕ) (literal other : Literal) → IsPropagator table trail it →
     IsPaired (pairs_of it.watches) number literal other → Contains (clause_at table number) other
 own-other table trail it number literal other is p = is.watched.own number other (paired-other (pairs_of it.watches) number literal other p.is)

@@ -1,4 +1,4 @@
--- Where each clause watches two literals of its own, each stands in two lists.
+-- A clause that watches two literals of its own is in the lists of both.
 use Rattle.std.proofs.Common.{◌≡◌, ℕ, ◌<◌, ◌≤◌, List, [], ◌∷◌, ◌++◌, length, Option, Some, None, Result, Ok, Err, OnErr, OnOk, arith, inl, inr, refl, sym, ap}
 use Rattle.std.proofs.Common.{◌∙◌, subst, ⊎_elim, length-append}
 use Rattle.std.specs.Prelude.{Vec}
@@ -19,12 +19,12 @@ use Rattle.resolvo.specs.Attaching.{AreApart}
 use Rattle.resolvo.specs.Propagators.{IsConstant, IsPropagator, WatchesTwo, attached_of}
 use Rattle.resolvo.specs.WatchedClauses.{AreInLists, AreOwned, OwnsPair}
 
--- what holds in any case holds where a call is refused
+-- a property that always holds, for a call that is refused
 pub refused-any : {A B : Type 0} (r : Result A B) (P : Type 0) → P → OnErr r P
 refused-any (Ok x) P holds = tt
 refused-any (Err e) P holds = holds
 
--- what propagation keeps says so of each clause
+-- by the invariant of propagation, each clause watches literals of its own
 pub owned-of : (table : List (Vec Literal Global)) (trail : Trail) (it : Propagator) → IsPropagator table trail it → AreOwned table (pairs_of it.watches)
 owned-of table trail it is = λ number inside one other apart.
     let w = is.watched in
@@ -59,7 +59,7 @@ owned-kept table old new size kept owned =
     λ number inside. subst (λ (pair : WatchedPair). OwnsPair (clause_at table number) pair) (sym (kept number (omega (arith, inside, size))))
     (owned number inside)
 
--- a clause behind the others
+-- a clause after the others
 pub owned-added : (table : List (Vec Literal Global)) (clause : Vec Literal Global) (old new : List WatchedPair) → length old ≡ length table →
     ((number : ℕ) → number < length old → pair_at new number ≡ pair_at old number) → OwnsPair clause.items (pair_at new (length old)) → AreOwned table old →
     AreOwned (table ++ clause ∷ []) new
@@ -80,7 +80,7 @@ owns-chosen : (clause : List Literal) (pair : Option (Literal × Literal)) → M
 owns-chosen clause None constant one other apart = absurd (apart.differ (constant one other apart.has_first apart.has_second))
 owns-chosen clause (Some (first, second)) chosen one other apart = record { first = first; second = second; is = refl; apart = chosen }
 
--- the pair of a clause that was attached
+-- the watched pair of a clause that was attached
 pub owns-push : (clause : List Literal) (old new : List WatchedPair) (pair : Option (Literal × Literal)) → new ≡ old ++ pair_from pair ∷ [] →
     MatchOption pair (IsConstant clause) (λ two. AreApart clause two.0 two.1) → OwnsPair clause (pair_at new (length old))
 owns-push clause old new pair is chosen =
@@ -88,7 +88,7 @@ owns-push clause old new pair is chosen =
     get_or_push old (pair_from pair) unwatched (length old) refl in
     subst (λ (p : WatchedPair). OwnsPair clause p) (sym last) (owns-chosen clause pair chosen)
 
--- who watches two literals stands in their lists
+-- a clause that watches two literals is in their lists
 pub in_lists : (table : List (Vec Literal Global)) (watches : Watches) → AreOwned table (pairs_of watches) → AreInLists table watches
 unfolding pair_count stands_in
 in_lists table watches owned = λ number inside one other apart.

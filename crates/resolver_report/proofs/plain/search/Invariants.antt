@@ -2,7 +2,7 @@ use Rattle.std.proofs.Common.{suc}
 use Rattle.resolver_report.specs.Searching.{IsStep, search_work, steps_left, untried_view}
 use Rattle.resolver_report.proofs.plain.search.Given as goal
 
--- what holds after a step
+-- the invariant after a step
 abbrev pub invariant-loop-step : goal.invariant-loop-step
 invariant-loop-step g l =
     let untried = untried_view l.untried.items in

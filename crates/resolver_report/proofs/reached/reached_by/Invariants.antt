@@ -6,6 +6,6 @@ use Rattle.resolver_report.proofs.reached.reached_by.Given as goal
 abbrev pub invariant-loop-next : goal.invariant-loop-next
 invariant-loop-next g l = IsUnderway g.S.PartialEq.eq l.rules l.set.keys l.next
 
--- how many of the rules' candidates are outside the set, and how many members are still to be followed
+-- the number of candidates of the rules outside the set, and the number of members that are still to be followed
 abbrev pub decreases-loop-next : goal.decreases-loop-next
 decreases-loop-next g l = (count_outside g.S.PartialEq.eq l.set.keys (all_candidates l.rules) + length l.set.keys) - l.next

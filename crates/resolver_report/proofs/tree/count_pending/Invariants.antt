@@ -2,7 +2,7 @@ use Rattle.std.proofs.Common.{◌≡◌, ◌+◌, ◌≤◌, [], length, string_
 use Rattle.resolver_report.specs.PendingTexts.{HasLevels, pending_text, pending_view, pending_work}
 use Rattle.resolver_report.proofs.tree.count_pending.Given as goal
 
--- what is counted, and what is still to be told, is no more than all
+-- the bytes counted so far and the text still to be told are no longer than the whole text
 abbrev pub invariant-steps : goal.invariant-steps
 invariant-steps g l = record {
   counted : l.count + length (pending_text g.I.Interner.universe l.outline (pending_view l.pending)) ≤

@@ -2,7 +2,7 @@ use Rattle.std.proofs.Common.{◌≡◌, string_bytes}
 use Rattle.resolver_report.specs.PendingTexts.{HasLevels, pending_view, pending_work}
 use Rattle.resolver_report.proofs.tree.reserve_pending.Given as goal
 
--- the text is as it was
+-- the text does not change
 abbrev pub invariant-loop-line : goal.invariant-loop-line
 invariant-loop-line g l = record {
   kept : string_bytes l.out ≡ string_bytes l.initial.out;

@@ -2,7 +2,7 @@ use Rattle.std.proofs.Common.{◌≡◌, ◌++◌, string_bytes}
 use Rattle.resolver_report.specs.PendingTexts.{HasLevels, pending_text, pending_view, pending_work}
 use Rattle.resolver_report.proofs.tree.tell_pending.Given as goal
 
--- what is written, and what is still to be told, is all
+-- the text written so far and the text still to be told are the whole text
 abbrev pub invariant-loop : goal.invariant-loop
 invariant-loop g l = record {
   text : string_bytes l.out ++ pending_text g.I.Interner.universe l.outline (pending_view l.pending) ≡ string_bytes l.initial.out ++

@@ -7,7 +7,7 @@ use Rattle.resolvo.proofs.RotationLemmas.{marked_needed, needed_next}
 use Rattle.std.specs.Prelude.{replicate}
 use Rattle.resolvo.proofs.minimal.take_turn.Goals as goal
 
--- the marks as they are lent
+-- the marks as they were lent
 same_marks : (count : ℕ) (lent marks slice kept : List Bool) → lent ≡ marks → marks ≡ others_of slice (count - (length slice + 1)) → slice ≡ kept →
     lent ≡ others_of kept (count - (length kept + 1))
 same_marks count lent marks slice kept a b e = a ∙ (b ∙ ap (λ q. others_of q (count - (length q + 1))) e)
@@ -17,7 +17,7 @@ others_length : (count : ℕ) (kept : List Bool) → length kept < count → len
 others_length count kept below =
     omega (arith, below, length-append kept (false ∷ replicate (count - (length kept + 1)) true), length-replicate (count - (length kept + 1)) true)
 
--- the mark behind the first ones, as it is read
+-- the mark after the first ones, as it was read
 standing : (core kept : List Bool) (place : ℕ) (mark : Bool) → place ≡ length kept → mark ≡ get_or core place mark → mark ≡ false →
     get_or core (length kept) mark ≡ false
 standing core kept place mark at is off = ap (λ n. get_or core n mark) (sym at) ∙ (sym is ∙ off)

@@ -9,7 +9,7 @@ use Rattle.resolver_clause_store.proofs.watches.Watches.move_watch.Goals as goal
 pub invariant_of-self : goal.invariant_of-self
 invariant_of-self c = record { watched = watched-lists _ _ _ (puts-same _ _ _ c.in_err-push_at.ensures.err) c.args.self.now.watched }
 
--- what was done
+-- the steps that were taken
 moves : (c : goal.After-self-2-1) →
     IsMove c.args.self.now.lists.items c.push_at.new.lists.items c.take_at.new.lists.items c.args.self.now.pairs.items c.args.from c.args.to c.args.place
     c.args.blocker c.watch_at-number.result c.replaced.result

@@ -3,7 +3,7 @@ use Rattle.resolver_clause_store.specs.Rules.{IsRefuted}
 use Rattle.resolvo.specs.Minimal.{marked}
 use Rattle.resolvo.proofs.minimal.refining.refine.Given as goal
 
--- the marked rules are refuted where all are
+-- the marked rules are refuted if all rules are
 abbrev pub invariant-searches : goal.invariant-searches
 invariant-searches g l = record {
   size : length l.marks.items ≡ length l.rules;

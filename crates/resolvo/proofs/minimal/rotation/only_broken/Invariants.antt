@@ -2,6 +2,6 @@ use Rattle.std.proofs.Common.{take}
 use Rattle.resolvo.specs.Rotations.{BrokenIs, value_at}
 use Rattle.resolvo.proofs.minimal.rotation.only_broken.Given as goal
 
--- the clauses so far break this rule alone, if any
+-- of the clauses so far, the values make only clauses of this rule false, if any
 abbrev pub invariant-clauses : goal.invariant-clauses
 invariant-clauses l = BrokenIs (value_at l.values) l.kept (take l.index l.clauses) l.broken

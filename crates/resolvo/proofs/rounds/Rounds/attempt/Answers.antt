@@ -12,7 +12,7 @@ use Rattle.resolvo.specs.RoundStates.{notes_of}
 use Rattle.resolvo.proofs.RoundLemmas.{room_trans}
 use Rattle.resolvo.proofs.rounds.Rounds.attempt.Goals as goal
 
--- the limits stay where a turn begins
+-- the limits stay when a turn begins
 limits_begun : {N S : Type 0} (old new : Notes N S) (exempt : List S) → new ≡ record old { exempt = exempt } → KeepsLimits old new
 limits_begun {N} {S} old new exempt only =
     record { variables = ap (λ (n : Notes N S). n.variable_limit) only; clauses = ap (λ (n : Notes N S). n.clause_limit) only }

@@ -17,7 +17,7 @@ use Rattle.resolvo.specs.declared.rounds.Rounds.{Rounds}
 use Rattle.resolvo.proofs.solver.Solver.outcome.Goals as goal
 use Rattle.std.proofs.lemmas.Result.{IfOk-at_ok, IfErr-weaker}
 
--- a core that was found has numbers of clauses
+-- each clause of a core that was found has a number in the table
 core_within : {N S : Type 0} (u : Universe N S) (rounds : Rounds N S) (found : Found) (core : Vec ℕ Global) → found ≡ Contradiction core →
     IsSomeDone u rounds found → All (λ n. n < length (notes_of rounds).table) core.items
 core_within u rounds found core is done =
