@@ -1,6 +1,8 @@
 //! Clauses by number, and requirement clauses.
 
-ghost use Rattle.std.specs.Prelude.{◌<◌, ◌≡◌, length};
+ghost use Rattle.std.specs.Prelude.{◌<◌, ◌≡◌, ℕ, [], Box, Vec, length};
+ghost use Rattle.std.specs.Option.{option_map_or};
+ghost use Rattle.std.specs.declared.alloc.Global.{Global};
 ghost use Rattle.resolver_clause_store.specs.Formula.{clause_at};
 
 use crate::literals::Literal;
@@ -20,7 +22,9 @@ pub struct RequirementClause {
 
 impl RequirementClause {
     /// Returns the places after the candidates of each version set of a union, or none for a single version set.
-    pub fn ends(&self) -> &[usize] {
+    pub fn ends(&self) -> &[usize]
+        ensures { result.now ≡ option_map_or (λ (ends : Box (Vec ℕ Global) Global). ends.value.items) self.now.ends [] }
+    {
         match &self.ends {
             Some(ends) => ends.as_slice(),
             None => &[],
