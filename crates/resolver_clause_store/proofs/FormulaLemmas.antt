@@ -1,39 +1,40 @@
 -- Clauses of a table, and clauses under values.
-use Rattle.std.proofs.Common.{◌≡◌, ℕ, ◌<◌, ◌≤◌, List, [], ◌∷◌, ◌++◌, length, get_or, Bool, true, false, arith, refl, sym, ap, ◌∙◌, length-append}
-use Rattle.std.specs.Prelude.{Vec, not}
+use Rattle.std.proofs.Common.{◌≡◌, ℕ, zero, suc, ◌<◌, ◌≤◌, List, [], ◌∷◌, ◌++◌, length, get_or, Bool, true, false, arith, refl, sym, ap, ◌∙◌, length-append}
+use Rattle.std.specs.Prelude.{Option, Some, not, slice_get}
 use Rattle.std.specs.Bool.{beq}
-use Rattle.std.specs.Option.{option_map_or}
 use Rattle.std.specs.List.{All, AllByRecursion, Contains}
-use Rattle.std.specs.declared.alloc.Global.{Global}
 use Rattle.std.proofs.Math.ListN.{get_or-append}
 use Rattle.std.proofs.Math.Seq.{get_or-append_seam}
 use Rattle.std.proofs.lemmas.Bool.{or_from, or_parts}
 use Rattle.std.proofs.lemmas.List.Elements.{All-contains, All-from_recursion, recursion_from_All}
-use Rattle.std.proofs.lemmas.Option.{slice_get-get_or, slice_get_past}
+use Rattle.std.proofs.lemmas.Option.{get_or_from_slice_get, slice_get-get_or}
 use Rattle.resolver_clause_store.specs.declared.literals.Literal.{Literal}
 use Rattle.resolver_clause_store.specs.Formula.{clause_at, clause_true, literal_true}
 
-pub clause_at-get_or : (table : List (Vec Literal Global)) (number : ℕ) (d : Vec Literal Global) → number < length table →
-    clause_at table number ≡ (get_or table number d).items
-clause_at-get_or table number d within = ap (λ o. option_map_or (λ (clause : Vec Literal Global). clause.items) o []) (slice_get-get_or table number d within)
+pub clause_at-get_or : (table : List (List Literal)) (number : ℕ) (d : List Literal) → number < length table →
+    clause_at table number ≡ get_or table number d
+clause_at-get_or table number d within = get_or_from_slice_get table number (get_or table number d) [] (slice_get-get_or table number d within)
 
-pub clause_at-past : (table : List (Vec Literal Global)) (number : ℕ) → length table ≤ number → clause_at table number ≡ []
-clause_at-past table number past = ap (λ o. option_map_or (λ (clause : Vec Literal Global). clause.items) o []) (slice_get_past table number past)
+-- the clause that a look-up finds
+pub clause_at-found : (table : List (List Literal)) (number : ℕ) (clause : List Literal) → slice_get table number ≡ Some clause →
+    clause_at table number ≡ clause
+clause_at-found table number clause found = get_or_from_slice_get table number clause [] found
 
-pub clause_at-push : (table : List (Vec Literal Global)) (clause : Vec Literal Global) (number : ℕ) → number < length table →
+pub clause_at-past : (table : List (List Literal)) (number : ℕ) → length table ≤ number → clause_at table number ≡ []
+clause_at-past [] number past = refl
+clause_at-past (clause ∷ table) zero past = absurd (omega arith)
+clause_at-past (clause ∷ table) (suc number) past = clause_at-past table number (omega arith)
+
+pub clause_at-push : (table : List (List Literal)) (clause : List Literal) (number : ℕ) → number < length table →
     clause_at (table ++ clause ∷ []) number ≡ clause_at table number
-clause_at-push table clause number within = clause_at-get_or (table ++ clause ∷ []) number clause (simp length-append (omega arith)) ∙
-    ap (λ (c : Vec Literal Global). c.items) (get_or-append table (clause ∷ []) clause number within) ∙ sym (clause_at-get_or table number clause within)
+clause_at-push table clause number within = get_or-append table (clause ∷ []) [] number within
 
-pub clause_at-last : (table : List (Vec Literal Global)) (clause : Vec Literal Global) → clause_at (table ++ clause ∷ []) (length table) ≡ clause.items
-clause_at-last table clause = clause_at-get_or (table ++ clause ∷ []) (length table) clause (simp length-append (omega arith)) ∙
-    ap (λ (c : Vec Literal Global). c.items) (get_or-append_seam table clause [] clause)
+pub clause_at-last : (table : List (List Literal)) (clause : List Literal) → clause_at (table ++ clause ∷ []) (length table) ≡ clause
+clause_at-last table clause = get_or-append_seam table clause [] []
 
 -- the first clauses of a table
-pub clause_at-append : (table rest : List (Vec Literal Global)) (number : ℕ) → number < length table → clause_at (table ++ rest) number ≡ clause_at table number
-clause_at-append [] rest number within = absurd (omega arith)
-clause_at-append (d ∷ table) rest number within = clause_at-get_or (d ∷ table ++ rest) number d (simp length-append (omega arith)) ∙
-    ap (λ (c : Vec Literal Global). c.items) (get_or-append (d ∷ table) rest d number within) ∙ sym (clause_at-get_or (d ∷ table) number d within)
+pub clause_at-append : (table rest : List (List Literal)) (number : ℕ) → number < length table → clause_at (table ++ rest) number ≡ clause_at table number
+clause_at-append table rest number within = get_or-append table rest [] number within
 
 -- a clause without a true literal is false
 pub false-by_recursion : (values : ℕ → Bool) (clause : List Literal) → AllByRecursion (λ literal. literal_true values literal ≡ false) clause →

@@ -19,6 +19,7 @@ pub mod AvailabilityLemmas
 pub mod SlotLemmas
 pub mod MemberLemmas
 pub mod TrailLemmas
+pub mod ClauseLists
 pub mod FormulaLemmas
 pub mod PlaceLemmas
 pub mod GrowLemmas

@@ -83,7 +83,7 @@ held-cut active inactive met followed old new kept left clause index less reache
     held
 
 -- the first entries of the trail stay
-pub queued-cut : (old new : DecideQueue) (before after : Trail) (table : List (Vec Literal Global)) (requirements : List StoredRequirement) →
+pub queued-cut : (old new : DecideQueue) (before after : Trail) (table : List (List Literal)) (requirements : List StoredRequirement) →
     new.active.items ≡ old.active.items → new.inactive ≡ old.inactive → new.met ≡ old.met → new.followed.items ≡ old.followed.items → new.kept ≤ old.kept →
     KeepsPlaces before after new.kept → IsQueued old before table requirements → IsQueued new after table requirements
 queued-cut old new before after table requirements active inactive met followed less keeps it = record {
@@ -99,12 +99,12 @@ queued-cut old new before after table requirements active inactive met followed 
 }
 
 -- the same, for a queue that does not change
-pub queued-kept : (it : DecideQueue) (before after : Trail) (table : List (Vec Literal Global)) (requirements : List StoredRequirement) →
+pub queued-kept : (it : DecideQueue) (before after : Trail) (table : List (List Literal)) (requirements : List StoredRequirement) →
     KeepsPlaces before after it.kept → IsQueued it before table requirements → IsQueued it after table requirements
 queued-kept it before after table requirements keeps queued = queued-cut it it before after table requirements refl refl refl refl (omega arith) keeps queued
 
 -- other parts of the queue change
-pub queued-same : (old new : DecideQueue) (trail : Trail) (table : List (Vec Literal Global)) (requirements : List StoredRequirement) →
+pub queued-same : (old new : DecideQueue) (trail : Trail) (table : List (List Literal)) (requirements : List StoredRequirement) →
     new.active.items ≡ old.active.items → new.inactive ≡ old.inactive → new.met ≡ old.met → new.followed.items ≡ old.followed.items → new.kept ≡ old.kept →
     IsQueued old trail table requirements → IsQueued new trail table requirements
 queued-same old new trail table requirements active inactive met followed kept it = record {
@@ -117,7 +117,7 @@ queued-same old new trail table requirements active inactive met followed kept i
 }
 
 -- the clauses stay
-pub queued-grown : (it : DecideQueue) (trail : Trail) (table more : List (Vec Literal Global)) (requirements : List StoredRequirement) →
+pub queued-grown : (it : DecideQueue) (trail : Trail) (table more : List (List Literal)) (requirements : List StoredRequirement) →
     All (λ (r : StoredRequirement). r.number < length table) requirements →
     ((number : ℕ) → number < length table → clause_at more number ≡ clause_at table number) → IsQueued it trail table requirements →
     IsQueued it trail more requirements
@@ -135,7 +135,7 @@ held-more active more inactive met followed kept trail clause index held =
     ⊎_elim (λ (here : Contains active index). inl (Contains-append_left active more index here)) (λ rest. inr rest) held
 
 -- a requirement after the others
-pub queued-add : (old new : DecideQueue) (trail : Trail) (table : List (Vec Literal Global)) (requirements : List StoredRequirement)
+pub queued-add : (old new : DecideQueue) (trail : Trail) (table : List (List Literal)) (requirements : List StoredRequirement)
     (requirement : StoredRequirement) (last : ℕ) → last ≡ length requirements → new.active.items ≡ old.active.items ++ last ∷ [] → new.inactive ≡ old.inactive →
     new.met ≡ old.met → new.followed.items ≡ old.followed.items → new.kept ≡ old.kept → IsQueued old trail table requirements →
     IsQueued new trail table (requirements ++ requirement ∷ [])
@@ -159,7 +159,7 @@ queued-add old new trail table requirements requirement last end active inactive
 }
 
 -- the last place that was followed is forgotten
-pub queued-forget : (old new : DecideQueue) (trail : Trail) (table : List (Vec Literal Global)) (requirements : List StoredRequirement) (variable : ℕ) →
+pub queued-forget : (old new : DecideQueue) (trail : Trail) (table : List (List Literal)) (requirements : List StoredRequirement) (variable : ℕ) →
     old.kept < length old.followed.items → old.followed.items ≡ new.followed.items ++ variable ∷ [] → new.active.items ≡ old.active.items ++
     list_of old.met variable → ((v : ℕ) → v ≢ variable → list_of new.met v ≡ list_of old.met v) → new.inactive ≡ old.inactive → new.kept ≡ old.kept →
     IsQueued old trail table requirements → IsQueued new trail table requirements
@@ -205,7 +205,7 @@ queued-forget old new trail table requirements variable more followed active oth
     }
 
 -- the next place is followed
-pub queued-follow : (old new : DecideQueue) (trail : Trail) (table : List (Vec Literal Global)) (requirements : List StoredRequirement) (variable : ℕ) →
+pub queued-follow : (old new : DecideQueue) (trail : Trail) (table : List (List Literal)) (requirements : List StoredRequirement) (variable : ℕ) →
     length old.followed.items ≡ old.kept → old.kept < length_of trail → variable ≡ variable_at trail old.kept → new.followed.items ≡ old.followed.items ++
     variable ∷ [] → new.kept ≡ old.kept + 1 → new.met ≡ old.met →
     ((index : ℕ) → Contains old.active.items index → Contains new.active.items index) →
@@ -284,7 +284,7 @@ left-or xs place x inside is y there = ⊎_elim
     (Contains-permutation xs (x ∷ swap_remove xs place x) y (IsPermutation-swap_remove xs place x inside is) there))
 
 -- one requirement moved within the queue
-pub queued-settled : (old new : DecideQueue) (trail : Trail) (table : List (Vec Literal Global)) (requirements : List StoredRequirement) (settled : ℕ) →
+pub queued-settled : (old new : DecideQueue) (trail : Trail) (table : List (List Literal)) (requirements : List StoredRequirement) (settled : ℕ) →
     new.followed.items ≡ old.followed.items → new.kept ≡ old.kept →
     ((index : ℕ) → Contains old.active.items index → (settled ≡ index) ⊎ Contains new.active.items index) →
     ((v index : ℕ) → Contains (list_of old.inactive v) index → Contains (list_of new.inactive v) index) →
@@ -367,7 +367,7 @@ met-here met trail followed kept clause index variable same all exact parked has
     }
 
 -- the clause of the requirement that was read, whichever the default
-clause-read : (table : List (Vec Literal Global)) (requirements : List StoredRequirement) (index : ℕ) (d r : StoredRequirement) (literals : List Literal) →
+clause-read : (table : List (List Literal)) (requirements : List StoredRequirement) (index : ℕ) (d r : StoredRequirement) (literals : List Literal) →
     index < length requirements → r ≡ get_or requirements index r → literals ≡ clause_at table r.number →
     literals ≡ clause_at table (get_or requirements index d).number
 clause-read table requirements index d r literals inside is at = at ∙
@@ -382,7 +382,7 @@ left-read xs new place x taken inside read is same y there = ⊎_elim
     (left-or xs place taken inside is y there)
 
 -- a requirement that became inactive
-pub held-inactive : (active : List ℕ) (old inactive met : Lists) (followed : List ℕ) (kept : ℕ) (trail : Trail) (table : List (Vec Literal Global))
+pub held-inactive : (active : List ℕ) (old inactive met : Lists) (followed : List ℕ) (kept : ℕ) (trail : Trail) (table : List (List Literal))
     (requirements : List StoredRequirement) (r : StoredRequirement) (literals : List Literal) (index variable : ℕ) →
     list_of inactive variable ≡ list_of old variable ++ index ∷ [] → r ≡ get_or requirements index r → literals ≡ clause_at table r.number →
     Contains literals (record { variable = variable; positive = false }) ×
@@ -397,7 +397,7 @@ held-inactive active old inactive met followed kept trail table requirements r l
       not_true = not-true trail variable kept standing.1;
     }))
 
-pub held-by_candidate : (active : List ℕ) (inactive old met : Lists) (followed : List ℕ) (kept : ℕ) (trail : Trail) (table : List (Vec Literal Global))
+pub held-by_candidate : (active : List ℕ) (inactive old met : Lists) (followed : List ℕ) (kept : ℕ) (trail : Trail) (table : List (List Literal))
     (requirements : List StoredRequirement) (r : StoredRequirement) (literals : List Literal) (index variable : ℕ) →
     ((place : ℕ) → place < kept → slice_index followed place ≡ variable_at trail place) → kept ≡ length_of trail → length followed ≡ kept →
     list_of met variable ≡ list_of old variable ++ index ∷ [] → r ≡ get_or requirements index r → literals ≡ clause_at table r.number →
@@ -443,7 +443,7 @@ held-met active inactive met followed kept trail clause index none all exact hel
     held
 
 -- without active requirements, each requirement has a true candidate or is inactive
-pub all-met : (queue : DecideQueue) (trail : Trail) (table : List (Vec Literal Global)) (requirements : List StoredRequirement) →
+pub all-met : (queue : DecideQueue) (trail : Trail) (table : List (List Literal)) (requirements : List StoredRequirement) →
     length queue.active.items ≡ 0 → IsFollowed queue trail → IsQueued queue trail table requirements →
     All (λ (r : StoredRequirement). IsMet trail (clause_at table r.number)) requirements
 all-met queue trail table requirements none followed it = λ index d below.
@@ -465,14 +465,14 @@ places-fewer old new count fewer keeps less = record {
 }
 
 -- a trail that only grows
-pub queued-longer : (it : DecideQueue) (old new : Trail) (table : List (Vec Literal Global)) (requirements : List StoredRequirement) →
+pub queued-longer : (it : DecideQueue) (old new : Trail) (table : List (List Literal)) (requirements : List StoredRequirement) →
     KeepsPlaces old new (length_of old) → IsQueued it old table requirements → IsQueued it new table requirements
 queued-longer it old new table requirements keeps queued =
     queued-kept it old new table requirements (places-fewer old new (length_of old) it.kept keeps queued.following.reached) queued
 
 -- a trail of which the first entries are left, when the queue was cut
-pub queued-left : (it cut : DecideQueue) (old new : Trail) (table : List (Vec Literal Global)) (requirements : List StoredRequirement) (count left : ℕ) →
-    ((before after : Trail) (clauses : List (Vec Literal Global)) (wanted : List StoredRequirement) → KeepsPlaces before after (min it.kept count) →
+pub queued-left : (it cut : DecideQueue) (old new : Trail) (table : List (List Literal)) (requirements : List StoredRequirement) (count left : ℕ) →
+    ((before after : Trail) (clauses : List (List Literal)) (wanted : List StoredRequirement) → KeepsPlaces before after (min it.kept count) →
     IsQueued it before clauses wanted → IsQueued cut after clauses wanted) →
     KeepsPlaces old new left → count ≡ left → IsQueued it old table requirements → IsQueued cut new table requirements
 queued-left it cut old new table requirements count left noted keeps same queued =

@@ -376,21 +376,21 @@ puts-all P old new list watches puts all' before l = ⊎_elim
     (λ (ne : l ≢ list). subst (λ (ws : List Watch). All P ws) (sym (puts.others l ne)) (before l))
     (cases_eq l list)
 
-pub blockers-push : (table : List (Vec Literal Global)) (old new : List (Vec Watch Global)) (list : ℕ) (watch : Watch) →
+pub blockers-push : (table : List (List Literal)) (old new : List (Vec Watch Global)) (list : ℕ) (watch : Watch) →
     PutsList old new list (list_at old list ++ watch ∷ []) → Contains (clause_at table watch.number) watch.blocker → HasBlockers table old →
     HasBlockers table new
 blockers-push table old new list watch puts contains before =
     let P : Watch → Type 0 = λ w. Contains (clause_at table w.number) w.blocker in
     puts-all P old new list _ puts (All-push P (list_at old list) watch (before list) contains) before
 
-pub blockers-set : (table : List (Vec Literal Global)) (old new : List (Vec Watch Global)) (list place : ℕ) (watch : Watch) →
+pub blockers-set : (table : List (List Literal)) (old new : List (Vec Watch Global)) (list place : ℕ) (watch : Watch) →
     PutsList old new list (set (list_at old list) place watch) → Contains (clause_at table watch.number) watch.blocker → HasBlockers table old →
     HasBlockers table new
 blockers-set table old new list place watch puts contains before =
     let P : Watch → Type 0 = λ w. Contains (clause_at table w.number) w.blocker in
     puts-all P old new list _ puts (All-set P (list_at old list) place watch contains (before list)) before
 
-pub blockers-take : (table : List (Vec Literal Global)) (old new : List (Vec Watch Global)) (list place : ℕ) (d : Watch) →
+pub blockers-take : (table : List (List Literal)) (old new : List (Vec Watch Global)) (list place : ℕ) (d : Watch) →
     PutsList old new list (swap_remove (list_at old list) place d) → place < length (list_at old list) → HasBlockers table old → HasBlockers table new
 blockers-take table old new list place d puts inside before =
     let P : Watch → Type 0 = λ w. Contains (clause_at table w.number) w.blocker in
@@ -496,7 +496,7 @@ moves-watch old mid new before from to place d watch differ inside pushed taken 
       first = λ k less. ap (λ (ws : List Watch). slice_get ws k) list' ∙ taken-before (list_at old f) place d k at' less;
     }
 
-pub blockers-move : (table : List (Vec Literal Global)) (old mid new : List (Vec Watch Global)) (from to : Literal) (place : ℕ) (d watch : Watch) → from ≢ to →
+pub blockers-move : (table : List (List Literal)) (old mid new : List (Vec Watch Global)) (from to : Literal) (place : ℕ) (d watch : Watch) → from ≢ to →
     PutsList old mid (list_number to) (list_at old (list_number to) ++ watch ∷ []) →
     PutsList mid new (list_number from) (swap_remove (list_at mid (list_number from)) place d) → place < length (list_at old (list_number from)) →
     Contains (clause_at table watch.number) watch.blocker → HasBlockers table old → HasBlockers table new
@@ -536,7 +536,7 @@ gains-second mid new number first second one other third inside written same-one
     ∙ ap (λ (p : WatchedPair). pair_count p list + same (list_number third) list) (sym was)
     ∙ ap (λ (l : Literal). pair_count (pair_at new number) list + same (list_number l) list) same-third
 
-pub contains-same : (table : List (Vec Literal Global)) (number other : ℕ) (literal copy : Literal) → other ≡ number → copy ≡ literal →
+pub contains-same : (table : List (List Literal)) (number other : ℕ) (literal copy : Literal) → other ≡ number → copy ≡ literal →
     Contains (clause_at table number) literal → Contains (clause_at table other) copy
 contains-same table number other literal copy named is contains =
     subst (λ n. Contains (clause_at table n) copy) (sym named) (subst (λ (l : Literal). Contains (clause_at table number) l) (sym is) contains)
@@ -579,7 +579,7 @@ module _ (old mid new : List (Vec Watch Global)) (before : List WatchedPair) (fr
       (subst (λ (p : WatchedPair). MovesWatch old new before (set before read.number p) from to place read.number) (sym m.pair_is)
       (moves-watch old mid new before from to place read _ m.differ m.inside m.pushed m.taken at'))
 
-  pub move-blockers : (table : List (Vec Literal Global)) (watch : Watch) → slice_get (list_at old (list_number from)) place ≡ Some watch →
+  pub move-blockers : (table : List (List Literal)) (watch : Watch) → slice_get (list_at old (list_number from)) place ≡ Some watch →
       Contains (clause_at table watch.number) blocker → HasBlockers table old → HasBlockers table new
   move-blockers table watch is contains has =
       blockers-move table old mid new from to place read _ m.differ m.pushed m.taken at'

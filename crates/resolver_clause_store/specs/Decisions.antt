@@ -29,12 +29,12 @@ pub record HasPassed (trail : Trail) (clause : List Literal) (count : ℕ) (firs
       ((k : ℕ) (d : Literal) → k < place → literal_value trail (slice_index_or clause k d) ≡ Some false)
 
 -- the choice is for this requirement, and takes the first literal of its clause that is not false
-pub record IsChoiceOf (trail : Trail) (table : List (Vec Literal Global)) (requirement : StoredRequirement) (choice : Choice) : Type 0 where
+pub record IsChoiceOf (trail : Trail) (table : List (List Literal)) (requirement : StoredRequirement) (choice : Choice) : Type 0 where
   pub number_is : requirement.number ≡ choice.number
   pub first : IsFirst trail (clause_at table choice.number) choice.place
 
 -- the choice is for one of the requirements
-pub record IsChoice (trail : Trail) (table : List (Vec Literal Global)) (requirements : List StoredRequirement) (choice : Choice) : Type 0 where
+pub record IsChoice (trail : Trail) (table : List (List Literal)) (requirements : List StoredRequirement) (choice : Choice) : Type 0 where
   pub requirement : StoredRequirement
   pub listed : Contains requirements requirement
   pub chosen : IsChoiceOf trail table requirement choice

@@ -14,6 +14,7 @@ pub mod Caches
 pub mod Interruptions
 pub mod Filtering
 pub mod Disjuncts
+pub mod Clauses
 pub mod Formula
 pub mod Slots
 pub mod TrailView

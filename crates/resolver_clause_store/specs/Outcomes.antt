@@ -30,11 +30,11 @@ abbrev pub IsForcing : Trail → ℕ → Literal → List Literal → Type 0
 IsForcing trail place literal clause = All (λ other. (other ≡ literal) ⊎ IsFalseBefore trail place other) clause
 
 -- the clause is true wherever all the clauses are
-abbrev pub IsImplied : List (Vec Literal Global) → List Literal → Type 0
+abbrev pub IsImplied : List (List Literal) → List Literal → Type 0
 IsImplied clauses clause = (values : ℕ → Bool) → Satisfies values clauses → clause_true values clause ≡ true
 
 -- the variable is true, and in a requirement clause it comes after literals that were all false before
-pub record IsChosen (clauses : List (Vec Literal Global)) (requirements : List RequirementClause) (trail : Trail) (variable : ℕ) (slot : Slot) : Type 0 where
+pub record IsChosen (clauses : List (List Literal)) (requirements : List RequirementClause) (trail : Trail) (variable : ℕ) (slot : Slot) : Type 0 where
   pub requirement : RequirementClause
   pub listed : Contains requirements requirement
   pub value : slot.value ≡ true
@@ -44,13 +44,13 @@ pub record IsChosen (clauses : List (Vec Literal Global)) (requirements : List R
   pub false_before : All (IsFalseBefore trail slot.place) before
 
 -- a clause that follows from the clauses has forced the variable
-pub record IsForced (clauses : List (Vec Literal Global)) (trail : Trail) (variable : ℕ) (slot : Slot) : Type 0 where
+pub record IsForced (clauses : List (List Literal)) (trail : Trail) (variable : ℕ) (slot : Slot) : Type 0 where
   pub clause : List Literal
   pub implied : IsImplied clauses clause
   pub forcing : IsForcing trail slot.place (record { variable = variable; positive = slot.value }) clause
 
 -- why the variable has its value
-abbrev pub IsReasoned : List (Vec Literal Global) → List RequirementClause → Trail → ℕ → Slot → Type 0
+abbrev pub IsReasoned : List (List Literal) → List RequirementClause → Trail → ℕ → Slot → Type 0
 IsReasoned clauses requirements trail variable slot =
     IsChosen clauses requirements trail variable slot ⊎ (IsForced clauses trail variable slot ⊎ (slot.reason ≡ Assumed))
 
@@ -66,12 +66,12 @@ IsMet trail clause =
     IsSatisfied trail clause ⊎ Any (λ (literal : Literal). (literal_value trail literal ≡ None) × (literal.positive ≡ false)) clause
 
 -- each value has a reason, nothing is left to force, and no requirement is left to decide
-pub record IsFinished (clauses : List (Vec Literal Global)) (requirements : List RequirementClause) (trail : Trail) : Type 0 where
+pub record IsFinished (clauses : List (List Literal)) (requirements : List RequirementClause) (trail : Trail) : Type 0 where
   pub reasons : (variable : ℕ) (slot : Slot) → slot_of trail variable ≡ Some slot → IsReasoned clauses requirements trail variable slot
   pub propagated : (number : ℕ) → number < length clauses → IsPropagated trail (clause_at clauses number)
   pub met : All (λ (requirement : RequirementClause). IsMet trail (clause_at clauses requirement.number)) requirements
 
 -- these are numbers of clauses, and no values make all of them true
-pub record IsCore (clauses : List (Vec Literal Global)) (numbers : List ℕ) : Type 0 where
+pub record IsCore (clauses : List (List Literal)) (numbers : List ℕ) : Type 0 where
   pub within : All (λ number. number < length clauses) numbers
   pub refuted : (values : ℕ → Bool) → MakesTrue values clauses numbers → ⊥

@@ -50,7 +50,7 @@ pub record IsFollowing (queue : DecideQueue) (trail : Trail) : Type 0 where
   pub same : (place : ℕ) → place < queue.kept → slice_index queue.followed.items place ≡ variable_at trail place
 
 -- the queue follows the trail, and each requirement is in one of its lists
-pub record IsQueued (queue : DecideQueue) (trail : Trail) (table : List (Vec Literal Global)) (requirements : List StoredRequirement) : Type 0 where
+pub record IsQueued (queue : DecideQueue) (trail : Trail) (table : List (List Literal)) (requirements : List StoredRequirement) : Type 0 where
   pub following : IsFollowing queue trail
   pub each : (index : ℕ) (d : StoredRequirement) → index < length requirements →
       IsHeld queue.active.items queue.inactive queue.met queue.followed.items queue.kept trail
@@ -58,7 +58,7 @@ pub record IsQueued (queue : DecideQueue) (trail : Trail) (table : List (Vec Lit
 
 -- for every trail and all requirements, the queue still follows the trail and has the requirements
 abbrev pub StaysQueued : DecideQueue → DecideQueue → Type 0
-StaysQueued old new = (trail : Trail) (table : List (Vec Literal Global)) (requirements : List StoredRequirement) → IsQueued old trail table requirements →
+StaysQueued old new = (trail : Trail) (table : List (List Literal)) (requirements : List StoredRequirement) → IsQueued old trail table requirements →
     IsQueued new trail table requirements
 
 -- the whole trail was followed

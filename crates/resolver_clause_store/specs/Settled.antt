@@ -22,5 +22,5 @@ abbrev pub IsSettled : Trail → List Literal → Type 0
 IsSettled trail clause = IsSatisfied trail clause ⊎ IsOpen trail clause
 
 -- each clause is true or has two literals without a value
-abbrev pub AllSettled : Trail → List (Vec Literal Global) → Type 0
+abbrev pub AllSettled : Trail → List (List Literal) → Type 0
 AllSettled trail table = (number : ℕ) → number < length table → IsSettled trail (clause_at table number)

@@ -70,7 +70,7 @@ abbrev pub IsWatching : List WatchedPair → ℕ → Literal → Type 0
 IsWatching pairs number literal = ((pair_at pairs number).first ≡ Some literal) ⊎ ((pair_at pairs number).second ≡ Some literal)
 
 -- the blocker of each watch is a literal of its clause
-abbrev pub HasBlockers : List (Vec Literal Global) → List (Vec Watch Global) → Type 0
+abbrev pub HasBlockers : List (List Literal) → List (Vec Watch Global) → Type 0
 HasBlockers table lists = (list : ℕ) → All (λ (watch : Watch). Contains (clause_at table watch.number) watch.blocker) (list_at lists list)
 
 -- the clause watches these two literals

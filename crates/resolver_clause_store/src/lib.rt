@@ -29,7 +29,7 @@ mod variables;
 mod watches;
 
 pub use cache::Cache;
-pub use clauses::{RequirementClause, StoredRequirement, clause};
+pub use clauses::{Clauses, RequirementClause, StoredRequirement, clause};
 pub use conditions::{a_condition_holds_where_a_disjunct_does, convert_conditions_to_dnf};
 pub use data::{
     By, Candidates, Condition, ConditionalRequirement, Dependencies, Exhausted,

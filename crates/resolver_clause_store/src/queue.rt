@@ -13,7 +13,7 @@ ghost use Rattle.resolver_clause_store.specs.declared.trail.Trail.{Trail};
 ghost use Rattle.resolver_clause_store.specs.Decisions.{IsChoice};
 ghost use Rattle.resolver_clause_store.specs.Settled.{AllSettled};
 
-use crate::clauses::{StoredRequirement, clause};
+use crate::clauses::{Clauses, StoredRequirement, clause};
 use crate::decisions::{Choice, choice_at};
 use crate::lists::Lists;
 use crate::literals::{Literal, Variable};
@@ -62,7 +62,7 @@ impl DecideQueue {
 
     /// Returns a queue without requirements, which has followed no entry.
     pub fn new(alloc: Global, activity: Activity) -> Self
-        ensures { (trail : Trail) (table : List (Vec Literal Global)) → IsQueued result trail table [] }
+        ensures { (trail : Trail) (table : List (List Literal)) → IsQueued result trail table [] }
     {
         DecideQueue {
             active: Vec::new(alloc),
@@ -83,7 +83,7 @@ impl DecideQueue {
         literals: &[Literal],
         ends: &[usize],
     ) -> Result<(), AllocError>
-        ensures { OnOk result ((trail : Trail) (table : List (Vec Literal Global)) (requirements : List StoredRequirement) (requirement : StoredRequirement) →
+        ensures { OnOk result ((trail : Trail) (table : List (List Literal)) (requirements : List StoredRequirement) (requirement : StoredRequirement) →
             index ≡ length requirements → IsQueued self.old trail table requirements → IsQueued self.new trail table (requirements ++ requirement ∷ [])) }
     {
         let from = self.active.len();
@@ -112,7 +112,7 @@ impl DecideQueue {
 
     /// Notes that at most the first `count` entries of the trail are unchanged.
     pub fn cut(&mut self, count: usize)
-        ensures { (old new : Trail) (table : List (Vec Literal Global)) (requirements : List StoredRequirement) →
+        ensures { (old new : Trail) (table : List (List Literal)) (requirements : List StoredRequirement) →
             KeepsPlaces old new (min self.old.kept count) → IsQueued self.old old table requirements → IsQueued self.new new table requirements }
     {
         self.kept = self.kept.min(count);
@@ -152,7 +152,7 @@ impl DecideQueue {
     fn follow_place(&mut self, trail: &Trail) -> Result<(), AllocError>
         requires all { length self.old.followed.items ≡ self.old.kept }
         requires inside { self.old.kept < length_of trail.now }
-        ensures queued { OnOk result ((table : List (Vec Literal Global)) (requirements : List StoredRequirement) →
+        ensures queued { OnOk result ((table : List (List Literal)) (requirements : List StoredRequirement) →
             IsQueued self.old trail.now table requirements → IsQueued self.new trail.now table requirements) }
         ensures kept { OnOk result (self.new.kept ≡ self.old.kept + 1) }
         ensures all { OnOk result (length self.new.followed.items ≡ self.new.kept) }
@@ -171,7 +171,7 @@ impl DecideQueue {
     /// Follows the whole trail.
     fn follow(&mut self, trail: &Trail) -> Result<(), AllocError>
         requires { IsFollowing self.old trail.now }
-        ensures queued { OnOk result ((table : List (Vec Literal Global)) (requirements : List StoredRequirement) →
+        ensures queued { OnOk result ((table : List (List Literal)) (requirements : List StoredRequirement) →
             IsQueued self.old trail.now table requirements → IsQueued self.new trail.now table requirements) }
         ensures followed { OnOk result (IsFollowed self.new trail.now) }
     {
@@ -189,7 +189,7 @@ impl DecideQueue {
     fn consider(
         &mut self,
         trail: &Trail,
-        table: &[Vec<Literal>],
+        table: &Clauses,
         requirements: &[StoredRequirement],
         place: usize,
     ) -> Result<Option<Choice>, AllocError>
@@ -238,7 +238,7 @@ impl DecideQueue {
     pub fn next(
         &mut self,
         trail: &Trail,
-        table: &[Vec<Literal>],
+        table: &Clauses,
         requirements: &[StoredRequirement],
     ) -> Result<Option<Choice>, AllocError>
         requires below { AreBelow (variable_count trail.now) table.now }

@@ -6,7 +6,7 @@ ghost use Rattle.resolver_clause_store.specs.TrailView.{variable_count};
 ghost use Rattle.resolver_clause_store.specs.declared.clauses.StoredRequirement.{StoredRequirement};
 ghost use Rattle.resolver_clause_store.specs.Settled.{AllSettled};
 
-use crate::clauses::{StoredRequirement, clause};
+use crate::clauses::{Clauses, StoredRequirement, clause};
 use crate::decisions::choice_at;
 use crate::lists::Lists;
 use crate::literals::{Literal, Variable};
@@ -388,7 +388,7 @@ impl Ranks {
         &mut self,
         active: &[u32],
         trail: &Trail,
-        table: &[Vec<Literal>],
+        table: &Clauses,
         requirements: &[StoredRequirement],
         requirement: u32,
     ) -> Result<Option<usize>, AllocError>
@@ -510,7 +510,7 @@ impl Ranks {
         &mut self,
         active: &[u32],
         trail: &Trail,
-        table: &[Vec<Literal>],
+        table: &Clauses,
         requirements: &[StoredRequirement],
     ) -> Result<usize, AllocError>
         requires below { AreBelow (variable_count trail.now) table.now }

@@ -218,7 +218,7 @@ impl Watches {
         ensures kept { (number : ℕ) → number < length (pairs_of self.old) → pair_at (pairs_of self.new) number ≡ pair_at (pairs_of self.old) number }
         ensures size { OnOk result (length (lists_of self.new) ≡ length (lists_of self.old)) }
         ensures blockers { OnOk result
-            ((table : List (Vec Literal Global)) → Contains (clause_at table (length (pairs_of self.old))) first →
+            ((table : List (List Literal)) → Contains (clause_at table (length (pairs_of self.old))) first →
             Contains (clause_at table (length (pairs_of self.old))) second → HasBlockers table (lists_of self.old) → HasBlockers table (lists_of self.new)) }
     {
         let number = narrow(self.pairs.len())?;
@@ -257,7 +257,7 @@ impl Watches {
         ensures kept { (number : ℕ) → number < length (pairs_of self.old) → pair_at (pairs_of self.new) number ≡ pair_at (pairs_of self.old) number }
         ensures size { OnOk result (length (lists_of self.new) ≡ length (lists_of self.old)) }
         ensures blockers { OnOk result
-            ((table : List (Vec Literal Global)) →
+            ((table : List (List Literal)) →
             ((first second : Literal) → pair ≡ Some (first, second) → Contains (clause_at table (length (pairs_of self.old))) first ×
             Contains (clause_at table (length (pairs_of self.old))) second) → HasBlockers table (lists_of self.old) → HasBlockers table (lists_of self.new)) }
     {
@@ -282,7 +282,7 @@ impl Watches {
             (record { number = number_at (list_at (lists_of self.old) (list_number literal)) place; blocker = blocker })) }
         ensures same { SameClauses (lists_of self.old) (lists_of self.new) }
         ensures pairs { pairs_of self.new ≡ pairs_of self.old }
-        ensures blockers { (table : List (Vec Literal Global)) (watch : Watch) →
+        ensures blockers { (table : List (List Literal)) (watch : Watch) →
             slice_get (list_at (lists_of self.old) (list_number literal)) place ≡ Some watch → Contains (clause_at table watch.number) blocker →
             HasBlockers table (lists_of self.old) → HasBlockers table (lists_of self.new) }
     {
@@ -307,7 +307,7 @@ impl Watches {
             MovesWatch (lists_of self.old) (lists_of self.new) (pairs_of self.old) (pairs_of self.new) from to place watch.number) }
         ensures kept { OnErr result (pairs_of self.new ≡ pairs_of self.old) }
         ensures blockers { OnOk result
-            ((table : List (Vec Literal Global)) (watch : Watch) → slice_get (list_at (lists_of self.old) (list_number from)) place ≡ Some watch →
+            ((table : List (List Literal)) (watch : Watch) → slice_get (list_at (lists_of self.old) (list_number from)) place ≡ Some watch →
             Contains (clause_at table watch.number) blocker → HasBlockers table (lists_of self.old) → HasBlockers table (lists_of self.new)) }
     {
         let number = self.watch_at(copied(&from), place).number;

@@ -62,7 +62,7 @@ contradictory_refutes u implies kinds rules lawful defines listed h =
     λ set obeys. h.none (is_on u implies set) (satisfied u implies lawful.same_solvable set kinds defines (rules_obey u implies kinds rules set obeys listed))
 
 -- clauses of a table that no values make true are contradictory
-pub core_contradicts : {N S : Type 0} (u : Universe N S) (origins : List (Origin N S)) (table : List (Vec Literal Global)) (kinds : List (ClauseKind N S))
+pub core_contradicts : {N S : Type 0} (u : Universe N S) (origins : List (Origin N S)) (table : List (List Literal)) (kinds : List (ClauseKind N S))
     (numbers : List ℕ) →
     AreEncoded u origins table kinds → All (λ n. n < length kinds) numbers → ((values : ℕ → Bool) → MakesTrue values table numbers → ⊥) →
     IsContradictory u (kinds_at kinds numbers)

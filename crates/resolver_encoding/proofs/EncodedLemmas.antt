@@ -2,7 +2,6 @@
 use Rattle.std.proofs.Common.{◌≡◌, ℕ, ◌<◌, ◌≤◌, List, [], length, get_or, arith, sym, ap, subst, ⊎_elim, Contains, All, Vec}
 use Rattle.std.proofs.Common.{Global}
 use Rattle.std.specs.Prelude.{map}
-use Rattle.std.specs.Option.{option_map_or}
 use Rattle.std.proofs.lemmas.Bool.{cases_lt}
 use Rattle.std.proofs.lemmas.Option.{slice_get-get_or, slice_get_past}
 use Rattle.std.proofs.lemmas.List.Elements.{Contains-get_or}
@@ -12,6 +11,7 @@ use Rattle.resolver_clause_store.specs.declared.ClauseKind.{ClauseKind}
 use Rattle.resolver_clause_store.specs.declared.ClauseKind.TheVariants.{InstallRoot}
 use Rattle.resolver_clause_store.specs.declared.Literal.{Literal}
 use Rattle.resolver_clause_store.specs.declared.RequirementClause.{RequirementClause}
+use Rattle.resolver_clause_store.proofs.FormulaLemmas.{clause_at-past}
 use Rattle.resolver_clause_store.proofs.ListLemmas.{Contains-map, slice_get-inside as slice_below}
 use Rattle.resolver_encoding.specs.Encodings.{IsEncoding, Notes}
 
@@ -27,7 +27,7 @@ module _ {N S : Type 0} (u : Universe N S) (root : Demands) (notes : Notes N S) 
       slice_below notes.origins l.variable a.0.origin a.2.origin)
       (λ (more : length notes.kinds ≤ number).
       let none : clause_at notes.table number ≡ [] =
-      ap (λ o. option_map_or (λ (c : Vec Literal Global). c.items) o []) (slice_get_past notes.table number (omega (arith, more, encoding.encoded.count))) in
+      clause_at-past notes.table number (omega (arith, more, encoding.encoded.count)) in
       let Below : List Literal → Type 0 = λ c. IsBelow (length notes.origins) c in
       subst Below (sym none) (λ k d below. absurd (omega arith)))
       (cases_lt number (length notes.kinds))

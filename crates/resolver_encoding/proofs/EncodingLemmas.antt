@@ -3,7 +3,6 @@ use Rattle.std.proofs.Common.{Bool, true, false}
 use Rattle.std.proofs.Common.{◌≡◌, ℕ, ◌+◌, ◌<◌, map, List, [], ◌∷◌, ◌++◌, length, length-append, refl, sym, ap, ◌∙◌, subst, ⊎_elim, inl, inr, arith}
 use Rattle.std.proofs.Common.{append_assoc, append-nil, Contains, Vec, Global, ◌⊎◌}
 use Rattle.std.specs.Prelude.{Option, Some, ⊤, slice_get}
-use Rattle.std.specs.Option.{option_map_or}
 use Rattle.std.specs.List.{AllZip}
 use Rattle.std.proofs.lemmas.List.Elements.{All-push, Contains-append_left, Contains-push, Contains-push_cases}
 use Rattle.std.proofs.lemmas.Option.{slice_get-get_or, slice_get_within}
@@ -32,6 +31,7 @@ use Rattle.resolver_encoding.specs.Read.{IsForbidden, forbidden_direct, forbidde
 use Rattle.resolver_encoding.specs.ReadState.{Deferred}
 use Rattle.resolver_encoding.specs.Truth.{AreDue, IsTrueClause}
 use Rattle.resolver_encoding.specs.Values.{AreEncoded, AreInOrder, IsAtom, IsClauseOf}
+use Rattle.resolver_clause_store.proofs.FormulaLemmas.{clause_at-last, clause_at-push}
 use Rattle.resolver_clause_store.proofs.ListLemmas.{Contains-at as place_in, slice_get-last as place_last}
 use Rattle.resolver_encoding.proofs.ClauseLemmas.{AllZip-keeps, AreAtoms-keeps, AreAtoms-zip}
 
@@ -161,9 +161,9 @@ IsForbidden-within kinds more within by v s (forbidden_helped h k) = forbidden_h
 
 module _ {N S : Type 0} (u : Universe N S) where
   -- one more clause
-  AreEncoded-push : (old new : List (Origin N S)) (table : List (Vec Literal Global)) (kinds : List (ClauseKind N S)) (literals : Vec Literal Global)
+  AreEncoded-push : (old new : List (Origin N S)) (table : List (List Literal)) (kinds : List (ClauseKind N S)) (literals : List Literal)
       (kind : ClauseKind N S) →
-      Keeps old new → AreEncoded u old table kinds → IsClauseOf u new literals.items kind → AreEncoded u new (table ++ literals ∷ []) (kinds ++ kind ∷ [])
+      Keeps old new → AreEncoded u old table kinds → IsClauseOf u new literals kind → AreEncoded u new (table ++ literals ∷ []) (kinds ++ kind ∷ [])
   AreEncoded-push old new table kinds literals kind keeps before is = record {
     count =
         let longer : length (table ++ literals ∷ []) ≡ length table + 1 = simp length-append in
@@ -173,22 +173,17 @@ module _ {N S : Type 0} (u : Universe N S) where
         (λ (earlier : slice_get kinds n ≡ Some k).
         let Is : List Literal → Type 0 = λ ls. IsClauseOf u new ls k in
         let below : n < length table = omega (arith, slice_get_within kinds n k earlier, before.count) in
-        let same : clause_at (table ++ literals ∷ []) n ≡ clause_at table n =
-        ap (λ o. option_map_or (λ (clause : Vec Literal Global). clause.items) o []) (place_same table literals n below) in
+        let same : clause_at (table ++ literals ∷ []) n ≡ clause_at table n = clause_at-push table literals n below in
         subst Is (sym same) (IsClauseOf-keeps u old new (clause_at table n) k keeps (before.each n k earlier)))
         (λ (last : (n ≡ length kinds) × (kind ≡ k)).
         let Is : List Literal → ClauseKind N S → Type 0 = λ ls q. IsClauseOf u new ls q in
-        let same : clause_at (table ++ literals ∷ []) n ≡ literals.items =
-        ap (λ o. option_map_or (λ (clause : Vec Literal Global). clause.items) o [])
-        (ap (λ i. slice_get (table ++ literals ∷ []) i) (last.0 ∙ sym before.count) ∙ place_last table literals) in
-        subst (λ ls. Is ls k) (sym same) (subst (λ q. Is literals.items q) last.1 is))
+        let same : clause_at (table ++ literals ∷ []) n ≡ literals =
+        ap (clause_at (table ++ literals ∷ [])) (last.0 ∙ sym before.count) ∙ clause_at-last table literals in
+        subst (λ ls. Is ls k) (sym same) (subst (λ q. Is literals q) last.1 is))
         (place_cases kinds kind n k at);
   }
-    where
-      place_same : (xs : List (Vec Literal Global)) (x : Vec Literal Global) (n : ℕ) → n < length xs → slice_get (xs ++ x ∷ []) n ≡ slice_get xs n
-      place_same xs x n below = place_left xs (x ∷ []) n _ (slice_get-get_or xs n x below) ∙ sym (slice_get-get_or xs n x below)
 
-  pub AreEncoded-keeps : (old new : List (Origin N S)) (table : List (Vec Literal Global)) (kinds : List (ClauseKind N S)) → Keeps old new →
+  pub AreEncoded-keeps : (old new : List (Origin N S)) (table : List (List Literal)) (kinds : List (ClauseKind N S)) → Keeps old new →
       AreEncoded u old table kinds → AreEncoded u new table kinds
   AreEncoded-keeps old new table kinds keeps before =
       record { count = before.count; each = λ n k at. IsClauseOf-keeps u old new (clause_at table n) k keeps (before.each n k at) }
@@ -296,12 +291,12 @@ module _ {N S : Type 0} (u : Universe N S) where
       ⊎_elim (λ asks. subst Longer (sym (asks.1 number numbers)) (Extends-push numbers number))
       (λ plain. subst Longer (sym (plain.1 number numbers)) (Extends-same numbers)) (asks_or_not kind)
 
-  abbrev pub with_clause : Notes N S → List (Origin N S) → List ℕ → Vec Literal Global → ClauseKind N S → Notes N S
+  abbrev pub with_clause : Notes N S → List (Origin N S) → List ℕ → List Literal → ClauseKind N S → Notes N S
   with_clause notes origins requirements literals kind =
       record notes { origins = origins; requirements = requirements; table = notes.table ++ literals ∷ []; kinds = notes.kinds ++ kind ∷ [] }
 
   IsEncoding-clause : (doing : Doing N S) (root : Demands) (notes : Notes N S) (origins : List (Origin N S)) (requirements : List ℕ)
-      (literals : Vec Literal Global) (kind : ClauseKind N S) → Grows notes.origins origins → IsClauseOf u origins literals.items kind →
+      (literals : List Literal) (kind : ClauseKind N S) → Grows notes.origins origins → IsClauseOf u origins literals kind →
       AreListed (notes.kinds ++ kind ∷ []) requirements → IsNext doing root notes kind → IsEncodingWhile u doing root notes →
       IsEncodingWhile u doing root (with_clause notes origins requirements literals kind)
   IsEncoding-clause doing root notes origins requirements literals kind grows clause listed next before =

@@ -17,6 +17,7 @@ use Rattle.resolver_encoding.specs.Truth.{AreCodes, follows, IsTrueClause, Spare
 use Rattle.resolver_encoding.specs.Atoms.{Atom, is_on, is_satisfied, atoms_of}
 use Rattle.resolver_encoding.specs.Values.{AreAtoms, extension, AreEncoded}
 use Rattle.resolver_encoding.proofs.Satisfied.{satisfied}
+use Rattle.resolver_clause_store.proofs.FormulaLemmas.{clause_at-get_or}
 use Rattle.resolver_clause_store.proofs.ListLemmas.{list_any-contains, list_any-witness}
 use Rattle.resolver_encoding.proofs.Sound.{defines, valid_obeys}
 
@@ -38,7 +39,7 @@ pub values_by-origin : {N S : Type 0} (origins : List (Origin N S)) (value : Ori
     values_by origins value x ≡ value o
 values_by-origin origins value x o e = ap (λ p. option_map_or value p false) e
 
-module _ {N S : Type 0} (u : Universe N S) (origins : List (Origin N S)) (table : List (Vec Literal Global)) (kinds : List (ClauseKind N S))
+module _ {N S : Type 0} (u : Universe N S) (origins : List (Origin N S)) (table : List (List Literal)) (kinds : List (ClauseKind N S))
     (encoded : AreEncoded u origins table kinds) (value : Origin N S → Bool) where
   -- the variables make a clause true if the atoms of its kind do
   pub clause_by_kind : (n : ℕ) (kind : ClauseKind N S) → slice_get kinds n ≡ Some kind → is_satisfied value (atoms_of u kind) ≡ true →
@@ -52,14 +53,13 @@ module _ {N S : Type 0} (u : Universe N S) (origins : List (Origin N S)) (table 
       let inside : n < length kinds = omega (arith, encoded.count) in
       let kind : ClauseKind N S = get_or kinds n InstallRoot in
       let is : slice_get kinds n ≡ Some kind = slice_get-get_or kinds n InstallRoot inside in
-      let stands : slice_get table n ≡ Some (get_or table n d) = slice_get-get_or table n d below in
       let True : List Literal → Type 0 = λ c. clause_true (values_by origins value) c ≡ true in
-      subst True (ap (λ o. option_map_or (λ (c : Vec Literal Global). c.items) o []) stands)
+      subst True (clause_at-get_or table n d below)
       (clause_by_kind n kind is (all kind (Contains-get_or kinds n InstallRoot inside)))
 
 -- the extension of an answer satisfies the clauses
 pub valid_satisfies : {N S : Type 0} (u : Universe N S) (codes : N → ℕ → S → Bool) (root : Demands) (origins : List (Origin N S))
-    (table : List (Vec Literal Global)) (kinds : List (ClauseKind N S)) (set exempt : List S) →
+    (table : List (List Literal)) (kinds : List (ClauseKind N S)) (set exempt : List S) →
     HasLawfulSolvables u → AreCodes u codes → AreEncoded u origins table kinds → All (IsTrueClause u codes root) kinds → Spares u exempt kinds →
     IsValid u root set exempt → Satisfies (extension u (follows u codes) origins set) table
 valid_satisfies u codes root origins table kinds set exempt lawful are_codes encoded are_true spares ok =

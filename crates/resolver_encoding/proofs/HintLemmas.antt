@@ -5,7 +5,7 @@ use Rattle.std.specs.Prelude.{◌||◌, None, Option, Some, cond, map, slice_get
 use Rattle.std.specs.Option.{option_map, option_map_or, option_to_list}
 use Rattle.std.proofs.lemmas.Bool.{cases_lt}
 use Rattle.std.proofs.lemmas.Option.{get_or_from_slice_get, slice_get-get_or, slice_get-map, slice_get_within}
-use Rattle.std.proofs.lemmas.List.Elements.{All-head, All-tail, All-weaker, Contains-append_cases}
+use Rattle.std.proofs.lemmas.List.Elements.{All-head, All-tail, All-weaker, Contains-append_cases, Contains-get_or}
 use Rattle.resolver_clause_store.specs.Formula.{IsBelow, clause_at}
 use Rattle.resolver_clause_store.specs.Lists.{IsWithin}
 use Rattle.resolver_clause_store.specs.Near.{IsNear}
@@ -26,6 +26,7 @@ use Rattle.resolver_encoding.specs.Trails.{solvable_found}
 use Rattle.resolver_encoding.proofs.EncodedLemmas.{encoded_below}
 use Rattle.resolver_encoding.proofs.EncodingLemmas.{Extends-trans, Extends-within}
 use Rattle.resolver_encoding.proofs.ReachLemmas.{near_read, positives_seen}
+use Rattle.resolver_clause_store.proofs.FormulaLemmas.{clause_at-found, clause_at-past}
 use Rattle.resolver_clause_store.proofs.ListLemmas.{Contains-at as place_in, Contains-cons_cases as cons_cases, Contains-here as here, Contains-none as none_in}
 use Rattle.resolver_clause_store.proofs.ListLemmas.{Contains-there as there, slice_get-append_left}
 use Rattle.resolver_encoding.proofs.SoFarLemmas.{IsReadingOf-same, IsReadingOf-trans, IsReadingOf-weaker, demanded_asked}
@@ -77,17 +78,19 @@ module _ {N S : Type 0} where
       (Contains-append_cases (option_to_list (stated_by origins l)) (stated_by_each origins ls) s h)
 
 -- the literals of a requirement clause are those of a clause in the table
-in_table : (table : List (Vec Literal Global)) (number : ℕ) (o : Option (Vec Literal Global)) → slice_get table number ≡ o → (l : Literal) →
-    Contains (option_map_or (λ (c : Vec Literal Global). c.items) o []) l → (clause : Vec Literal Global) × Contains table clause × Contains clause.items l
-in_table table number None e l h = absurd (none_in l h)
-in_table table number (Some clause) e l h = (clause, place_in table number clause e, h)
+in_table : (table : List (List Literal)) (number : ℕ) (l : Literal) → Contains (clause_at table number) l →
+    (clause : List Literal) × Contains table clause × Contains clause l
+in_table table number l h =
+    let Has : List Literal → Type 0 = λ list. Contains list l in
+    ⊎_elim (λ (inside : number < length table). (clause_at table number, Contains-get_or table number [] inside, h))
+    (λ (past : length table ≤ number). absurd (none_in l (subst Has (clause_at-past table number past) h))) (cases_lt number (length table))
 
-in_clause : (table : List (Vec Literal Global)) (o : Option ℕ) (l : Literal) → Contains (option_map_or (clause_at table) o []) l →
-    (clause : Vec Literal Global) × Contains table clause × Contains clause.items l
+in_clause : (table : List (List Literal)) (o : Option ℕ) (l : Literal) → Contains (option_map_or (clause_at table) o []) l →
+    (clause : List Literal) × Contains table clause × Contains clause l
 in_clause table None l h = absurd (none_in l h)
-in_clause table (Some number) l h = in_table table number (slice_get table number) refl l h
+in_clause table (Some number) l h = in_table table number l h
 
-pub literals_by : (table : List (Vec Literal Global)) (asking : List RequirementClause) (place : ℕ) (r : RequirementClause) → slice_get asking place ≡ Some r →
+pub literals_by : (table : List (List Literal)) (asking : List RequirementClause) (place : ℕ) (r : RequirementClause) → slice_get asking place ≡ Some r →
     clause_at table r.number ≡ option_map_or (clause_at table) (slice_get (map (λ (q : RequirementClause). q.number) asking) place) []
 literals_by table asking place r at =
     let number : slice_get (map (λ (q : RequirementClause). q.number) asking) place ≡ Some r.number =
@@ -114,7 +117,8 @@ module _ {N S : Type 0} (u : Universe N S) where
         let ask = encoding.ask number (place_in old.requirements place number was) in
         let inside : number < length old.table = omega (arith, slice_get_within old.kinds number ask.0 ask.1, encoding.encoded.count) in
         let clause : clause_at new.table number ≡ clause_at old.table number =
-        ap (λ o. option_map_or (λ (c : Vec Literal Global). c.items) o []) (same_place old.table new.table table number inside) in
+        clause_at-found new.table number (clause_at old.table number)
+        (same_place old.table new.table table number inside ∙ slice_get-get_or old.table number [] inside) in
         let literals_new : literals_at new place ≡ clause_at old.table number = ap (λ o. option_map_or (clause_at new.table) o []) now ∙ clause in
         let literals_old : literals_at old place ≡ clause_at old.table number = ap (λ o. option_map_or (clause_at old.table) o []) was in
         ap (stated_by_each new.origins) literals_new ∙

@@ -31,15 +31,15 @@ use Rattle.resolver_clause_store.proofs.ListLemmas.{Contains-cons_cases as cons_
 use Rattle.resolver_encoding.proofs.Spared.{Spares-further}
 
 -- values that satisfy more clauses satisfy fewer
-pub satisfies_fewer : (values : ℕ → Bool) (table more : List (Vec Literal Global)) → Extends table more → Satisfies values more → Satisfies values table
+pub satisfies_fewer : (values : ℕ → Bool) (table more : List (List Literal)) → Extends table more → Satisfies values more → Satisfies values table
 satisfies_fewer values table more extends holds =
-    let True : Vec Literal Global → Type 0 = λ clause. clause_true values clause.items ≡ true in
-    let Holds : List (Vec Literal Global) → Type 0 = λ list. Satisfies values list in
+    let True : List Literal → Type 0 = λ clause. clause_true values clause ≡ true in
+    let Holds : List (List Literal) → Type 0 = λ list. Satisfies values list in
     let all : Holds (table ++ extends.more) = subst Holds extends.is holds in
     λ k d below. subst True (get_or-append table extends.more d k below) (all k d (omega (arith, below, length-append table extends.more)))
 
 -- a solvable that is left out stays left out
-pub left_out_more : {N S : Type 0} (origins more : List (Origin N S)) (table longer : List (Vec Literal Global)) (set larger : List S) (s : S) →
+pub left_out_more : {N S : Type 0} (origins more : List (Origin N S)) (table longer : List (List Literal)) (set larger : List S) (s : S) →
     Keeps origins more → Extends table longer → IsWithin set larger → IsLeftOut origins table set s → IsLeftOut more longer larger s
 left_out_more origins more table longer set larger s keeps extends within out = record {
   variable = out.variable;

@@ -35,6 +35,7 @@ use Rattle.resolver_encoding.specs.Reach.{AreNear}
 use Rattle.resolver_encoding.specs.ReadState.{Deferred}
 use Rattle.resolver_encoding.specs.SoFar.{IsBare, IsFiring, IsHalfRead, IsReadSoFar, IsReadingOf}
 use Rattle.resolver_encoding.specs.Trails.{origin_at}
+use Rattle.resolver_clause_store.proofs.FormulaLemmas.{clause_at-found}
 use Rattle.resolver_clause_store.proofs.ListLemmas.{Contains-cons_cases as cons_cases, Contains-map_back, Contains-none as none_in}
 use Rattle.resolver_encoding.proofs.SoFarLemmas.{demanded_asked}
 use Rattle.resolver_clause_store.proofs.DemandLemmas.{active_by}
@@ -256,8 +257,8 @@ module _ {N S : Type 0} (u : Universe N S) (s : S) where
   asked_seen root notes encoding (Excluded t reason) inside asks = absurd asks
 
 -- the solvables of positive literals are registered
-pub positives_seen : {N S : Type 0} (u : Universe N S) (root : Demands) (notes : Notes N S) → IsEncoding u root notes → (clause : Vec Literal Global) →
-    Contains notes.table clause → (l : Literal) → Contains clause.items l →
+pub positives_seen : {N S : Type 0} (u : Universe N S) (root : Demands) (notes : Notes N S) → IsEncoding u root notes → (clause : List Literal) →
+    Contains notes.table clause → (l : Literal) → Contains clause l →
     l.positive ≡ true → (s : S) → origin_at notes.origins l.variable ≡ Solvable s → Contains notes.seen s
 positives_seen {N} {S} u root notes encoding clause listed l inside positive s stands =
     let at = place_of_member notes.table clause listed in
@@ -266,7 +267,7 @@ positives_seen {N} {S} u root notes encoding clause listed l inside positive s s
     let kind : ClauseKind N S = get_or notes.kinds number InstallRoot in
     let kind_at = slice_get-get_or notes.kinds number InstallRoot below in
     let has_kind : Contains notes.kinds kind = Contains-get_or notes.kinds number InstallRoot below in
-    let items : clause_at notes.table number ≡ clause.items = ap (λ o. option_map_or (λ (c : Vec Literal Global). c.items) o []) at.1 in
+    let items : clause_at notes.table number ≡ clause = clause_at-found notes.table number clause at.1 in
     let Has : List Literal → Type 0 = λ list. Contains list l in
     let a = (encoding.encoded.each number kind kind_at).atoms.each_literal l (subst Has (sym items) inside) in
     let origin : a.0.origin ≡ Solvable s = sym (get_or_from_slice_get notes.origins l.variable a.0.origin Root a.2.origin) ∙ stands in

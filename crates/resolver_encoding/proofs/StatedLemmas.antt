@@ -87,7 +87,7 @@ module _ {N S : Type 0} (u : Universe N S) (same_name : N → N → Bool) (names
 
 -- the rules of the clauses of a core explain
 pub numbered_core_explained : {N S : Type 0} (u : Universe N S) (same_name : N → N → Bool) (codes : N → ℕ → S → Bool) (root : Demands)
-    (origins : List (Origin N S)) (table : List (Vec Literal Global)) (kinds : List (ClauseKind N S)) (numbers : List ℕ) (rules : List (Rule N S)) →
+    (origins : List (Origin N S)) (table : List (List Literal)) (kinds : List (ClauseKind N S)) (numbers : List ℕ) (rules : List (Rule N S)) →
     HasLawfulSolvables u → IsIdentity same_name → AreCodes u codes → AreEncoded u origins table kinds → All (IsTrueClause u codes root) kinds →
     IsCore table numbers →
     AreListed u (implied_in u same_name (kinds_at kinds numbers)) (kinds_at kinds numbers) rules →

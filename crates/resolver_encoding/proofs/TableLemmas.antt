@@ -54,8 +54,8 @@ IsSecond-beside by v s second (beside_it is) = second_is is
 IsSecond-beside by v s second (is_itself same none) = second_again by v s refl same none
 
 -- the table has one more clause, after variables were added
-pub kind_added : {N S : Type 0} (u : Universe N S) (kind : ClauseKind N S) (old mid new : Table N S) (literals : Vec Literal Global) →
-    Grows old.origins mid.origins → mid ≡ record old { origins = mid.origins } → IsClauseOf u mid.origins literals.items kind →
+pub kind_added : {N S : Type 0} (u : Universe N S) (kind : ClauseKind N S) (old mid new : Table N S) (literals : List Literal) →
+    Grows old.origins mid.origins → mid ≡ record old { origins = mid.origins } → IsClauseOf u mid.origins literals kind →
     new ≡ record mid {
       literals = mid.literals ++ literals ∷ [];
       kinds = mid.kinds ++ kind ∷ [];

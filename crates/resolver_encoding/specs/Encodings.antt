@@ -40,7 +40,7 @@ use Rattle.resolver_encoding.specs.declared.groups.Groups.{Groups}
 -- and the limits of variables and clauses.
 pub record Notes (N S : Type 0) : Type 0 where
   pub origins : List (Origin N S)
-  pub table : List (Vec Literal Global)
+  pub table : List (List Literal)
   pub kinds : List (ClauseKind N S)
   pub requirements : List ℕ
   pub seen : List S
@@ -301,8 +301,8 @@ numbers_with kind number numbers = numbers
 -- one more clause was added, with the literals of its kind
 pub record AddsKind {N S : Type 0} (u : Universe N S) (kind : ClauseKind N S) (old new : Notes N S) : Type 0 where
   pub origins : Grows old.origins new.origins
-  pub literals : Vec Literal Global
-  pub clause : IsClauseOf u new.origins literals.items kind
+  pub literals : List Literal
+  pub clause : IsClauseOf u new.origins literals kind
   pub is : new ≡ record old {
     origins = new.origins;
     table = old.table ++ literals ∷ [];

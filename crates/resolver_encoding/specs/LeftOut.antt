@@ -12,7 +12,7 @@ AreTrueIn {N} {S} values origins set = (variable : ℕ) (s : S) → Contains set
 
 -- The solvable is false under all values that satisfy the clauses and make the set true. Neither answers nor exemptions
 -- are named, so this stays true when clauses are added and the set grows.
-pub record IsLeftOut {N S : Type 0} (origins : List (Origin N S)) (table : List (Vec Literal Global)) (set : List S) (s : S) : Type 0 where
+pub record IsLeftOut {N S : Type 0} (origins : List (Origin N S)) (table : List (List Literal)) (set : List S) (s : S) : Type 0 where
   pub variable : ℕ
   pub stands : slice_get origins variable ≡ Some (Solvable s)
   pub never : (values : ℕ → Bool) → Satisfies values table → AreTrueIn values origins set → values variable ≡ false

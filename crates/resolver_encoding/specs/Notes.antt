@@ -16,7 +16,7 @@ entry_of entry = record { by = entry.by; disjunct = entry.disjunct.items; requir
 abbrev pub table_in : {N S : Type 0} → ClauseTable N S → Table N S
 table_in t = record {
   origins = origins_in t.variables;
-  literals = t.literals.items;
+  literals = t.literals;
   kinds = t.kinds.items;
   requirements = map (λ (r : RequirementClause). r.number) t.requirements.items;
   variable_limit = limit_in t.variables;
@@ -26,7 +26,7 @@ table_in t = record {
 abbrev pub notes_in : {N S : Type 0} → Encoding N S → Notes N S
 notes_in e = record {
   origins = origins_in e.table.variables;
-  table = e.table.literals.items;
+  table = e.table.literals;
   kinds = e.table.kinds.items;
   requirements = map (λ (r : RequirementClause). r.number) e.table.requirements.items;
   seen = e.seen.keys;

@@ -20,7 +20,7 @@ use Rattle.resolver_encoding.specs.Values.{IsClauseOf}
 -- limits of variables and clauses
 pub record Table (N S : Type 0) : Type 0 where
   pub origins : List (Origin N S)
-  pub literals : List (Vec Literal Global)
+  pub literals : List (List Literal)
   pub kinds : List (ClauseKind N S)
   pub requirements : List ℕ
   pub variable_limit : ℕ
@@ -48,8 +48,8 @@ IsTableFull t = ((length t.origins ≡ t.variable_limit) × AreDistinct t.origin
 -- one more clause was added, with the literals of its kind
 pub record HasAdded {N S : Type 0} (u : Universe N S) (kind : ClauseKind N S) (old new : Table N S) : Type 0 where
   pub origins : Grows old.origins new.origins
-  pub literals : Vec Literal Global
-  pub clause : IsClauseOf u new.origins literals.items kind
+  pub literals : List Literal
+  pub clause : IsClauseOf u new.origins literals kind
   pub is : new ≡ record old {
     origins = new.origins;
     literals = old.literals ++ literals ∷ [];

@@ -33,7 +33,7 @@ pub record IsClauseOf {N S : Type 0} (u : Universe N S) (origins : List (Origin 
   pub in_order : AreInOrder u origins literals kind
 
 -- the clauses of the table are of these kinds, one each
-pub record AreEncoded {N S : Type 0} (u : Universe N S) (origins : List (Origin N S)) (table : List (Vec Literal Global))
+pub record AreEncoded {N S : Type 0} (u : Universe N S) (origins : List (Origin N S)) (table : List (List Literal))
     (kinds : List (ClauseKind N S)) : Type 0 where
   pub count : length table ≡ length kinds
   pub each : (n : ℕ) (kind : ClauseKind N S) → slice_get kinds n ≡ Some kind → IsClauseOf u origins (clause_at table n) kind

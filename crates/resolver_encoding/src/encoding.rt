@@ -26,7 +26,7 @@ use crate::groups::Groups;
 use crate::table::ClauseTable;
 use indexmap::IndexSet;
 use resolver_clause_store::{
-    ClauseKind, Exhausted, Literal, Requirement, RequirementClause, Variables, VersionSetId,
+    ClauseKind, Clauses, Exhausted, Requirement, RequirementClause, Variables, VersionSetId,
 };
 use std::alloc::Global;
 use std::hash::Hash;
@@ -120,7 +120,7 @@ impl<N: Copy + Eq + Hash + Drop, S: Copy + Eq + Hash + Drop> Encoding<N, S> {
     }
 
     /// Returns the literals of the clauses, by their numbers.
-    pub fn literals(&self) -> &[Vec<Literal>]
+    pub fn literals(&self) -> &Clauses
         ensures { result.now ≡ (notes_in self.now).table }
     {
         self.table.literals()

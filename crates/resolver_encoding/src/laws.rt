@@ -34,7 +34,7 @@ ghost use Rattle.resolver_encoding.specs.Values.{AreEncoded, extension, kinds_at
 /// The extension is the values that a set gives to variables: a solvable is true if it is in the set, and a helper if a
 /// member implies it. The call does nothing: its contract is the law.
 pub fn answers_satisfy_true_clauses<N, S>()
-    ensures { (u : Universe N S) (codes : N → ℕ → S → Bool) (root : Demands) (origins : List (Origin N S)) (table : List (Vec Literal Global))
+    ensures { (u : Universe N S) (codes : N → ℕ → S → Bool) (root : Demands) (origins : List (Origin N S)) (table : List (List Literal))
         (kinds : List (ClauseKind N S)) (set exempt : List S) →
         HasLawfulSolvables u → AreCodes u codes → AreEncoded u origins table kinds → All (IsTrueClause u codes root) kinds →
         Spares u exempt kinds → IsValid u root set exempt →
@@ -47,7 +47,7 @@ pub fn answers_satisfy_true_clauses<N, S>()
 /// The call does nothing: its contract is the law.
 pub fn core_rules_explain<N, S>()
     ensures { (u : Universe N S) (same_name : N → N → Bool) (codes : N → ℕ → S → Bool) (root : Demands) (origins : List (Origin N S))
-        (table : List (Vec Literal Global)) (kinds : List (ClauseKind N S)) (numbers : List ℕ) (rules : List (Rule N S)) →
+        (table : List (List Literal)) (kinds : List (ClauseKind N S)) (numbers : List ℕ) (rules : List (Rule N S)) →
         HasLawfulSolvables u → IsIdentity same_name → AreCodes u codes → AreEncoded u origins table kinds → All (IsTrueClause u codes root) kinds →
         All (λ n. n < length kinds) numbers →
         AreListed u (implied_in u same_name (kinds_at kinds numbers)) (kinds_at kinds numbers) rules →

@@ -16,10 +16,11 @@ use crate::literals::{
     count_of, depends_on, first_of, push_candidates, push_front, push_helpers, second_of,
 };
 use resolver_clause_store::{
-    By, ClauseKind, Exhausted, Literal, RequirementClause, Variables, narrow,
+    By, ClauseKind, Clauses, Exhausted, Literal, RequirementClause, Variables, narrow,
 };
 use std::alloc::{AllocError, Global};
 use std::hash::Hash;
+use std::mem::replace;
 
 /// The clauses, and the origin of each variable.
 ///
@@ -29,9 +30,11 @@ pub(crate) struct ClauseTable<N: Copy + Eq + Hash + Drop, S: Copy + Eq + Hash + 
     alloc: Global,
     pub(crate) variables: Variables<N, S>,
     kinds: Vec<ClauseKind<N, S>>,
-    literals: Vec<Vec<Literal>>,
+    literals: Clauses,
     requirements: Vec<RequirementClause>,
     clause_limit: usize,
+    /// Memory for the literals of the next clause. Its items mean nothing.
+    spare: Vec<Literal>,
 }
 
 /// Returns the entry of a requirement clause, or `None` for a clause of another kind.
@@ -84,9 +87,10 @@ impl<N: Copy + Eq + Hash + Drop, S: Copy + Eq + Hash + Drop> ClauseTable<N, S> {
             alloc,
             variables: Variables::new(alloc, variable_limit),
             kinds: Vec::new(alloc),
-            literals: Vec::new(alloc),
+            literals: Clauses::new(alloc),
             requirements: Vec::new(alloc),
             clause_limit,
+            spare: Vec::new(alloc),
         }
     }
 
@@ -149,9 +153,11 @@ impl<N: Copy + Eq + Hash + Drop, S: Copy + Eq + Hash + Drop> ClauseTable<N, S> {
             AddsSuch (IsMentioned (atoms_of u kind)) (table_in self.old).origins (table_in self.new).origins }
         ensures refusal { IfErr result (IsShortage (IsFull self.new.variables)) }
     {
-        let mut literals = Vec::new(self.alloc);
+        let mut literals = replace(&mut self.spare, Vec::new(self.alloc));
+        literals.clear();
         let ends = self.push_literals(&kind, choices, &mut literals)?;
-        self.put(kind, literals, ends)?;
+        self.put(kind, &literals, ends)?;
+        self.spare = literals;
         Ok(())
     }
 
@@ -190,11 +196,11 @@ impl<N: Copy + Eq + Hash + Drop, S: Copy + Eq + Hash + Drop> ClauseTable<N, S> {
     fn put(
         &mut self,
         kind: ClauseKind<N, S>,
-        literals: Vec<Literal>,
+        literals: &[Literal],
         ends: Vec<usize>,
     ) -> Result<(), Exhausted>
         ensures added { OnOk result (table_in self.new ≡ record (table_in self.old) {
-          literals = (table_in self.old).literals ++ literals ∷ [];
+          literals = (table_in self.old).literals ++ literals.now ∷ [];
           kinds = (table_in self.old).kinds ++ kind ∷ [];
           requirements = numbers_with kind (length (table_in self.old).kinds) (table_in self.old).requirements;
         }) }
@@ -204,17 +210,21 @@ impl<N: Copy + Eq + Hash + Drop, S: Copy + Eq + Hash + Drop> ClauseTable<N, S> {
     {
         let number = narrow(self.kinds.len())?;
         let asking = listing_of(&kind, number, boxed(self.alloc, ends)?);
-        self.put_literals(kind, literals)?;
         match asking {
-            None => Ok(()),
-            Some(asking) => match self.requirements.push(asking) {
-                Ok(()) => Ok(()),
-                Err(_) => {
-                    self.kinds.pop();
-                    self.literals.pop();
-                    Err(Exhausted::Memory)
+            None => {
+                self.put_literals(kind, literals)?;
+                Ok(())
+            }
+            Some(asking) => {
+                self.requirements.push(asking)?;
+                match self.put_literals(kind, literals) {
+                    Ok(()) => Ok(()),
+                    Err(_) => {
+                        self.requirements.pop();
+                        Err(Exhausted::Memory)
+                    }
                 }
-            },
+            }
         }
     }
 
@@ -222,10 +232,10 @@ impl<N: Copy + Eq + Hash + Drop, S: Copy + Eq + Hash + Drop> ClauseTable<N, S> {
     fn put_literals(
         &mut self,
         kind: ClauseKind<N, S>,
-        literals: Vec<Literal>,
+        literals: &[Literal],
     ) -> Result<(), Exhausted>
         ensures kinds { OnOk result (self.new.kinds.items ≡ self.old.kinds.items ++ kind ∷ []) }
-        ensures literals { OnOk result (self.new.literals.items ≡ self.old.literals.items ++ literals ∷ []) }
+        ensures literals { OnOk result (self.new.literals ≡ self.old.literals ++ literals.now ∷ []) }
         ensures unchanged { OnErr result (table_in self.new ≡ table_in self.old) }
         ensures variables { self.new.variables ≡ self.old.variables }
         ensures requirements { self.new.requirements ≡ self.old.requirements }
@@ -250,7 +260,7 @@ impl<N: Copy + Eq + Hash + Drop, S: Copy + Eq + Hash + Drop> ClauseTable<N, S> {
     }
 
     /// Returns the literals of the clauses, by their numbers.
-    pub(crate) fn literals(&self) -> &[Vec<Literal>]
+    pub(crate) fn literals(&self) -> &Clauses
         ensures { result.now ≡ (table_in self.now).literals }
     {
         &self.literals

@@ -45,7 +45,7 @@ pair-last : (pairs : List WatchedPair) (pair : WatchedPair) (number : ℕ) → l
 pair-last pairs pair number end = get_or_push pairs pair unwatched number end
 
 -- more variables
-pub propagator-grown : (table : List (Vec Literal Global)) (old new : Trail) (variables : ℕ) (p : Propagator) (watches : Watches) →
+pub propagator-grown : (table : List (List Literal)) (old new : Trail) (variables : ℕ) (p : Propagator) (watches : Watches) →
     length (lists_of watches) ≡ 2 * variables → ((list : ℕ) → list_at (lists_of watches) list ≡ list_at (lists_of p.watches) list) →
     pairs_of watches ≡ pairs_of p.watches → IsGrown old new variables → IsPropagator table old p → IsPropagator table new (record p { watches = watches })
 propagator-grown table old new variables p watches size lists pairs grown it =
@@ -66,7 +66,7 @@ propagator-grown table old new variables p watches size lists pairs grown it =
     }
 
 -- a clause that has a literal is in the table
-within-contains : (table : List (Vec Literal Global)) (number : ℕ) (literal : Literal) → Contains (clause_at table number) literal → number < length table
+within-contains : (table : List (List Literal)) (number : ℕ) (literal : Literal) → Contains (clause_at table number) literal → number < length table
 within-contains table number literal contains = ⊎_elim
     (λ (less : number < length table). less)
     (λ (past : length table ≤ number).
@@ -76,7 +76,7 @@ within-contains table number literal contains = ⊎_elim
     (cases_lt number (length table))
 
 -- more clauses after the others
-module _ (old new : List (Vec Literal Global)) (longer : length old ≤ length new)
+module _ (old new : List (List Literal)) (longer : length old ≤ length new)
     (same : (number : ℕ) → number < length old → clause_at new number ≡ clause_at old number) where
   late-longer : (trail : Trail) (late : List Late) (attached : ℕ) → attached ≤ length old → All (λ (l : Late). l.number < attached) late →
       AreLate old trail late → AreLate new trail late
@@ -115,7 +115,7 @@ places-cut old new count cut within =
     keeps_places old new (length_of new) (omega (arith, within, cut.length)) (λ v s at below. cut.kept v s at (omega (arith, below, cut.length)))
 
 -- the late clauses when some at the end were removed
-late-fewer : (table : List (Vec Literal Global)) (old new : Trail) (late left gone : List Late) → late ≡ left ++ gone → KeepsPlaces old new (length_of new) →
+late-fewer : (table : List (List Literal)) (old new : Trail) (late left gone : List Late) → late ≡ left ++ gone → KeepsPlaces old new (length_of new) →
     All (λ (l : Late). l.length ≤ length_of new) left → AreLate table old late → AreLate table new left
 late-fewer table old new late left gone is places within are =
     let was : AreLate table old (left ++ gone) = subst (λ (ls : List Late). AreLate table old ls) is are in
@@ -128,7 +128,7 @@ late-fewer table old new late left gone is places within are =
       rising = λ k n early later less at there. was.rising k n early later less (place_left left gone k early at) (place_left left gone n later there);
     }
 
-covers-cut : (table : List (Vec Literal Global)) (old new : Trail) (pairs : List WatchedPair) (late left : List Late) (pending more : List ℕ) (head : ℕ) →
+covers-cut : (table : List (List Literal)) (old new : Trail) (pairs : List WatchedPair) (late left : List Late) (pending more : List ℕ) (head : ℕ) →
     IsLower old new → ((number : ℕ) → IsNoted late pending number → IsNoted left more number) → Covers table old pairs late pending head →
     Covers table new pairs left more (min head (length_of new))
 covers-cut table old new pairs late left pending more head lower noted covers = record {
@@ -143,7 +143,7 @@ covers-cut table old new pairs late left pending more head lower noted covers = 
   constant = λ number inside is. noted number (covers.constant number inside is);
 }
 
-pub propagator-cut : (table : List (Vec Literal Global)) (old new : Trail) (p : Propagator) (late : Vec Late Global) (pending : Vec ℕ Global) (head : ℕ) →
+pub propagator-cut : (table : List (List Literal)) (old new : Trail) (p : Propagator) (late : Vec Late Global) (pending : Vec ℕ Global) (head : ℕ) →
     Recalls (late_of p) late.items (pending_of p) pending.items (length_of new) → head ≡ min p.head (length_of new) → IsLower old new →
     IsPropagator table old p → IsPropagator table new (record p { late = late; pending = pending; head = head })
 propagator-cut table old new p late pending head recalls is lower it = record {
@@ -157,7 +157,7 @@ propagator-cut table old new p late pending head recalls is lower it = record {
   covers = rw is (covers-cut table old new _ _ _ _ _ _ lower recalls.noted it.covers);
 }
 
-pub propagator-forgot : (table : List (Vec Literal Global)) (old new : Trail) (count : ℕ) (p : Propagator) (late : Vec Late Global) (pending : Vec ℕ Global) →
+pub propagator-forgot : (table : List (List Literal)) (old new : Trail) (count : ℕ) (p : Propagator) (late : Vec Late Global) (pending : Vec ℕ Global) →
     Recalls (late_of p) late.items (pending_of p) pending.items (length_of new) → count ≤ length_of old → IsCut old new count → IsPropagator table old p →
     IsPropagator table new (record p { late = late; pending = pending; head = 0 })
 propagator-forgot table old new count p late pending recalls within cut it = record {
@@ -262,7 +262,7 @@ noted-fewer late rest number other differ noted = ⊎_elim
     (Contains-append_cases rest (number ∷ []) other again))
     noted
 
-module _ (table : List (Vec Literal Global)) (trail : Trail) (pairs : List WatchedPair) (late left : List Late) (rest : List ℕ) (number head lower : ℕ)
+module _ (table : List (List Literal)) (trail : Trail) (pairs : List WatchedPair) (late left : List Late) (rest : List ℕ) (number head lower : ℕ)
     (less : lower ≤ head) (grown : (other : ℕ) → IsNoted late rest other → IsNoted left rest other) where
   covers-fewer : ((literal : Literal) → IsWatching pairs number literal → (fails : IsFalseBefore trail lower literal) →
       IsExcused table trail left rest fails.slot.level number) → (number < length pairs → pair_at pairs number ≡ unwatched → IsNoted left rest number) →
@@ -307,7 +307,7 @@ watching-pair pairs number first second literal are watching = ⊎_elim
     (λ (e : (pair_at pairs number).second ≡ Some literal). inr (same_Some second literal (sym (ap (λ (p : WatchedPair). p.second) are) ∙ e)))
     watching
 
-pub passed-high : (table : List (Vec Literal Global)) (trail : Trail) (p : Propagator) (pending : Vec ℕ Global) (number : ℕ) → pending_of p ≡ pending.items ++
+pub passed-high : (table : List (List Literal)) (trail : Trail) (p : Propagator) (pending : Vec ℕ Global) (number : ℕ) → pending_of p ≡ pending.items ++
     number ∷ [] → IsHighPair trail (pair_at (pairs_of p.watches) number) → IsSatisfied trail (clause_at table number) → IsPropagator table trail p →
     IsPropagator table trail (record p { pending = pending })
 passed-high table trail p pending number ends pair satisfied it =
@@ -325,7 +325,7 @@ passed-high table trail p pending number ends pair satisfied it =
     covers in
     assumption
 
-pub passed-late : (table : List (Vec Literal Global)) (trail : Trail) (p : Propagator) (late : Vec Late Global) (pending : Vec ℕ Global) (number : ℕ) →
+pub passed-late : (table : List (List Literal)) (trail : Trail) (p : Propagator) (late : Vec Late Global) (pending : Vec ℕ Global) (number : ℕ) →
     pending_of p ≡ pending.items ++ number ∷ [] → late.items ≡ late_of p ++ record { number = number; length = length_of trail } ∷ [] →
     IsSatisfied trail (clause_at table number) → IsPropagator table trail p → IsPropagator table trail (record p { late = late; pending = pending })
 passed-late table trail p late pending number ends is satisfied it =
@@ -358,7 +358,7 @@ passed-late table trail p late pending number ends is satisfied it =
     assumption
 
 -- a clause with two literals without a value
-pub reopened : (table : List (Vec Literal Global)) (trail : Trail) (p : Propagator) (pending : Vec ℕ Global) (number head first second : ℕ) →
+pub reopened : (table : List (List Literal)) (trail : Trail) (p : Propagator) (pending : Vec ℕ Global) (number head first second : ℕ) →
     pending_of p ≡ pending.items ++ number ∷ [] → head ≡ min (min p.head first) second →
     ((literal : Literal) → (pair_at (pairs_of p.watches) number).first ≡ Some literal → IsNotBefore trail first literal) →
     ((literal : Literal) → (pair_at (pairs_of p.watches) number).second ≡ Some literal → IsNotBefore trail second literal) →
@@ -416,7 +416,7 @@ module _ (pairs : List WatchedPair) (pair : Option (Literal × Literal)) where
       inr (end, subst Watching (pair-last pairs (pair_from pair) number (sym end)) watching))
       (cases_lt number (length pairs))
 
-  covers-push : (table : List (Vec Literal Global)) (trail : Trail) (late : List Late) (pending : List ℕ) (head : ℕ) →
+  covers-push : (table : List (List Literal)) (trail : Trail) (late : List Late) (pending : List ℕ) (head : ℕ) →
       Covers table trail pairs late pending head → Covers table trail longer late (pending ++ length pairs ∷ []) head
   covers-push table trail late pending head covers =
       let grown : (number : ℕ) → IsNoted late pending number → IsNoted late (pending ++ length pairs ∷ []) number =
@@ -449,18 +449,18 @@ pair-has clause (Some (one, other)) first second e chosen =
     )
 
 -- a clause after those of the table
-module _ (table : List (Vec Literal Global)) (clause : Vec Literal Global) (pairs : List WatchedPair) (size : length pairs ≡ length table) where
-  abbrev added : List (Vec Literal Global)
+module _ (table : List (List Literal)) (clause : List Literal) (pairs : List WatchedPair) (size : length pairs ≡ length table) where
+  abbrev added : List (List Literal)
   added = table ++ clause ∷ []
 
-  added-at : clause_at added (length pairs) ≡ clause.items
+  added-at : clause_at added (length pairs) ≡ clause
   added-at = ap (λ (n : ℕ). clause_at added n) size ∙ clause_at-last table clause
 
   added-before : (number : ℕ) → number < length pairs → clause_at added number ≡ clause_at table number
   added-before number less = clause_at-push table clause number (omega (arith, less, size))
 
   watched-added : (pair : Option (Literal × Literal)) (old new : List (Vec Watch Global)) →
-      MatchOption pair (IsConstant clause.items) (λ two. AreApart clause.items two.0 two.1) → HasBlockers added new → AreWatched table old pairs →
+      MatchOption pair (IsConstant clause) (λ two. AreApart clause two.0 two.1) → HasBlockers added new → AreWatched table old pairs →
       AreWatched added new (pairs ++ pair_from pair ∷ [])
   watched-added pair old new chosen blockers are = record {
     attached = length-append pairs (pair_from pair ∷ []) ∙ ap (λ (n : ℕ). n + 1) size ∙ sym (length-append table (clause ∷ []));
@@ -489,13 +489,13 @@ module _ (table : List (Vec Literal Global)) (clause : Vec Literal Global) (pair
     blockers = blockers;
   }
 
-pub attached-added : (table : List (Vec Literal Global)) (clause : Vec Literal Global) (trail : Trail) (p : Propagator) (watches : Watches)
+pub attached-added : (table : List (List Literal)) (clause : List Literal) (trail : Trail) (p : Propagator) (watches : Watches)
     (pending : Vec ℕ Global) (pair : Option (Literal × Literal)) → pairs_of watches ≡ pairs_of p.watches ++ pair_from pair ∷ [] →
     length (lists_of watches) ≡ length (lists_of p.watches) →
     (((first second : Literal) → pair ≡ Some (first, second) → Contains (clause_at (table ++ clause ∷ []) (attached_of p)) first ×
     Contains (clause_at (table ++ clause ∷ []) (attached_of p)) second) → HasBlockers (table ++ clause ∷ []) (lists_of p.watches) →
     HasBlockers (table ++ clause ∷ []) (lists_of watches)) →
-    pending.items ≡ pending_of p ++ attached_of p ∷ [] → MatchOption pair (IsConstant clause.items) (λ two. AreApart clause.items two.0 two.1) →
+    pending.items ≡ pending_of p ++ attached_of p ∷ [] → MatchOption pair (IsConstant clause) (λ two. AreApart clause two.0 two.1) →
     IsPropagator table trail p → IsPropagator (table ++ clause ∷ []) trail (record p { watches = watches; pending = pending })
 attached-added table clause trail p watches pending pair pairs lists blockers is chosen it =
     let more = table ++ clause ∷ [] in
@@ -507,7 +507,7 @@ attached-added table clause trail p watches pending pair pairs lists blockers is
     let here : (first second : Literal) → pair ≡ Some (first, second) → Contains (clause_at more (attached_of p)) first ×
     Contains (clause_at more (attached_of p)) second = λ first second e.
     subst (λ (c : List Literal). Contains c first × Contains c second) (sym (added-at table clause before size))
-    (pair-has clause.items pair first second e chosen)
+    (pair-has clause pair first second e chosen)
     in
     let now = blockers here (blockers-longer table more longer same (lists_of p.watches) it.watched.blockers) in
     let covers = covers-longer table more longer same trail before (late_of p) (pending_of p) (head_of p) (omega (arith, size)) it.covers in
@@ -527,18 +527,18 @@ attached-added table clause trail p watches pending pair pairs lists blockers is
     }
 
 -- the last pending clause is attached
-pub last-inside : (table : List (Vec Literal Global)) (trail : Trail) (p : Propagator) (number : ℕ) → EndsWith (pending_of p) number →
+pub last-inside : (table : List (List Literal)) (trail : Trail) (p : Propagator) (number : ℕ) → EndsWith (pending_of p) number →
     IsPropagator table trail p → number < attached_of p
 last-inside table trail p number e it =
     let has : Contains (pending_of p) number =
     subst (λ (ns : List ℕ). Contains ns number) (sym e.is) (Contains-append_right e.rest (number ∷ []) number (0, omega arith, refl)) in
     All-contains (λ n. n < attached_of p) (pending_of p) number it.pending has
 
-pub last-within : (table : List (Vec Literal Global)) (trail : Trail) (p : Propagator) (number : ℕ) → EndsWith (pending_of p) number →
+pub last-within : (table : List (List Literal)) (trail : Trail) (p : Propagator) (number : ℕ) → EndsWith (pending_of p) number →
     IsPropagator table trail p → number < length table
 last-within table trail p number e it = omega (arith, last-inside table trail p number e it, it.watched.attached)
 
-pub watched-below : (table : List (Vec Literal Global)) (trail : Trail) (p : Propagator) (variables number : ℕ) → AreBelow variables table →
+pub watched-below : (table : List (List Literal)) (trail : Trail) (p : Propagator) (variables number : ℕ) → AreBelow variables table →
     IsPropagator table trail p → (literal : Literal) → IsWatching (pairs_of p.watches) number literal → literal.variable < variables
 watched-below table trail p variables number below it =
     λ literal watching. All-contains (λ (l : Literal). l.variable < variables) (clause_at table number) literal (below number)
@@ -551,7 +551,7 @@ gained-satisfied old new literal level reason clause gains has =
     ap Some (beq-same literal.positive) in
     (has.0, literal, has.1, has.2, holds)
 
-pub forces-gains : (table : List (Vec Literal Global)) (old new : Trail) (literal : Literal) (level number : ℕ) → IsJustified table old →
+pub forces-gains : (table : List (List Literal)) (old new : Trail) (literal : Literal) (level number : ℕ) → IsJustified table old →
     Gains old new literal level (Forced number) → slot_of old literal.variable ≡ None → number < length table → Contains (clause_at table number) literal →
     IsUnit old literal (clause_at table number) → Forces table old new
 forces-gains table old new literal level number justified gains free inside has unit = record {

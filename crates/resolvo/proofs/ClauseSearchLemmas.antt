@@ -31,16 +31,16 @@ use Rattle.resolvo.proofs.JustifiedLemmas.{chosen-kept}
 use Rattle.resolvo.proofs.LevelLemmas.{level-in}
 use Rattle.resolvo.proofs.SourceLemmas.{causes_at-last, causes_at-push, given_at-last, given_at-push, some_or_none}
 
-pub grows-push : (table : List (Vec Literal Global)) (clause : Vec Literal Global) → Grows table (table ++ clause ∷ [])
+pub grows-push : (table : List (List Literal)) (clause : List Literal) → Grows table (table ++ clause ∷ [])
 grows-push table clause = record { longer = simp length-append (omega arith); same = clause_at-push table clause }
 
 -- a property of clauses that stay holds in the longer table
-pub holds-grows : (old new : List (Vec Literal Global)) (values : ℕ → Bool) (numbers : List ℕ) → Grows old new → All (λ n. n < length old) numbers →
+pub holds-grows : (old new : List (List Literal)) (values : ℕ → Bool) (numbers : List ℕ) → Grows old new → All (λ n. n < length old) numbers →
     MakesTrue values new numbers → MakesTrue values old numbers
 holds-grows old new values numbers grows within holds =
     λ k d below. subst (λ clause. clause_true values clause ≡ true) (grows.same _ (within k d below)) (holds k d below)
 
-pub justified-grows : (old new : List (Vec Literal Global)) (trail : Trail) → Grows old new → IsJustified old trail → IsJustified new trail
+pub justified-grows : (old new : List (List Literal)) (trail : Trail) → Grows old new → IsJustified old trail → IsJustified new trail
 justified-grows old new trail grows justified = record {
   within = λ v s n at reason. omega (arith, justified.within v s n at reason, grows.longer);
   forced = λ v s n at reason. subst (λ clause. IsForcing trail s.place (record { variable = v; positive = s.value }) clause)
@@ -49,7 +49,7 @@ justified-grows old new trail grows justified = record {
       (sym (grows.same n (justified.within v s n at reason))) (justified.contains v s n at reason);
 }
 
-pub below-push : (variables : ℕ) (table : List (Vec Literal Global)) (clause : Vec Literal Global) → AreBelow variables table → IsBelow variables clause.items →
+pub below-push : (variables : ℕ) (table : List (List Literal)) (clause : List Literal) → AreBelow variables table → IsBelow variables clause →
     AreBelow variables (table ++ clause ∷ [])
 below-push variables table clause below here = λ n. ⊎_elim
     (λ less. subst (λ c. IsBelow variables c) (sym (clause_at-push table clause n less)) (below n))
@@ -63,7 +63,7 @@ below-push variables table clause below here = λ n. ⊎_elim
     (cases_lt n (length table))
 
 -- the source of a drawn literal stays
-drawn-grows : (old new : List (Vec Literal Global)) (numbers : List ℕ) (clause : List Literal) → Grows old new → All (λ n. n < length old) numbers →
+drawn-grows : (old new : List (List Literal)) (numbers : List ℕ) (clause : List Literal) → Grows old new → All (λ n. n < length old) numbers →
     All (IsDrawn old numbers) clause → All (IsDrawn new numbers) clause
 drawn-grows old new numbers clause grows within drawn = λ k d below.
     let w = drawn k d below in
@@ -75,9 +75,9 @@ drawn-grows old new numbers clause grows within drawn = λ k d below.
     }
 
 -- a clause after the others, given or learnt
-pub derived-push : (table : List (Vec Literal Global)) (sources : List Source) (clause : Vec Literal Global) (source : Source) → IsDerived table sources →
-    All (λ n. n < length table) (causes_of source) → (number_of source ≡ None → FollowsFrom table (causes_of source) clause.items) →
-    (number_of source ≡ None → All (IsDrawn table (causes_of source)) clause.items) → IsDerived (table ++ clause ∷ []) (sources ++ source ∷ [])
+pub derived-push : (table : List (List Literal)) (sources : List Source) (clause : List Literal) (source : Source) → IsDerived table sources →
+    All (λ n. n < length table) (causes_of source) → (number_of source ≡ None → FollowsFrom table (causes_of source) clause) →
+    (number_of source ≡ None → All (IsDrawn table (causes_of source)) clause) → IsDerived (table ++ clause ∷ []) (sources ++ source ∷ [])
 derived-push table sources clause source derived within follows drawn =
     let grows = grows-push table clause in
     let longer = table ++ clause ∷ [] in
@@ -125,20 +125,20 @@ derived-push table sources clause source derived within follows drawn =
           let e = last place inside more in
           let at_end : place ≡ length table = omega (arith, e, derived.count) in
           let none : number_of source ≡ None = sym (given_at-last sources source) ∙ ap (λ p. given_at more_sources p) (sym e) ∙ learnt in
-          let here = drawn-grows table longer (causes_of source) clause.items grows within (drawn none) in
+          let here = drawn-grows table longer (causes_of source) clause grows within (drawn none) in
           let Drawn : List ℕ → List Literal → Type 0 = λ ns c. All (IsDrawn longer ns) c in
           subst (λ ns. Drawn ns (clause_at longer place)) (sym (ap (λ p. causes_at more_sources p) e ∙ causes_at-last sources source))
           (subst (λ c. Drawn (causes_of source) c) (sym (ap (λ n. clause_at longer n) at_end ∙ clause_at-last table clause)) here))
           (cases_lt place (length table));
     }
 
-pub satisfied-at : (values : ℕ → Bool) (clauses : List (Vec Literal Global)) (n : ℕ) → Satisfies values clauses → n < length clauses →
+pub satisfied-at : (values : ℕ → Bool) (clauses : List (List Literal)) (n : ℕ) → Satisfies values clauses → n < length clauses →
     clause_true values (clause_at clauses n) ≡ true
 satisfied-at values [] n holds within = absurd (omega arith)
 satisfied-at values (d ∷ clauses) n holds within = subst (λ c. clause_true values c ≡ true) (sym (clause_at-get_or (d ∷ clauses) n d within)) (holds n d within)
 
 -- values that make the given clauses true make the learnt clauses true
-derived-below : (given table : List (Vec Literal Global)) (sources : List Source) (values : ℕ → Bool) → IsDerived table sources → AreGiven given table sources →
+derived-below : (given table : List (List Literal)) (sources : List Source) (values : ℕ → Bool) → IsDerived table sources → AreGiven given table sources →
     Satisfies values given → (bound place : ℕ) → place < bound → place < length table → clause_true values (clause_at table place) ≡ true
 derived-below given table sources values derived are holds zero place below within = absurd (omega arith)
 derived-below given table sources values derived are holds (suc bound) place below within = ⊎_elim
@@ -150,13 +150,13 @@ derived-below given table sources values derived are holds (suc bound) place bel
     (some_or_none (given_at sources place))
 
 -- the given clauses imply each clause of the table
-pub implied : (given table : List (Vec Literal Global)) (sources : List Source) (place : ℕ) → IsDerived table sources → AreGiven given table sources →
+pub implied : (given table : List (List Literal)) (sources : List Source) (place : ℕ) → IsDerived table sources → AreGiven given table sources →
     place < length table → IsImplied given (clause_at table place)
 implied given table sources place derived are within =
     λ values holds. derived-below given table sources values derived are holds (suc place) place (omega arith) within
 
 -- a choice is a reason for its decision
-chosen-made : (table : List (Vec Literal Global)) (requirements : List StoredRequirement) (old new : Trail) (literal : Literal) (choice : Choice) (level : ℕ) →
+chosen-made : (table : List (List Literal)) (requirements : List StoredRequirement) (old new : Trail) (literal : Literal) (choice : Choice) (level : ℕ) →
     Gains old new literal level (Decided choice.number) → slot_of old literal.variable ≡ None →
     literal ≡ get_or (clause_at table choice.number) choice.place literal → IsChoice old table requirements choice → (variable : ℕ) (slot : Slot) →
     variable ≡ literal.variable → slot.value ≡ literal.positive → slot.place ≡ length_of old → IsDecidedFor table requirements new variable slot
@@ -183,7 +183,7 @@ chosen-made table requirements old new literal choice level gains free is chosen
           (subst (λ (p : ℕ). IsFalseBefore new p (get_or clause k d)) (sym place) (false_before-kept old new _ _ keeps was));
     }
 
-pub chosen-decides : (table : List (Vec Literal Global)) (requirements : List StoredRequirement) (old new : Trail) (literal : Literal) (choice : Choice)
+pub chosen-decides : (table : List (List Literal)) (requirements : List StoredRequirement) (old new : Trail) (literal : Literal) (choice : Choice)
     (level : ℕ) → Gains old new literal level (Decided choice.number) → slot_of old literal.variable ≡ None →
     literal ≡ get_or (clause_at table choice.number) choice.place literal → IsChoice old table requirements choice → AreChosen table requirements old →
     AreChosen table requirements new
@@ -201,7 +201,7 @@ false_before-undone : (old new : Trail) (level : ℕ) (slot : Slot) (variable : 
 false_before-undone old new level slot variable literal undone at low f =
     search (undone.kept _ _ f.is (omega (arith, (old.rising _ variable f.slot slot f.is at f.earlier).0, low)))
 
-pub justified-undone : (table : List (Vec Literal Global)) (old new : Trail) (level : ℕ) → IsJustified table old → IsUndone old new level →
+pub justified-undone : (table : List (List Literal)) (old new : Trail) (level : ℕ) → IsJustified table old → IsUndone old new level →
     IsJustified table new
 justified-undone table old new level justified undone = record {
   within = λ v s n at reason. justified.within v s n (undone.stays v s at).0 reason;
@@ -211,7 +211,7 @@ justified-undone table old new level justified undone = record {
   contains = λ v s n at reason. justified.contains v s n (undone.stays v s at).0 reason;
 }
 
-pub chosen-undone : (table : List (Vec Literal Global)) (requirements : List StoredRequirement) (old new : Trail) (level : ℕ) →
+pub chosen-undone : (table : List (List Literal)) (requirements : List StoredRequirement) (old new : Trail) (level : ℕ) →
     AreChosen table requirements old → IsUndone old new level → AreChosen table requirements new
 chosen-undone table requirements old new level chosen undone = record {
   each = λ v s n at decided.
@@ -222,7 +222,7 @@ chosen-undone table requirements old new level chosen undone = record {
       search;
 }
 
-pub chosen-grows : (old new : List (Vec Literal Global)) (requirements : List StoredRequirement) (trail : Trail) → Grows old new →
+pub chosen-grows : (old new : List (List Literal)) (requirements : List StoredRequirement) (trail : Trail) → Grows old new →
     All (λ (requirement : StoredRequirement). requirement.number < length old) requirements → AreChosen old requirements trail →
     AreChosen new requirements trail
 chosen-grows old new requirements trail grows inside chosen = record {

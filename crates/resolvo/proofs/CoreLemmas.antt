@@ -14,7 +14,7 @@ use Rattle.resolvo.specs.Resolvents.{is_marked}
 use Rattle.resolvo.specs.Derivations.{AddsMarked, AreGiven, causes_at, given_at, IsDerived, ListsMarked, MarksNumbers, MarkedRefute, Replaces, Stands}
 use Rattle.resolvo.proofs.SourceLemmas.{given_within, some_or_none}
 
-pub marked-begin : (table : List (Vec Literal Global)) (sources : List Source) (old marks : List Bool) (start : List ℕ) → length old ≡ length table →
+pub marked-begin : (table : List (List Literal)) (sources : List Source) (old marks : List Bool) (start : List ℕ) → length old ≡ length table →
     ((k : ℕ) → is_marked old k ≡ false) → MarksNumbers old marks start → All (λ n. n < length table) start → FollowsFrom table start [] →
     MarkedRefute table sources marks (length table)
 marked-begin table sources old marks start size unmarked so within refuted = record {
@@ -24,7 +24,7 @@ marked-begin table sources old marks start size unmarked so within refuted = rec
 }
 
 -- the causes of a learnt clause take its place
-replaced-learnt : (table : List (Vec Literal Global)) (sources : List Source) (old new : List Bool) (bound place : ℕ) → bound ≡ place + 1 →
+replaced-learnt : (table : List (List Literal)) (sources : List Source) (old new : List Bool) (bound place : ℕ) → bound ≡ place + 1 →
     place < length table → IsDerived table sources → MarkedRefute table sources old bound → given_at sources place ≡ None →
     MarksNumbers (set old place false) new (causes_at sources place) → MarkedRefute table sources new place
 replaced-learnt table sources old new bound place last inside derived refute learnt so = record {
@@ -48,7 +48,7 @@ replaced-learnt table sources old new bound place last inside derived refute lea
       (cases_eq k place);
 }
 
-pub marked-replace : (table : List (Vec Literal Global)) (sources : List Source) (old new : List Bool) (bound place : ℕ) → bound ≡ place + 1 →
+pub marked-replace : (table : List (List Literal)) (sources : List Source) (old new : List Bool) (bound place : ℕ) → bound ≡ place + 1 →
     place < length table → IsDerived table sources → MarkedRefute table sources old bound → Replaces old new sources place →
     MarkedRefute table sources new place
 marked-replace table sources old new bound place last inside derived refute so = ⊎_elim
@@ -70,7 +70,7 @@ lists-more old new sources marks place adds lists = λ p n below m is. ⊎_elim
     (λ (ne : p ≡ place → ⊥). adds.kept n (lists p n (omega (arith, ne)) m is))
     (cases_eq p place)
 
-pub core-refuted : (given table : List (Vec Literal Global)) (sources : List Source) (marks : List Bool) (numbers : List ℕ) (bound : ℕ) →
+pub core-refuted : (given table : List (List Literal)) (sources : List Source) (marks : List Bool) (numbers : List ℕ) (bound : ℕ) →
     IsDerived table sources → MarkedRefute table sources marks bound → bound ≤ 0 → All (Stands sources) numbers →
     ListsMarked sources marks numbers (length sources) → AreGiven given table sources → IsCore given numbers
 core-refuted given table sources marks numbers bound derived refute end stand lists are = record {

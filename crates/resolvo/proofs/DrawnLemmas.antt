@@ -46,12 +46,12 @@ negates-slot : (trail : Trail) (l : Literal) (variable : ℕ) (slot : Slot) → 
     l.positive ≡ not slot.value → l ≡ negation variable slot
 negates-slot trail l variable slot name at sign = λ i. record { variable = name i; positive = sign i }
 
-drawn-from : (table : List (Vec Literal Global)) (causes : List ℕ) (number variable : ℕ) (slot : Slot) (l : Literal) → Contains causes number →
+drawn-from : (table : List (List Literal)) (causes : List ℕ) (number variable : ℕ) (slot : Slot) (l : Literal) → Contains causes number →
     Contains (clause_at table number) l → l ≡ negation variable slot → IsDrawn table causes (negation variable slot)
 drawn-from table causes number variable slot l listed stands is =
     record { number = number; listed = listed; stands = subst (λ (x : Literal). Contains (clause_at table number) x) is stands }
 
-pub drawn-begin : (table : List (Vec Literal Global)) (trail : Trail) (old marks : List Bool) (number : ℕ) → IsFalsified trail (clause_at table number) →
+pub drawn-begin : (table : List (List Literal)) (trail : Trail) (old marks : List Bool) (number : ℕ) → IsFalsified trail (clause_at table number) →
     ((v : ℕ) → is_marked old v ≡ false) → MarksAlso old marks (clause_at table number) → AreDrawn table trail marks (number ∷ [])
 drawn-begin table trail old marks number falsified unmarked so = record {
   each = λ v s m at. ⊎_elim
@@ -64,11 +64,11 @@ drawn-begin table trail old marks number falsified unmarked so = record {
       (named v (clause_at table number));
 }
 
-drawn-more : (table : List (Vec Literal Global)) (causes : List ℕ) (number : ℕ) (l : Literal) → IsDrawn table causes l → IsDrawn table (causes ++ number ∷ []) l
+drawn-more : (table : List (List Literal)) (causes : List ℕ) (number : ℕ) (l : Literal) → IsDrawn table causes l → IsDrawn table (causes ++ number ∷ []) l
 drawn-more table causes number l d = record { number = d.number; listed = Contains-append_left causes (number ∷ []) d.number d.listed; stands = d.stands }
 
 -- the literals of its reason take the place of a variable
-pub drawn-resolve : (table : List (Vec Literal Global)) (trail : Trail) (old mid : List Bool) (causes : List ℕ) (variable number : ℕ) →
+pub drawn-resolve : (table : List (List Literal)) (trail : Trail) (old mid : List Bool) (causes : List ℕ) (variable number : ℕ) →
     AreDrawn table trail old causes → IsJustified table trail → IsReason trail variable number → MarksAlso old mid (clause_at table number) →
     AreDrawn table trail (set mid variable false) (causes ++ number ∷ [])
 drawn-resolve table trail old mid causes variable number drawn justified reason so = record {
@@ -93,7 +93,7 @@ drawn-resolve table trail old mid causes variable number drawn justified reason 
 }
 
 -- the literals that negate the marked variables are drawn from the causes
-pub drawn-learnt : (table : List (Vec Literal Global)) (trail : Trail) (marks : List Bool) (causes : List ℕ) (literals : List Literal) →
+pub drawn-learnt : (table : List (List Literal)) (trail : Trail) (marks : List Bool) (causes : List ℕ) (literals : List Literal) →
     AreDrawn table trail marks causes → Negates trail marks literals → All (IsDrawn table causes) literals
 drawn-learnt table trail marks causes literals drawn negates = λ k d below.
     let l = get_or literals k d in
@@ -101,8 +101,8 @@ drawn-learnt table trail marks causes literals drawn negates = λ k d below.
     let is : l ≡ negation l.variable f.0 = negates-slot trail l l.variable f.0 refl f.1 (beq-false _ _ f.2) in
     subst (λ (x : Literal). IsDrawn table causes x) (sym is) (drawn.each l.variable f.0 (negates.only k d below) f.1)
 
-given-stands : (given : List (Vec Literal Global)) (number : ℕ) (literal : Literal) → number < length given → Contains (clause_at given number) literal →
-    (clause : Vec Literal Global) × Contains given clause × Contains clause.items literal
+given-stands : (given : List (List Literal)) (number : ℕ) (literal : Literal) → number < length given → Contains (clause_at given number) literal →
+    (clause : List Literal) × Contains given clause × Contains clause literal
 given-stands [] number literal within stands = absurd (omega arith)
 given-stands (d ∷ given) number literal within stands = (
   get_or (d ∷ given) number d,
@@ -110,9 +110,9 @@ given-stands (d ∷ given) number literal within stands = (
   subst (λ (c : List Literal). Contains c literal) (clause_at-get_or (d ∷ given) number d within) stands,
 )
 
-drawn-below : (given table : List (Vec Literal Global)) (sources : List Source) → IsDerived table sources → AreGiven given table sources →
-    (bound place : ℕ) (literal : Literal) → place < bound → place < length table → Contains (clause_at table place) literal → (clause : Vec Literal Global) ×
-    Contains given clause × Contains clause.items literal
+drawn-below : (given table : List (List Literal)) (sources : List Source) → IsDerived table sources → AreGiven given table sources →
+    (bound place : ℕ) (literal : Literal) → place < bound → place < length table → Contains (clause_at table place) literal → (clause : List Literal) ×
+    Contains given clause × Contains clause literal
 drawn-below given table sources derived are zero place literal below within stands = absurd (omega arith)
 drawn-below given table sources derived are (suc bound) place literal below within stands = ⊎_elim
     (λ (w : (n : ℕ) × (given_at sources place ≡ Some n)).
@@ -124,18 +124,18 @@ drawn-below given table sources derived are (suc bound) place literal below with
     (some_or_none (given_at sources place))
 
 -- each literal of the table is in a given clause
-pub table_drawn : (given table : List (Vec Literal Global)) (sources : List Source) → IsDerived table sources → AreGiven given table sources →
-    (place : ℕ) (literal : Literal) → place < length table → Contains (clause_at table place) literal → (clause : Vec Literal Global) × Contains given clause ×
-    Contains clause.items literal
+pub table_drawn : (given table : List (List Literal)) (sources : List Source) → IsDerived table sources → AreGiven given table sources →
+    (place : ℕ) (literal : Literal) → place < length table → Contains (clause_at table place) literal → (clause : List Literal) × Contains given clause ×
+    Contains clause literal
 table_drawn given table sources derived are place literal within stands =
     drawn-below given table sources derived are (suc place) place literal (omega arith) within stands
 
 -- so is each literal of the trail that was not assumed
-pub values_drawn : (it : ClauseSearch) (given : List (Vec Literal Global)) (numbers : List ℕ) → IsConsistent it → IsLoaded given numbers it →
-    (variable : ℕ) (slot : Slot) → slot_of it.trail variable ≡ Some slot → (slot.reason ≡ Assumed → ⊥) → (clause : Vec Literal Global) × Contains given clause ×
-    Contains clause.items (record { variable = variable; positive = slot.value })
+pub values_drawn : (it : ClauseSearch) (given : List (List Literal)) (numbers : List ℕ) → IsConsistent it → IsLoaded given numbers it →
+    (variable : ℕ) (slot : Slot) → slot_of it.trail variable ≡ Some slot → (slot.reason ≡ Assumed → ⊥) → (clause : List Literal) × Contains given clause ×
+    Contains clause (record { variable = variable; positive = slot.value })
 values_drawn it given numbers holds loaded variable slot at other =
-    let table = it.table.items in
+    let table = it.table in
     let drawn = table_drawn given table it.sources.items holds.derived loaded.clauses.are in
     let literal : Literal = record { variable = variable; positive = slot.value } in
     ⊎_elim

@@ -61,10 +61,10 @@ assumed_or_not (Forced n) = inr (λ e. forced-assumed n e)
 assumed_or_not Assumed = inl refl
 
 -- a value that was not assumed is in a given clause
-pub drawn_or_assumed : (it : ClauseSearch) (given : List (Vec Literal Global)) (numbers : List ℕ) → IsConsistent it → IsLoaded given numbers it →
+pub drawn_or_assumed : (it : ClauseSearch) (given : List (List Literal)) (numbers : List ℕ) → IsConsistent it → IsLoaded given numbers it →
     (variable : ℕ) (slot : Slot) → slot_of (trail_of it) variable ≡ Some slot →
-    (slot.reason ≡ Assumed) ⊎ ((clause : Vec Literal Global) × Contains given clause ×
-    Contains clause.items (record { variable = variable; positive = slot.value }))
+    (slot.reason ≡ Assumed) ⊎ ((clause : List Literal) × Contains given clause ×
+    Contains clause (record { variable = variable; positive = slot.value }))
 drawn_or_assumed it given numbers consistent loaded variable slot at = ⊎_elim
     (λ (is : slot.reason ≡ Assumed). inl is)
     (λ (not : slot.reason ≡ Assumed → ⊥). inr (values_drawn it given numbers consistent loaded variable slot at not))
@@ -94,8 +94,8 @@ module _ {N S : Type 0} where
   -- the chosen solvables are near the seeds
   module _ (u : Universe N S) (root : Demands) (notes : Notes N S) (trail : Trail) (size : variable_count trail ≡ length notes.origins)
       (drawn : (variable : ℕ) (slot : Slot) → slot_of trail variable ≡ Some slot → (slot.reason ≡ Assumed) ⊎
-      ((clause : Vec Literal Global) × Contains notes.table clause × Contains clause.items (record { variable = variable; positive = slot.value })))
-      (positives : (clause : Vec Literal Global) → Contains notes.table clause → (l : Literal) → Contains clause.items l → l.positive ≡ true → (s : S) →
+      ((clause : List Literal) × Contains notes.table clause × Contains clause (record { variable = variable; positive = slot.value })))
+      (positives : (clause : List Literal) → Contains notes.table clause → (l : Literal) → Contains clause l → l.positive ≡ true → (s : S) →
       origin_at notes.origins l.variable ≡ Solvable s → Contains notes.seen s)
       (done taken refused : List S) (packages : List N) (within : IsWithin taken done) (assumed : AreAssumed notes.origins taken refused trail)
       (near : AreNear u root done packages notes) where
@@ -186,10 +186,10 @@ module _ {N S : Type 0} where
       AreNear u root seeds packages (notes_of mid) → All (IsNear u root seeds) keys → AreNear u root seeds packages (notes_in encoding))
       (asked_stays : IsWithin (notes_of mid).asked (notes_in encoding).asked)
       (drawn : (variable : ℕ) (slot : Slot) → slot_of (trail_of old.search) variable ≡ Some slot → (slot.reason ≡ Assumed) ⊎
-      ((clause : Vec Literal Global) × Contains (notes_of old).table clause ×
-      Contains clause.items (record { variable = variable; positive = slot.value })))
-      (positives : (root : Demands) → IsEncoding u root (notes_of old) → (clause : Vec Literal Global) → Contains (notes_of old).table clause → (l : Literal) →
-      Contains clause.items l → l.positive ≡ true → (s : S) → origin_at (notes_of old).origins l.variable ≡ Solvable s →
+      ((clause : List Literal) × Contains (notes_of old).table clause ×
+      Contains clause (record { variable = variable; positive = slot.value })))
+      (positives : (root : Demands) → IsEncoding u root (notes_of old) → (clause : List Literal) → Contains (notes_of old).table clause → (l : Literal) →
+      Contains clause l → l.positive ≡ true → (s : S) → origin_at (notes_of old).origins l.variable ≡ Solvable s →
       Contains (notes_of old).seen s) where
     keeps_near : KeepsNear u old (record mid { encoding = encoding })
     keeps_near root done taken refused packages so within assumed near =

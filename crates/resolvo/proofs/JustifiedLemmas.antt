@@ -32,7 +32,7 @@ decided-forced n m e = absurd cc
 reason-made : (slot made : Slot) (reason : Reason) → slot ≡ made → slot.reason ≡ reason → made.reason ≡ reason
 reason-made slot made reason e is = sym (ap (λ (s : Slot). s.reason) e) ∙ is
 
-pub justified-gains : (table : List (Vec Literal Global)) (old new : Trail) (literal : Literal) (level number : ℕ) → IsJustified table old →
+pub justified-gains : (table : List (List Literal)) (old new : Trail) (literal : Literal) (level number : ℕ) → IsJustified table old →
     Gains old new literal level (Forced number) → slot_of old literal.variable ≡ None → number < length table → Contains (clause_at table number) literal →
     IsUnit old literal (clause_at table number) → IsJustified table new
 justified-gains table old new literal level number justified gains free inside there unit =
@@ -65,7 +65,7 @@ justified-gains table old new literal level number justified gains free inside t
     }
 
 -- no clause forces a decision or an assumption
-pub justified-decides : (table : List (Vec Literal Global)) (old new : Trail) (literal : Literal) (level : ℕ) (why : Reason) → ((n : ℕ) → why ≡ Forced n → ⊥) →
+pub justified-decides : (table : List (List Literal)) (old new : Trail) (literal : Literal) (level : ℕ) (why : Reason) → ((n : ℕ) → why ≡ Forced n → ⊥) →
     IsJustified table old → Gains old new literal level why → slot_of old literal.variable ≡ None → IsJustified table new
 justified-decides table old new literal level why other justified gains free =
     let keeps = keeps-gains old new literal level _ gains free in
@@ -88,7 +88,7 @@ same-slots : (old new : Trail) → IsSame old new → (v : ℕ) → slot_of new 
 same-slots old new same = λ v. ap (λ slots. get_or slots v None) same.slots
 
 -- reasons stay right if the slots stay
-pub justified-same : (table : List (Vec Literal Global)) (old new : Trail) → IsJustified table old → IsSame old new → IsJustified table new
+pub justified-same : (table : List (List Literal)) (old new : Trail) → IsJustified table old → IsSame old new → IsJustified table new
 justified-same table old new justified same =
     let back = same-slots old new same in
     let keeps : Keeps old new = record { kept = λ v s at. back v ∙ at } in
@@ -106,13 +106,13 @@ extends-gains old new literal level number gains free = record {
 }
 
 -- decisions stay when the trail is extended
-pub chosen-kept : (table : List (Vec Literal Global)) (requirements : List StoredRequirement) (old new : Trail) (variable : ℕ) (slot : Slot) → Keeps old new →
+pub chosen-kept : (table : List (List Literal)) (requirements : List StoredRequirement) (old new : Trail) (variable : ℕ) (slot : Slot) → Keeps old new →
     IsDecidedFor table requirements old variable slot → IsDecidedFor table requirements new variable slot
 chosen-kept table requirements old new variable slot keeps c =
     let false_before = λ (k : ℕ) (d : Literal) (below : k < length c.before). false_before-kept old new _ _ keeps (c.false_before k d below) in
     search c
 
-pub chosen-extends : (table : List (Vec Literal Global)) (requirements : List StoredRequirement) (old new : Trail) → AreChosen table requirements old →
+pub chosen-extends : (table : List (List Literal)) (requirements : List StoredRequirement) (old new : Trail) → AreChosen table requirements old →
     Extends old new → AreChosen table requirements new
 chosen-extends table requirements old new chosen extends = record {
   each = λ v s n at decided. ⊎_elim

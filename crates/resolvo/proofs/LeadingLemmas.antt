@@ -63,10 +63,10 @@ module _ {N S : Type 0} where
       AreNear u root seeds packages (notes_of mid) → All (IsNear u root seeds) keys → AreLed u root seeds packages (notes_of mid) →
       AreLed u root seeds packages (notes_in encoding))
       (drawn : (variable : ℕ) (slot : Slot) → slot_of (trail_of old.search) variable ≡ Some slot → (slot.reason ≡ Assumed) ⊎
-      ((clause : Vec Literal Global) × Contains (notes_of old).table clause ×
-      Contains clause.items (record { variable = variable; positive = slot.value })))
-      (positives : (root : Demands) → IsEncoding u root (notes_of old) → (clause : Vec Literal Global) → Contains (notes_of old).table clause → (l : Literal) →
-      Contains clause.items l → l.positive ≡ true → (s : S) → origin_at (notes_of old).origins l.variable ≡ Solvable s →
+      ((clause : List Literal) × Contains (notes_of old).table clause ×
+      Contains clause (record { variable = variable; positive = slot.value })))
+      (positives : (root : Demands) → IsEncoding u root (notes_of old) → (clause : List Literal) → Contains (notes_of old).table clause → (l : Literal) →
+      Contains clause l → l.positive ≡ true → (s : S) → origin_at (notes_of old).origins l.variable ≡ Solvable s →
       Contains (notes_of old).seen s) where
     pub leads_read : LeadsOn u old (record mid { encoding = encoding })
     leads_read = λ root seeds taken refused packages so within assumed near led.

@@ -141,7 +141,7 @@ levelled-begin trail old resolvent clause end end-is unmarked so falsified top h
 }
 
 -- a mark that is left was there before, or belongs to an earlier variable of the reason
-lowered : (table : List (Vec Literal Global)) (trail : Trail) (old mid : List Bool) (variable number : ℕ) (reason : IsReason trail variable number) →
+lowered : (table : List (List Literal)) (trail : Trail) (old mid : List Bool) (variable number : ℕ) (reason : IsReason trail variable number) →
     IsJustified table trail → MarksAlso old mid (clause_at table number) → (other : ℕ) (slot : Slot) → is_marked (set mid variable false) other ≡ true →
     slot_of trail other ≡ Some slot → (other ≢ variable) × (is_marked mid other ≡ true) ×
     ((is_marked old other ≡ true) ⊎ ((is_marked old other ≡ false) × (slot.place < reason.slot.place)))
@@ -171,7 +171,7 @@ same-place : (trail : Trail) (variable other : ℕ) (s t : Slot) → slot_of tra
     variable ≡ other
 same-place trail variable other s t here there same = sym (trail.listed variable s here).1 ∙ ap (λ n. variable_at trail n) same ∙ (trail.listed other t there).1
 
-pub levelled-resolve : (table : List (Vec Literal Global)) (trail : Trail) (old new : Resolvent) (mid : List Bool) (variable number : ℕ) →
+pub levelled-resolve : (table : List (List Literal)) (trail : Trail) (old new : Resolvent) (mid : List Bool) (variable number : ℕ) →
     IsJustified table trail → IsReason trail variable number → IsLevelled trail old (place_of trail variable + 1) → is_marked old.marks.items variable ≡ true →
     (0 < old.level → old.lowest < place_of trail variable) →
     MarksAlso old.marks.items mid (clause_at table number) → new.marks.items ≡ set mid variable false → new.level ≡ old.level → new.lowest ≤ old.lowest →

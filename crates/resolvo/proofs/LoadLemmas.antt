@@ -56,7 +56,7 @@ pub first-undone : (old new : Trail) (count level : ℕ) → IsUndone old new le
 first-undone old new count level undone = λ base k. keeps_trans base old new count (length_of new) k (keeps_undone old new level undone)
 
 -- a learnt clause after the others
-pub loaded-learnt : (given table : List (Vec Literal Global)) (sources : List Source) (places : List ℕ) (clause : Vec Literal Global) (source : Source) →
+pub loaded-learnt : (given table : List (List Literal)) (sources : List Source) (places : List ℕ) (clause : List Literal) (source : Source) →
     length sources ≡ length table → number_of source ≡ None → AreLoaded given table sources places →
     AreLoaded given (table ++ clause ∷ []) (sources ++ source ∷ []) places
 loaded-learnt given table sources places clause source size learnt loaded = record {
@@ -77,7 +77,7 @@ loaded-learnt given table sources places clause source size learnt loaded = reco
 }
 
 -- one more given clause
-placed-push : (given table : List (Vec Literal Global)) (sources : List Source) (places : List ℕ) → length sources ≡ length table →
+placed-push : (given table : List (List Literal)) (sources : List Source) (places : List ℕ) → length sources ≡ length table →
     AreLoaded given table sources places → (n : ℕ) → n < length given + 1 →
     given_at (sources ++ Given (length places) ∷ []) (place_of (places ++ length table ∷ []) n) ≡ Some n
 placed-push given table sources places size loaded n less = ⊎_elim
@@ -92,11 +92,11 @@ placed-push given table sources places size loaded n less = ⊎_elim
     ap (λ p. given_at (sources ++ Given (length places) ∷ []) p) same ∙ given_at-last sources _ ∙ ap Some (sym here))
     (cases_lt n (length given))
 
-pub loaded-given : (given table : List (Vec Literal Global)) (sources : List Source) (places : List ℕ) (copy clause : Vec Literal Global) →
-    length sources ≡ length table → clause.items ≡ copy.items → AreLoaded given table sources places →
-    AreLoaded (given ++ copy ∷ []) (table ++ clause ∷ []) (sources ++ Given (length places) ∷ []) (places ++ length table ∷ [])
-loaded-given given table sources places copy clause size same loaded =
-    let long : length (given ++ copy ∷ []) ≡ length given + 1 = length-append given (copy ∷ []) in
+pub loaded-given : (given table : List (List Literal)) (sources : List Source) (places : List ℕ) (clause : List Literal) →
+    length sources ≡ length table → AreLoaded given table sources places →
+    AreLoaded (given ++ clause ∷ []) (table ++ clause ∷ []) (sources ++ Given (length places) ∷ []) (places ++ length table ∷ [])
+loaded-given given table sources places clause size loaded =
+    let long : length (given ++ clause ∷ []) ≡ length given + 1 = length-append given (clause ∷ []) in
     record {
       count = omega (arith, long, length-append places (length table ∷ []), loaded.count);
       placed = λ n less. placed-push given table sources places size loaded n (omega (arith, less, long));
@@ -108,11 +108,11 @@ loaded-given given table sources places copy clause size same loaded =
         same = λ p n is. ⊎_elim
             (λ (w : (p < length sources) × (given_at sources p ≡ Some n)).
             clause_at-push table clause p (omega (arith, w.0, size)) ∙ loaded.are.same p n w.1 ∙
-            sym (clause_at-push given copy n (loaded.are.within p n w.1)))
+            sym (clause_at-push given clause n (loaded.are.within p n w.1)))
             (λ (w : (p ≡ length sources) × (Some (length places) ≡ Some n)).
             let number : length given ≡ n = sym loaded.count ∙ same_Some _ _ w.1 in
-            ap (λ q. clause_at (table ++ clause ∷ []) q) (w.0 ∙ size) ∙ clause_at-last table clause ∙ same ∙ sym (clause_at-last given copy) ∙
-            ap (λ m. clause_at (given ++ copy ∷ []) m) number)
+            ap (λ q. clause_at (table ++ clause ∷ []) q) (w.0 ∙ size) ∙ clause_at-last table clause ∙ sym (clause_at-last given clause) ∙
+            ap (λ m. clause_at (given ++ clause ∷ []) m) number)
             (given_at-cases sources (Given (length places)) p n is);
       };
     }
@@ -151,7 +151,7 @@ same-number requirements wanted places same k d e below =
     get_or-map (place_of places) (numbers_of wanted) k 0 0 inside ∙ ap (λ n. place_of places n) (get_or-map number wanted k e 0 below)
 
 -- the clause of a requirement at its place
-given-clause : (given table : List (Vec Literal Global)) (sources : List Source) (places : List ℕ) (number : ℕ) → AreLoaded given table sources places →
+given-clause : (given table : List (List Literal)) (sources : List Source) (places : List ℕ) (number : ℕ) → AreLoaded given table sources places →
     number < length given → clause_at table (place_of places number) ≡ clause_at given number
 given-clause given table sources places number loaded inside = loaded.are.same _ number (loaded.placed number inside)
 
@@ -160,7 +160,7 @@ some-of : (wanted : List RequirementClause) (k : ℕ) → k < length wanted → 
 some-of [] k below = absurd (omega (arith, below))
 some-of (r ∷ rest) k below = r
 
-chosen-wanted : (given table : List (Vec Literal Global)) (sources : List Source) (places : List ℕ) (requirements : List StoredRequirement)
+chosen-wanted : (given table : List (List Literal)) (sources : List Source) (places : List ℕ) (requirements : List StoredRequirement)
     (wanted : List RequirementClause) (trail : Trail) (variable : ℕ) (slot : Slot) → AreLoaded given table sources places →
     stored_places requirements ≡ map (place_of places) (numbers_of wanted) → All (λ (r : RequirementClause). r.number < length given) wanted →
     IsDecidedFor table requirements trail variable slot → IsChosen given wanted trail variable slot
@@ -174,7 +174,7 @@ chosen-wanted given table sources places requirements wanted trail variable slot
     search (Contains-get_or wanted k some below)
 
 -- a search that is finished over the table is finished over the given clauses
-pub finished : (given table : List (Vec Literal Global)) (sources : List Source) (places : List ℕ) (requirements : List StoredRequirement)
+pub finished : (given table : List (List Literal)) (sources : List Source) (places : List ℕ) (requirements : List StoredRequirement)
     (wanted : List RequirementClause) (trail : Trail) → IsDerived table sources → IsJustified table trail → AreChosen table requirements trail →
     AreLoaded given table sources places → stored_places requirements ≡ map (place_of places) (numbers_of wanted) →
     All (λ (r : RequirementClause). r.number < length given) wanted → AllSettled trail table →
@@ -205,7 +205,7 @@ finished given table sources places requirements wanted trail derived justified 
 }
 
 -- the same with known numbers
-pub finished_for : (given table : List (Vec Literal Global)) (sources : List Source) (places : List ℕ) (requirements : List StoredRequirement)
+pub finished_for : (given table : List (List Literal)) (sources : List Source) (places : List ℕ) (requirements : List StoredRequirement)
     (wanted : List RequirementClause) (numbers : List ℕ) (trail : Trail) → numbers_of wanted ≡ numbers → IsDerived table sources → IsJustified table trail →
     AreChosen table requirements trail → AreLoaded given table sources places → stored_places requirements ≡ map (place_of places) numbers →
     All (λ n. n < length given) numbers → AllSettled trail table → All (λ (r : StoredRequirement). IsMet trail (clause_at table r.number)) requirements →
@@ -220,7 +220,7 @@ finished_for given table sources places requirements wanted numbers trail are de
     finished given table sources places requirements wanted trail derived justified chosen loaded (same ∙ ap (map (place_of places)) (sym are)) each settled met
 
 -- more variables without a value
-pub justified-grown : (table : List (Vec Literal Global)) (old new : Trail) (variables : ℕ) → IsGrown old new variables → IsJustified table old →
+pub justified-grown : (table : List (List Literal)) (old new : Trail) (variables : ℕ) → IsGrown old new variables → IsJustified table old →
     IsJustified table new
 justified-grown table old new variables grown justified =
     let back : (v : ℕ) → slot_of new v ≡ slot_of old v = grown.slots in
@@ -235,7 +235,7 @@ pub extends-grown : (old new : Trail) (variables : ℕ) → IsGrown old new vari
 extends-grown old new variables grown = record { kept = λ v s at. grown.slots v ∙ at; only = λ v s at. inl (sym (grown.slots v) ∙ at) }
 
 -- a requirement after the others
-pub chosen-listed : (table : List (Vec Literal Global)) (requirements : List StoredRequirement) (requirement : StoredRequirement) (trail : Trail) →
+pub chosen-listed : (table : List (List Literal)) (requirements : List StoredRequirement) (requirement : StoredRequirement) (trail : Trail) →
     AreChosen table requirements trail → AreChosen table (requirements ++ requirement ∷ []) trail
 chosen-listed table requirements requirement trail chosen = record {
   each = λ v s n at decided.
@@ -258,53 +258,52 @@ same-undone old new level it undone high learnt kept base held = record {
 }
 
 -- a search with a given clause after the others
-pub consistent-given : (old new : ClauseSearch) (clause : Vec Literal Global) (number place level : ℕ) → IsConsistent old →
-    IsBelow (variable_count old.trail) clause.items → place ≡ length old.table.items → new.table.items ≡ old.table.items ++ clause ∷ [] →
+pub consistent-given : (old new : ClauseSearch) (clause : List Literal) (number place level : ℕ) → IsConsistent old →
+    IsBelow (variable_count old.trail) clause → place ≡ length old.table → new.table ≡ old.table ++ clause ∷ [] →
     new.sources.items ≡ old.sources.items ++ Given number ∷ [] → new.places.items ≡ old.places.items ++ place ∷ [] →
     new.requirements.items ≡ old.requirements.items → IsUndone old.trail new.trail level → old.base ≤ level → new.learnt ≡ old.learnt →
-    new.kept ≡ min old.kept (length_of new.trail) → new.base ≡ old.base → new.held ≡ old.held → IsPropagator new.table.items new.trail new.propagator →
-    IsQueued new.queue new.trail old.table.items old.requirements.items → IsConsistent new
+    new.kept ≡ min old.kept (length_of new.trail) → new.base ≡ old.base → new.held ≡ old.held → IsPropagator new.table new.trail new.propagator →
+    IsQueued new.queue new.trail old.table old.requirements.items → IsConsistent new
 consistent-given old new clause number place level it below end table sources places requirements undone high learnt kept base held propagator queued =
-    let grows = grows-push old.table.items clause in
-    let longer : length (old.table.items ++ clause ∷ []) ≡ length old.table.items + 1 = length-append old.table.items (clause ∷ []) in
+    let grows = grows-push old.table clause in
+    let longer : length (old.table ++ clause ∷ []) ≡ length old.table + 1 = length-append old.table (clause ∷ []) in
     record {
-      below = rw (table, undone.size) (below-push _ old.table.items clause it.below below);
-      derived = rw (table, sources) (derived-push old.table.items old.sources.items clause (Given number) it.derived
-          (All-nil (λ n. n < length old.table.items)) (λ none. absurd (none-some number (sym none))) (λ none. absurd (none-some number (sym none))));
-      justified = rw table (justified-grows old.table.items (old.table.items ++ clause ∷ []) new.trail grows
-          (justified-undone old.table.items old.trail new.trail level it.justified undone));
+      below = rw (table, undone.size) (below-push _ old.table clause it.below below);
+      derived = rw (table, sources) (derived-push old.table old.sources.items clause (Given number) it.derived
+          (All-nil (λ n. n < length old.table)) (λ none. absurd (none-some number (sym none))) (λ none. absurd (none-some number (sym none))));
+      justified = rw table (justified-grows old.table (old.table ++ clause ∷ []) new.trail grows
+          (justified-undone old.table old.trail new.trail level it.justified undone));
       chosen = rw (table, requirements)
-          (chosen-grows old.table.items (old.table.items ++ clause ∷ []) old.requirements.items new.trail grows it.inside
-          (chosen-undone old.table.items old.requirements.items old.trail new.trail level it.chosen undone));
+          (chosen-grows old.table (old.table ++ clause ∷ []) old.requirements.items new.trail grows it.inside
+          (chosen-undone old.table old.requirements.items old.trail new.trail level it.chosen undone));
       inside = rw (table, requirements) (λ k d b. omega (arith, it.inside k d b, longer));
-      places = rw (table, places) (All-push (λ p. p < length (old.table.items ++ clause ∷ [])) old.places.items place (λ k d b.
+      places = rw (table, places) (All-push (λ p. p < length (old.table ++ clause ∷ [])) old.places.items place (λ k d b.
           omega (arith, it.places k d b, longer)) (omega (arith, end, longer)));
       count = rw (table, places, learnt) (omega (arith, it.count, longer, length-append old.places.items (place ∷ [])));
       kept = omega (arith, kept);
       propagator = propagator;
       turn = rw (base, held) (turn-undone old.trail new.trail old.base old.held old.kept level new.kept it.turn undone high kept);
       queued = rw (table, requirements)
-          (queued-grown new.queue new.trail old.table.items (old.table.items ++ clause ∷ []) old.requirements.items it.inside grows.same queued);
+          (queued-grown new.queue new.trail old.table (old.table ++ clause ∷ []) old.requirements.items it.inside grows.same queued);
     }
 
-pub loaded-clause : (old new : ClauseSearch) (given : List (Vec Literal Global)) (numbers : List ℕ) (copy clause : Vec Literal Global) (number place : ℕ) →
-    IsConsistent old → number ≡ length old.places.items → place ≡ length old.table.items → clause.items ≡ copy.items → new.table.items ≡ old.table.items ++
-    clause ∷ [] → new.sources.items ≡ old.sources.items ++ Given number ∷ [] → new.places.items ≡ old.places.items ++ place ∷ [] →
-    new.requirements.items ≡ old.requirements.items → IsLoaded given numbers old → IsLoaded (given ++ copy ∷ []) numbers new
-loaded-clause old new given numbers copy clause number place it first end same table sources places requirements loaded = record {
+pub loaded-clause : (old new : ClauseSearch) (given : List (List Literal)) (numbers : List ℕ) (clause : List Literal) (number place : ℕ) →
+    IsConsistent old → number ≡ length old.places.items → place ≡ length old.table → new.table ≡ old.table ++ clause ∷ [] → new.sources.items ≡ old.sources.items ++ Given number ∷ [] → new.places.items ≡ old.places.items ++ place ∷ [] →
+    new.requirements.items ≡ old.requirements.items → IsLoaded given numbers old → IsLoaded (given ++ clause ∷ []) numbers new
+loaded-clause old new given numbers clause number place it first end table sources places requirements loaded = record {
   clauses = rw (table, sources, places, first, end)
-      (loaded-given given old.table.items old.sources.items old.places.items copy clause it.derived.count same loaded.clauses);
+      (loaded-given given old.table old.sources.items old.places.items clause it.derived.count loaded.clauses);
   requirements = rw (requirements, places)
       (loaded.requirements ∙ sym (places-push old.places.items numbers place (length given) (sym loaded.clauses.count) loaded.inside));
-  inside = λ k d b. omega (arith, loaded.inside k d b, length-append given (copy ∷ []));
+  inside = λ k d b. omega (arith, loaded.inside k d b, length-append given (clause ∷ []));
 }
 
 -- the place that was read is the place of the clause
 pub read-place : (places : List ℕ) (number place : ℕ) → number < length places → place ≡ get_or places number place → place ≡ place_of places number
 read-place places number place inside read = get_or_read places number place inside read 0
 
-pub loaded-requirement : (old new : ClauseSearch) (given : List (Vec Literal Global)) (numbers : List ℕ) (requirement : StoredRequirement) (number : ℕ) →
-    number < length old.places.items → requirement.number ≡ place_of old.places.items number → new.table.items ≡ old.table.items →
+pub loaded-requirement : (old new : ClauseSearch) (given : List (List Literal)) (numbers : List ℕ) (requirement : StoredRequirement) (number : ℕ) →
+    number < length old.places.items → requirement.number ≡ place_of old.places.items number → new.table ≡ old.table →
     new.sources.items ≡ old.sources.items → new.places.items ≡ old.places.items → new.requirements.items ≡ old.requirements.items ++ requirement ∷ [] →
     IsLoaded given numbers old → IsLoaded given (numbers ++ number ∷ []) new
 loaded-requirement old new given numbers requirement number inside here table sources places requirements loaded = record {
@@ -315,16 +314,16 @@ loaded-requirement old new given numbers requirement number inside here table so
 
 -- a search with a requirement after the others
 pub consistent-requirement : (old : ClauseSearch) (wanted : Vec StoredRequirement Global) (queue : DecideQueue)
-    (in_lists : ∥ AreInLists old.table.items old.propagator.watches ∥₁) (requirement : StoredRequirement) → IsConsistent old →
-    requirement.number < length old.table.items → wanted.items ≡ old.requirements.items ++ requirement ∷ [] →
-    IsQueued queue old.trail old.table.items (old.requirements.items ++ requirement ∷ []) →
+    (in_lists : ∥ AreInLists old.table old.propagator.watches ∥₁) (requirement : StoredRequirement) → IsConsistent old →
+    requirement.number < length old.table → wanted.items ≡ old.requirements.items ++ requirement ∷ [] →
+    IsQueued queue old.trail old.table (old.requirements.items ++ requirement ∷ []) →
     IsConsistent (record old { requirements = wanted; queue = queue; in_lists = in_lists })
 consistent-requirement old wanted queue in_lists requirement it inside is queued =
-    let chosen : AreChosen old.table.items wanted.items old.trail =
-    rw is (chosen-listed old.table.items old.requirements.items requirement old.trail it.chosen) in
-    let below : All (λ (r : StoredRequirement). r.number < length old.table.items) wanted.items =
-    rw is (All-push (λ (r : StoredRequirement). r.number < length old.table.items) old.requirements.items requirement it.inside inside) in
-    let noted : IsQueued queue old.trail old.table.items wanted.items = rw is queued in
+    let chosen : AreChosen old.table wanted.items old.trail =
+    rw is (chosen-listed old.table old.requirements.items requirement old.trail it.chosen) in
+    let below : All (λ (r : StoredRequirement). r.number < length old.table) wanted.items =
+    rw is (All-push (λ (r : StoredRequirement). r.number < length old.table) old.requirements.items requirement it.inside inside) in
+    let noted : IsQueued queue old.trail old.table wanted.items = rw is queued in
     assumption
 
 pub same-none : (it : ClauseSearch) → IsSameSearch it it
@@ -344,51 +343,46 @@ same-trans a b c first second =
     }
 
 -- the clauses that were loaded are the first ones of a longer list
-pub clauses-begin : (it : ClauseSearch) (clauses given more : List (Vec Literal Global)) (numbers : List ℕ) (count : ℕ) → count ≡ length it.places.items →
+pub clauses-begin : (it : ClauseSearch) (clauses given more : List (List Literal)) (numbers : List ℕ) (count : ℕ) → count ≡ length it.places.items →
     IsLoaded given numbers it → clauses ≡ given ++ more → IsLoaded (take count clauses) numbers it
 clauses-begin it clauses given more numbers count end loaded is =
-    let Loaded : List (Vec Literal Global) → Type 0 = λ cs. IsLoaded cs numbers it in
+    let Loaded : List (List Literal) → Type 0 = λ cs. IsLoaded cs numbers it in
     subst Loaded (sym (ap (take count) is ∙ take_at given more count (sym loaded.clauses.count ∙ sym end))) loaded
 
 -- the clause with this number, and the clauses up to it
-clause-next : (clauses : List (Vec Literal Global)) (n : ℕ) → n < length clauses → (x : Vec Literal Global) ×
-    (take (n + 1) clauses ≡ take n clauses ++ x ∷ []) × (x.items ≡ clause_at clauses n)
-clause-next [] n within = absurd (omega arith)
-clause-next (d ∷ clauses) n within = (get_or (d ∷ clauses) n d, take_more (d ∷ clauses) n d within, sym (clause_at-get_or (d ∷ clauses) n d within))
+clause-next : (clauses : List (List Literal)) (n : ℕ) (literals : List Literal) → n < length clauses → literals ≡ clause_at clauses n →
+    take (n + 1) clauses ≡ take n clauses ++ literals ∷ []
+clause-next clauses n literals within is = take_more clauses n [] within ∙ ap (λ c. take n clauses ++ c ∷ []) (sym is)
 
-pub clauses-next : (old new : ClauseSearch) (clauses : List (Vec Literal Global)) (literals : List Literal) (numbers : List ℕ) (n : ℕ) → n < length clauses →
+pub clauses-next : (old new : ClauseSearch) (clauses : List (List Literal)) (literals : List Literal) (numbers : List ℕ) (n : ℕ) → n < length clauses →
     literals ≡ clause_at clauses n →
-    ((given : List (Vec Literal Global)) (ns : List ℕ) (copy : Vec Literal Global) → copy.items ≡ literals → IsLoaded given ns old →
-    IsLoaded (given ++ copy ∷ []) ns new) → IsLoaded (take n clauses) numbers old → IsLoaded (take (n + 1) clauses) numbers new
+    ((given : List (List Literal)) (ns : List ℕ) → IsLoaded given ns old → IsLoaded (given ++ literals ∷ []) ns new) → IsLoaded (take n clauses) numbers old → IsLoaded (take (n + 1) clauses) numbers new
 clauses-next old new clauses literals numbers n within here step loaded =
-    let w = clause-next clauses n within in
-    let Loaded : List (Vec Literal Global) → Type 0 = λ cs. IsLoaded cs numbers new in
-    subst Loaded (sym w.1) (step (take n clauses) numbers w.0 (w.2 ∙ sym here) loaded)
+    let Loaded : List (List Literal) → Type 0 = λ cs. IsLoaded cs numbers new in
+    subst Loaded (sym (clause-next clauses n literals within here)) (step (take n clauses) numbers loaded)
 
 -- the invariant of propagation while one clause after another is attached
-pub propagator-next : (clauses : List (Vec Literal Global)) (literals : List Literal) (trail : Trail) (old new : Propagator) (n : ℕ) → n < length clauses →
+pub propagator-next : (clauses : List (List Literal)) (literals : List Literal) (trail : Trail) (old new : Propagator) (n : ℕ) → n < length clauses →
     literals ≡ clause_at clauses n →
-    ((table : List (Vec Literal Global)) (clause : Vec Literal Global) → clause.items ≡ literals → IsPropagator table trail old →
-    IsPropagator (table ++ clause ∷ []) trail new) → IsPropagator (take n clauses) trail old → IsPropagator (take (n + 1) clauses) trail new
+    ((table : List (List Literal)) → IsPropagator table trail old → IsPropagator (table ++ literals ∷ []) trail new) → IsPropagator (take n clauses) trail old → IsPropagator (take (n + 1) clauses) trail new
 propagator-next clauses literals trail old new n within here step it =
-    let w = clause-next clauses n within in
-    let Keeps : List (Vec Literal Global) → Type 0 = λ cs. IsPropagator cs trail new in
-    subst Keeps (sym w.1) (step (take n clauses) w.0 (w.2 ∙ sym here) it)
+    let Keeps : List (List Literal) → Type 0 = λ cs. IsPropagator cs trail new in
+    subst Keeps (sym (clause-next clauses n literals within here)) (step (take n clauses) it)
 
-pub propagator-end : (clauses : List (Vec Literal Global)) (trail : Trail) (it : Propagator) (n : ℕ) → length clauses ≤ n →
+pub propagator-end : (clauses : List (List Literal)) (trail : Trail) (it : Propagator) (n : ℕ) → length clauses ≤ n →
     IsPropagator (take n clauses) trail it → IsPropagator clauses trail it
 propagator-end clauses trail it n end all =
-    let Keeps : List (Vec Literal Global) → Type 0 = λ cs. IsPropagator cs trail it in
+    let Keeps : List (List Literal) → Type 0 = λ cs. IsPropagator cs trail it in
     subst Keeps (take_all n clauses end) all
 
-pub clauses-end : (it : ClauseSearch) (clauses : List (Vec Literal Global)) (numbers : List ℕ) (n : ℕ) → length clauses ≤ n →
+pub clauses-end : (it : ClauseSearch) (clauses : List (List Literal)) (numbers : List ℕ) (n : ℕ) → length clauses ≤ n →
     IsLoaded (take n clauses) numbers it → IsLoaded clauses numbers it
 clauses-end it clauses numbers n end loaded =
-    let Loaded : List (Vec Literal Global) → Type 0 = λ cs. IsLoaded cs numbers it in
+    let Loaded : List (List Literal) → Type 0 = λ cs. IsLoaded cs numbers it in
     subst Loaded (take_all n clauses end) loaded
 
 -- the requirements that were loaded are the first ones of a longer list
-pub requirements-begin : (it : ClauseSearch) (given : List (Vec Literal Global)) (wanted numbers more : List ℕ) (count : ℕ) →
+pub requirements-begin : (it : ClauseSearch) (given : List (List Literal)) (wanted numbers more : List ℕ) (count : ℕ) →
     count ≡ length it.requirements.items → IsLoaded given numbers it → wanted ≡ numbers ++ more → IsLoaded given (take count wanted) it
 requirements-begin it given wanted numbers more count end loaded is =
     let Loaded : List ℕ → Type 0 = λ ns. IsLoaded given ns it in
@@ -396,9 +390,9 @@ requirements-begin it given wanted numbers more count end loaded is =
     ap length loaded.requirements ∙ length-map numbers (place_of it.places.items) in
     subst Loaded (sym (ap (take count) is ∙ take_at numbers more count (sym size ∙ sym end))) loaded
 
-pub requirements-next : (old new : ClauseSearch) (given : List (Vec Literal Global)) (requirements : List RequirementClause) (requirement : RequirementClause)
+pub requirements-next : (old new : ClauseSearch) (given : List (List Literal)) (requirements : List RequirementClause) (requirement : RequirementClause)
     (n : ℕ) → n < length requirements → requirement ≡ get_or requirements n requirement →
-    ((gs : List (Vec Literal Global)) (ns : List ℕ) → IsLoaded gs ns old → IsLoaded gs (ns ++ requirement.number ∷ []) new) →
+    ((gs : List (List Literal)) (ns : List ℕ) → IsLoaded gs ns old → IsLoaded gs (ns ++ requirement.number ∷ []) new) →
     IsLoaded given (take n (numbers_of requirements)) old → IsLoaded given (take (n + 1) (numbers_of requirements)) new
 requirements-next old new given requirements requirement n within here step loaded =
     let number = λ (r : RequirementClause). r.number in
@@ -408,7 +402,7 @@ requirements-next old new given requirements requirement n within here step load
     subst Loaded (sym (take_more (numbers_of requirements) n 0 inside ∙ ap (λ m. take n (numbers_of requirements) ++ m ∷ []) at))
     (step given (take n (numbers_of requirements)) loaded)
 
-pub requirements-end : (it : ClauseSearch) (given : List (Vec Literal Global)) (requirements : List RequirementClause) (n : ℕ) → length requirements ≤ n →
+pub requirements-end : (it : ClauseSearch) (given : List (List Literal)) (requirements : List RequirementClause) (n : ℕ) → length requirements ≤ n →
     IsLoaded given (take n (numbers_of requirements)) it → IsLoaded given (numbers_of requirements) it
 requirements-end it given requirements n end loaded =
     let Loaded : List ℕ → Type 0 = λ ns. IsLoaded given ns it in
@@ -416,24 +410,24 @@ requirements-end it given requirements n end loaded =
 
 -- more variables without a value
 pub consistent-grown : (it : ClauseSearch) (trail : Trail) (propagator : Propagator) (queue : DecideQueue) (variables : ℕ)
-    (in_lists : ∥ AreInLists it.table.items propagator.watches ∥₁) → IsConsistent it → variable_count it.trail ≤ variables → IsGrown it.trail trail variables →
-    IsPropagator it.table.items trail propagator → StaysQueued it.queue queue →
+    (in_lists : ∥ AreInLists it.table propagator.watches ∥₁) → IsConsistent it → variable_count it.trail ≤ variables → IsGrown it.trail trail variables →
+    IsPropagator it.table trail propagator → StaysQueued it.queue queue →
     IsConsistent (record it { trail = trail; propagator = propagator; queue = queue; in_lists = in_lists })
 consistent-grown it trail propagator queue variables in_lists holds room grown propagates stays =
-    let below : AreBelow (variable_count trail) it.table.items = λ n k d b. omega (arith, holds.below n k d b, grown.size, room) in
-    let justified = justified-grown it.table.items it.trail trail variables grown holds.justified in
-    let chosen = chosen-extends it.table.items it.requirements.items it.trail trail holds.chosen (extends-grown it.trail trail variables grown) in
+    let below : AreBelow (variable_count trail) it.table = λ n k d b. omega (arith, holds.below n k d b, grown.size, room) in
+    let justified = justified-grown it.table it.trail trail variables grown holds.justified in
+    let chosen = chosen-extends it.table it.requirements.items it.trail trail holds.chosen (extends-grown it.trail trail variables grown) in
     let kept : it.kept ≤ length_of trail = omega (arith, holds.kept, ap length grown.order) in
     let places = keeps_grown it.trail trail variables grown in
     let turn = turn-kept it.trail trail it.base it.held it.kept it.kept holds.turn
     (keeps-fewer it.trail trail (length_of it.trail) it.held places holds.turn.inside) holds.turn.bookmarked in
-    let queued = stays trail it.table.items it.requirements.items
-    (queued-longer it.queue it.trail trail it.table.items it.requirements.items places holds.queued) in
+    let queued = stays trail it.table it.requirements.items
+    (queued-longer it.queue it.trail trail it.table it.requirements.items places holds.queued) in
     assumption
 
 -- the loaded clauses do not depend on the trail or on the state of propagation
 pub loaded-trail : (it : ClauseSearch) (trail : Trail) (propagator : Propagator) (queue : DecideQueue)
-    (in_lists : ∥ AreInLists it.table.items propagator.watches ∥₁) (given : List (Vec Literal Global)) (numbers : List ℕ) → IsLoaded given numbers it →
+    (in_lists : ∥ AreInLists it.table propagator.watches ∥₁) (given : List (List Literal)) (numbers : List ℕ) → IsLoaded given numbers it →
     IsLoaded given numbers (record it { trail = trail; propagator = propagator; queue = queue; in_lists = in_lists })
 loaded-trail it trail propagator queue in_lists given numbers loaded = assumption
 
@@ -442,7 +436,7 @@ first-grown old new count variables grown = first-after old new count (keeps_gro
 
 -- a step of a run
 pub problem-descended : (a b : ClauseSearch) (trail : Trail) (propagator : Propagator) (queue : DecideQueue)
-    (in_lists : ∥ AreInLists b.table.items propagator.watches ∥₁) → IsConsistent b → IsSameProblem a b → variable_count trail ≡ variable_count b.trail →
+    (in_lists : ∥ AreInLists b.table propagator.watches ∥₁) → IsConsistent b → IsSameProblem a b → variable_count trail ≡ variable_count b.trail →
     KeepsPlaces b.trail trail (length_of b.trail) → AssumesNone b.trail trail →
     IsSameProblem a (record b { trail = trail; propagator = propagator; queue = queue; in_lists = in_lists })
 problem-descended a b trail propagator queue in_lists it same size keeps assumed = record {

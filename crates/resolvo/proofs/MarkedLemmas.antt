@@ -23,7 +23,7 @@ no_clauses marks = record {
 }
 
 -- a clause of a rule without a mark
-pub passed : (marks : List Bool) (from : List RuleClause) (clauses : List (Vec (Literal) Global)) (places numbers : List ℕ) (clause : RuleClause) →
+pub passed : (marks : List Bool) (from : List RuleClause) (clauses : List (List Literal)) (places numbers : List ℕ) (clause : RuleClause) →
     slice_index_or marks clause.rule false ≡ false → AreMarkedClauses marks from clauses places numbers →
     AreMarkedClauses marks (from ++ clause ∷ []) clauses places numbers
 passed marks from clauses places numbers clause unmarked so = record {
@@ -42,24 +42,23 @@ passed marks from clauses places numbers clause unmarked so = record {
   inside = so.inside;
 }
 
-module _ (marks : List Bool) (from : List RuleClause) (clauses : List (Vec (Literal) Global)) (places numbers more : List ℕ) (clause : RuleClause)
-    (copy : Vec (Literal) Global) (marked : IsMarked marks clause) (same : copy.items ≡ clause.literals.items)
-    (so : AreMarkedClauses marks from clauses places numbers) where
-  abbrev now_clauses : List (Vec (Literal) Global)
-  now_clauses = clauses ++ copy ∷ []
+module _ (marks : List Bool) (from : List RuleClause) (clauses : List (List Literal)) (places numbers more : List ℕ) (clause : RuleClause)
+    (marked : IsMarked marks clause) (so : AreMarkedClauses marks from clauses places numbers) where
+  abbrev now_clauses : List (List Literal)
+  now_clauses = clauses ++ clause.literals.items ∷ []
 
   abbrev now_places : List ℕ
   now_places = places ++ clause.rule ∷ []
 
   count : length now_clauses ≡ length clauses + 1
-  count = length-append clauses (copy ∷ [])
+  count = length-append clauses (clause.literals.items ∷ [])
 
   earlier : (number : ℕ) → number < length clauses → IsMarkedClause marks (from ++ clause ∷ []) now_clauses now_places number
   earlier number below = let it = so.each number below in record {
     clause = it.clause;
     among = Contains-append_left from (clause ∷ []) it.clause it.among;
     marked = it.marked;
-    literals = clause_at-push clauses copy number below ∙ it.literals;
+    literals = clause_at-push clauses clause.literals.items number below ∙ it.literals;
     place = get_or_append_left places (clause.rule ∷ []) 0 number (omega (arith, below, so.size)) ∙ it.place;
   }
 
@@ -68,7 +67,7 @@ module _ (marks : List Bool) (from : List RuleClause) (clauses : List (Vec (Lite
     clause = clause;
     among = at_end from clause;
     marked = marked;
-    literals = clause_at-last clauses copy ∙ same;
+    literals = clause_at-last clauses clause.literals.items;
     place = let P : ℕ → Type 0 = λ n. slice_index_or now_places n 0 ≡ clause.rule in subst P so.size (get_or-append_seam places clause.rule [] 0);
   }
 
@@ -86,7 +85,7 @@ module _ (marks : List Bool) (from : List RuleClause) (clauses : List (Vec (Lite
     still c there m = let it = there m in record {
       number = it.number;
       inside = omega (arith, count, it.inside);
-      literals = clause_at-push clauses copy it.number it.inside ∙ it.literals;
+      literals = clause_at-push clauses clause.literals.items it.number it.inside ∙ it.literals;
       listed = λ is_requirement. within it.number (it.listed is_requirement);
     }
 
@@ -98,26 +97,26 @@ module _ (marks : List Bool) (from : List RuleClause) (clauses : List (Vec (Lite
           (All-weaker (λ (c : RuleClause). IsMarked marks c → IsThere clauses numbers c) (λ (c : RuleClause).
           IsMarked marks c → IsThere now_clauses more c) still from so.all)
           (All-cons (λ (c : RuleClause). IsMarked marks c → IsThere now_clauses more c) clause [] (λ m.
-          record { number = length clauses; inside = omega (arith, count); literals = clause_at-last clauses copy ∙ same; listed = listed }) (All-nil _));
+          record { number = length clauses; inside = omega (arith, count); literals = clause_at-last clauses clause.literals.items; listed = listed }) (All-nil _));
       inside = All-weaker (λ number. number < length clauses + 1) (λ number. number < length now_clauses) (λ n below. omega (arith, count, below)) more inside;
     }
 
-pub added_plain : (marks : List Bool) (from : List RuleClause) (clauses : List (Vec (Literal) Global)) (places numbers : List ℕ) (clause : RuleClause)
-    (copy : Vec (Literal) Global) → copy.items ≡ clause.literals.items → clause.is_requirement ≡ false → IsMarked marks clause →
+pub added_plain : (marks : List Bool) (from : List RuleClause) (clauses : List (List Literal)) (places numbers : List ℕ) (clause : RuleClause) →
+    clause.is_requirement ≡ false → IsMarked marks clause →
     AreMarkedClauses marks from clauses places numbers →
-    AreMarkedClauses marks (from ++ clause ∷ []) (clauses ++ copy ∷ []) (places ++ clause.rule ∷ []) numbers
-added_plain marks from clauses places numbers clause copy same plain marked so =
-    added marks from clauses places numbers numbers clause copy marked same so (λ x inside. inside)
+    AreMarkedClauses marks (from ++ clause ∷ []) (clauses ++ clause.literals.items ∷ []) (places ++ clause.rule ∷ []) numbers
+added_plain marks from clauses places numbers clause plain marked so =
+    added marks from clauses places numbers numbers clause marked so (λ x inside. inside)
     (λ is_requirement. absurd (false≢true (sym plain ∙ is_requirement)))
     (All-weaker (λ number. number < length clauses) (λ number. number < length clauses + 1) (λ n below. omega (arith, below)) numbers so.inside)
 
-pub added_requirement : (marks : List Bool) (from : List RuleClause) (clauses : List (Vec (Literal) Global)) (places numbers : List ℕ) (clause : RuleClause)
-    (copy : Vec (Literal) Global) (number : ℕ) → copy.items ≡ clause.literals.items → number ≡ length clauses → IsMarked marks clause →
+pub added_requirement : (marks : List Bool) (from : List RuleClause) (clauses : List (List Literal)) (places numbers : List ℕ) (clause : RuleClause)
+    (number : ℕ) → number ≡ length clauses → IsMarked marks clause →
     AreMarkedClauses marks from clauses places numbers →
-    AreMarkedClauses marks (from ++ clause ∷ []) (clauses ++ copy ∷ []) (places ++ clause.rule ∷ []) (numbers ++ number ∷ [])
-added_requirement marks from clauses places numbers clause copy number same is marked so =
+    AreMarkedClauses marks (from ++ clause ∷ []) (clauses ++ clause.literals.items ∷ []) (places ++ clause.rule ∷ []) (numbers ++ number ∷ [])
+added_requirement marks from clauses places numbers clause number is marked so =
     let P : ℕ → Type 0 = λ n. Contains (numbers ++ number ∷ []) n in
-    added marks from clauses places numbers (numbers ++ number ∷ []) clause copy marked same so
+    added marks from clauses places numbers (numbers ++ number ∷ []) clause marked so
     (λ x inside. Contains-append_left numbers (number ∷ []) x inside)
     (λ is_requirement. subst P is (at_end numbers number))
     (All-append (λ n. n < length clauses + 1) numbers (number ∷ [])
@@ -125,7 +124,7 @@ added_requirement marks from clauses places numbers clause copy number same is m
     (All-cons (λ n. n < length clauses + 1) number [] (omega (arith, is)) (All-nil _)))
 
 -- the clauses up to one clause, and that clause
-pub next_clause : (marks : List Bool) (from : List RuleClause) (clauses : List (Vec (Literal) Global)) (places numbers : List ℕ) (index : ℕ)
+pub next_clause : (marks : List Bool) (from : List RuleClause) (clauses : List (List Literal)) (places numbers : List ℕ) (index : ℕ)
     (clause : RuleClause) → index < length from → clause ≡ get_or from index clause →
     AreMarkedClauses marks (take index from ++ clause ∷ []) clauses places numbers → AreMarkedClauses marks (take (index + 1) from) clauses places numbers
 next_clause marks from clauses places numbers index clause below is so =

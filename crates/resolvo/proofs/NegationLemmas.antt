@@ -14,7 +14,7 @@ abbrev pub negation : ℕ → Slot → Literal
 negation variable slot = record { variable = variable; positive = not slot.value }
 
 -- if the causes are true, some variable differs from the trail
-pub learnt-follows : (table : List (Vec Literal Global)) (trail : Trail) (marks : List Bool) (causes : List ℕ) (literals : List Literal) →
+pub learnt-follows : (table : List (List Literal)) (trail : Trail) (marks : List Bool) (causes : List ℕ) (literals : List Literal) →
     Refutes table trail marks causes → Negates trail marks literals → FollowsFrom table causes literals
 learnt-follows table trail marks causes literals refutes negates = λ values holds. ⊎_elim
     (λ yes. yes)

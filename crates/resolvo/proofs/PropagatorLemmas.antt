@@ -49,7 +49,7 @@ true_at-kept old new level literal keeps t = record { slot = t.slot; is = keeps.
 pub true_before-kept : (old new : Trail) (place : ℕ) (literal : Literal) → Keeps old new → IsTrueBefore old place literal → IsTrueBefore new place literal
 true_before-kept old new place literal keeps t = record { slot = t.slot; is = keeps.kept _ _ t.is; true_there = t.true_there; earlier = t.earlier }
 
-pub excused-kept : (table : List (Vec Literal Global)) (old new : Trail) (late : List Late) (pending : List ℕ) (level number : ℕ) → Keeps old new →
+pub excused-kept : (table : List (List Literal)) (old new : Trail) (late : List Late) (pending : List ℕ) (level number : ℕ) → Keeps old new →
     IsExcused table old late pending level number → IsExcused table new late pending level number
 excused-kept table old new late pending level number keeps excused = ⊎_elim
     (λ (h : Any (IsTrueAt old level) (clause_at table number)).
@@ -57,7 +57,7 @@ excused-kept table old new late pending level number keeps excused = ⊎_elim
     (λ (n : IsNoted late pending number). inr n)
     excused
 
-pub covers-kept : (table : List (Vec Literal Global)) (old new : Trail) (pairs : List WatchedPair) (late : List Late) (pending : List ℕ) (head : ℕ) →
+pub covers-kept : (table : List (List Literal)) (old new : Trail) (pairs : List WatchedPair) (late : List Late) (pending : List ℕ) (head : ℕ) →
     Keeps old new → head ≤ length_of old → Covers table old pairs late pending head → Covers table new pairs late pending head
 covers-kept table old new pairs late pending head keeps within covers = record {
   watched = λ number literal watching fails.
@@ -67,7 +67,7 @@ covers-kept table old new pairs late pending head keeps within covers = record {
   constant = covers.constant;
 }
 
-pub late-kept : (table : List (Vec Literal Global)) (old new : Trail) (late : List Late) → Keeps old new → AreLate table old late → AreLate table new late
+pub late-kept : (table : List (List Literal)) (old new : Trail) (late : List Late) → Keeps old new → AreLate table old late → AreLate table new late
 late-kept table old new late keeps noted = record {
   each = λ k d below. any-map (IsTrueBefore old (get_or late k d).length) (IsTrueBefore new (get_or late k d).length)
       (clause_at table (get_or late k d).number) (λ l t. true_before-kept old new _ l keeps t) (noted.each k d below);
@@ -75,13 +75,13 @@ late-kept table old new late keeps noted = record {
   rising = noted.rising;
 }
 
-pub propagator-kept : (table : List (Vec Literal Global)) (old new : Trail) (it : Propagator) → Keeps old new →
+pub propagator-kept : (table : List (List Literal)) (old new : Trail) (it : Propagator) → Keeps old new →
     length (lists_of it.watches) ≡ 2 * variable_count new → IsPropagator table old it → IsPropagator table new it
 propagator-kept table old new it keeps size was =
     let head : head_of it ≤ length_of new = omega (arith, was.head, (keeps_all old new keeps).are) in
     assumption (size, late-kept table old new _ keeps was.late, covers-kept table old new _ _ _ _ keeps was.head was.covers)
 
-pub propagator-gains : (table : List (Vec Literal Global)) (old new : Trail) (it : Propagator) (literal : Literal) (level : ℕ) (reason : Reason) →
+pub propagator-gains : (table : List (List Literal)) (old new : Trail) (it : Propagator) (literal : Literal) (level : ℕ) (reason : Reason) →
     Gains old new literal level reason → slot_of old literal.variable ≡ None → IsPropagator table old it → IsPropagator table new it
 propagator-gains table old new it literal level reason gains free was =
     propagator-kept table old new it (keeps-gains old new literal level reason gains free) (was.lists ∙ ap (λ n. 2 * n) (sym gains.size)) was
@@ -97,7 +97,7 @@ pub value-of : (trail : Trail) (literal : Literal) (slot : Slot) (value : Bool) 
     beq slot.value literal.positive ≡ value → literal_value trail literal ≡ Some value
 value-of trail literal slot value is there = ap (λ (o : Option Slot). option_map (λ (s : Slot). beq s.value literal.positive) o) is ∙ ap Some there
 
-pub late-true : (table : List (Vec Literal Global)) (trail : Trail) (late : List Late) (number : ℕ) → AreLate table trail late →
+pub late-true : (table : List (List Literal)) (trail : Trail) (late : List Late) (number : ℕ) → AreLate table trail late →
     Any (λ (l : Late). l.number ≡ number) late → IsSatisfied trail (clause_at table number)
 late-true table trail late number noted h =
     let T : Late → Type 0 = λ (l : Late). Any (IsTrueBefore trail l.length) (clause_at table l.number) in
@@ -107,14 +107,14 @@ late-true table trail late number noted h =
     any-map (IsTrueBefore trail h.1.length) (λ (l : Literal). literal_value trail l ≡ Some true) (clause_at table number) (λ l t.
     value-of trail l t.slot true t.is t.true_there) there
 
-pub noted-true : (table : List (Vec Literal Global)) (trail : Trail) (late : List Late) (pending : List ℕ) (number : ℕ) → AreLate table trail late →
+pub noted-true : (table : List (List Literal)) (trail : Trail) (late : List Late) (pending : List ℕ) (number : ℕ) → AreLate table trail late →
     pending ≡ [] → IsNoted late pending number → IsSatisfied trail (clause_at table number)
 noted-true table trail late pending number noted none either = ⊎_elim
     (λ (h : Any (λ (l : Late). l.number ≡ number) late). late-true table trail late number noted h)
     (λ (c : Contains pending number). absurd (omega (arith, c.1, ap (λ (xs : List ℕ). length xs) none)))
     either
 
-pub excused-true : (table : List (Vec Literal Global)) (trail : Trail) (late : List Late) (pending : List ℕ) (level number : ℕ) → AreLate table trail late →
+pub excused-true : (table : List (List Literal)) (trail : Trail) (late : List Late) (pending : List ℕ) (level number : ℕ) → AreLate table trail late →
     pending ≡ [] → IsExcused table trail late pending level number → IsSatisfied trail (clause_at table number)
 excused-true table trail late pending level number noted none excused = ⊎_elim
     (λ (h : Any (IsTrueAt trail level) (clause_at table number)).
@@ -124,7 +124,7 @@ excused-true table trail late pending level number noted none excused = ⊎_elim
     excused
 
 -- a watched literal has no value, or the clause is true
-watched-settled : (table : List (Vec Literal Global)) (trail : Trail) (it : Propagator) → IsPropagator table trail it → IsAttached table it →
+watched-settled : (table : List (List Literal)) (trail : Trail) (it : Propagator) → IsPropagator table trail it → IsAttached table it →
     length_of trail ≤ head_of it → (number : ℕ) (literal : Literal) → IsWatching (pairs_of it.watches) number literal → (literal_value trail literal ≡ None) ⊎
     IsSatisfied trail (clause_at table number)
 watched-settled table trail it is attached done number literal watching = ⊎_elim
@@ -140,7 +140,7 @@ watched-settled table trail it is attached done number literal watching = ⊎_el
     valued))
     (value-cases (literal_value trail literal))
 
-pub all-settled : (table : List (Vec Literal Global)) (trail : Trail) (it : Propagator) → IsPropagator table trail it → IsAttached table it →
+pub all-settled : (table : List (List Literal)) (trail : Trail) (it : Propagator) → IsPropagator table trail it → IsAttached table it →
     length_of trail ≤ head_of it → AllSettled trail table
 all-settled table trail it is attached done = λ number within.
     let pair = pair_at (pairs_of it.watches) number in

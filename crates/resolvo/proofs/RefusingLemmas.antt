@@ -48,7 +48,7 @@ unanswered_refused r refused = record {
 }
 
 -- values that make the given clauses true, and agree with the decisions and assumptions, agree with the whole trail
-module _ (it : ClauseSearch) (given : List (Vec Literal Global)) (numbers : List ℕ) (consistent : IsConsistent it) (loaded : IsLoaded given numbers it)
+module _ (it : ClauseSearch) (given : List (List Literal)) (numbers : List ℕ) (consistent : IsConsistent it) (loaded : IsLoaded given numbers it)
     (values : ℕ → Bool) (holds : Satisfies values given) (level : ℕ)
     (decided : (variable : ℕ) (slot : Slot) (number : ℕ) → slot_of (trail_of it) variable ≡ Some slot → slot.reason ≡ Decided number → slot.level ≤ level →
     values variable ≡ slot.value)
@@ -59,12 +59,12 @@ module _ (it : ClauseSearch) (given : List (Vec Literal Global)) (numbers : List
       ((other : ℕ) (earlier : Slot) → slot_of (trail_of it) other ≡ Some earlier → earlier.place < slot.place → values other ≡ earlier.value) →
       values variable ≡ slot.value
   forced_true variable slot number at reason before =
-      let clause : List Literal = clause_at it.table.items number in
+      let clause : List Literal = clause_at it.table number in
       let literal : Literal = record { variable = variable; positive = slot.value } in
       let Forcing : Literal → Type 0 = λ other. (other ≡ literal) ⊎ IsFalseBefore (trail_of it) slot.place other in
       let True : Literal → Type 0 = λ l. literal_true values l ≡ true in
       let w = list_any-witness (literal_true values) clause
-      (implied given it.table.items it.sources.items number consistent.derived loaded.clauses.are
+      (implied given it.table it.sources.items number consistent.derived loaded.clauses.are
       (consistent.justified.within variable slot number at reason) values holds) in
       ⊎_elim
       (λ (e : w.0 ≡ literal). beq-true (values variable) slot.value (subst True e w.2))
@@ -91,7 +91,7 @@ module _ (it : ClauseSearch) (given : List (Vec Literal Global)) (numbers : List
 -- each decided variable stands for a solvable, and is true
 module _ {N S : Type 0} (u : Universe N S) (root : Demands) (notes : Notes N S) (encoding : IsEncoding u root notes) (it : ClauseSearch)
     (consistent : IsConsistent it) (has : HasLoaded notes.table notes.requirements it) where
-  given_at_place : (number : ℕ) → Contains has.numbers number → clause_at it.table.items (place_of it.places.items number) ≡ clause_at notes.table number
+  given_at_place : (number : ℕ) → Contains has.numbers number → clause_at it.table (place_of it.places.items number) ≡ clause_at notes.table number
   given_at_place number listed =
       let inside : number < length has.given = All-contains (λ n. n < length has.given) has.numbers number has.loaded.inside listed in
       has.loaded.clauses.are.same (place_of it.places.items number) number (has.loaded.clauses.placed number inside) ∙
@@ -105,7 +105,7 @@ module _ {N S : Type 0} (u : Universe N S) (root : Demands) (notes : Notes N S) 
       let Among : List ℕ → Type 0 = λ list. Contains list c.requirement.number in
       let w = Contains-map_back (place_of it.places.items) has.numbers c.requirement.number
       (subst Among has.loaded.requirements (Contains-map (λ (r : StoredRequirement). r.number) it.requirements.items c.requirement c.listed)) in
-      let is : clause_at notes.table w.0 ≡ c.before ++ literal ∷ c.after = sym (given_at_place w.0 w.1) ∙ ap (λ n. clause_at it.table.items n) w.2 ∙ c.clause in
+      let is : clause_at notes.table w.0 ≡ c.before ++ literal ∷ c.after = sym (given_at_place w.0 w.1) ∙ ap (λ n. clause_at it.table n) w.2 ∙ c.clause in
       let Stands : List Literal → Type 0 = λ clause. Contains clause literal in
       let Asks : List ℕ → Type 0 = λ list. Contains list w.0 in
       let there = Contains-append_right c.before (literal ∷ c.after) literal (here literal c.after) in

@@ -22,7 +22,7 @@ use Rattle.resolver_clause_store.proofs.BoolLemmas.{beq-true}
 use Rattle.resolver_clause_store.proofs.TrailLemmas.{value-false}
 
 -- a false clause contradicts the values of its variables
-pub refutes-begin : (table : List (Vec Literal Global)) (trail : Trail) (old marks : List Bool) (number : ℕ) → IsFalsified trail (clause_at table number) →
+pub refutes-begin : (table : List (List Literal)) (trail : Trail) (old marks : List Bool) (number : ℕ) → IsFalsified trail (clause_at table number) →
     MarksAlso old marks (clause_at table number) → Refutes table trail marks (number ∷ [])
 refutes-begin table trail old marks number falsified so = record {
   apart = λ values holds agrees.
@@ -33,7 +33,7 @@ refutes-begin table trail old marks number falsified so = record {
 }
 
 -- the literals of its reason take the place of a variable
-pub refutes-resolve : (table : List (Vec Literal Global)) (trail : Trail) (old mid : List Bool) (causes : List ℕ) (variable number : ℕ) →
+pub refutes-resolve : (table : List (List Literal)) (trail : Trail) (old mid : List Bool) (causes : List ℕ) (variable number : ℕ) →
     Refutes table trail old causes → IsJustified table trail → IsReason trail variable number → MarksAlso old mid (clause_at table number) →
     Refutes table trail (set mid variable false) (causes ++ number ∷ [])
 refutes-resolve table trail old mid causes variable number refutes justified reason so = record {

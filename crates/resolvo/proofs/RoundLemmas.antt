@@ -96,15 +96,15 @@ so_far_less u root part set notes within h = record {
 }
 
 -- all clauses were loaded, and stay loaded while the search runs
-pub loaded_all : (table clauses : List (Vec Literal Global)) (numbers : List ℕ) (requirements : List RequirementClause) (old mid : ClauseSearch) →
+pub loaded_all : (table clauses : List (List Literal)) (numbers : List ℕ) (requirements : List RequirementClause) (old mid : ClauseSearch) →
     HasLoaded table numbers old → clauses ≡ table → numbers_of requirements ≡ numbers →
-    ((given : List (Vec Literal Global)) (requiring : List ℕ) → IsLoaded given requiring old → (more : List (Vec Literal Global)) → clauses ≡ given ++ more →
+    ((given : List (List Literal)) (requiring : List ℕ) → IsLoaded given requiring old → (more : List (List Literal)) → clauses ≡ given ++ more →
     (more_requiring : List ℕ) → numbers_of requirements ≡ requiring ++ more_requiring → IsLoaded clauses (numbers_of requirements) mid) →
     IsLoaded table numbers mid
 loaded_all table clauses numbers requirements old mid l are are_numbers loads =
     let all = loads l.given l.numbers l.loaded l.clauses.more (are ∙ l.clauses.is) l.requiring.more (are_numbers ∙ l.requiring.is) in
-    let Loaded : List (Vec Literal Global) → List ℕ → Type 0 = λ given requiring. IsLoaded given requiring mid in
-    let Given : List (Vec Literal Global) → Type 0 = λ given. Loaded given (numbers_of requirements) in
+    let Loaded : List (List Literal) → List ℕ → Type 0 = λ given requiring. IsLoaded given requiring mid in
+    let Given : List (List Literal) → Type 0 = λ given. Loaded given (numbers_of requirements) in
     subst (Loaded table) are_numbers (subst Given are all)
 
 module _ {N S : Type 0} where
@@ -138,18 +138,18 @@ module _ {N S : Type 0} where
       }
 
   -- the clauses that the search is given have only variables with an origin
-  pub given_below : (u : Universe N S) (set : List S) (notes : Notes N S) (count : ℕ) (table : List (Vec Literal Global)) → IsReading u set notes →
+  pub given_below : (u : Universe N S) (set : List S) (notes : Notes N S) (count : ℕ) (table : List (List Literal)) → IsReading u set notes →
       count ≡ length notes.origins → table ≡ notes.table → AreBelow count table
   given_below u set notes count table reading counted are =
-      let Below : ℕ → List (Vec Literal Global) → Type 0 = λ n list. AreBelow n list in
+      let Below : ℕ → List (List Literal) → Type 0 = λ n list. AreBelow n list in
       let Counted : ℕ → Type 0 = λ n. Below n notes.table in
       subst (Below count) (sym are) (subst Counted (sym counted) (encoded_below u reading.root notes reading.so_far.half.encoding))
 
-  pub given_inside : (u : Universe N S) (set : List S) (notes : Notes N S) (table : List (Vec Literal Global)) (requirements : List RequirementClause) →
+  pub given_inside : (u : Universe N S) (set : List S) (notes : Notes N S) (table : List (List Literal)) (requirements : List RequirementClause) →
       IsReading u set notes → table ≡ notes.table → map (λ (r : RequirementClause). r.number) requirements ≡ notes.requirements →
       All (λ (r : RequirementClause). r.number < length table) requirements
   given_inside u set notes table requirements reading are numbers =
-      let Inside : List (Vec Literal Global) → Type 0 = λ list. All (λ (r : RequirementClause). r.number < length list) requirements in
+      let Inside : List (List Literal) → Type 0 = λ list. All (λ (r : RequirementClause). r.number < length list) requirements in
       subst Inside (sym are) (requirements_inside u reading.root notes reading.so_far.half.encoding requirements numbers)
 
   -- the invariant does not depend on the packages of the variables

@@ -502,7 +502,7 @@ module _ {N S : Type 0} where
       seen_rest t h = let Has : List S → Type 0 = λ list. Contains list t in goes.seen t (subst Has (sym same_seen) h)
 
       table_rest : Extends (notes_of old).table (notes_of rest).table
-      table_rest = let From : List (Vec Literal Global) → Type 0 = λ table. Extends table (notes_of rest).table in
+      table_rest = let From : List (List Literal) → Type 0 = λ table. Extends table (notes_of rest).table in
           subst From (ap (λ (n : Notes N S). n.table) only) goes.table
 
       -- the slot of the assumption
@@ -812,7 +812,7 @@ module _ {N S : Type 0} where
   rounds_assumed u old encoding search v rounds bounded only stays consistent loads size bookmark =
       let origins : (notes_of old).origins ≡ (notes_in encoding).origins = sym (ap (λ (n : Notes N S). n.origins) only) in
       let Follow : List (Origin N S) → Type 0 = λ os. Follows old.chosen os rounds.bookmark.base (length_of rounds.bookmark.base) in
-      let Table : List (Vec Literal Global) → Type 0 = λ table. Extends rounds.loaded.given table in
+      let Table : List (List Literal) → Type 0 = λ table. Extends rounds.loaded.given table in
       let Requiring : List ℕ → Type 0 = λ list. Extends rounds.loaded.numbers list in
       record {
         bounded = bounded;

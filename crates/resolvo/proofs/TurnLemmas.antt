@@ -144,7 +144,7 @@ pub level-gained : (old new : Trail) (literal : Literal) (level : ℕ) (reason :
 level-gained old new literal level reason gains = level-last new literal.variable _ gains.here (omega (arith, gains.count))
 
 -- an assumption is no decision for a requirement
-chosen-assumes : (table : List (Vec Literal Global)) (requirements : List StoredRequirement) (old new : Trail) (literal : Literal) (level : ℕ) →
+chosen-assumes : (table : List (List Literal)) (requirements : List StoredRequirement) (old new : Trail) (literal : Literal) (level : ℕ) →
     AreChosen table requirements old → Gains old new literal level Assumed → slot_of old literal.variable ≡ None → AreChosen table requirements new
 chosen-assumes table requirements old new literal level chosen gains free = record {
   each = λ v s n at decided. ⊎_elim
@@ -154,28 +154,28 @@ chosen-assumes table requirements old new literal level chosen gains free = reco
 }
 
 pub consistent-assumed : (it : ClauseSearch) (trail : Trail) (literal : Literal) (level base held : ℕ)
-    (in_lists : ∥ AreInLists it.table.items it.propagator.watches ∥₁) → IsConsistent it → Gains it.trail trail literal level Assumed →
+    (in_lists : ∥ AreInLists it.table it.propagator.watches ∥₁) → IsConsistent it → Gains it.trail trail literal level Assumed →
     slot_of it.trail literal.variable ≡ None → it.kept ≡ length_of it.trail → IsTop trail base → base ≤ length_of trail → held ≡ length_of trail →
     IsConsistent (record it { trail = trail; base = base; held = held; in_lists = in_lists })
 consistent-assumed it trail literal level base held in_lists holds gains free bookmarked top bound whole =
-    let below : AreBelow (variable_count trail) it.table.items = λ n k d b. omega (arith, holds.below n k d b, gains.size) in
-    let justified = justified-decides it.table.items it.trail trail literal level Assumed assumed-forced holds.justified gains free in
-    let chosen = chosen-assumes it.table.items it.requirements.items it.trail trail literal level holds.chosen gains free in
+    let below : AreBelow (variable_count trail) it.table = λ n k d b. omega (arith, holds.below n k d b, gains.size) in
+    let justified = justified-decides it.table it.trail trail literal level Assumed assumed-forced holds.justified gains free in
+    let chosen = chosen-assumes it.table it.requirements.items it.trail trail literal level holds.chosen gains free in
     let kept : it.kept ≤ length_of trail = omega (arith, holds.kept, gains.count) in
-    let propagator = propagator-gains it.table.items it.trail trail it.propagator literal level Assumed gains free holds.propagator in
+    let propagator = propagator-gains it.table it.trail trail it.propagator literal level Assumed gains free holds.propagator in
     let turn = turn-whole trail base held it.kept top bound whole (omega (arith, whole, bookmarked, gains.count)) in
-    let queued = queued-longer it.queue it.trail trail it.table.items it.requirements.items
+    let queued = queued-longer it.queue it.trail trail it.table it.requirements.items
     (keeps_all it.trail trail (keeps-gains it.trail trail literal level _ gains free)) holds.queued in
     assumption
 
-pub consistent-bookmarked : (it : ClauseSearch) (kept : ℕ) (in_lists : ∥ AreInLists it.table.items it.propagator.watches ∥₁) → kept ≡ length_of it.trail →
+pub consistent-bookmarked : (it : ClauseSearch) (kept : ℕ) (in_lists : ∥ AreInLists it.table it.propagator.watches ∥₁) → kept ≡ length_of it.trail →
     IsConsistent it → IsConsistent (record it { kept = kept; in_lists = in_lists })
 consistent-bookmarked it kept in_lists whole holds =
     let now : kept ≤ length_of it.trail = omega (arith, whole) in
     let bookmarked : it.held ≤ kept + 1 = omega (arith, holds.turn.inside, whole) in
     assumption
 
-pub consistent-held : (it : ClauseSearch) (base held : ℕ) (in_lists : ∥ AreInLists it.table.items it.propagator.watches ∥₁) → it.kept ≡ length_of it.trail →
+pub consistent-held : (it : ClauseSearch) (base held : ℕ) (in_lists : ∥ AreInLists it.table it.propagator.watches ∥₁) → it.kept ≡ length_of it.trail →
     IsTop it.trail base → base ≤ length_of it.trail → held ≡ length_of it.trail → IsConsistent it →
     IsConsistent (record it { base = base; held = held; in_lists = in_lists })
 consistent-held it base held in_lists bookmarked top bound whole holds =
@@ -187,7 +187,7 @@ false_before-cut : (old new : Trail) (count variable : ℕ) (slot : Slot) (liter
 false_before-cut old new count variable slot literal cut at f =
     search (cut.kept _ _ f.is (omega (arith, f.earlier, (new.listed variable slot at).0, cut.length)))
 
-justified-cut : (table : List (Vec Literal Global)) (old new : Trail) (count : ℕ) → IsJustified table old → IsCut old new count → IsJustified table new
+justified-cut : (table : List (List Literal)) (old new : Trail) (count : ℕ) → IsJustified table old → IsCut old new count → IsJustified table new
 justified-cut table old new count justified cut = record {
   within = λ v s n at reason. justified.within v s n (cut.stays v s at) reason;
   forced = λ v s n at reason k d below. ⊎_elim (λ e. inl e) (λ f. inr (false_before-cut old new count v s _ cut at f))
@@ -195,7 +195,7 @@ justified-cut table old new count justified cut = record {
   contains = λ v s n at reason. justified.contains v s n (cut.stays v s at) reason;
 }
 
-chosen-cut : (table : List (Vec Literal Global)) (requirements : List StoredRequirement) (old new : Trail) (count : ℕ) → AreChosen table requirements old →
+chosen-cut : (table : List (List Literal)) (requirements : List StoredRequirement) (old new : Trail) (count : ℕ) → AreChosen table requirements old →
     IsCut old new count → AreChosen table requirements new
 chosen-cut table requirements old new count chosen cut = record {
   each = λ v s n at decided.
@@ -205,18 +205,18 @@ chosen-cut table requirements old new count chosen cut = record {
 }
 
 pub consistent-cut : (it : ClauseSearch) (trail : Trail) (propagator : Propagator) (queue : DecideQueue) (count kept base : ℕ)
-    (in_lists : ∥ AreInLists it.table.items propagator.watches ∥₁) → IsConsistent it → IsCut it.trail trail count → count + 1 ≡ it.held →
-    kept ≡ min it.kept count → IsTop trail base → base ≤ length_of trail → IsPropagator it.table.items trail propagator →
-    ((before after : Trail) (clauses : List (Vec Literal Global)) (wanted : List StoredRequirement) → KeepsPlaces before after (min it.queue.kept count) →
+    (in_lists : ∥ AreInLists it.table propagator.watches ∥₁) → IsConsistent it → IsCut it.trail trail count → count + 1 ≡ it.held →
+    kept ≡ min it.kept count → IsTop trail base → base ≤ length_of trail → IsPropagator it.table trail propagator →
+    ((before after : Trail) (clauses : List (List Literal)) (wanted : List StoredRequirement) → KeepsPlaces before after (min it.queue.kept count) →
     IsQueued it.queue before clauses wanted → IsQueued queue after clauses wanted) →
     IsConsistent (record it { trail = trail; propagator = propagator; queue = queue; kept = kept; base = base; held = count; in_lists = in_lists })
 consistent-cut it trail propagator queue count kept base in_lists holds cut last is top bound propagates noted =
-    let below : AreBelow (variable_count trail) it.table.items = λ n k d b. omega (arith, holds.below n k d b, cut.size) in
-    let justified = justified-cut it.table.items it.trail trail count holds.justified cut in
-    let chosen = chosen-cut it.table.items it.requirements.items it.trail trail count holds.chosen cut in
+    let below : AreBelow (variable_count trail) it.table = λ n k d b. omega (arith, holds.below n k d b, cut.size) in
+    let justified = justified-cut it.table it.trail trail count holds.justified cut in
+    let chosen = chosen-cut it.table it.requirements.items it.trail trail count holds.chosen cut in
     let bookmarked : kept ≤ length_of trail = omega (arith, is, cut.length) in
     let turn = turn-whole trail base count kept top bound (sym cut.length) (omega (arith, is, last, holds.turn.bookmarked)) in
-    let queued = queued-left it.queue queue it.trail trail it.table.items it.requirements.items count count noted
+    let queued = queued-left it.queue queue it.trail trail it.table it.requirements.items count count noted
     (keeps_places it.trail trail count (omega (arith, last, holds.turn.inside)) (λ v s at below. cut.kept v s at below)) refl holds.queued in
     assumption
 
@@ -233,13 +233,13 @@ first-cut old new kept count left cut within is =
 
 -- the loaded clauses do not depend on the turn
 pub loaded-turn : (it : ClauseSearch) (trail : Trail) (propagator : Propagator) (queue : DecideQueue) (kept base held : ℕ)
-    (in_lists : ∥ AreInLists it.table.items propagator.watches ∥₁) (given : List (Vec Literal Global)) (numbers : List ℕ) → IsLoaded given numbers it →
+    (in_lists : ∥ AreInLists it.table propagator.watches ∥₁) (given : List (List Literal)) (numbers : List ℕ) → IsLoaded given numbers it →
     IsLoaded given numbers (record it { trail = trail; propagator = propagator; queue = queue; kept = kept; base = base; held = held; in_lists = in_lists })
 loaded-turn it trail propagator queue kept base held in_lists given numbers loaded = assumption
 
 -- more variables, and further entries
 pub turn-grown : (it : ClauseSearch) (trail : Trail) (propagator : Propagator) (queue : DecideQueue) (variables : ℕ)
-    (in_lists : ∥ AreInLists it.table.items propagator.watches ∥₁) → IsConsistent it → IsGrown it.trail trail variables →
+    (in_lists : ∥ AreInLists it.table propagator.watches ∥₁) → IsConsistent it → IsGrown it.trail trail variables →
     KeepsTurn it (record it { trail = trail; propagator = propagator; queue = queue; in_lists = in_lists })
 turn-grown it trail propagator queue variables in_lists holds grown =
     keeps-turn it (record it { trail = trail; propagator = propagator; queue = queue; in_lists = in_lists }) refl refl
@@ -247,40 +247,40 @@ turn-grown it trail propagator queue variables in_lists holds grown =
     (keeps-fewer it.trail trail (length_of it.trail) it.held (keeps_grown it.trail trail variables grown) holds.turn.inside)
 
 pub turn-descended : (it : ClauseSearch) (trail : Trail) (propagator : Propagator) (queue : DecideQueue)
-    (in_lists : ∥ AreInLists it.table.items propagator.watches ∥₁) → IsConsistent it → AssumesNone it.trail trail →
+    (in_lists : ∥ AreInLists it.table propagator.watches ∥₁) → IsConsistent it → AssumesNone it.trail trail →
     KeepsPlaces it.trail trail (length_of it.trail) → KeepsTurn it (record it { trail = trail; propagator = propagator; queue = queue; in_lists = in_lists })
 turn-descended it trail propagator queue in_lists holds assumed keeps =
     keeps-turn it (record it { trail = trail; propagator = propagator; queue = queue; in_lists = in_lists }) refl refl assumed
     (keeps-fewer it.trail trail (length_of it.trail) it.held keeps holds.turn.inside)
 
 pub consistent-descended : (it : ClauseSearch) (trail : Trail) (propagator : Propagator) (queue : DecideQueue)
-    (in_lists : ∥ AreInLists it.table.items propagator.watches ∥₁) → IsConsistent it → variable_count trail ≡ variable_count it.trail →
-    IsJustified it.table.items trail → AreChosen it.table.items it.requirements.items trail → KeepsPlaces it.trail trail (length_of it.trail) →
-    IsPropagator it.table.items trail propagator → IsQueued queue trail it.table.items it.requirements.items →
+    (in_lists : ∥ AreInLists it.table propagator.watches ∥₁) → IsConsistent it → variable_count trail ≡ variable_count it.trail →
+    IsJustified it.table trail → AreChosen it.table it.requirements.items trail → KeepsPlaces it.trail trail (length_of it.trail) →
+    IsPropagator it.table trail propagator → IsQueued queue trail it.table it.requirements.items →
     IsConsistent (record it { trail = trail; propagator = propagator; queue = queue; in_lists = in_lists })
 consistent-descended it trail propagator queue in_lists holds size justified chosen keeps propagates queued =
-    let below : AreBelow (variable_count trail) it.table.items = λ n k d b. omega (arith, holds.below n k d b, size) in
+    let below : AreBelow (variable_count trail) it.table = λ n k d b. omega (arith, holds.below n k d b, size) in
     let kept : it.kept ≤ length_of trail = omega (arith, holds.kept, keeps.are) in
     let turn = turn-kept it.trail trail it.base it.held it.kept it.kept holds.turn
     (keeps-fewer it.trail trail (length_of it.trail) it.held keeps holds.turn.inside) holds.turn.bookmarked in
     assumption
 
 -- the given clauses imply a learnt clause
-implied-learnt : (given table : List (Vec Literal Global)) (sources : List Source) (causes : List ℕ) (literals : List Literal) → IsDerived table sources →
+implied-learnt : (given table : List (List Literal)) (sources : List Source) (causes : List ℕ) (literals : List Literal) → IsDerived table sources →
     AreGiven given table sources → All (λ n. n < length table) causes → FollowsFrom table causes literals → IsImplied given literals
 implied-learnt given table sources causes literals derived are within follows =
     λ values holds. follows values (λ k d below. implied given table sources _ derived are (within k d below) values holds)
 
 -- a learnt clause that is false at the base refuses the assumption
-pub refused : (it : ClauseSearch) (given : List (Vec Literal Global)) (numbers : List ℕ) (learnt : Learnt) → IsConsistent it → IsLoaded given numbers it →
-    IsLearnt it.table.items it.trail learnt → level_in it.trail learnt.literal.variable ≤ it.base → IsRefused given it.trail it.base
+pub refused : (it : ClauseSearch) (given : List (List Literal)) (numbers : List ℕ) (learnt : Learnt) → IsConsistent it → IsLoaded given numbers it →
+    IsLearnt it.table it.trail learnt → level_in it.trail learnt.literal.variable ≤ it.base → IsRefused given it.trail it.base
 refused it given numbers learnt holds loaded is low =
     let a = is.asserting in
     let top : a.slot.level ≤ it.base = omega (arith, low, level-in it.trail learnt.literal.variable a.slot a.is) in
     record {
       turn = omega (arith, a.above, top);
       clause = learnt.literals.items;
-      implied = implied-learnt given it.table.items it.sources.items learnt.causes.items learnt.literals.items holds.derived loaded.clauses.are is.within
+      implied = implied-learnt given it.table it.sources.items learnt.causes.items learnt.literals.items holds.derived loaded.clauses.are is.within
           is.follows;
       low = λ k d below.
           let v = value-false _ _ (is.falsified k d below) in

@@ -97,7 +97,7 @@ named : (P : ℕ → Type 0) (requirements : List RequirementClause) → All (λ
 named P requirements all = All-map P (λ (requirement : RequirementClause). requirement.number) requirements all
 
 -- a search that ended with values makes the clauses of the marked rules true
-pub finished_true : (marks : List Bool) (from : List RuleClause) (clauses : List (Vec Literal Global)) (places : List ℕ) (requirements : List RequirementClause)
+pub finished_true : (marks : List Bool) (from : List RuleClause) (clauses : List (List Literal)) (places : List ℕ) (requirements : List RequirementClause)
     (trail : Trail) → AreMarkedClauses marks from clauses places (numbers_of requirements) →
     All (λ (clause : RuleClause). clause.is_requirement ≡ false → IsGuarded clause.literals.items) from → IsFinished clauses requirements trail →
     MakesMarkedTrue (value_of trail) marks from
@@ -114,13 +114,13 @@ finished_true marks from clauses places requirements trail are guarded finished 
     (finished.propagated there.number there.inside))
     (cases_Bool clause.is_requirement))
 
-pub obeyed : {N S : Type 0} (rules : List (Rule N S)) (variables : ℕ) (marks : List Bool) (from : List RuleClause) (clauses : List (Vec Literal Global))
+pub obeyed : {N S : Type 0} (rules : List (Rule N S)) (variables : ℕ) (marks : List Bool) (from : List RuleClause) (clauses : List (List Literal))
     (places : List ℕ) (requirements : List RequirementClause) (trail : Trail) → length marks ≡ length rules → DecideRules rules variables from →
     AreMarkedClauses marks from clauses places (numbers_of requirements) → IsFinished clauses requirements trail → IsRefuted (marked marks rules) → ⊥
 obeyed rules variables marks from clauses places requirements trail size decide are finished =
     decide.complete marks (value_of trail) size (finished_true marks from clauses places requirements trail are decide.guarded finished)
 
-module _ {N S : Type 0} (rules : List (Rule N S)) (variables : ℕ) (marks part : List Bool) (from : List RuleClause) (clauses : List (Vec Literal Global))
+module _ {N S : Type 0} (rules : List (Rule N S)) (variables : ℕ) (marks part : List Bool) (from : List RuleClause) (clauses : List (List Literal))
     (places numbers core : List ℕ) (decide : DecideRules rules variables from) (are : AreMarkedClauses marks from clauses places numbers)
     (is_core : IsCore clauses core) (of : AreMarksOf places core (length rules) part) where
   core_among : AreAmong part marks
@@ -148,7 +148,7 @@ module _ {N S : Type 0} (rules : List (Rule N S)) (variables : ℕ) (marks part 
   }
 
 -- the rules of the marked clauses are among the rules
-pub places_inside : {N S : Type 0} (rules : List (Rule N S)) (variables : ℕ) (marks : List Bool) (from : List RuleClause) (clauses : List (Vec Literal Global))
+pub places_inside : {N S : Type 0} (rules : List (Rule N S)) (variables : ℕ) (marks : List Bool) (from : List RuleClause) (clauses : List (List Literal))
     (places numbers : List ℕ) → DecideRules rules variables from → AreMarkedClauses marks from clauses places numbers →
     All (λ place. place < length rules) places
 places_inside rules variables marks from clauses places numbers decide are = λ k d below.
@@ -158,7 +158,7 @@ places_inside rules variables marks from clauses places numbers decide are = λ 
     omega (arith, same, small)
 
 -- the variables of the marked clauses are among all variables
-pub marked_below : {N S : Type 0} (rules : List (Rule N S)) (variables : ℕ) (marks : List Bool) (from : List RuleClause) (clauses : List (Vec Literal Global))
+pub marked_below : {N S : Type 0} (rules : List (Rule N S)) (variables : ℕ) (marks : List Bool) (from : List RuleClause) (clauses : List (List Literal))
     (places numbers : List ℕ) → DecideRules rules variables from → AreMarkedClauses marks from clauses places numbers → AreBelow variables clauses
 marked_below rules variables marks from clauses places numbers decide are = λ number. ⊎_elim
     (λ (inside : number < length clauses).

@@ -38,7 +38,7 @@ all-at P xs k x all at = subst P (get_or_from_slice_get xs k x x at) (all k x (s
 any-left : {X : Type 0} (P : X → Type 0) (xs ys : List X) → Any P xs → Any P (xs ++ ys)
 any-left P xs ys h = any-contains P (xs ++ ys) h.1 (Contains-append_left xs ys h.1 (h.0, h.2, h.3)) h.4
 
-pub below-contains : (table : List (Vec Literal Global)) (variables number : ℕ) (literal : Literal) → AreBelow variables table →
+pub below-contains : (table : List (List Literal)) (variables number : ℕ) (literal : Literal) → AreBelow variables table →
     Contains (clause_at table number) literal → literal.variable < variables
 below-contains table variables number literal below c = subst (λ (l : Literal). l.variable < variables) c.2 (below number c.0 literal c.1)
 
@@ -55,13 +55,13 @@ satisfied-before trail clause h =
     let v = value-true _ _ e in record { slot = v.0; is = v.1; true_there = v.2; earlier = (trail.listed _ _ v.1).0 }) h
 
 -- a true clause is noted
-pub record NotesMore (table : List (Vec Literal Global)) (trail : Trail) (old new : List Late) (pending : List ℕ) (attached level number : ℕ) : Type 0 where
+pub record NotesMore (table : List (List Literal)) (trail : Trail) (old new : List Late) (pending : List ℕ) (attached level number : ℕ) : Type 0 where
   pub late : AreLate table trail new
   pub inside : All (λ (l : Late). l.number < attached) new
   pub kept : (n : ℕ) → IsNoted old pending n → IsNoted new pending n
   pub excused : IsExcused table trail new pending level number
 
-pub late-pushed : (table : List (Vec Literal Global)) (trail : Trail) (late : List Late) (number : ℕ) → AreLate table trail late →
+pub late-pushed : (table : List (List Literal)) (trail : Trail) (late : List Late) (number : ℕ) → AreLate table trail late →
     IsSatisfied trail (clause_at table number) → AreLate table trail (late ++ record { number = number; length = length_of trail } ∷ [])
 late-pushed table trail late number noted satisfied =
     let last : Late = record { number = number; length = length_of trail } in
@@ -90,7 +90,7 @@ noted-more late last pending n noted = ⊎_elim
     (λ (c : Contains pending n). inr c)
     noted
 
-notes : (b : Bool) (table : List (Vec Literal Global)) (trail : Trail) (old new : List Late) (pending : List ℕ) (attached level number : ℕ) →
+notes : (b : Bool) (table : List (List Literal)) (trail : Trail) (old new : List Late) (pending : List ℕ) (attached level number : ℕ) →
     AreLate table trail old → All (λ (l : Late). l.number < attached) old → number < attached → IsSatisfied trail (clause_at table number) →
     (b ≡ true → IsTop trail level) → new ≡ (if b then old else old ++ record { number = number; length = length_of trail } ∷ []) →
     NotesMore table trail old new pending attached level number
@@ -113,14 +113,14 @@ notes false table trail old new pending attached level number noted within insid
       excused = inr (inl (Any-push (λ (l : Late). l.number ≡ number) old last refl));
     })
 
-excused-noted : (table : List (Vec Literal Global)) (trail : Trail) (old new : List Late) (pending : List ℕ) (level number : ℕ) →
+excused-noted : (table : List (List Literal)) (trail : Trail) (old new : List Late) (pending : List ℕ) (level number : ℕ) →
     (IsNoted old pending number → IsNoted new pending number) → IsExcused table trail old pending level number → IsExcused table trail new pending level number
 excused-noted table trail old new pending level number more excused = ⊎_elim
     (λ (h : Any (IsTrueAt trail level) (clause_at table number)). inl h)
     (λ (n : IsNoted old pending number). inr (more n))
     excused
 
-pub covers-noted : (table : List (Vec Literal Global)) (trail : Trail) (pairs : List WatchedPair) (old new : List Late) (pending : List ℕ) (head : ℕ) →
+pub covers-noted : (table : List (List Literal)) (trail : Trail) (pairs : List WatchedPair) (old new : List Late) (pending : List ℕ) (head : ℕ) →
     ((n : ℕ) → IsNoted old pending n → IsNoted new pending n) → Covers table trail pairs old pending head → Covers table trail pairs new pending head
 covers-noted table trail pairs old new pending head more covers = record {
   watched = λ number literal watching fails. excused-noted table trail old new pending _ number (more number) (covers.watched number literal watching fails);
@@ -128,7 +128,7 @@ covers-noted table trail pairs old new pending head more covers = record {
 }
 
 -- a clause that is passed by
-pub passes : (table : List (Vec Literal Global)) (trail : Trail) (old new : Propagator) (falsified : FalseLiteral) (place number : ℕ) →
+pub passes : (table : List (List Literal)) (trail : Trail) (old new : Propagator) (falsified : FalseLiteral) (place number : ℕ) →
     IsVisiting table trail old falsified place → StandsAt (watchers_of old falsified.literal) place number → number < attached_of old →
     IsSatisfied trail (clause_at table number) → new.watches ≡ old.watches → new.pending ≡ old.pending → new.head ≡ old.head →
     late_of new ≡ (if falsified.is_top then late_of old else late_of old ++ record { number = number; length = length_of trail } ∷ []) →
@@ -178,7 +178,7 @@ abbrev pub with_watches : Propagator → Watches → Propagator
 with_watches it watches = record { watches = watches; late = it.late; pending = it.pending; head = it.head }
 
 -- a new blocker
-pub sets : (table : List (Vec Literal Global)) (trail : Trail) (old : Propagator) (watches : Watches) (falsified : FalseLiteral) (place : ℕ) →
+pub sets : (table : List (List Literal)) (trail : Trail) (old : Propagator) (watches : Watches) (falsified : FalseLiteral) (place : ℕ) →
     IsVisiting table trail old falsified place → SameClauses (lists_of old.watches) (lists_of watches) → pairs_of watches ≡ pairs_of old.watches →
     HasBlockers table (lists_of watches) → IsVisiting table trail (with_watches old watches) falsified place
 sets table trail old watches falsified place v same pairs blockers =
@@ -252,7 +252,7 @@ unwatched-none pair literal none watching = ⊎_elim
     (λ (s : pair.second ≡ Some literal). none-some _ (sym (ap (λ (p : WatchedPair). p.second) none) ∙ s))
     watching
 
-pub paired : (table : List (Vec Literal Global)) (lists : List (Vec Watch Global)) (pairs : List WatchedPair) (number : ℕ) (literal found : Literal) →
+pub paired : (table : List (List Literal)) (lists : List (Vec Watch Global)) (pairs : List WatchedPair) (number : ℕ) (literal found : Literal) →
     AreWatched table lists pairs → number < length pairs → IsWatching pairs number literal →
     ((other : Literal) → literal ≢ other → IsPair (pair_at pairs number) literal other → found ≡ other) → IsPaired pairs number literal found
 paired table lists pairs number literal found w inside watching only =
@@ -273,7 +273,7 @@ paired table lists pairs number literal found w inside watching only =
     (w.two number inside)
 
 -- a watch that has moved
-pub moves : (table : List (Vec Literal Global)) (trail : Trail) (old : Propagator) (watches : Watches) (falsified : FalseLiteral) (place number : ℕ)
+pub moves : (table : List (List Literal)) (trail : Trail) (old : Propagator) (watches : Watches) (falsified : FalseLiteral) (place number : ℕ)
     (other to : Literal) → IsVisiting table trail old falsified place →
     MovesWatch (lists_of old.watches) (lists_of watches) (pairs_of old.watches) (pairs_of watches) falsified.literal to place number →
     HasBlockers table (lists_of watches) → IsPaired (pairs_of old.watches) number falsified.literal other → Replaces trail (clause_at table number) other to →
@@ -364,7 +364,7 @@ top-gains old new literal number level gains top = λ variable slot at. ⊎_elim
     (λ w. top variable slot w)
     (gains-cases old new literal (level_of old) _ gains variable slot at)
 
-pub forces : (table : List (Vec Literal Global)) (old new : Trail) (it : Propagator) (falsified : FalseLiteral) (place number : ℕ) (literal : Literal) →
+pub forces : (table : List (List Literal)) (old new : Trail) (it : Propagator) (falsified : FalseLiteral) (place number : ℕ) (literal : Literal) →
     IsVisiting table old it falsified place → Gains old new literal (level_of old) (Forced number) → slot_of old literal.variable ≡ None →
     IsVisiting table new it falsified place
 forces table old new it falsified place number literal v gains free =
@@ -395,7 +395,7 @@ other_value false true true is also = refl
 other_value false true false is also = absurd cc
 other_value false false b is also = absurd cc
 
-pub visited : (table : List (Vec Literal Global)) (trail : Trail) (it : Propagator) (falsified : FalseLiteral) (count : ℕ) →
+pub visited : (table : List (List Literal)) (trail : Trail) (it : Propagator) (falsified : FalseLiteral) (count : ℕ) →
     IsVisiting table trail it falsified count → length (watchers_of it falsified.literal) ≤ count →
     ((number : ℕ) → IsWatching (pairs_of it.watches) number falsified.literal → (place : ℕ) × StandsAt (watchers_of it falsified.literal) place number) →
     IsPropagator table trail (record { watches = it.watches; late = it.late; pending = it.pending; head = it.head + 1 })
@@ -434,19 +434,19 @@ visited table trail it falsified count v all stands =
     }
 
 -- the other watched literal is in the clause
-pub own-other : (table : List (Vec Literal Global)) (trail : Trail) (it : Propagator) (number : ℕ) (literal other : Literal) → IsPropagator table trail it →
+pub own-other : (table : List (List Literal)) (trail : Trail) (it : Propagator) (number : ℕ) (literal other : Literal) → IsPropagator table trail it →
     IsPaired (pairs_of it.watches) number literal other → Contains (clause_at table number) other
 own-other table trail it number literal other is p = is.watched.own number other (paired-other (pairs_of it.watches) number literal other p.is)
 
-pub stands-own : (table : List (Vec Literal Global)) (list : List Watch) (place number : ℕ) (literal : Literal) → (stands : StandsAt list place number) →
+pub stands-own : (table : List (List Literal)) (list : List Watch) (place number : ℕ) (literal : Literal) → (stands : StandsAt list place number) →
     Contains (clause_at table number) literal → Contains (clause_at table stands.watch.number) literal
 stands-own table list place number literal stands c = subst (λ k. Contains (clause_at table k) literal) (sym stands.named) c
 
-pub makes-true : (table : List (Vec Literal Global)) (trail : Trail) (number : ℕ) (literal : Literal) → Contains (clause_at table number) literal →
+pub makes-true : (table : List (List Literal)) (trail : Trail) (number : ℕ) (literal : Literal) → Contains (clause_at table number) literal →
     literal_value trail literal ≡ Some true → IsSatisfied trail (clause_at table number)
 makes-true table trail number literal c is = any-contains (λ (l : Literal). literal_value trail l ≡ Some true) (clause_at table number) literal c is
 
-pub blocker-own : (table : List (Vec Literal Global)) (lists : List (Vec Watch Global)) (list place : ℕ) (watch : Watch) → HasBlockers table lists →
+pub blocker-own : (table : List (List Literal)) (lists : List (Vec Watch Global)) (list place : ℕ) (watch : Watch) → HasBlockers table lists →
     slice_get (list_at lists list) place ≡ Some watch → Contains (clause_at table watch.number) watch.blocker
 blocker-own table lists list place watch blockers at =
     all-at (λ (w : Watch). Contains (clause_at table w.number) w.blocker) (list_at lists list) place watch (blockers list) at
@@ -457,7 +457,7 @@ tested-true None value test same = absurd cc
 tested-true (Some true) value test same = sym same
 tested-true (Some false) value test same = absurd cc
 
-pub moves-stands : (table : List (Vec Literal Global)) (trail : Trail) (old : Propagator) (watches : Watches) (falsified : FalseLiteral) (place number : ℕ)
+pub moves-stands : (table : List (List Literal)) (trail : Trail) (old : Propagator) (watches : Watches) (falsified : FalseLiteral) (place number : ℕ)
     (other to : Literal) → IsVisiting table trail old falsified place → (stands : StandsAt (watchers_of old falsified.literal) place number) →
     MovesWatch (lists_of old.watches) (lists_of watches) (pairs_of old.watches) (pairs_of watches) falsified.literal to place stands.watch.number →
     HasBlockers table (lists_of watches) → IsPaired (pairs_of old.watches) number falsified.literal other → Replaces trail (clause_at table number) other to →

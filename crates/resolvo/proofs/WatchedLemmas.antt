@@ -25,7 +25,7 @@ refused-any (Ok x) P holds = tt
 refused-any (Err e) P holds = holds
 
 -- by the invariant of propagation, each clause watches literals of its own
-pub owned-of : (table : List (Vec Literal Global)) (trail : Trail) (it : Propagator) → IsPropagator table trail it → AreOwned table (pairs_of it.watches)
+pub owned-of : (table : List (List Literal)) (trail : Trail) (it : Propagator) → IsPropagator table trail it → AreOwned table (pairs_of it.watches)
 owned-of table trail it is = λ number inside one other apart.
     let w = is.watched in
     let pair = pair_at (pairs_of it.watches) number in
@@ -44,24 +44,24 @@ owned-of table trail it is = λ number inside one other apart.
     })
     (w.two number attached)
 
-pub owned-same : (table : List (Vec Literal Global)) (old new : List WatchedPair) → new ≡ old → AreOwned table old → AreOwned table new
+pub owned-same : (table : List (List Literal)) (old new : List WatchedPair) → new ≡ old → AreOwned table old → AreOwned table new
 owned-same table old new same owned = subst (λ (pairs : List WatchedPair). AreOwned table pairs) (sym same) owned
 
-pub owned-either : {A B : Type 0} (r : Result A B) (table : List (Vec Literal Global)) (trail : Trail) (it : Propagator) →
+pub owned-either : {A B : Type 0} (r : Result A B) (table : List (List Literal)) (trail : Trail) (it : Propagator) →
     OnOk r (IsPropagator table trail it) → OnErr r (AreOwned table (pairs_of it.watches)) → AreOwned table (pairs_of it.watches)
 owned-either (Ok x) table trail it is refused = owned-of table trail it is
 owned-either (Err e) table trail it is refused = refused
 
 -- more pairs
-pub owned-kept : (table : List (Vec Literal Global)) (old new : List WatchedPair) → length old ≡ length table →
+pub owned-kept : (table : List (List Literal)) (old new : List WatchedPair) → length old ≡ length table →
     ((number : ℕ) → number < length old → pair_at new number ≡ pair_at old number) → AreOwned table old → AreOwned table new
 owned-kept table old new size kept owned =
     λ number inside. subst (λ (pair : WatchedPair). OwnsPair (clause_at table number) pair) (sym (kept number (omega (arith, inside, size))))
     (owned number inside)
 
 -- a clause after the others
-pub owned-added : (table : List (Vec Literal Global)) (clause : Vec Literal Global) (old new : List WatchedPair) → length old ≡ length table →
-    ((number : ℕ) → number < length old → pair_at new number ≡ pair_at old number) → OwnsPair clause.items (pair_at new (length old)) → AreOwned table old →
+pub owned-added : (table : List (List Literal)) (clause : List Literal) (old new : List WatchedPair) → length old ≡ length table →
+    ((number : ℕ) → number < length old → pair_at new number ≡ pair_at old number) → OwnsPair clause (pair_at new (length old)) → AreOwned table old →
     AreOwned (table ++ clause ∷ []) new
 owned-added table clause old new size kept own owned = λ number inside. ⊎_elim
     (λ (less : number < length table).
@@ -70,8 +70,8 @@ owned-added table clause old new size kept own owned = λ number inside. ⊎_eli
     (λ (past : length table ≤ number).
     let end : number ≡ length table = omega (arith, past, inside, length-append table (clause ∷ [])) in
     let more = table ++ clause ∷ [] in
-    let last : clause_at more number ≡ clause.items = ap (λ (n : ℕ). clause_at more n) end ∙ clause_at-last table clause in
-    let here : OwnsPair clause.items (pair_at new number) = subst (λ (n : ℕ). OwnsPair clause.items (pair_at new n)) (size ∙ sym end) own in
+    let last : clause_at more number ≡ clause = ap (λ (n : ℕ). clause_at more n) end ∙ clause_at-last table clause in
+    let here : OwnsPair clause (pair_at new number) = subst (λ (n : ℕ). OwnsPair clause (pair_at new n)) (size ∙ sym end) own in
     subst (λ (c : List Literal). OwnsPair c (pair_at new number)) (sym last) here)
     (cases_lt number (length table))
 
@@ -89,7 +89,7 @@ owns-push clause old new pair is chosen =
     subst (λ (p : WatchedPair). OwnsPair clause p) (sym last) (owns-chosen clause pair chosen)
 
 -- a clause that watches two literals is in their lists
-pub in_lists : (table : List (Vec Literal Global)) (watches : Watches) → AreOwned table (pairs_of watches) → AreInLists table watches
+pub in_lists : (table : List (List Literal)) (watches : Watches) → AreOwned table (pairs_of watches) → AreInLists table watches
 unfolding pair_count stands_in
 in_lists table watches owned = λ number inside one other apart.
     let pair = owned number inside one other apart in
@@ -98,26 +98,24 @@ in_lists table watches owned = λ number inside one other apart.
       once = λ list. watches.watched list number ∙ ap (λ (p : WatchedPair). pair_count p list) pair.is;
     }
 
-pub in_lists-same : (table : List (Vec Literal Global)) (trail : Trail) (it : Propagator) (watches : Watches) → IsPropagator table trail it →
+pub in_lists-same : (table : List (List Literal)) (trail : Trail) (it : Propagator) (watches : Watches) → IsPropagator table trail it →
     pairs_of watches ≡ pairs_of it.watches → ∥ AreInLists table watches ∥₁
 in_lists-same table trail it watches is same = ∣ in_lists table watches (owned-same table _ _ same (owned-of table trail it is)) ∣₁
 
-pub in_lists-kept : (table : List (Vec Literal Global)) (trail : Trail) (it : Propagator) (watches : Watches) → IsPropagator table trail it →
+pub in_lists-kept : (table : List (List Literal)) (trail : Trail) (it : Propagator) (watches : Watches) → IsPropagator table trail it →
     ((number : ℕ) → number < attached_of it → pair_at (pairs_of watches) number ≡ pair_at (pairs_of it.watches) number) → ∥ AreInLists table watches ∥₁
 in_lists-kept table trail it watches is kept = ∣ in_lists table watches (owned-kept table _ _ is.watched.attached kept (owned-of table trail it is)) ∣₁
 
-pub in_lists-added : (table : List (Vec Literal Global)) (clause : Vec Literal Global) (literals : List Literal) (trail : Trail) (it : Propagator)
-    (watches : Watches) → clause.items ≡ literals → IsPropagator table trail it →
+pub in_lists-added : (table : List (List Literal)) (clause : List Literal) (trail : Trail) (it : Propagator)
+    (watches : Watches) → IsPropagator table trail it →
     ((number : ℕ) → number < attached_of it → pair_at (pairs_of watches) number ≡ pair_at (pairs_of it.watches) number) →
-    OwnsPair literals (pair_at (pairs_of watches) (attached_of it)) → ∥ AreInLists (table ++ clause ∷ []) watches ∥₁
-in_lists-added table clause literals trail it watches same is kept own =
-    let here : OwnsPair clause.items (pair_at (pairs_of watches) (attached_of it)) =
-    subst (λ (ls : List Literal). OwnsPair ls (pair_at (pairs_of watches) (attached_of it))) (sym same) own in
-    ∣ in_lists (table ++ clause ∷ []) watches (owned-added table clause _ _ is.watched.attached kept here (owned-of table trail it is)) ∣₁
+    OwnsPair clause (pair_at (pairs_of watches) (attached_of it)) → ∥ AreInLists (table ++ clause ∷ []) watches ∥₁
+in_lists-added table clause trail it watches is kept own =
+    ∣ in_lists (table ++ clause ∷ []) watches (owned-added table clause _ _ is.watched.attached kept own (owned-of table trail it is)) ∣₁
 
 -- the same clauses, and the same watches
-pub in_lists-equal : (old new : List (Vec Literal Global)) (before after : Watches) → new ≡ old → after ≡ before → ∥ AreInLists old before ∥₁ →
+pub in_lists-equal : (old new : List (List Literal)) (before after : Watches) → new ≡ old → after ≡ before → ∥ AreInLists old before ∥₁ →
     ∥ AreInLists new after ∥₁
 in_lists-equal old new before after table watches holds =
-    subst (λ (clauses : List (Vec Literal Global)). ∥ AreInLists clauses after ∥₁) (sym table)
+    subst (λ (clauses : List (List Literal)). ∥ AreInLists clauses after ∥₁) (sym table)
     (subst (λ (w : Watches). ∥ AreInLists old w ∥₁) (sym watches) holds)

@@ -76,7 +76,7 @@ abbrev pub AreAlike : List Literal → Option ℕ → ℕ → Type 0
 AreAlike clause other count = (place : ℕ) → place < count → IsAlike clause other place
 
 -- the trail grew by literals that the clauses force
-pub record Forces (table : List (Vec Literal Global)) (old new : Trail) : Type 0 where
+pub record Forces (table : List (List Literal)) (old new : Trail) : Type 0 where
   pub justified : IsJustified table new
   pub extends : Extends old new
   pub size : variable_count new ≡ variable_count old

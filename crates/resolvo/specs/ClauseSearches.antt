@@ -30,7 +30,7 @@ learnt_count_of it = it.learnt
 
 -- the number of clauses, given and learnt
 abbrev pub clause_count_of : ClauseSearch → ℕ
-clause_count_of it = length it.table.items
+clause_count_of it = length it.table
 
 -- the number of first entries of the trail that have not changed since it was last bookmarked
 abbrev pub kept_of : ClauseSearch → ℕ
@@ -57,15 +57,15 @@ abbrev pub place_of : List ℕ → ℕ → ℕ
 place_of places number = slice_index places number
 
 -- the given clauses are in the table, each at its place
-pub record AreLoaded (given table : List (Vec Literal Global)) (sources : List Source) (places : List ℕ) : Type 0 where
+pub record AreLoaded (given table : List (List Literal)) (sources : List Source) (places : List ℕ) : Type 0 where
   pub count : length places ≡ length given
   pub placed : (number : ℕ) → number < length given → given_at sources (place_of places number) ≡ Some number
   pub are : AreGiven given table sources
 
 -- The search was given these clauses, of which those with these numbers are requirement clauses. It decides exactly
 -- those, by their places.
-pub record IsLoaded (given : List (Vec Literal Global)) (numbers : List ℕ) (it : ClauseSearch) : Type 0 where
-  pub clauses : AreLoaded given it.table.items it.sources.items it.places.items
+pub record IsLoaded (given : List (List Literal)) (numbers : List ℕ) (it : ClauseSearch) : Type 0 where
+  pub clauses : AreLoaded given it.table it.sources.items it.places.items
   pub requirements : stored_places it.requirements.items ≡ map (place_of it.places.items) numbers
   pub inside : All (λ number. number < length given) numbers
 
@@ -79,20 +79,20 @@ pub record IsTurn (trail : Trail) (base held kept : ℕ) : Type 0 where
 
 -- the invariant of the search
 pub record IsConsistent (it : ClauseSearch) : Type 0 where
-  pub below : AreBelow (variable_count it.trail) it.table.items
-  pub derived : IsDerived it.table.items it.sources.items
-  pub justified : IsJustified it.table.items it.trail
-  pub chosen : AreChosen it.table.items it.requirements.items it.trail
-  pub inside : All (λ (requirement : StoredRequirement). requirement.number < length it.table.items) it.requirements.items
-  pub places : All (λ place. place < length it.table.items) it.places.items
-  pub count : it.learnt + length it.places.items ≡ length it.table.items
+  pub below : AreBelow (variable_count it.trail) it.table
+  pub derived : IsDerived it.table it.sources.items
+  pub justified : IsJustified it.table it.trail
+  pub chosen : AreChosen it.table it.requirements.items it.trail
+  pub inside : All (λ (requirement : StoredRequirement). requirement.number < length it.table) it.requirements.items
+  pub places : All (λ place. place < length it.table) it.places.items
+  pub count : it.learnt + length it.places.items ≡ length it.table
   pub kept : it.kept ≤ length_of it.trail
-  pub propagator : IsPropagator it.table.items it.trail it.propagator
+  pub propagator : IsPropagator it.table it.trail it.propagator
   pub turn : IsTurn it.trail it.base it.held it.kept
-  pub queued : IsQueued it.queue it.trail it.table.items it.requirements.items
+  pub queued : IsQueued it.queue it.trail it.table it.requirements.items
 
 -- the earlier clauses stay
-pub record Grows (old new : List (Vec Literal Global)) : Type 0 where
+pub record Grows (old new : List (List Literal)) : Type 0 where
   pub longer : length old ≤ length new
   pub same : (number : ℕ) → number < length old → clause_at new number ≡ clause_at old number
 
@@ -118,7 +118,7 @@ pub record IsRootTurn (it : ClauseSearch) : Type 0 where
 
 -- whatever was loaded stays loaded
 abbrev pub KeepsLoaded : ClauseSearch → ClauseSearch → Type 0
-KeepsLoaded old new = (given : List (Vec Literal Global)) (numbers : List ℕ) → IsLoaded given numbers old → IsLoaded given numbers new
+KeepsLoaded old new = (given : List (List Literal)) (numbers : List ℕ) → IsLoaded given numbers old → IsLoaded given numbers new
 
 -- the search has the same given clauses, requirements and variables
 pub record IsSameProblem (old new : ClauseSearch) : Type 0 where
@@ -151,7 +151,7 @@ pub record IsBacktrack (old new : Trail) (literal : Literal) (level number : ℕ
   pub gains : Gains middle new literal (level_of middle) (Forced number)
 
 -- a clause that the given ones imply is false by the assumption and the values held before it alone
-pub record IsRefused (given : List (Vec Literal Global)) (trail : Trail) (base : ℕ) : Type 0 where
+pub record IsRefused (given : List (List Literal)) (trail : Trail) (base : ℕ) : Type 0 where
   pub turn : 0 < base
   pub clause : List Literal
   pub implied : IsImplied given clause
@@ -159,7 +159,7 @@ pub record IsRefused (given : List (Vec Literal Global)) (trail : Trail) (base :
 
 -- One of three results: values that leave nothing to force and nothing to decide, for any requirement clauses with
 -- these numbers; given clauses that no values make true together; or a clause that is false at the base.
-abbrev pub OutcomeIs : List (Vec Literal Global) → List ℕ → Trail → ℕ → Outcome → Type 0
+abbrev pub OutcomeIs : List (List Literal) → List ℕ → Trail → ℕ → Outcome → Type 0
 OutcomeIs given numbers trail base Finished = (requirements : List RequirementClause) → numbers_of requirements ≡ numbers → IsFinished given requirements trail
 OutcomeIs given numbers trail base (Contradiction core) = IsCore given core.items
 OutcomeIs given numbers trail base Refused = IsRefused given trail base

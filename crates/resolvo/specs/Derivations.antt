@@ -27,14 +27,14 @@ abbrev pub causes_at : List Source → ℕ → List ℕ
 causes_at sources place = option_map_or causes_of (slice_get sources place) []
 
 -- each learnt clause follows from its causes, which are earlier in the table
-pub record IsDerived (table : List (Vec Literal Global)) (sources : List Source) : Type 0 where
+pub record IsDerived (table : List (List Literal)) (sources : List Source) : Type 0 where
   pub count : length sources ≡ length table
   pub earlier : (place : ℕ) → place < length table → All (λ cause. cause < place) (causes_at sources place)
   pub follows : (place : ℕ) → place < length table → given_at sources place ≡ None → FollowsFrom table (causes_at sources place) (clause_at table place)
   pub drawn : (place : ℕ) → place < length table → given_at sources place ≡ None → All (IsDrawn table (causes_at sources place)) (clause_at table place)
 
 -- these are the clauses of the table that are not learnt
-pub record AreGiven (given table : List (Vec Literal Global)) (sources : List Source) : Type 0 where
+pub record AreGiven (given table : List (List Literal)) (sources : List Source) : Type 0 where
   pub within : (place number : ℕ) → given_at sources place ≡ Some number → number < length given
   pub same : (place number : ℕ) → given_at sources place ≡ Some number → clause_at table place ≡ clause_at given number
 
@@ -67,7 +67,7 @@ ListsMarked sources marks numbers bound =
     (place number : ℕ) → place < bound → is_marked marks place ≡ true → given_at sources place ≡ Some number → Contains numbers number
 
 -- no values make all marked clauses true, and those at or above the bound are given ones
-pub record MarkedRefute (table : List (Vec Literal Global)) (sources : List Source) (marks : List Bool) (bound : ℕ) : Type 0 where
+pub record MarkedRefute (table : List (List Literal)) (sources : List Source) (marks : List Bool) (bound : ℕ) : Type 0 where
   pub size : length marks ≡ length table
   pub apart : (values : ℕ → Bool) → ((place : ℕ) → is_marked marks place ≡ true → clause_true values (clause_at table place) ≡ true) → ⊥
   pub given : (place : ℕ) → bound ≤ place → is_marked marks place ≡ true → (number : ℕ) × (given_at sources place ≡ Some number)

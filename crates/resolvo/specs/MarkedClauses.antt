@@ -22,7 +22,7 @@ abbrev pub IsMarked : List Bool → RuleClause → Type 0
 IsMarked marks clause = slice_index_or marks clause.rule false ≡ true
 
 -- the clause with this number is a clause of a marked rule, at the noted place
-pub record IsMarkedClause (marks : List Bool) (from : List RuleClause) (clauses : List (Vec Literal Global)) (places : List ℕ) (number : ℕ) : Type 0 where
+pub record IsMarkedClause (marks : List Bool) (from : List RuleClause) (clauses : List (List Literal)) (places : List ℕ) (number : ℕ) : Type 0 where
   pub clause : RuleClause
   pub among : Contains from clause
   pub marked : IsMarked marks clause
@@ -30,14 +30,14 @@ pub record IsMarkedClause (marks : List Bool) (from : List RuleClause) (clauses 
   pub place : slice_index_or places number 0 ≡ clause.rule
 
 -- the clause is among these, and its number is listed if its candidates are to be tried
-pub record IsThere (clauses : List (Vec Literal Global)) (numbers : List ℕ) (clause : RuleClause) : Type 0 where
+pub record IsThere (clauses : List (List Literal)) (numbers : List ℕ) (clause : RuleClause) : Type 0 where
   pub number : ℕ
   pub inside : number < length clauses
   pub literals : clause_at clauses number ≡ clause.literals.items
   pub listed : clause.is_requirement ≡ true → Contains numbers number
 
 -- these are just the clauses of the marked rules
-pub record AreMarkedClauses (marks : List Bool) (from : List RuleClause) (clauses : List (Vec Literal Global)) (places numbers : List ℕ) : Type 0 where
+pub record AreMarkedClauses (marks : List Bool) (from : List RuleClause) (clauses : List (List Literal)) (places numbers : List ℕ) : Type 0 where
   pub size : length places ≡ length clauses
   pub each : (number : ℕ) → number < length clauses → IsMarkedClause marks from clauses places number
   pub all : All (λ (clause : RuleClause). IsMarked marks clause → IsThere clauses numbers clause) from
@@ -50,7 +50,7 @@ pub record AreMarksOf (places numbers : List ℕ) (count : ℕ) (marks : List Bo
   pub only : (place : ℕ) → slice_index_or marks place false ≡ true → (number : ℕ) × Contains numbers number × (slice_index_or places number 0 ≡ place)
 
 -- the result of a search without an assumption; `Refused` means nothing
-abbrev pub EndsWith : List (Vec Literal Global) → List ℕ → Trail → Outcome → Type 0
+abbrev pub EndsWith : List (List Literal) → List ℕ → Trail → Outcome → Type 0
 EndsWith given numbers trail Finished = (requirements : List RequirementClause) → numbers_of requirements ≡ numbers → IsFinished given requirements trail
 EndsWith given numbers trail (Contradiction core) = IsCore given core.items
 EndsWith given numbers trail Refused = ⊤

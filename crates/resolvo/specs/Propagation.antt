@@ -35,7 +35,7 @@ HasSeen trail clause count (Some place) =
     (literal_value trail (slice_index_or clause k d) ≡ Some false))
 
 -- if a clause forced a variable, the value makes one of its literals true, and the other literals were false before
-pub record IsJustified (table : List (Vec Literal Global)) (trail : Trail) : Type 0 where
+pub record IsJustified (table : List (List Literal)) (trail : Trail) : Type 0 where
   pub within : (variable : ℕ) (slot : Slot) (number : ℕ) → slot_of trail variable ≡ Some slot → slot.reason ≡ Forced number → number < length table
   pub forced : (variable : ℕ) (slot : Slot) (number : ℕ) → slot_of trail variable ≡ Some slot → slot.reason ≡ Forced number →
       IsForcing trail slot.place (record { variable = variable; positive = slot.value }) (clause_at table number)
@@ -43,7 +43,7 @@ pub record IsJustified (table : List (Vec Literal Global)) (trail : Trail) : Typ
       Contains (clause_at table number) (record { variable = variable; positive = slot.value })
 
 -- the variable is true, and in the clause of a stored requirement it comes after literals that were all false before
-pub record IsDecidedFor (table : List (Vec Literal Global)) (requirements : List StoredRequirement) (trail : Trail) (variable : ℕ) (slot : Slot) : Type 0 where
+pub record IsDecidedFor (table : List (List Literal)) (requirements : List StoredRequirement) (trail : Trail) (variable : ℕ) (slot : Slot) : Type 0 where
   pub requirement : StoredRequirement
   pub listed : Contains requirements requirement
   pub value : slot.value ≡ true
@@ -53,7 +53,7 @@ pub record IsDecidedFor (table : List (Vec Literal Global)) (requirements : List
   pub false_before : All (IsFalseBefore trail slot.place) before
 
 -- each variable that was decided was decided for a requirement
-pub record AreChosen (table : List (Vec Literal Global)) (requirements : List StoredRequirement) (trail : Trail) : Type 0 where
+pub record AreChosen (table : List (List Literal)) (requirements : List StoredRequirement) (trail : Trail) : Type 0 where
   pub each : (variable : ℕ) (slot : Slot) (number : ℕ) → slot_of trail variable ≡ Some slot → slot.reason ≡ Decided number →
       IsDecidedFor table requirements trail variable slot
 
@@ -67,5 +67,5 @@ pub record AssumesNone (old new : Trail) : Type 0 where
   pub was : (variable : ℕ) (slot : Slot) → slot_of new variable ≡ Some slot → slot.reason ≡ Assumed → slot_of old variable ≡ Some slot
 
 -- the clause with this number is false
-abbrev pub IsConflict : Trail → List (Vec Literal Global) → ℕ → Type 0
+abbrev pub IsConflict : Trail → List (List Literal) → ℕ → Type 0
 IsConflict trail table number = (number < length table) × IsFalsified trail (clause_at table number)

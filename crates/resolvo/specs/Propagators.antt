@@ -57,7 +57,7 @@ pub record WatchesTwo (pair : WatchedPair) : Type 0 where
   pub differ : first ≢ second
 
 -- All clauses of the table are attached. A clause watches two different literals of its own, or none if it does not have two.
-pub record AreWatched (table : List (Vec Literal Global)) (lists : List (Vec Watch Global)) (pairs : List WatchedPair) : Type 0 where
+pub record AreWatched (table : List (List Literal)) (lists : List (Vec Watch Global)) (pairs : List WatchedPair) : Type 0 where
   pub attached : length pairs ≡ length table
   pub own : (number : ℕ) (literal : Literal) → IsWatching pairs number literal → Contains (clause_at table number) literal
   pub two : (number : ℕ) → number < length pairs → (pair_at pairs number ≡ unwatched) ⊎ WatchesTwo (pair_at pairs number)
@@ -65,7 +65,7 @@ pub record AreWatched (table : List (Vec Literal Global)) (lists : List (Vec Wat
   pub blockers : HasBlockers table lists
 
 -- each of these clauses has a literal that is true before the noted place; the noted places never fall
-pub record AreLate (table : List (Vec Literal Global)) (trail : Trail) (late : List Late) : Type 0 where
+pub record AreLate (table : List (List Literal)) (trail : Trail) (late : List Late) : Type 0 where
   pub each : All (λ (l : Late). Any (IsTrueBefore trail l.length) (clause_at table l.number)) late
   pub within : All (λ (l : Late). l.length ≤ length_of trail) late
   pub rising : (k n : ℕ) (early later : Late) → k < n → slice_get late k ≡ Some early → slice_get late n ≡ Some later → early.length ≤ later.length
@@ -75,18 +75,18 @@ abbrev pub IsNoted : List Late → List ℕ → ℕ → Type 0
 IsNoted late pending number = Any (λ (l : Late). l.number ≡ number) late ⊎ Contains pending number
 
 -- the clause is true by a literal of this level or a lower one, or it is noted
-abbrev pub IsExcused : List (Vec Literal Global) → Trail → List Late → List ℕ → ℕ → ℕ → Type 0
+abbrev pub IsExcused : List (List Literal) → Trail → List Late → List ℕ → ℕ → ℕ → Type 0
 IsExcused table trail late pending level number =
     Any (IsTrueAt trail level) (clause_at table number) ⊎ IsNoted late pending number
 
 -- If a watched literal is false and has been propagated, its clause is true by a literal of no higher level, or it is noted.
-pub record Covers (table : List (Vec Literal Global)) (trail : Trail) (pairs : List WatchedPair) (late : List Late) (pending : List ℕ) (head : ℕ) : Type 0 where
+pub record Covers (table : List (List Literal)) (trail : Trail) (pairs : List WatchedPair) (late : List Late) (pending : List ℕ) (head : ℕ) : Type 0 where
   pub watched : (number : ℕ) (literal : Literal) → IsWatching pairs number literal → (fails : IsFalseBefore trail head literal) →
       IsExcused table trail late pending fails.slot.level number
   pub constant : (number : ℕ) → number < length pairs → pair_at pairs number ≡ unwatched → IsNoted late pending number
 
 -- the invariant of propagation
-pub record IsPropagator (table : List (Vec Literal Global)) (trail : Trail) (it : Propagator) : Type 0 where
+pub record IsPropagator (table : List (List Literal)) (trail : Trail) (it : Propagator) : Type 0 where
   pub lists : length (lists_of it.watches) ≡ 2 * variable_count trail
   pub watched : AreWatched table (lists_of it.watches) (pairs_of it.watches)
   pub late : AreLate table trail (late_of it)
@@ -96,6 +96,6 @@ pub record IsPropagator (table : List (Vec Literal Global)) (trail : Trail) (it 
   pub covers : Covers table trail (pairs_of it.watches) (late_of it) (pending_of it) (head_of it)
 
 -- all clauses are attached, and none is pending
-pub record IsAttached (table : List (Vec Literal Global)) (it : Propagator) : Type 0 where
+pub record IsAttached (table : List (List Literal)) (it : Propagator) : Type 0 where
   pub all : attached_of it ≡ length table
   pub none : pending_of it ≡ []

@@ -41,22 +41,22 @@ AgreesOn values trail marks =
     (variable : ℕ) (slot : Slot) → is_marked marks variable ≡ true → slot_of trail variable ≡ Some slot → values variable ≡ slot.value
 
 -- no values make the causes true and are those of the trail at the marked variables
-pub record Refutes (table : List (Vec Literal Global)) (trail : Trail) (marks : List Bool) (causes : List ℕ) : Type 0 where
+pub record Refutes (table : List (List Literal)) (trail : Trail) (marks : List Bool) (causes : List ℕ) : Type 0 where
   pub apart : (values : ℕ → Bool) → MakesTrue values table causes → AgreesOn values trail marks → ⊥
 
 -- the literal is in a clause with one of these numbers
-pub record IsDrawn (table : List (Vec Literal Global)) (numbers : List ℕ) (literal : Literal) : Type 0 where
+pub record IsDrawn (table : List (List Literal)) (numbers : List ℕ) (literal : Literal) : Type 0 where
   pub number : ℕ
   pub listed : Contains numbers number
   pub stands : Contains (clause_at table number) literal
 
 -- for each marked variable, the literal that is false on the trail is in one of the causes
-pub record AreDrawn (table : List (Vec Literal Global)) (trail : Trail) (marks : List Bool) (causes : List ℕ) : Type 0 where
+pub record AreDrawn (table : List (List Literal)) (trail : Trail) (marks : List Bool) (causes : List ℕ) : Type 0 where
   pub each : (variable : ℕ) (slot : Slot) → is_marked marks variable ≡ true → slot_of trail variable ≡ Some slot →
       IsDrawn table causes (record { variable = variable; positive = not slot.value })
 
 -- the marked variables' values contradict the causes, which are clauses of the table
-pub record IsResolvent (table : List (Vec Literal Global)) (trail : Trail) (resolvent : Resolvent) : Type 0 where
+pub record IsResolvent (table : List (List Literal)) (trail : Trail) (resolvent : Resolvent) : Type 0 where
   pub size : length resolvent.marks.items ≡ variable_count trail
   pub listed : ListsMarks resolvent.marks.items resolvent.marked.items
   pub within : All (λ number. number < length table) resolvent.causes.items
@@ -141,7 +141,7 @@ pub record IsAsserting (trail : Trail) (backtrack_level : ℕ) (literal : Litera
   pub reached : (backtrack_level ≡ 0) ⊎ Any (λ (other : Literal). (other ≢ literal) × (level_in trail other.variable ≡ backtrack_level)) literals
 
 -- the learnt clause follows from its causes, has only literals of theirs, is false under the trail, and has only one literal of its highest level
-pub record IsLearnt (table : List (Vec Literal Global)) (trail : Trail) (learnt : Learnt) : Type 0 where
+pub record IsLearnt (table : List (List Literal)) (trail : Trail) (learnt : Learnt) : Type 0 where
   pub within : All (λ number. number < length table) learnt.causes.items
   pub follows : FollowsFrom table learnt.causes.items learnt.literals.items
   pub drawn : All (IsDrawn table learnt.causes.items) learnt.literals.items
@@ -149,6 +149,6 @@ pub record IsLearnt (table : List (Vec Literal Global)) (trail : Trail) (learnt 
   pub asserting : IsAsserting trail learnt.backtrack_level learnt.literal learnt.literals.items
 
 -- an unsatisfiable core of the table, or a clause that follows from some of its clauses
-abbrev pub AnalysisIs : List (Vec Literal Global) → Trail → Analysis → Type 0
+abbrev pub AnalysisIs : List (List Literal) → Trail → Analysis → Type 0
 AnalysisIs table trail (Contradiction causes) = All (λ number. number < length table) causes.items × FollowsFrom table causes.items []
 AnalysisIs table trail (Clause learnt) = IsLearnt table trail learnt

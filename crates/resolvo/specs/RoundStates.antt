@@ -39,8 +39,8 @@ use Rattle.resolvo.specs.declared.rounds.Round.TheVariants.{Last, Fired, Read}
 use Rattle.resolvo.specs.declared.rounds.Rounds.{Rounds}
 
 -- the search was loaded with the first of the clauses, and the first of the numbers of requirement clauses
-pub record HasLoaded (table : List (Vec Literal Global)) (requirements : List ℕ) (search : ClauseSearch) : Type 0 where
-  pub given : List (Vec Literal Global)
+pub record HasLoaded (table : List (List Literal)) (requirements : List ℕ) (search : ClauseSearch) : Type 0 where
+  pub given : List (List Literal)
   pub numbers : List ℕ
   pub loaded : IsLoaded given numbers search
   pub clauses : Extends given table

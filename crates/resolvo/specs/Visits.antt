@@ -33,12 +33,12 @@ abbrev pub watchers_of : Propagator → Literal → List Watch
 watchers_of propagator literal = list_at (lists_of propagator.watches) (list_number literal)
 
 -- the first `count` watchers in the list are clauses that are true by a literal of this level or a lower one, or noted
-pub record AreExcused (table : List (Vec Literal Global)) (trail : Trail) (watchers : List Watch) (late : List Late) (pending : List ℕ)
+pub record AreExcused (table : List (List Literal)) (trail : Trail) (watchers : List Watch) (late : List Late) (pending : List ℕ)
     (level count : ℕ) : Type 0 where
   pub each : (place : ℕ) (watch : Watch) → place < count → slice_get watchers place ≡ Some watch → IsExcused table trail late pending level watch.number
 
 -- the invariant while the watchers of the literal are visited, after the first `count` of them
-pub record IsVisiting (table : List (Vec Literal Global)) (trail : Trail) (it : Propagator) (falsified : FalseLiteral) (count : ℕ) : Type 0 where
+pub record IsVisiting (table : List (List Literal)) (trail : Trail) (it : Propagator) (falsified : FalseLiteral) (count : ℕ) : Type 0 where
   pub below : AreBelow (variable_count trail) table
   pub propagator : IsPropagator table trail it
   pub attached : IsAttached table it
@@ -46,20 +46,20 @@ pub record IsVisiting (table : List (Vec Literal Global)) (trail : Trail) (it : 
   pub excused : AreExcused table trail (watchers_of it falsified.literal) (late_of it) (pending_of it) falsified.level count
 
 -- the visit goes on at the next place, with fewer watchers left
-pub record GoesOn (table : List (Vec Literal Global)) (trail : Trail) (old new : Propagator) (falsified : FalseLiteral) (place next : ℕ) : Type 0 where
+pub record GoesOn (table : List (List Literal)) (trail : Trail) (old new : Propagator) (falsified : FalseLiteral) (place next : ℕ) : Type 0 where
   pub visiting : IsVisiting table trail new falsified next
   pub head : head_of new ≡ head_of old
   pub within : next ≤ length (watchers_of new falsified.literal)
   pub fewer : length (watchers_of new falsified.literal) - next < length (watchers_of old falsified.literal) - place
 
 -- the clause with this number is false
-pub record Fails (table : List (Vec Literal Global)) (trail : Trail) (new : Propagator) (number : ℕ) : Type 0 where
+pub record Fails (table : List (List Literal)) (trail : Trail) (new : Propagator) (number : ℕ) : Type 0 where
   pub conflict : IsConflict trail table number
   pub propagator : IsPropagator table trail new
   pub attached : IsAttached table new
 
 -- the result of the visit to the watcher at a place
-abbrev pub WatchOutcomeIs : List (Vec Literal Global) → Trail → Propagator → Propagator → FalseLiteral → ℕ → WatchOutcome → Type 0
+abbrev pub WatchOutcomeIs : List (List Literal) → Trail → Propagator → Propagator → FalseLiteral → ℕ → WatchOutcome → Type 0
 WatchOutcomeIs table trail old new falsified place (Next next) = GoesOn table trail old new falsified place next
 WatchOutcomeIs table trail old new falsified place (Conflict number) = Fails table trail new number
 

@@ -21,7 +21,7 @@ abbrev pub OwnsPair : List Literal → WatchedPair → Type 0
 OwnsPair clause pair = (one other : Literal) → AreApart clause one other → IsOwnPair clause pair
 
 -- the same for each clause of the table
-abbrev pub AreOwned : List (Vec Literal Global) → List WatchedPair → Type 0
+abbrev pub AreOwned : List (List Literal) → List WatchedPair → Type 0
 AreOwned table pairs = (number : ℕ) → number < length table → OwnsPair (clause_at table number) (pair_at pairs number)
 
 -- The clause watches two different literals of its own. It is in their lists, once in each, and in no other list.
@@ -30,6 +30,6 @@ pub record StandsInTwo (clause : List Literal) (watches : Watches) (number : ℕ
   pub once : (list : ℕ) → entry_count (lists_of watches) list number ≡ same (list_number pair.first) list + same (list_number pair.second) list
 
 -- the same for each clause of the table with two different literals
-abbrev pub AreInLists : List (Vec Literal Global) → Watches → Type 0
+abbrev pub AreInLists : List (List Literal) → Watches → Type 0
 AreInLists table watches = (number : ℕ) → number < length table → (one other : Literal) → AreApart (clause_at table number) one other →
     StandsInTwo (clause_at table number) watches number

@@ -10,7 +10,7 @@ ghost use Rattle.resolver_clause_store.specs.declared.Literal.{Literal};
 ghost use Rattle.resolvo.specs.Resolvents.{AddsNegation, AllBefore, IsLevelled, IsReason, IsResolvent, IsSingle, IsUnmarked, AnalysisIs, ListsMarks, MarksAlso};
 ghost use Rattle.resolvo.specs.Resolvents.{Negates, StandsAt, level_in, is_marked};
 
-use resolver_clause_store::{Literal, Reason, Trail, Variable, clause};
+use resolver_clause_store::{Clauses, Literal, Reason, Trail, Variable, clause};
 use std::alloc::{AllocError, Global};
 use std::mem::replace;
 
@@ -190,7 +190,7 @@ pub fn lowest_place(trail: &Trail, clause: &[Literal], level: usize, start: usiz
 pub fn begin(
     alloc: Global,
     blank: Vec<bool>,
-    table: &[Vec<Literal>],
+    table: &Clauses,
     trail: &Trail,
     number: usize,
 ) -> Result<Resolvent, AllocError>
@@ -220,7 +220,7 @@ pub fn begin(
 /// Resolves with a reason: marks its other variables in place of the one that it forced, which is the last marked one
 /// and not the only one of its level.
 pub fn resolve(
-    table: &[Vec<Literal>],
+    table: &Clauses,
     trail: &Trail,
     resolvent: &mut Resolvent,
     variable: Variable,
@@ -257,7 +257,7 @@ pub fn is_single(resolvent: &Resolvent, place: usize) -> bool
 /// Resolves the marked variables, last one first, down to the first unique implication point: a single variable of the
 /// highest level. At level 0 none is left.
 pub fn resolve_level(
-    table: &[Vec<Literal>],
+    table: &Clauses,
     trail: &Trail,
     resolvent: &mut Resolvent,
 ) -> Result<(), AllocError>
@@ -310,7 +310,7 @@ pub fn are_marked(marks: &[bool], clause: &[Literal]) -> bool
 
 /// Unmarks a variable whose reason has marked variables only: their values imply its own.
 pub fn drop_implied(
-    table: &[Vec<Literal>],
+    table: &Clauses,
     trail: &Trail,
     resolvent: &mut Resolvent,
     variable: Variable,
@@ -333,7 +333,7 @@ pub fn drop_implied(
 
 /// Unmarks a variable that the others imply, unless it is the only one of the highest level.
 pub fn minimize_at(
-    table: &[Vec<Literal>],
+    table: &Clauses,
     trail: &Trail,
     resolvent: &mut Resolvent,
     variable: Variable,
@@ -383,11 +383,7 @@ pub fn forced_by(trail: &Trail, variable: Variable) -> Option<usize>
 }
 
 /// Minimizes the clause: unmarks variables that the other marked ones imply. The only one of the highest level stays.
-pub fn minimize(
-    table: &[Vec<Literal>],
-    trail: &Trail,
-    resolvent: &mut Resolvent,
-) -> Result<(), AllocError>
+pub fn minimize(table: &Clauses, trail: &Trail, resolvent: &mut Resolvent) -> Result<(), AllocError>
     requires below { AreBelow (variable_count trail.now) table.now }
     requires justified { IsJustified table.now trail.now }
     requires resolvent { IsResolvent table.now trail.now resolvent.old }
@@ -500,7 +496,7 @@ pub fn asserted_level(trail: &Trail, learnt: &Learnt) -> usize
 pub fn analyze(
     alloc: Global,
     marks: &mut BlankMarks,
-    table: &[Vec<Literal>],
+    table: &Clauses,
     trail: &Trail,
     number: usize,
 ) -> Result<Analysis, AllocError>

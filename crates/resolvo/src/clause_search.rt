@@ -29,8 +29,8 @@ use crate::clause_state::{State, examine};
 use crate::contradiction::{Source, core};
 use crate::propagator::{Propagator, apply_all_pending, begins_level, propagate};
 use resolver_clause_store::{
-    Activity, Choice, DecideQueue, DependencyProvider, Exhausted, Interrupted, Literal, Owner,
-    RequirementClause, StoredRequirement, Trail, check_cancel, clause, narrow,
+    Activity, Choice, Clauses, DecideQueue, DependencyProvider, Exhausted, Interrupted, Literal,
+    Owner, RequirementClause, StoredRequirement, Trail, check_cancel, clause, narrow,
 };
 use std::alloc::{AllocError, Global};
 
@@ -55,7 +55,7 @@ pub enum Outcome {
 pub struct ClauseSearch {
     trail: Trail,
     propagator: Propagator,
-    table: Vec<Vec<Literal>>,
+    table: Clauses,
     sources: Vec<Source>,
     requirements: Vec<StoredRequirement>,
     /// The place of each given clause, by its number.
@@ -71,11 +71,11 @@ pub struct ClauseSearch {
     marks: BlankMarks,
     /// The requirements that may be left to decide.
     queue: DecideQueue,
-    ghost in_lists: { ∥ AreInLists table.items propagator.watches ∥₁ },
+    ghost in_lists: { ∥ AreInLists table propagator.watches ∥₁ },
 }
 
 /// Takes a choice: begins a level with its candidate.
-pub fn take(trail: &mut Trail, table: &[Vec<Literal>], choice: Choice) -> Result<(), AllocError>
+pub fn take(trail: &mut Trail, table: &Clauses, choice: Choice) -> Result<(), AllocError>
     requires below { AreBelow (variable_count trail.old) table.now }
     requires inside { choice.number < length table.now }
     requires first { IsFirst trail.old (clause_at table.now choice.number) choice.place }
@@ -102,7 +102,7 @@ pub fn descend<D: DependencyProvider>(
     provider: &D,
     trail: &mut Trail,
     queue: &mut DecideQueue,
-    table: &[Vec<Literal>],
+    table: &Clauses,
     requirements: &[StoredRequirement],
     propagator: &mut Propagator,
 ) -> Result<Option<usize>, Interrupted<D::Cancel>>
@@ -172,7 +172,7 @@ impl ClauseSearch {
         ClauseSearch {
             trail: Trail::empty(alloc),
             propagator: Propagator::empty(alloc),
-            table: Vec::new(alloc),
+            table: Clauses::new(alloc),
             sources: Vec::new(alloc),
             requirements: Vec::new(alloc),
             places: Vec::new(alloc),
@@ -303,8 +303,8 @@ impl ClauseSearch {
         requires consistent { IsConsistent self.old }
         requires below { IsBelow (variable_count (trail_of self.old)) literals.now }
         ensures consistent { OnOk result (IsConsistent self.new) }
-        ensures loaded { OnOk result ((given : List (Vec Literal Global)) (numbers : List ℕ) (copy : Vec Literal Global) → copy.items ≡ literals.now →
-            IsLoaded given numbers self.old → IsLoaded (given ++ copy ∷ []) numbers self.new) }
+        ensures loaded { OnOk result ((given : List (List Literal)) (numbers : List ℕ) →
+            IsLoaded given numbers self.old → IsLoaded (given ++ literals.now ∷ []) numbers self.new) }
         ensures same { OnOk result (IsSameSearch self.old self.new) }
         ensures count { OnOk result (length self.new.places.items ≡ length self.old.places.items + 1) }
         ensures undone { OnOk result (IsFalsified (trail_of self.old) literals.now → IsUndone (trail_of self.old) (trail_of self.new) (base_of self.old)) }
@@ -312,9 +312,8 @@ impl ClauseSearch {
         let number = self.places.len();
         let place = narrow(self.table.len())?;
         let level = level_for(&self.trail, literals, self.base);
-        let copy = literals.to_vec(*self.table.allocator())?;
         self.propagator.attach(&self.trail, literals)?;
-        self.table.push(copy)?;
+        self.table.push(literals)?;
         self.sources.push(Source::Given(number))?;
         self.places.push(place)?;
         self.trail.undo_until(level);
@@ -326,11 +325,11 @@ impl ClauseSearch {
     }
 
     /// Loads the clauses after those that are loaded.
-    fn load_clauses(&mut self, clauses: &[Vec<Literal>]) -> Result<(), AllocError>
+    fn load_clauses(&mut self, clauses: &Clauses) -> Result<(), AllocError>
         requires consistent { IsConsistent self.old }
         requires below { AreBelow (variable_count (trail_of self.old)) clauses.now }
         ensures consistent { OnOk result (IsConsistent self.new) }
-        ensures loaded { OnOk result ((given : List (Vec Literal Global)) (numbers : List ℕ) (more : List (Vec Literal Global)) →
+        ensures loaded { OnOk result ((given : List (List Literal)) (numbers : List ℕ) (more : List (List Literal)) →
             IsLoaded given numbers self.old → clauses.now ≡ given ++ more → IsLoaded clauses.now numbers self.new) }
         ensures same { OnOk result (IsSameSearch self.old self.new) }
         ensures count { OnOk result (length clauses.now ≤ length self.new.places.items) }
@@ -346,7 +345,7 @@ impl ClauseSearch {
         requires consistent { IsConsistent self.old }
         requires inside { requirement.now.number < length self.old.places.items }
         ensures consistent { OnOk result (IsConsistent self.new) }
-        ensures loaded { OnOk result ((given : List (Vec Literal Global)) (numbers : List ℕ) → IsLoaded given numbers self.old →
+        ensures loaded { OnOk result ((given : List (List Literal)) (numbers : List ℕ) → IsLoaded given numbers self.old →
             IsLoaded given (numbers ++ requirement.now.number ∷ []) self.new) }
         ensures same { OnOk result (IsSameSearch self.old self.new) }
         ensures places { OnOk result (self.new.places.items ≡ self.old.places.items) }
@@ -370,7 +369,7 @@ impl ClauseSearch {
         requires consistent { IsConsistent self.old }
         requires inside { All (λ (requirement : RequirementClause). requirement.number < length self.old.places.items) requirements.now }
         ensures consistent { OnOk result (IsConsistent self.new) }
-        ensures loaded { OnOk result ((given : List (Vec Literal Global)) (numbers more : List ℕ) → IsLoaded given numbers self.old →
+        ensures loaded { OnOk result ((given : List (List Literal)) (numbers more : List ℕ) → IsLoaded given numbers self.old →
             numbers_of requirements.now ≡ numbers ++ more → IsLoaded given (numbers_of requirements.now) self.new) }
         ensures same { OnOk result (IsSameSearch self.old self.new) }
     {
@@ -387,7 +386,7 @@ impl ClauseSearch {
     pub fn load(
         &mut self,
         variables: usize,
-        clauses: &[Vec<Literal>],
+        clauses: &Clauses,
         requirements: &[RequirementClause],
         owners: &[Owner],
     ) -> Result<(), Exhausted>
@@ -396,8 +395,8 @@ impl ClauseSearch {
         requires inside { All (λ (requirement : RequirementClause). requirement.number < length clauses.now) requirements.now }
         requires room { variable_count (trail_of self.old) ≤ variables }
         ensures consistent { OnOk result (IsConsistent self.new) }
-        ensures loaded { OnOk result ((given : List (Vec Literal Global)) (numbers : List ℕ) → IsLoaded given numbers self.old →
-            (more : List (Vec Literal Global)) → clauses.now ≡ given ++ more → (more_numbers : List ℕ) → numbers_of requirements.now ≡ numbers ++ more_numbers →
+        ensures loaded { OnOk result ((given : List (List Literal)) (numbers : List ℕ) → IsLoaded given numbers self.old →
+            (more : List (List Literal)) → clauses.now ≡ given ++ more → (more_numbers : List ℕ) → numbers_of requirements.now ≡ numbers ++ more_numbers →
             IsLoaded clauses.now (numbers_of requirements.now) self.new) }
         ensures variables { OnOk result (variable_count (trail_of self.new) ≡ variables) }
         ensures learnt { OnOk result (learnt_count_of self.new ≡ learnt_count_of self.old) }
@@ -420,13 +419,13 @@ impl ClauseSearch {
     /// The search goes back to the backtrack level, but not below the base.
     fn backtrack(&mut self, learnt: Learnt) -> Result<(), AllocError>
         requires consistent { IsConsistent self.old }
-        requires learnt { IsLearnt self.old.table.items self.old.trail learnt }
+        requires learnt { IsLearnt self.old.table self.old.trail learnt }
         requires above { self.old.base < level_in self.old.trail learnt.literal.variable }
         ensures consistent { OnOk result (IsConsistent self.new) }
         ensures same { OnOk result (IsSameProblem self.old self.new) }
         ensures backtrack_level { OnOk result (IsBacktrack self.old.trail self.new.trail learnt.literal (max learnt.backtrack_level self.old.base)
-            (length self.old.table.items)) }
-        ensures stored { OnOk result (clause_at self.new.table.items (length self.old.table.items) ≡ learnt.literals.items) }
+            (length self.old.table)) }
+        ensures stored { OnOk result (clause_at self.new.table (length self.old.table) ≡ learnt.literals.items) }
         ensures count { OnOk result (learnt_count_of self.new ≡ learnt_count_of self.old + 1) }
     {
         let Learnt {
@@ -436,10 +435,10 @@ impl ClauseSearch {
             backtrack_level,
         } = learnt;
         let number = self.table.len();
-        let alloc = *self.table.allocator();
+        let alloc = *self.sources.allocator();
         self.queue.learn(&literals)?;
         self.propagator.attach(&self.trail, &literals)?;
-        self.table.push(literals)?;
+        self.table.push(&literals)?;
         let source = Source::Learnt(Box::new(alloc, causes)?);
         self.sources.push(source)?;
         self.learnt += 1;
@@ -461,9 +460,9 @@ impl ClauseSearch {
         clause_limit: usize,
     ) -> Result<Option<Outcome>, Exhausted>
         requires consistent { IsConsistent self.old }
-        requires learnt { IsLearnt self.old.table.items self.old.trail learnt }
+        requires learnt { IsLearnt self.old.table self.old.trail learnt }
         ensures outcome { IfOk result (λ answer.
-            IfSome answer (λ outcome. (given : List (Vec Literal Global)) (numbers : List ℕ) → IsLoaded given numbers self.old →
+            IfSome answer (λ outcome. (given : List (List Literal)) (numbers : List ℕ) → IsLoaded given numbers self.old →
             OutcomeIs given numbers self.new.trail self.new.base outcome)) }
         ensures consistent { OnOk result (IsConsistent self.new) }
         ensures same { OnOk result (IsSameProblem self.old self.new) }
@@ -491,9 +490,9 @@ impl ClauseSearch {
         clause_limit: usize,
     ) -> Result<Option<Outcome>, Exhausted>
         requires consistent { IsConsistent self.old }
-        requires conflict { IsConflict self.old.trail self.old.table.items number }
+        requires conflict { IsConflict self.old.trail self.old.table number }
         ensures outcome { IfOk result (λ answer.
-            IfSome answer (λ outcome. (given : List (Vec Literal Global)) (numbers : List ℕ) → IsLoaded given numbers self.old →
+            IfSome answer (λ outcome. (given : List (List Literal)) (numbers : List ℕ) → IsLoaded given numbers self.old →
             OutcomeIs given numbers self.new.trail self.new.base outcome)) }
         ensures consistent { OnOk result (IsConsistent self.new) }
         ensures same { OnOk result (IsSameProblem self.old self.new) }
@@ -501,17 +500,11 @@ impl ClauseSearch {
         ensures below { IfOk result (λ answer. IfNone answer (learnt_count_of self.old < learnt_limit)) }
         ensures ids { IfErr result (λ e. e ≡ Ids → (learnt_limit ≤ learnt_count_of self.new) ⊎ (clause_limit ≤ clause_count_of self.new)) }
     {
-        match analyze(
-            alloc,
-            &mut self.marks,
-            self.table.as_slice(),
-            &self.trail,
-            number,
-        )? {
+        match analyze(alloc, &mut self.marks, &self.table, &self.trail, number)? {
             Analysis::Contradiction(causes) => {
                 let numbers = core(
                     alloc,
-                    self.table.as_slice(),
+                    &self.table,
                     self.sources.as_slice(),
                     causes.as_slice(),
                 )?;
@@ -538,7 +531,7 @@ impl ClauseSearch {
     ) -> Result<Outcome, Interrupted<D::Cancel>>
         requires consistent { IsConsistent self.old }
         ensures outcome { IfOk result (λ outcome.
-            (given : List (Vec Literal Global)) (numbers : List ℕ) → IsLoaded given numbers self.old →
+            (given : List (List Literal)) (numbers : List ℕ) → IsLoaded given numbers self.old →
             OutcomeIs given numbers (trail_of self.new) (base_of self.new) outcome) }
         ensures consistent { OnOk result (IsConsistent self.new) }
         ensures loaded { OnOk result (KeepsLoaded self.old self.new) }
@@ -553,7 +546,7 @@ impl ClauseSearch {
                 provider,
                 &mut self.trail,
                 &mut self.queue,
-                self.table.as_slice(),
+                &self.table,
                 self.requirements.as_slice(),
                 &mut self.propagator,
             )? {

@@ -8,7 +8,7 @@ ghost use Rattle.resolver_clause_store.specs.Outcomes.{IsCore};
 ghost use Rattle.resolvo.specs.Derivations.{AddsMarked, AreGiven, IsDerived, ListsMarked, MarksNumbers, Replaces, Stands, causes_at, given_at};
 ghost use Rattle.resolvo.specs.Resolvents.{is_marked};
 
-use resolver_clause_store::Literal;
+use resolver_clause_store::Clauses;
 use std::alloc::{AllocError, Global};
 
 /// The origin of a clause in the table.
@@ -104,14 +104,14 @@ pub fn marked(alloc: Global, sources: &[Source], marks: &[bool]) -> Result<Vec<u
 /// Returns the given clauses from which the contradiction follows: an unsatisfiable core.
 pub fn core(
     alloc: Global,
-    table: &[Vec<Literal>],
+    table: &Clauses,
     sources: &[Source],
     start: &[usize],
 ) -> Result<Vec<usize>, AllocError>
     requires derived { IsDerived table.now sources.now }
     requires within { All (λ number. number < length table.now) start.now }
     requires refuted { FollowsFrom table.now start.now [] }
-    ensures { IfOk result (λ core. (given : List (Vec Literal Global)) → AreGiven given table.now sources.now → IsCore given core.items) }
+    ensures { IfOk result (λ core. (given : List (List Literal)) → AreGiven given table.now sources.now → IsCore given core.items) }
 {
     let mut marks = unmarked(alloc, table.len())?;
     mark_numbers(&mut marks, start);

@@ -6,7 +6,7 @@ ghost use Rattle.resolver_clause_store.specs.TrailView.{variable_count};
 ghost use Rattle.resolver_clause_store.specs.declared.RequirementClause.{RequirementClause as RequirementClauseOf};
 
 use crate::clause_state::{State, examine};
-use resolver_clause_store::{Literal, RequirementClause, Trail, clause};
+use resolver_clause_store::{Clauses, Literal, RequirementClause, Trail, clause};
 use std::alloc::AllocError;
 
 /// The effect of a scan.
@@ -20,7 +20,7 @@ pub enum Effect {
 }
 
 /// Sets the last literal of a clause whose other literals are false.
-fn scan_one(trail: &mut Trail, table: &[Vec<Literal>], number: usize) -> Result<Effect, AllocError>
+fn scan_one(trail: &mut Trail, table: &Clauses, number: usize) -> Result<Effect, AllocError>
     requires inside { number < length table.now }
     requires below { AreBelow (variable_count trail.old) table.now }
     ensures size { variable_count trail.new ≡ variable_count trail.old }
@@ -36,7 +36,7 @@ fn scan_one(trail: &mut Trail, table: &[Vec<Literal>], number: usize) -> Result<
 }
 
 /// Scans every clause once, until one is false.
-fn scan_all(trail: &mut Trail, table: &[Vec<Literal>]) -> Result<Effect, AllocError>
+fn scan_all(trail: &mut Trail, table: &Clauses) -> Result<Effect, AllocError>
     requires below { AreBelow (variable_count trail.old) table.now }
     ensures size { variable_count trail.new ≡ variable_count trail.old }
 {
@@ -52,7 +52,7 @@ fn scan_all(trail: &mut Trail, table: &[Vec<Literal>]) -> Result<Effect, AllocEr
 }
 
 /// Sets every literal that is forced, until none is left or a clause is false. Returns the number of that clause.
-pub fn propagate(trail: &mut Trail, table: &[Vec<Literal>]) -> Result<Option<usize>, AllocError>
+pub fn propagate(trail: &mut Trail, table: &Clauses) -> Result<Option<usize>, AllocError>
     requires below { AreBelow (variable_count trail.old) table.now }
     ensures size { variable_count trail.new ≡ variable_count trail.old }
 {
@@ -127,7 +127,7 @@ fn open_between(trail: &Trail, clause: &[Literal], from: usize, to: usize) -> us
 /// Returns the next candidate of a requirement, if it has to be decided.
 fn candidate_of(
     trail: &Trail,
-    table: &[Vec<Literal>],
+    table: &Clauses,
     requirement: &RequirementClause,
 ) -> Option<Candidate>
     requires below { AreBelow (variable_count trail.now) table.now }
@@ -161,7 +161,7 @@ fn first_of(one: Option<Candidate>, other: Option<Candidate>) -> Option<Candidat
 /// Returns the number of the requirement clause that is decided next, and the place of its candidate.
 pub fn decide(
     trail: &Trail,
-    table: &[Vec<Literal>],
+    table: &Clauses,
     requirements: &[RequirementClause],
 ) -> Option<(usize, usize)>
     requires below { AreBelow (variable_count trail.now) table.now }

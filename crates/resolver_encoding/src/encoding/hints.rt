@@ -16,7 +16,9 @@ ghost use Rattle.resolver_encoding.specs.SoFar.{HasRead, IsHalfReading, IsHinted
 use super::Encoding;
 use crate::chosen::as_solvable;
 use indexmap::IndexSet;
-use resolver_clause_store::{Cache, DependencyProvider, Exhausted, Interner, Interrupted, Literal};
+use resolver_clause_store::{
+    Cache, DependencyProvider, Exhausted, Interner, Interrupted, Literal, clause,
+};
 use std::hash::Hash;
 use std::mem::replace;
 
@@ -51,10 +53,11 @@ impl<N: Copy + Eq + Hash + Drop, S: Copy + Eq + Hash + Drop> Encoding<N, S> {
     fn clause(&self, number: usize) -> &[Literal]
         ensures { result.now ≡ clause_at (notes_in self.now).table number }
     {
-        match self.table.literals().get(number) {
-            Some(literals) => literals.as_slice(),
-            None => &[],
+        let clauses = self.table.literals();
+        if number >= clauses.len() {
+            return &[];
         }
+        clause(clauses, number)
     }
 
     /// Returns the literals of the requirement clause at a place, none if there is no such place.

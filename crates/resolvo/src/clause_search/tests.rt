@@ -25,7 +25,7 @@ fn is_below(clause: &[Literal], variables: usize) -> bool
 }
 
 /// Returns whether each variable of each clause is below the number.
-fn are_below(table: &[Vec<Literal>], variables: usize) -> bool
+fn are_below(table: &Clauses, variables: usize) -> bool
     ensures { IsTrue result → AreBelow variables table.now }
 {
     'clauses: for number in 0..table.len() {
@@ -61,10 +61,10 @@ fn clause_of(alloc: Global, numbers: &[i32]) -> Result<Vec<Literal>, AllocError>
     Ok(literals)
 }
 
-fn table_of(alloc: Global, clauses: &[&[i32]]) -> Result<Vec<Vec<Literal>>, AllocError> {
-    let mut table = Vec::new(alloc);
+fn table_of(alloc: Global, clauses: &[&[i32]]) -> Result<Clauses, AllocError> {
+    let mut table = Clauses::new(alloc);
     for numbers in clauses {
-        table.push(clause_of(alloc, numbers)?)?;
+        table.push(&clause_of(alloc, numbers)?)?;
     }
     Ok(table)
 }
@@ -115,7 +115,7 @@ type Decision = Option<(usize, usize)>;
 /// Returns the first decision by scanning all requirements.
 fn first_by_scanning(
     alloc: Global,
-    table: &[Vec<Literal>],
+    table: &Clauses,
     requirements: &[RequirementClause],
 ) -> Result<Decision, AllocError> {
     let mut trail = Trail::new(alloc, 16)?;
@@ -143,7 +143,7 @@ fn provider_of_nothing(alloc: Global) -> TestProvider {
 /// Loads these clauses and requirements, with the packages of variables. Returns whether they could be loaded.
 fn load_given(
     search: &mut ClauseSearch,
-    clauses: &[Vec<Literal>],
+    clauses: &Clauses,
     requirements: &[RequirementClause],
     variables: usize,
     owners: &[Owner],
@@ -168,7 +168,7 @@ fn load_given(
 fn load_all(
     alloc: Global,
     search: &mut ClauseSearch,
-    clauses: &[Vec<Literal>],
+    clauses: &Clauses,
     variables: usize,
 ) -> Result<bool, AllocError>
     requires { IsConsistent search.old }
@@ -217,7 +217,7 @@ fn refutes_all(
     alloc: Global,
     search: &mut ClauseSearch,
     provider: &TestProvider,
-    table: &[Vec<Literal>],
+    table: &Clauses,
     given: usize,
 ) -> Result<bool, AllocError>
     requires { IsConsistent search.old }
@@ -258,7 +258,7 @@ fn ends_at(
     alloc: Global,
     search: &mut ClauseSearch,
     provider: &TestProvider,
-    table: &[Vec<Literal>],
+    table: &Clauses,
     limits: (usize, usize),
     learnt: usize,
 ) -> Result<bool, AllocError>
@@ -286,7 +286,7 @@ fn is_cancelled(
     alloc: Global,
     search: &mut ClauseSearch,
     provider: &TestProvider,
-    table: &[Vec<Literal>],
+    table: &Clauses,
     check: u32,
 ) -> Result<Option<bool>, AllocError>
     requires { IsConsistent search.old }
@@ -300,11 +300,12 @@ fn is_cancelled(
 }
 
 /// Returns the first `count` clauses.
-fn beginning(table: &[Vec<Literal>], count: usize) -> &[Vec<Literal>] {
-    if table.len() < count {
-        return table;
+fn beginning(alloc: Global, table: &Clauses, count: usize) -> Result<Clauses, AllocError> {
+    let mut first = Clauses::new(alloc);
+    'clauses: for number in 0..table.len().min(count) {
+        first.push(clause(table, number))?;
     }
-    &table[..count]
+    Ok(first)
 }
 
 /// Returns whether a first run over four clauses learns this many, and a second one over all finds that the wanted ones
@@ -313,13 +314,13 @@ fn refutes_through_learnt(
     alloc: Global,
     search: &mut ClauseSearch,
     provider: &TestProvider,
-    table: &[Vec<Literal>],
+    table: &Clauses,
     learnt: usize,
     wanted: &[usize],
 ) -> Result<bool, AllocError>
     requires { IsConsistent search.old }
 {
-    if !load_all(alloc, search, beginning(table, 4), 4)? {
+    if !load_all(alloc, search, &beginning(alloc, table, 4)?, 4)? {
         return Ok(false);
     }
     if !finishes(alloc, search, provider) {
@@ -343,11 +344,11 @@ fn places_through(
     alloc: Global,
     search: &mut ClauseSearch,
     provider: &TestProvider,
-    table: &[Vec<Literal>],
+    table: &Clauses,
 ) -> Result<Option<Places>, AllocError>
     requires { IsConsistent search.old }
 {
-    if !load_all(alloc, search, beginning(table, 2), 4)? {
+    if !load_all(alloc, search, &beginning(alloc, table, 2)?, 4)? {
         return Ok(None);
     }
     if !finishes(alloc, search, provider) {
@@ -367,17 +368,17 @@ fn places_through(
 }
 
 /// Returns the place of a variable in the clause with this number.
-fn place_in(table: &[Vec<Literal>], number: usize, variable: Variable) -> Option<usize> {
-    match table.get(number) {
-        Some(literals) => literals
-            .iter()
-            .position(|literal| literal.variable == variable),
-        None => None,
+fn place_in(table: &Clauses, number: usize, variable: Variable) -> Option<usize> {
+    if table.len() <= number {
+        return None;
     }
+    clause(table, number)
+        .iter()
+        .position(|literal| literal.variable == variable)
 }
 
 /// Returns the first decision on a trail.
-fn first_on(trail: &Trail, table: &[Vec<Literal>]) -> Decision {
+fn first_on(trail: &Trail, table: &Clauses) -> Decision {
     'places: for place in 0..trail.len() {
         let variable = trail.variable_at(place);
         if let Some(slot) = trail.slot(variable) {
@@ -395,7 +396,7 @@ fn first_by_searching(
     alloc: Global,
     search: &mut ClauseSearch,
     provider: &TestProvider,
-    table: &[Vec<Literal>],
+    table: &Clauses,
     requirements: &[RequirementClause],
 ) -> Decision
     requires { IsConsistent search.old }
@@ -487,7 +488,7 @@ fn two_turns(
     alloc: Global,
     search: &mut ClauseSearch,
     provider: &TestProvider,
-    table: &[Vec<Literal>],
+    table: &Clauses,
     first: i32,
     second: i32,
     watched: (i32, i32, i32),
@@ -540,7 +541,7 @@ fn does(
     alloc: Global,
     search: &mut ClauseSearch,
     provider: &TestProvider,
-    table: &[Vec<Literal>],
+    table: &Clauses,
     task: &Task<'_>,
 ) -> Result<bool, AllocError>
     requires { IsConsistent search.old }
@@ -574,7 +575,7 @@ fn does(
 ///
 /// Only this function owns a search and a provider, because the prover takes long for each exit of a function that owns
 /// one.
-fn is_done(alloc: Global, table: &[Vec<Literal>], task: &Task<'_>) -> Result<bool, AllocError> {
+fn is_done(alloc: Global, table: &Clauses, task: &Task<'_>) -> Result<bool, AllocError> {
     let provider = provider_of_nothing(alloc);
     let mut search = ClauseSearch::new(alloc, Activity::standard());
     does(alloc, &mut search, &provider, table, task)
@@ -583,28 +584,29 @@ fn is_done(alloc: Global, table: &[Vec<Literal>], task: &Task<'_>) -> Result<boo
 /// Returns whether a task in a new search over these clauses has the expected result.
 fn finds(alloc: Global, clauses: &[&[i32]], task: &Task<'_>) -> Result<bool, AllocError> {
     let table = table_of(alloc, clauses)?;
-    is_done(alloc, table.as_slice(), task)
+    is_done(alloc, &table, task)
 }
 
 /// Returns the clauses for one pigeon more than holes: each pigeon has a hole, and no hole has two pigeons.
-fn pigeons(alloc: Global, holes: u32) -> Result<Vec<Vec<Literal>>, AllocError>
+fn pigeons(alloc: Global, holes: u32) -> Result<Clauses, AllocError>
     requires { holes < 1000 }
 {
-    let mut clauses = Vec::new(alloc);
+    let mut clauses = Clauses::new(alloc);
     for pigeon in 0..holes + 1 {
         let mut literals = Vec::new(alloc);
         for hole in 0..holes {
             literals.push(seat(holes, pigeon, hole, true))?;
         }
-        clauses.push(literals)?;
+        clauses.push(&literals)?;
     }
     for hole in 0..holes {
         for pigeon in 0..holes + 1 {
             for other in 0..pigeon {
-                let mut literals = Vec::new(alloc);
-                literals.push(seat(holes, pigeon, hole, false))?;
-                literals.push(seat(holes, other, hole, false))?;
-                clauses.push(literals)?;
+                let both = [
+                    seat(holes, pigeon, hole, false),
+                    seat(holes, other, hole, false),
+                ];
+                clauses.push(&both)?;
             }
         }
     }
@@ -622,7 +624,7 @@ fn seat(holes: u32, pigeon: u32, hole: u32, positive: bool) -> Literal {
 /// Returns whether a task in a new search over six pigeons and five holes has the expected result.
 fn finds_with_pigeons(alloc: Global, task: &Task<'_>) -> Result<bool, AllocError> {
     let table = pigeons(alloc, 5)?;
-    is_done(alloc, table.as_slice(), task)
+    is_done(alloc, &table, task)
 }
 
 #[test]
@@ -641,7 +643,7 @@ fn the_limits_stand(rt: HostRuntime) -> Result<(), Fail> {
 /// Returns whether this is the first decision, both by scanning and by searching.
 fn is_first<'x>(
     alloc: Global,
-    table: &'x [Vec<Literal>],
+    table: &'x Clauses,
     requirements: &'x [RequirementClause],
     wanted: (usize, usize),
 ) -> Result<bool, AllocError> {
@@ -659,7 +661,7 @@ fn decides(
 ) -> Result<bool, AllocError> {
     let table = table_of(alloc, clauses)?;
     let requirements = requirements_of(alloc, required)?;
-    is_first(alloc, table.as_slice(), requirements.as_slice(), wanted)
+    is_first(alloc, &table, requirements.as_slice(), wanted)
 }
 
 #[test]

@@ -17,7 +17,7 @@ use indexmap::IndexSet;
 use resolver_clause_store::{
     Cache, ConditionId, ConditionalRequirement, DependencyProvider, Exhausted, Interner,
     Interrupted, Origin, Requirement, RequirementClause, Variable, Variables, VersionSetId, append,
-    has, is_among,
+    clause, has, is_among,
 };
 use resolver_encoding::{Encoding, Progress};
 use std::alloc::Global;
@@ -357,9 +357,10 @@ fn register_all<
 
 /// Returns whether a clause has these literals, in order.
 fn is_clause(encoding: &Encoding<u32, u32>, number: usize, wanted: Literals<'_>) -> bool {
-    let Some(literals) = encoding.literals().get(number) else {
+    if encoding.literals().len() <= number {
         return false;
-    };
+    }
+    let literals = clause(encoding.literals(), number);
     if literals.len() != wanted.len() {
         return false;
     }

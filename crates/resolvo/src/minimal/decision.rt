@@ -14,7 +14,8 @@ use super::no_packages::NoPackages;
 use super::rule_clauses::{RuleClause, RuleClauses};
 use crate::clause_search::{ClauseSearch, Outcome};
 use resolver_clause_store::{
-    Activity, Exhausted, Interrupted, Literal, RequirementClause, Rule, Trail, Variable, narrow,
+    Activity, Clauses, Exhausted, Interrupted, Literal, RequirementClause, Rule, Trail, Variable,
+    narrow,
 };
 use std::alloc::{AllocError, Global};
 use std::mem::drop;
@@ -31,7 +32,7 @@ pub enum Verdict {
 /// The clauses of the marked rules, in the form that a search takes.
 #[derive(Drop)]
 pub struct MarkedClauses {
-    pub clauses: Vec<Vec<Literal>>,
+    pub clauses: Clauses,
     /// For each clause, the place of its rule.
     pub places: Vec<usize>,
     /// The clauses whose candidates are to be tried.
@@ -56,13 +57,11 @@ fn add_requirement(
 /// Appends a clause of a marked rule.
 fn add_clause(marked: &mut MarkedClauses, clause: &RuleClause) -> Result<(), AllocError>
     ensures { OnOk result ((marks : List Bool) (from : List RuleClause) → IsMarked marks clause.now →
-        AreMarkedClauses marks from marked.old.clauses.items marked.old.places.items (numbers_of marked.old.requirements.items) →
-        AreMarkedClauses marks (from ++ clause.now ∷ []) marked.new.clauses.items marked.new.places.items (numbers_of marked.new.requirements.items)) }
+        AreMarkedClauses marks from marked.old.clauses marked.old.places.items (numbers_of marked.old.requirements.items) →
+        AreMarkedClauses marks (from ++ clause.now ∷ []) marked.new.clauses marked.new.places.items (numbers_of marked.new.requirements.items)) }
 {
-    let alloc = *marked.clauses.allocator();
     let number = marked.clauses.len();
-    let copy = Vec::from_slice(alloc, &clause.literals)?;
-    marked.clauses.push(copy)?;
+    marked.clauses.push(&clause.literals)?;
     marked.places.push(clause.rule)?;
     if !clause.is_requirement {
         return Ok(());
@@ -79,8 +78,8 @@ fn add_marked(
 ) -> Result<(), AllocError>
     requires { clause.now.rule < length marks.now }
     ensures { OnOk result ((from : List RuleClause) →
-        AreMarkedClauses marks.now from marked.old.clauses.items marked.old.places.items (numbers_of marked.old.requirements.items) →
-        AreMarkedClauses marks.now (from ++ clause.now ∷ []) marked.new.clauses.items marked.new.places.items (numbers_of marked.new.requirements.items)) }
+        AreMarkedClauses marks.now from marked.old.clauses marked.old.places.items (numbers_of marked.old.requirements.items) →
+        AreMarkedClauses marks.now (from ++ clause.now ∷ []) marked.new.clauses marked.new.places.items (numbers_of marked.new.requirements.items)) }
 {
     if !marks[clause.rule] {
         return Ok(());
@@ -96,10 +95,10 @@ pub fn marked_clauses(
     marks: &[bool],
 ) -> Result<MarkedClauses, AllocError>
     requires { All (λ (clause : RuleClause). clause.rule < length marks.now) clauses.now }
-    ensures { IfOk result (λ marked. AreMarkedClauses marks.now clauses.now marked.clauses.items marked.places.items (numbers_of marked.requirements.items)) }
+    ensures { IfOk result (λ marked. AreMarkedClauses marks.now clauses.now marked.clauses marked.places.items (numbers_of marked.requirements.items)) }
 {
     let mut marked = MarkedClauses {
-        clauses: Vec::new(alloc),
+        clauses: Clauses::new(alloc),
         places: Vec::new(alloc),
         requirements: Vec::new(alloc),
     };
@@ -163,7 +162,7 @@ fn search_on(
     requires consistent { IsConsistent search.old }
     requires root { IsRootTurn search.old }
     ensures outcome { IfOk result (λ outcome.
-        (given : List (Vec Literal Global)) (numbers : List ℕ) → IsLoaded given numbers search.old → EndsWith given numbers (trail_of search.new) outcome) }
+        (given : List (List Literal)) (numbers : List ℕ) → IsLoaded given numbers search.old → EndsWith given numbers (trail_of search.new) outcome) }
     ensures variables { IfOk result (λ outcome. outcome ≡ Outcome.Finished → variable_count (trail_of search.new) ≡ variable_count (trail_of search.old)) }
     ensures memory { IfErr result (λ e. e ≡ Exhausted.Memory) }
 {
@@ -190,7 +189,7 @@ fn decide_by<N, S>(
     requires root { IsRootTurn search.old }
     requires size { length marks.now ≡ length rules.now }
     requires form { DecideRules rules.now form.now.variables form.now.clauses.items }
-    requires marked { AreMarkedClauses marks.now form.now.clauses.items marked.now.clauses.items marked.now.places.items
+    requires marked { AreMarkedClauses marks.now form.now.clauses.items marked.now.clauses marked.now.places.items
         (numbers_of marked.now.requirements.items) }
     ensures verdict { IfOk result (λ answer. IfSome answer (VerdictIs rules.now marks.now)) }
     ensures memory { IfErr result (λ e. e ≡ Exhausted.Memory) }

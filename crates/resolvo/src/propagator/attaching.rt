@@ -18,7 +18,7 @@ ghost use Rattle.resolver_clause_store.specs.WatchesView.{lists_of, pairs_of};
 
 use super::{Late, Propagator};
 use crate::clause_state::{State, examine};
-use resolver_clause_store::{Literal, Trail, WatchedPair, Watches, clause, narrow};
+use resolver_clause_store::{Clauses, Literal, Trail, WatchedPair, Watches, clause, narrow};
 use std::alloc::{AllocError, Global};
 
 impl Propagator {
@@ -38,7 +38,7 @@ impl Propagator {
     pub fn grow(&mut self, variables: usize) -> Result<(), AllocError>
         requires { length (lists_of self.old.watches) ≤ 2 * variables }
         ensures propagator { OnOk result
-            ((table : List (Vec Literal Global)) (old new : Trail) → IsGrown old new variables → IsPropagator table old self.old →
+            ((table : List (List Literal)) (old new : Trail) → IsGrown old new variables → IsPropagator table old self.old →
             IsPropagator table new self.new) }
         ensures pairs { pairs_of self.new.watches ≡ pairs_of self.old.watches }
     {
@@ -66,7 +66,7 @@ impl Propagator {
     /// Follows a trail from which whole levels were removed.
     pub fn cut(&mut self, trail: &Trail) -> Result<(), AllocError>
         ensures propagator { OnOk result
-            ((table : List (Vec Literal Global)) (before : Trail) → IsLower before trail.now → IsPropagator table before self.old →
+            ((table : List (List Literal)) (before : Trail) → IsLower before trail.now → IsPropagator table before self.old →
             IsPropagator table trail.now self.new) }
         ensures watches { self.new.watches ≡ self.old.watches }
     {
@@ -78,7 +78,7 @@ impl Propagator {
     /// Follows a trail that was cut to its first entries. All of these are to be propagated again.
     pub fn forget(&mut self, trail: &Trail) -> Result<(), AllocError>
         ensures propagator { OnOk result
-            ((table : List (Vec Literal Global)) (before : Trail) (count : ℕ) → count ≤ length_of before → IsCut before trail.now count →
+            ((table : List (List Literal)) (before : Trail) (count : ℕ) → count ≤ length_of before → IsCut before trail.now count →
             IsPropagator table before self.old → IsPropagator table trail.now self.new) }
         ensures watches { self.new.watches ≡ self.old.watches }
     {
@@ -95,7 +95,7 @@ impl Propagator {
         requires inside { number < attached_of self.old }
         requires below { (literal : Literal) → IsWatching (pairs_of self.old.watches) number literal → literal.variable < variable_count trail.now }
         ensures propagator { OnOk result
-            ((table : List (Vec Literal Global)) → IsSatisfied trail.now (clause_at table number) → IsPropagator table trail.now self.old →
+            ((table : List (List Literal)) → IsSatisfied trail.now (clause_at table number) → IsPropagator table trail.now self.old →
             IsPropagator table trail.now self.new) }
         ensures watches { self.new.watches ≡ self.old.watches }
         ensures fewer { OnOk result (length (pending_of self.new) + 1 ≡ length (pending_of self.old)) }
@@ -117,7 +117,7 @@ impl Propagator {
         requires last { EndsWith (pending_of self.old) number }
         requires inside { number < attached_of self.old }
         requires below { (literal : Literal) → IsWatching (pairs_of self.old.watches) number literal → literal.variable < variable_count trail.now }
-        ensures propagator { (table : List (Vec Literal Global)) → IsOpen trail.now (clause_at table number) → IsPropagator table trail.now self.old →
+        ensures propagator { (table : List (List Literal)) → IsOpen trail.now (clause_at table number) → IsPropagator table trail.now self.old →
             IsPropagator table trail.now self.new }
         ensures watches { self.new.watches ≡ self.old.watches }
         ensures fewer { length (pending_of self.new) + 1 ≡ length (pending_of self.old) }
@@ -134,8 +134,8 @@ impl Propagator {
         requires below { IsBelow (variable_count trail.now) literals.now }
         requires lists { length (lists_of self.old.watches) ≡ 2 * variable_count trail.now }
         ensures propagator { OnOk result
-            ((table : List (Vec Literal Global)) (clause : Vec Literal Global) → clause.items ≡ literals.now → IsPropagator table trail.now self.old →
-            IsPropagator (table ++ clause ∷ []) trail.now self.new) }
+            ((table : List (List Literal)) → IsPropagator table trail.now self.old →
+            IsPropagator (table ++ literals.now ∷ []) trail.now self.new) }
         ensures kept { (number : ℕ) → number < attached_of self.old → pair_at (pairs_of self.new.watches) number ≡ pair_at (pairs_of self.old.watches) number }
         ensures own { OnOk result (OwnsPair literals.now (pair_at (pairs_of self.new.watches) (attached_of self.old))) }
     {
@@ -265,7 +265,7 @@ fn pair_of(trail: &Trail, literals: &[Literal]) -> Option<(Literal, Literal)>
 /// it is not false.
 fn apply_pending(
     trail: &mut Trail,
-    table: &[Vec<Literal>],
+    table: &Clauses,
     propagator: &mut Propagator,
     number: usize,
 ) -> Result<bool, AllocError>
@@ -300,7 +300,7 @@ fn apply_pending(
 /// Examines pending clauses until none is left or one is false, and returns the number of that one.
 pub fn apply_all_pending(
     trail: &mut Trail,
-    table: &[Vec<Literal>],
+    table: &Clauses,
     propagator: &mut Propagator,
 ) -> Result<Option<usize>, AllocError>
     requires below { AreBelow (variable_count trail.old) table.now }

@@ -32,7 +32,7 @@ impl Propagator {
     /// them stays propagated.
     pub fn return_to(&mut self, trail: &Trail, began: bool) -> Result<(), AllocError>
         ensures propagator { OnOk result
-            ((table : List (Vec Literal Global)) (before : Trail) (count : ℕ) → count ≤ length_of before → (began ≡ true → BeginsLevel before count) →
+            ((table : List (List Literal)) (before : Trail) (count : ℕ) → count ≤ length_of before → (began ≡ true → BeginsLevel before count) →
             IsCut before trail.now count → IsPropagator table before self.old → IsPropagator table trail.now self.new) }
         ensures watches { self.new.watches ≡ self.old.watches }
     {

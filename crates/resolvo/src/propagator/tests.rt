@@ -11,7 +11,7 @@ ghost use Rattle.resolvo.specs.declared.propagator.Propagator.{Propagator};
 
 use super::*;
 use crate::scanning::propagate as scan;
-use resolver_clause_store::{Literal, Trail, Variable, clause};
+use resolver_clause_store::{Clauses, Literal, Trail, Variable, clause};
 use std::alloc::{AllocError, Global};
 use std::test::Fail;
 
@@ -25,7 +25,7 @@ fn is_below(clause: &[Literal], variables: usize) -> bool
 }
 
 /// Returns whether each variable of each clause is below `variables`.
-fn are_below(table: &[Vec<Literal>], variables: usize) -> bool
+fn are_below(table: &Clauses, variables: usize) -> bool
     ensures { IsTrue result → AreBelow variables table.now }
 {
     'clauses: for number in 0..table.len() {
@@ -65,12 +65,12 @@ fn random_clause(alloc: Global, seed: u64) -> Result<Vec<Literal>, AllocError> {
 }
 
 /// Returns 10 to 29 random clauses.
-fn random(alloc: Global, start: u64) -> Result<Vec<Vec<Literal>>, AllocError> {
-    let mut clauses = Vec::new(alloc);
+fn random(alloc: Global, start: u64) -> Result<Clauses, AllocError> {
+    let mut clauses = Clauses::new(alloc);
     let mut seed = next(next(start));
     for _ in 0..10 + (seed >> 50) % 20 {
         seed = next(seed);
-        clauses.push(random_clause(alloc, seed)?)?;
+        clauses.push(&random_clause(alloc, seed)?)?;
     }
     Ok(clauses)
 }
@@ -79,7 +79,7 @@ fn random(alloc: Global, start: u64) -> Result<Vec<Vec<Literal>>, AllocError> {
 fn begin(
     alloc: Global,
     trail: &mut Trail,
-    table: &[Vec<Literal>],
+    table: &Clauses,
     variables: usize,
 ) -> Result<Propagator, AllocError>
     requires empty { variable_count trail.old ≡ 0 }
@@ -100,7 +100,7 @@ fn begin(
 /// Propagates. Returns whether no clause is false.
 fn follow(
     trail: &mut Trail,
-    table: &[Vec<Literal>],
+    table: &Clauses,
     propagator: &mut Propagator,
 ) -> Result<bool, AllocError>
     requires below { AreBelow (variable_count trail.old) table.now }
@@ -119,9 +119,9 @@ fn follow(
 /// Decides a literal if its variable has no value.
 fn set(trail: &mut Trail, literal: Literal) -> Result<(), AllocError>
     ensures size { OnOk result (variable_count trail.new ≡ variable_count trail.old) }
-    ensures justified { OnOk result ((table : List (Vec Literal Global)) → IsJustified table trail.old → IsJustified table trail.new) }
+    ensures justified { OnOk result ((table : List (List Literal)) → IsJustified table trail.old → IsJustified table trail.new) }
     ensures propagator { OnOk result
-        ((table : List (Vec Literal Global)) (propagator : Propagator) → IsPropagator table trail.old propagator → IsPropagator table trail.new propagator) }
+        ((table : List (List Literal)) (propagator : Propagator) → IsPropagator table trail.old propagator → IsPropagator table trail.new propagator) }
 {
     if literal.variable.index() >= trail.variable_count() {
         return Ok(());
@@ -171,7 +171,7 @@ enum Outcome {
 fn follow_both(
     trail: &mut Trail,
     scanned: &mut Trail,
-    table: &[Vec<Literal>],
+    table: &Clauses,
     propagator: &mut Propagator,
 ) -> Result<Option<Outcome>, AllocError>
     requires below { AreBelow (variable_count trail.old) table.now }
@@ -198,7 +198,7 @@ fn follow_both(
 }
 
 /// Sets one literal after another, and each time propagates by watches and by scanning.
-fn compare(alloc: Global, table: &[Vec<Literal>], seed: u64) -> Result<Outcome, AllocError> {
+fn compare(alloc: Global, table: &Clauses, seed: u64) -> Result<Outcome, AllocError> {
     if !are_below(table, 10) {
         return Ok(Outcome::Differ);
     }
@@ -225,7 +225,7 @@ fn compare_all(alloc: Global) -> Result<(u32, u32), AllocError> {
     for _ in 0..300 {
         seed = next(seed);
         let table = random(alloc, seed)?;
-        match compare(alloc, table.as_slice(), seed)? {
+        match compare(alloc, &table, seed)? {
             Outcome::SameValues => same = same.wrapping_add(1),
             Outcome::BothFalse => both_false = both_false.wrapping_add(1),
             Outcome::Differ => (),

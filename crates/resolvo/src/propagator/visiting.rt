@@ -14,7 +14,7 @@ ghost use Rattle.resolver_clause_store.specs.Watches.{IsPair};
 ghost use Rattle.resolver_clause_store.specs.WatchesView.{pairs_of};
 
 use super::{Late, Propagator};
-use resolver_clause_store::{Literal, Trail, WatchedPair, clause, narrow};
+use resolver_clause_store::{Clauses, Literal, Trail, WatchedPair, clause, narrow};
 use std::alloc::AllocError;
 
 /// A literal that has become false.
@@ -131,7 +131,7 @@ impl Propagator {
     fn pass_by(
         &mut self,
         trail: &Trail,
-        table: &[Vec<Literal>],
+        table: &Clauses,
         falsified: &FalseLiteral,
         place: usize,
         number: usize,
@@ -151,7 +151,7 @@ impl Propagator {
     fn pass_by_other(
         &mut self,
         trail: &Trail,
-        table: &[Vec<Literal>],
+        table: &Clauses,
         falsified: &FalseLiteral,
         watcher: &Watcher,
     ) -> Result<WatchOutcome, AllocError>
@@ -173,7 +173,7 @@ impl Propagator {
     fn force_other(
         &mut self,
         trail: &mut Trail,
-        table: &[Vec<Literal>],
+        table: &Clauses,
         falsified: &FalseLiteral,
         watcher: &Watcher,
     ) -> Result<WatchOutcome, AllocError>
@@ -207,7 +207,7 @@ impl Propagator {
     fn find_replacement(
         &mut self,
         trail: &mut Trail,
-        table: &[Vec<Literal>],
+        table: &Clauses,
         falsified: &FalseLiteral,
         watcher: &Watcher,
     ) -> Result<WatchOutcome, AllocError>
@@ -242,7 +242,7 @@ impl Propagator {
     fn visit_watcher(
         &mut self,
         trail: &mut Trail,
-        table: &[Vec<Literal>],
+        table: &Clauses,
         falsified: &FalseLiteral,
         place: usize,
     ) -> Result<WatchOutcome, AllocError>
@@ -278,11 +278,7 @@ impl Propagator {
     }
 
     /// Visits each watcher of the literal that became false at the head, and moves the head on by one.
-    fn visit(
-        &mut self,
-        trail: &mut Trail,
-        table: &[Vec<Literal>],
-    ) -> Result<Option<usize>, AllocError>
+    fn visit(&mut self, trail: &mut Trail, table: &Clauses) -> Result<Option<usize>, AllocError>
         requires below { AreBelow (variable_count trail.old) table.now }
         requires propagator { IsPropagator table.now trail.old self.old }
         requires attached { IsAttached table.now self.old }
@@ -315,7 +311,7 @@ impl Propagator {
 /// Forces literals until none is left or a clause is false, and returns the number of that clause.
 pub fn propagate(
     trail: &mut Trail,
-    table: &[Vec<Literal>],
+    table: &Clauses,
     propagator: &mut Propagator,
 ) -> Result<Option<usize>, AllocError>
     requires below { AreBelow (variable_count trail.old) table.now }

@@ -5,7 +5,7 @@ ghost use Rattle.resolvo.specs.ClauseSearches.{IsConsistent};
 use super::{load_all, provider_of_nothing};
 use crate::clause_search::{ClauseSearch, Outcome};
 use crate::test_provider::TestProvider;
-use resolver_clause_store::{Activity, Literal, Variable};
+use resolver_clause_store::{Activity, Clauses, Literal, Variable};
 use std::alloc::{AllocError, Global};
 use std::test::Fail;
 
@@ -63,10 +63,10 @@ fn literals_of(alloc: Global, clause: &[Drawn]) -> Result<Vec<Literal>, AllocErr
     Ok(literals)
 }
 
-fn table_of(alloc: Global, clauses: &[Vec<Drawn>]) -> Result<Vec<Vec<Literal>>, AllocError> {
-    let mut table = Vec::new(alloc);
+fn table_of(alloc: Global, clauses: &[Vec<Drawn>]) -> Result<Clauses, AllocError> {
+    let mut table = Clauses::new(alloc);
     for clause in clauses {
-        table.push(literals_of(alloc, clause)?)?;
+        table.push(&literals_of(alloc, clause)?)?;
     }
     Ok(table)
 }
@@ -145,7 +145,7 @@ fn verdict_of(
     search: &mut ClauseSearch,
     provider: &TestProvider,
     clauses: &[Vec<Drawn>],
-    table: &[Vec<Literal>],
+    table: &Clauses,
 ) -> Result<Verdict, AllocError>
     requires { IsConsistent search.old }
 {

@@ -5,7 +5,9 @@ ghost use Rattle.resolvo.specs.ClauseSearches.{IsConsistent};
 use super::{finishes, load_given, provider_of_nothing, requirement_of, slot_of};
 use crate::clause_search::ClauseSearch;
 use crate::test_provider::TestProvider;
-use resolver_clause_store::{Activity, Literal, Owner, RequirementClause, Scores, Variable};
+use resolver_clause_store::{
+    Activity, Clauses, Literal, Owner, RequirementClause, Scores, Variable, clause,
+};
 use std::alloc::{AllocError, Global};
 use std::test::Fail;
 
@@ -38,7 +40,7 @@ struct Seen {
 #[derive(Drop)]
 struct Given {
     alloc: Global,
-    table: Vec<Vec<Literal>>,
+    table: Clauses,
     requirements: Vec<RequirementClause>,
     owners: Vec<Owner>,
     /// The number of the next variable.
@@ -49,7 +51,7 @@ impl Given {
     fn new(alloc: Global) -> Given {
         Given {
             alloc,
-            table: Vec::new(alloc),
+            table: Clauses::new(alloc),
             requirements: Vec::new(alloc),
             owners: Vec::new(alloc),
             next: 0,
@@ -67,7 +69,7 @@ impl Given {
     fn add_clause(&mut self, literals: &[Literal], last: Literal) -> Result<(), AllocError> {
         let mut clause = Vec::from_slice(self.alloc, literals)?;
         clause.push(last)?;
-        self.table.push(clause)?;
+        self.table.push(&clause)?;
         Ok(())
     }
 
@@ -76,7 +78,7 @@ impl Given {
         let number = self.table.len();
         let requirement = requirement_of(self.alloc, number, of_root, &[clause.len()])?;
         self.requirements.push(requirement)?;
-        self.table.push(clause)?;
+        self.table.push(&clause)?;
         Ok(())
     }
 
@@ -153,14 +155,6 @@ fn given_for(alloc: Global, learnt: &[Learnt<'_>]) -> Result<Given, AllocError> 
     Ok(given)
 }
 
-/// Returns the clauses after the given ones.
-fn learnt_in(search: &ClauseSearch, count: usize) -> &[Vec<Literal>] {
-    if search.table.len() < count {
-        return &[];
-    }
-    &search.table[count..]
-}
-
 /// Returns the number of a clause's literals that are of solvables of the first package.
 fn count_in(clause: &[Literal], owners: &[Owner]) -> usize {
     let mut count = 0usize;
@@ -174,29 +168,30 @@ fn count_in(clause: &[Literal], owners: &[Owner]) -> usize {
     count
 }
 
-/// Returns the number of clauses with just one solvable of the first package.
-fn clauses_with_one(clauses: &[Vec<Literal>], owners: &[Owner]) -> usize {
+/// Returns the number of clauses, from a number on, with just one solvable of the first package.
+fn clauses_with_one(clauses: &Clauses, from: usize, owners: &[Owner]) -> usize {
     let mut count = 0usize;
-    for clause in clauses {
-        if count_in(clause, owners) == 1 {
+    'clauses: for number in from..clauses.len() {
+        if count_in(clause(clauses, number), owners) == 1 {
             count = count.saturating_add(1);
         }
     }
     count
 }
 
-/// Returns the score of the first package by learnt clauses: each of its solvables in a clause adds to the score, which
-/// then decays.
+/// Returns the score of the first package by the clauses from a number on, which were learnt: each of its solvables in
+/// a clause adds to the score, which then decays.
 fn score_by(
     alloc: Global,
     activity: Activity,
-    clauses: &[Vec<Literal>],
+    clauses: &Clauses,
+    from: usize,
     owners: &[Owner],
 ) -> Result<u64, AllocError> {
     let mut scores = Scores::new(alloc, activity);
     let mut learnt = 0u64;
-    for clause in clauses {
-        for _ in 0..count_in(clause, owners) {
+    'clauses: for number in from..clauses.len() {
+        for _ in 0..count_in(clause(clauses, number), owners) {
             scores.add(WIDE, learnt)?;
         }
         learnt = learnt.saturating_add(1);
@@ -235,11 +230,11 @@ fn seen_in(
     if !finishes(alloc, search, provider) {
         return Ok(None);
     }
-    let learnt = learnt_in(search, given.table.len());
+    let from = given.table.len();
     Ok(Some(Seen {
         learnt: search.learnt_count(),
-        with_one: clauses_with_one(learnt, &given.owners),
-        score: score_by(alloc, activity, learnt, &given.owners)?,
+        with_one: clauses_with_one(&search.table, from, &given.owners),
+        score: score_by(alloc, activity, &search.table, from, &given.owners)?,
         wide_first: is_wide_first(search),
     }))
 }

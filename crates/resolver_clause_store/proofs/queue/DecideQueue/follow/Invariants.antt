@@ -9,7 +9,7 @@ use Rattle.resolver_clause_store.proofs.queue.DecideQueue.follow.Given as goal
 
 abbrev pub invariant-places : goal.invariant-places
 invariant-places l = record {
-  queued : (table : List (Vec Literal Global)) (requirements : List StoredRequirement) → IsQueued l.initial.self l.trail table requirements →
+  queued : (table : List (List Literal)) (requirements : List StoredRequirement) → IsQueued l.initial.self l.trail table requirements →
       IsQueued l.self l.trail table requirements;
   all : length l.self.followed.items ≡ l.self.kept;
   inside : l.self.kept ≤ length_of l.trail;

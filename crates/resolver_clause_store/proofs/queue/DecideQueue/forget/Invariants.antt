@@ -9,7 +9,7 @@ use Rattle.resolver_clause_store.proofs.queue.DecideQueue.forget.Given as goal
 
 abbrev pub invariant-places : goal.invariant-places
 invariant-places l = record {
-  queued : (trail : Trail) (table : List (Vec Literal Global)) (requirements : List StoredRequirement) → IsQueued l.initial.self trail table requirements →
+  queued : (trail : Trail) (table : List (List Literal)) (requirements : List StoredRequirement) → IsQueued l.initial.self trail table requirements →
       IsQueued l.self trail table requirements;
   kept : l.self.kept ≡ l.initial.self.kept;
   some : l.self.kept ≤ length l.self.followed.items;

@@ -19,22 +19,23 @@ pub returns-clause-consistent : goal.returns-clause-consistent
 returns-clause-consistent c =
     let it = c.requires.consistent in
     let learnt = c.requires.learnt in
-    let table = c.args.self.now.table.items in
-    let longer = table ++ c.args.learnt.literals ∷ [] in
-    let items : c.push.new.self.items ≡ longer = c.in_ok-push.ensures.items in
+    let table = c.args.self.now.table in
+    let clause = c.args.learnt.literals.items in
+    let longer = table ++ clause ∷ [] in
+    let items : c.push.new.self ≡ longer = c.in_ok-push.ensures.items ∙ ap (λ l. table ++ l ∷ []) c.deref-3.ensures.value in
     let here : c.len-number.result ≡ length table = search rules in
-    let last : clause_at longer c.len-number.result ≡ c.args.learnt.literals.items = rw here (clause_at-last table c.args.learnt.literals) in
+    let last : clause_at longer c.len-number.result ≡ clause = rw here (clause_at-last table clause) in
     let free = asserted-free _ c.undo_until.new.self _ _ _ _ learnt.asserting
     (below-asserted _ _ _ c.max-back.result _ _ learnt.asserting c.requires.above c.max-back.ensures) c.undo_until.ensures in
     let unit = asserted-unit _ c.undo_until.new.self _ _ _ _ learnt.asserting (omega (arith, c.max-back.ensures)) c.undo_until.ensures in
     let size : variable_count c.force.new.self ≡ variable_count c.args.self.now.trail = c.in_ok-force.ensures.ok.size ∙ c.undo_until.ensures.size in
-    let grows = grows-push table c.args.learnt.literals in
+    let grows = grows-push table clause in
     let middle = c.undo_until.new.self in
     let learnt_queue = c.in_ok-learn.ensures c.args.self.now.trail table c.args.self.now.requirements.items it.queued in
     let left = queued-left c.learn.new.self c.cut-2.new.self c.args.self.now.trail middle table c.args.self.now.requirements.items c.len-left.result
     (length_of middle) c.cut-2.ensures (keeps_undone c.args.self.now.trail middle c.max-back.result c.undo_until.ensures) c.len-left.ensures learnt_queue in
     let boxed = c.in_ok-new.ensures.ok in
-    let long : length longer ≡ length table + 1 = length-append table (c.args.learnt.literals ∷ []) in
+    let long : length longer ≡ length table + 1 = length-append table (clause ∷ []) in
     let justified = justified-grows table longer c.undo_until.new.self grows (justified-undone _ _ _ _ it.justified c.undo_until.ensures) in
     let chosen = chosen-grows table longer _ c.undo_until.new.self grows it.inside (chosen-undone _ _ _ _ _ it.chosen c.undo_until.ensures) in
     record {
@@ -50,7 +51,7 @@ returns-clause-consistent c =
       kept = omega (arith, c.min-self.ensures, c.len-left.ensures, c.in_ok-force.ensures.ok.count);
       propagator = rw items (propagator-gains longer _ _ _ _ _ _ c.in_ok-force.ensures.ok free
           (c.in_ok-cut.ensures.propagator longer _ (lower-undone _ _ _ c.undo_until.ensures)
-          (c.in_ok-attach.ensures.propagator table c.args.learnt.literals (search rules) it.propagator)));
+          (rw c.deref-2.ensures.value at c.in_ok-attach.ensures.propagator table it.propagator)));
       queued = rw items (queued-grown c.cut-2.new.self c.force.new.self table longer c.args.self.now.requirements.items it.inside grows.same
           (queued-longer c.cut-2.new.self middle c.force.new.self table c.args.self.now.requirements.items
           (keeps_all middle c.force.new.self (keeps-gains _ _ _ _ _ c.in_ok-force.ensures.ok free)) left));
@@ -69,8 +70,8 @@ returns-clause-same c =
     let count : c.min-self.result ≡ min old.kept (length_of middle) = c.min-self.ensures ∙ ap (min old.kept) c.len-left.ensures in
     record {
       loaded = λ given numbers loaded. record {
-        clauses = rw (c.in_ok-push.ensures.items, c.in_ok-push-2.ensures.items)
-            (loaded-learnt given old.table.items old.sources.items old.places.items c.args.learnt.literals _ it.derived.count refl loaded.clauses);
+        clauses = rw (c.in_ok-push.ensures.items, c.deref-3.ensures.value, c.in_ok-push-2.ensures.items)
+            (loaded-learnt given old.table old.sources.items old.places.items c.args.learnt.literals.items _ it.derived.count refl loaded.clauses);
         requirements = loaded.requirements;
         inside = loaded.inside;
       };
@@ -85,11 +86,11 @@ returns-clause-same c =
 
 pub returns-clause-backtrack_level : goal.returns-clause-backtrack_level
 returns-clause-backtrack_level c =
-    let here : c.len-number.result ≡ length c.args.self.now.table.items = search rules in
+    let here : c.len-number.result ≡ length c.args.self.now.table = search rules in
     record { middle = c.undo_until.new.self; undone = rw c.max-back.ensures at c.undo_until.ensures; gains = rw here at c.in_ok-force.ensures.ok }
 
 pub returns-clause-stored : goal.returns-clause-stored
-returns-clause-stored c = rw c.in_ok-push.ensures.items (clause_at-last c.args.self.now.table.items c.args.learnt.literals)
+returns-clause-stored c = rw (c.in_ok-push.ensures.items, c.deref-3.ensures.value) (clause_at-last c.args.self.now.table c.args.learnt.literals.items)
 
 pub force-requires-clause-free : goal.force-requires-clause-free
 force-requires-clause-free c =
@@ -107,36 +108,32 @@ invariant_of-self-in-Break-branch-2 c = record { in_lists = in_lists-kept _ _ _ 
 
 pub invariant_of-self-in-Break-branch-3 : goal.invariant_of-self-in-Break-branch-3
 invariant_of-self-in-Break-branch-3 c =
-    record { in_lists = in_lists-equal _ _ _ _ c.in_err-push.ensures.items refl (in_lists-kept _ _ _ _ c.requires.consistent.propagator c.attach.ensures.kept) }
+    record { in_lists = in_lists-equal _ _ _ _ c.in_err-push.ensures.unchanged refl (in_lists-kept _ _ _ _ c.requires.consistent.propagator c.attach.ensures.kept) }
 
 pub invariant_of-self-in-Break-branch-4 : goal.invariant_of-self-in-Break-branch-4
 invariant_of-self-in-Break-branch-4 c =
-    let same : c.args.learnt.literals.items ≡ c.deref-2.result.now = search rules in
     record {
       in_lists = in_lists-equal _ _ _ _ c.in_ok-push.ensures.items refl
-          (in_lists-added _ c.args.learnt.literals _ _ _ _ same c.requires.consistent.propagator c.attach.ensures.kept c.in_ok-attach.ensures.own);
+          (in_lists-added _ _ _ _ _ c.requires.consistent.propagator c.attach.ensures.kept (rw (c.deref-3.ensures.value, ← c.deref-2.ensures.value) c.in_ok-attach.ensures.own));
     }
 
 pub invariant_of-self-in-Break-branch-5 : goal.invariant_of-self-in-Break-branch-5
 invariant_of-self-in-Break-branch-5 c =
-    let same : c.args.learnt.literals.items ≡ c.deref-2.result.now = search rules in
     record {
       in_lists = in_lists-equal _ _ _ _ c.in_ok-push.ensures.items refl
-          (in_lists-added _ c.args.learnt.literals _ _ _ _ same c.requires.consistent.propagator c.attach.ensures.kept c.in_ok-attach.ensures.own);
+          (in_lists-added _ _ _ _ _ c.requires.consistent.propagator c.attach.ensures.kept (rw (c.deref-3.ensures.value, ← c.deref-2.ensures.value) c.in_ok-attach.ensures.own));
     }
 
 pub invariant_of-self-in-Break-branch-6 : goal.invariant_of-self-in-Break-branch-6
 invariant_of-self-in-Break-branch-6 c =
-    let same : c.args.learnt.literals.items ≡ c.deref-2.result.now = search rules in
     record {
       in_lists = in_lists-equal _ _ _ _ c.in_ok-push.ensures.items c.cut.ensures.watches
-          (in_lists-added _ c.args.learnt.literals _ _ _ _ same c.requires.consistent.propagator c.attach.ensures.kept c.in_ok-attach.ensures.own);
+          (in_lists-added _ _ _ _ _ c.requires.consistent.propagator c.attach.ensures.kept (rw (c.deref-3.ensures.value, ← c.deref-2.ensures.value) c.in_ok-attach.ensures.own));
     }
 
 pub invariant_of-self-2 : goal.invariant_of-self-2
 invariant_of-self-2 c =
-    let same : c.args.learnt.literals.items ≡ c.deref-2.result.now = search rules in
     record {
       in_lists = in_lists-equal _ _ _ _ c.in_ok-push.ensures.items c.cut.ensures.watches
-          (in_lists-added _ c.args.learnt.literals _ _ _ _ same c.requires.consistent.propagator c.attach.ensures.kept c.in_ok-attach.ensures.own);
+          (in_lists-added _ _ _ _ _ c.requires.consistent.propagator c.attach.ensures.kept (rw (c.deref-3.ensures.value, ← c.deref-2.ensures.value) c.in_ok-attach.ensures.own));
     }

@@ -1,6 +1,4 @@
 use Rattle.std.proofs.Common.{rules, refl, ap, sym, subst, ◌∙◌, ◌≡◌, length, List, min, ℕ}
-use Rattle.resolver_clause_store.specs.declared.Literal.{Literal}
-use Rattle.resolver_clause_store.specs.Formula.{IsBelow}
 use Rattle.resolver_clause_store.specs.TrailView.{IsUndone, length_of, variable_count}
 use Rattle.resolver_clause_store.proofs.KeptLemmas.{keeps_undone}
 use Rattle.resolvo.specs.Propagators.{IsPropagator}
@@ -12,28 +10,25 @@ use Rattle.resolvo.proofs.clause_search.ClauseSearch.load_clause.Goals as goal
 
 pub returns-clause-consistent : goal.returns-clause-consistent
 returns-clause-consistent c =
-    let end : c.in_ok-place.place ≡ length c.args.self.now.table.items = search rules in
-    let copied : c.in_ok-copy.copy.items ≡ c.args.literals.now = search rules in
-    let table = c.args.self.now.table.items in
-    let longer = c.in_ok-attach.ensures.propagator table c.in_ok-copy.copy copied c.requires.consistent.propagator in
+    let end : c.in_ok-place.place ≡ length c.args.self.now.table = search rules in
+    let table = c.args.self.now.table in
+    let longer = c.in_ok-attach.ensures.propagator table c.requires.consistent.propagator in
     let propagates : IsPropagator c.push.new.self.items c.undo_until.new.self c.cut.new.self =
     rw c.in_ok-push.ensures.items (c.in_ok-cut.ensures.propagator _ _ (lower-undone _ _ _ c.undo_until.ensures) longer) in
-    let Below : List Literal → Type 0 = λ l. IsBelow (variable_count c.args.self.now.trail) l in
-    consistent-given c.args.self.now _ c.in_ok-copy.copy _ _ _ c.requires.consistent
-    (subst Below (sym copied) c.requires.below) end c.in_ok-push.ensures.items c.in_ok-push-2.ensures.items c.in_ok-push-3.ensures.items refl
+    consistent-given c.args.self.now _ c.args.literals.now _ _ _ c.requires.consistent
+    c.requires.below end c.in_ok-push.ensures.items c.in_ok-push-2.ensures.items c.in_ok-push-3.ensures.items refl
     c.undo_until.ensures c.level_for-level.ensures.low refl (c.min-self.ensures ∙ ap (min c.args.self.now.kept) c.len-left.ensures) refl refl propagates
-    (queued-left c.args.self.now.queue c.cut-2.new.self c.args.self.now.trail c.undo_until.new.self c.args.self.now.table.items
+    (queued-left c.args.self.now.queue c.cut-2.new.self c.args.self.now.trail c.undo_until.new.self c.args.self.now.table
     c.args.self.now.requirements.items c.len-left.result (length_of c.undo_until.new.self) c.cut-2.ensures
     (keeps_undone c.args.self.now.trail c.undo_until.new.self c.level_for-level.result c.undo_until.ensures) c.len-left.ensures
     c.requires.consistent.queued)
 
 pub returns-clause-loaded : goal.returns-clause-loaded
-returns-clause-loaded c = λ given numbers copy same loaded.
+returns-clause-loaded c = λ given numbers loaded.
     let first : c.len-number.result ≡ length c.args.self.now.places.items = search rules in
-    let end : c.in_ok-place.place ≡ length c.args.self.now.table.items = search rules in
-    let copied : c.in_ok-copy.copy.items ≡ c.args.literals.now = search rules in
-    loaded-clause c.args.self.now _ given numbers copy c.in_ok-copy.copy _ _ c.requires.consistent first end
-    (copied ∙ sym same) c.in_ok-push.ensures.items c.in_ok-push-2.ensures.items c.in_ok-push-3.ensures.items refl loaded
+    let end : c.in_ok-place.place ≡ length c.args.self.now.table = search rules in
+    loaded-clause c.args.self.now _ given numbers c.args.literals.now _ _ c.requires.consistent first end
+    c.in_ok-push.ensures.items c.in_ok-push-2.ensures.items c.in_ok-push-3.ensures.items refl loaded
 
 pub returns-clause-same : goal.returns-clause-same
 returns-clause-same c = same-undone c.args.self.now _ _ c.requires.consistent c.undo_until.ensures c.level_for-level.ensures.low refl
@@ -50,41 +45,37 @@ attach-requires-clause-below c = c.requires.below
 pub attach-requires-clause-lists : goal.attach-requires-clause-lists
 attach-requires-clause-lists c = c.requires.consistent.propagator.lists
 
+pub invariant_of-self-in-Break-branch-2 : goal.invariant_of-self-in-Break-branch-2
+invariant_of-self-in-Break-branch-2 c = record { in_lists = in_lists-kept _ _ _ _ c.requires.consistent.propagator c.attach.ensures.kept }
+
 pub invariant_of-self-in-Break-branch-3 : goal.invariant_of-self-in-Break-branch-3
-invariant_of-self-in-Break-branch-3 c = record { in_lists = in_lists-kept _ _ _ _ c.requires.consistent.propagator c.attach.ensures.kept }
+invariant_of-self-in-Break-branch-3 c =
+    record { in_lists = in_lists-equal _ _ _ _ c.in_err-push.ensures.unchanged refl (in_lists-kept _ _ _ _ c.requires.consistent.propagator c.attach.ensures.kept) }
 
 pub invariant_of-self-in-Break-branch-4 : goal.invariant_of-self-in-Break-branch-4
 invariant_of-self-in-Break-branch-4 c =
-    record { in_lists = in_lists-equal _ _ _ _ c.in_err-push.ensures.items refl (in_lists-kept _ _ _ _ c.requires.consistent.propagator c.attach.ensures.kept) }
+    record {
+      in_lists = in_lists-equal _ _ _ _ c.in_ok-push.ensures.items refl
+          (in_lists-added _ c.args.literals.now _ _ _ c.requires.consistent.propagator c.attach.ensures.kept c.in_ok-attach.ensures.own);
+    }
 
 pub invariant_of-self-in-Break-branch-5 : goal.invariant_of-self-in-Break-branch-5
 invariant_of-self-in-Break-branch-5 c =
-    let copied : c.in_ok-copy.copy.items ≡ c.args.literals.now = search rules in
     record {
       in_lists = in_lists-equal _ _ _ _ c.in_ok-push.ensures.items refl
-          (in_lists-added _ c.in_ok-copy.copy _ _ _ _ copied c.requires.consistent.propagator c.attach.ensures.kept c.in_ok-attach.ensures.own);
+          (in_lists-added _ c.args.literals.now _ _ _ c.requires.consistent.propagator c.attach.ensures.kept c.in_ok-attach.ensures.own);
     }
 
 pub invariant_of-self-in-Break-branch-6 : goal.invariant_of-self-in-Break-branch-6
 invariant_of-self-in-Break-branch-6 c =
-    let copied : c.in_ok-copy.copy.items ≡ c.args.literals.now = search rules in
-    record {
-      in_lists = in_lists-equal _ _ _ _ c.in_ok-push.ensures.items refl
-          (in_lists-added _ c.in_ok-copy.copy _ _ _ _ copied c.requires.consistent.propagator c.attach.ensures.kept c.in_ok-attach.ensures.own);
-    }
-
-pub invariant_of-self-in-Break-branch-7 : goal.invariant_of-self-in-Break-branch-7
-invariant_of-self-in-Break-branch-7 c =
-    let copied : c.in_ok-copy.copy.items ≡ c.args.literals.now = search rules in
     record {
       in_lists = in_lists-equal _ _ _ _ c.in_ok-push.ensures.items c.cut.ensures.watches
-          (in_lists-added _ c.in_ok-copy.copy _ _ _ _ copied c.requires.consistent.propagator c.attach.ensures.kept c.in_ok-attach.ensures.own);
+          (in_lists-added _ c.args.literals.now _ _ _ c.requires.consistent.propagator c.attach.ensures.kept c.in_ok-attach.ensures.own);
     }
 
 pub invariant_of-self-2 : goal.invariant_of-self-2
 invariant_of-self-2 c =
-    let copied : c.in_ok-copy.copy.items ≡ c.args.literals.now = search rules in
     record {
       in_lists = in_lists-equal _ _ _ _ c.in_ok-push.ensures.items c.cut.ensures.watches
-          (in_lists-added _ c.in_ok-copy.copy _ _ _ _ copied c.requires.consistent.propagator c.attach.ensures.kept c.in_ok-attach.ensures.own);
+          (in_lists-added _ c.args.literals.now _ _ _ c.requires.consistent.propagator c.attach.ensures.kept c.in_ok-attach.ensures.own);
     }

@@ -10,6 +10,6 @@ invariant-clauses l = record {
   consistent : IsConsistent l.self;
   same : IsSameSearch l.initial.self l.self;
   count : length l.self.places.items ≡ l.number;
-  loaded : (given : List (Vec Literal Global)) (numbers : List ℕ) (more : List (Vec Literal Global)) → IsLoaded given numbers l.initial.self →
+  loaded : (given : List (List Literal)) (numbers : List ℕ) (more : List (List Literal)) → IsLoaded given numbers l.initial.self →
       l.clauses ≡ given ++ more → IsLoaded (take l.number l.clauses) numbers l.self;
 }

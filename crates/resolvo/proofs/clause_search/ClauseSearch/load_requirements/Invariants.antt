@@ -11,6 +11,6 @@ invariant-requirements l = record {
   same : IsSameSearch l.initial.self l.self;
   places : l.self.places.items ≡ l.initial.self.places.items;
   count : length l.self.requirements.items ≡ l.index;
-  loaded : (given : List (Vec Literal Global)) (numbers more : List ℕ) → IsLoaded given numbers l.initial.self → numbers_of l.requirements ≡ numbers ++ more →
+  loaded : (given : List (List Literal)) (numbers more : List ℕ) → IsLoaded given numbers l.initial.self → numbers_of l.requirements ≡ numbers ++ more →
       IsLoaded given (take l.index (numbers_of l.requirements)) l.self;
 }

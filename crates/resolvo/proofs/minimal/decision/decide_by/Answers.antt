@@ -5,14 +5,14 @@ use Rattle.resolvo.proofs.minimal.decision.decide_by.Goals as goal
 
 pub load-requires-clause-below : goal.load-requires-clause-below
 load-requires-clause-below g c =
-    let below = marked_below c.args.rules.now c.args.form.now.variables c.args.marks.now c.args.form.now.clauses.items c.args.marked.now.clauses.items
+    let below = marked_below c.args.rules.now c.args.form.now.variables c.args.marks.now c.args.form.now.clauses.items c.args.marked.now.clauses
     c.args.marked.now.places.items (numbers_of c.args.marked.now.requirements.items) c.requires.form c.requires.marked in
     rw c.deref.ensures.value below
 
 pub load-requires-clause-inside : goal.load-requires-clause-inside
 load-requires-clause-inside g c =
     rw (c.deref.ensures.value, c.deref-2.ensures.value)
-    (requirements_inside (length c.args.marked.now.clauses.items) c.args.marked.now.requirements.items c.requires.marked.inside)
+    (requirements_inside (length c.args.marked.now.clauses) c.args.marked.now.requirements.items c.requires.marked.inside)
 
 pub search_on-requires-clause-root : goal.search_on-requires-clause-root
 search_on-requires-clause-root g c = still_root c.args.search.now c.load.new.self c.requires.root c.in_ok-load.ensures.turn
@@ -27,7 +27,7 @@ marks_of-requires-clause-inside g c =
 pub marks_of-requires-clause-below : goal.marks_of-requires-clause-below
 marks_of-requires-clause-below g c =
     rw c.deref-in-Contradiction.ensures.value
-    (places_inside c.args.rules.now c.args.form.now.variables c.args.marks.now c.args.form.now.clauses.items c.args.marked.now.clauses.items
+    (places_inside c.args.rules.now c.args.form.now.variables c.args.marks.now c.args.form.now.clauses.items c.args.marked.now.clauses
     c.args.marked.now.places.items (numbers_of c.args.marked.now.requirements.items) c.requires.form c.requires.marked)
 
 pub returns-in_ok-values-in-Finished-clause-verdict : goal.returns-in_ok-values-in-Finished-clause-verdict
@@ -36,7 +36,7 @@ returns-in_ok-values-in-Finished-clause-verdict g c =
     (c.in_ok-load.ensures.loaded [] [] c.requires.blank c.deref.result.now refl (numbers_of c.deref-2.result.now) refl) in
     let finished = rw (c.in-Finished.is, c.deref.ensures.value, c.deref-2.ensures.value) at ended in
     let requirements = c.args.marked.now.requirements.items in
-    obeyed c.args.rules.now c.args.form.now.variables c.args.marks.now c.args.form.now.clauses.items c.args.marked.now.clauses.items
+    obeyed c.args.rules.now c.args.form.now.variables c.args.marks.now c.args.form.now.clauses.items c.args.marked.now.clauses
     c.args.marked.now.places.items requirements _ c.requires.size c.requires.form c.requires.marked (finished requirements refl)
 
 pub returns-in_ok-part-in-Contradiction-clause-verdict : goal.returns-in_ok-part-in-Contradiction-clause-verdict
@@ -46,5 +46,5 @@ returns-in_ok-part-in-Contradiction-clause-verdict g c =
     let core = rw (c.in-Contradiction.is, c.deref.ensures.value) at ended in
     let of = rw (c.deref-in-Contradiction.ensures.value, c.deref-in-Contradiction-2.ensures.value) at c.in_ok-part-in-Contradiction.ensures in
     core_refuted c.args.rules.now c.args.form.now.variables c.args.marks.now c.in_ok-part-in-Contradiction.part.items c.args.form.now.clauses.items
-    c.args.marked.now.clauses.items c.args.marked.now.places.items
+    c.args.marked.now.clauses c.args.marked.now.places.items
     (numbers_of c.args.marked.now.requirements.items) _ c.requires.form c.requires.marked core of

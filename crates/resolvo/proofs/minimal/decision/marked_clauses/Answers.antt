@@ -18,5 +18,5 @@ clauses-preserved c = next_clause c.args.marks.now c.args.clauses.now _ _ _ c.cl
 -- src/minimal/decision.rt:71:1
 pub returns : goal.returns
 returns c = let P : List RuleClause → Type 0 =
-    λ xs. AreMarkedClauses c.args.marks.now xs c.clauses.marked.clauses.items c.clauses.marked.places.items (numbers_of c.clauses.marked.requirements.items) in
+    λ xs. AreMarkedClauses c.args.marks.now xs c.clauses.marked.clauses c.clauses.marked.places.items (numbers_of c.clauses.marked.requirements.items) in
     subst P (take_all c.clauses.index c.args.clauses.now c.clauses-test.false) c.clauses.invariant

@@ -1,18 +1,11 @@
-use Rattle.std.proofs.Common.{sym, List, subst}
-use Rattle.std.specs.Option.{MatchOption}
-use Rattle.resolver_clause_store.specs.declared.Literal.{Literal}
-use Rattle.resolvo.specs.Attaching.{AreApart}
-use Rattle.resolvo.specs.Propagators.{IsConstant}
 use Rattle.resolvo.proofs.AttachingLemmas.{attached-added}
 use Rattle.resolvo.proofs.WatchedLemmas.{owns-push}
 use Rattle.resolvo.proofs.propagator.Propagator.attach.Goals as goal
 
 pub returns-clause-propagator : goal.returns-clause-propagator
-returns-clause-propagator c = λ table clause is it.
-    let Chosen : List Literal → Type 0 = λ ls. MatchOption c.pair_of.result (IsConstant ls) (λ pair. AreApart ls pair.0 pair.1) in
-    let chosen : Chosen clause.items = subst Chosen (sym is) c.pair_of.ensures in
-    attached-added table clause c.args.trail.now c.args.self.now _ _ c.pair_of.result c.in_ok-add.ensures.pairs c.in_ok-add.ensures.size
-    (c.in_ok-add.ensures.blockers _) (rw (c.in_ok-number.ensures, c.len.ensures) at c.in_ok-push.ensures.items) chosen it
+returns-clause-propagator c = λ table it.
+    attached-added table c.args.literals.now c.args.trail.now c.args.self.now _ _ c.pair_of.result c.in_ok-add.ensures.pairs c.in_ok-add.ensures.size
+    (c.in_ok-add.ensures.blockers _) (rw (c.in_ok-number.ensures, c.len.ensures) at c.in_ok-push.ensures.items) c.pair_of.ensures it
 
 pub returns-clause-own : goal.returns-clause-own
 returns-clause-own c = owns-push c.args.literals.now _ _ c.pair_of.result c.in_ok-add.ensures.pairs c.pair_of.ensures
