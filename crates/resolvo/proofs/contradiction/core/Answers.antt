@@ -1,12 +1,13 @@
-use Rattle.std.proofs.Common.{arith}
+use Rattle.std.proofs.Common.{arith, ◌∙◌}
 use Rattle.resolvo.proofs.CoreLemmas.{marked-begin, marked-replace, core-refuted}
 use Rattle.resolvo.proofs.contradiction.core.Goals as goal
 
 pub places-init : goal.places-init
 places-init c = (
   omega arith,
-  marked-begin _ _ _ _ _ c.in_ok-marks.ensures.size c.in_ok-marks.ensures.none c.mark_numbers.ensures c.requires.within
-      c.requires.refuted,
+  rw c.len-place.ensures
+      (marked-begin _ _ _ _ _ (c.in_ok-marks.ensures.size ∙ c.len.ensures) c.in_ok-marks.ensures.none c.mark_numbers.ensures c.requires.within
+      c.requires.refuted),
 )
 
 pub places-preserved-then-index : goal.places-preserved-then-index

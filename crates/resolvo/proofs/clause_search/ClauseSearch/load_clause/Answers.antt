@@ -13,7 +13,7 @@ returns-clause-consistent c =
     let end : c.in_ok-place.place ≡ length c.args.self.now.table = search rules in
     let table = c.args.self.now.table in
     let longer = c.in_ok-attach.ensures.propagator table c.requires.consistent.propagator in
-    let propagates : IsPropagator c.push.new.self.items c.undo_until.new.self c.cut.new.self =
+    let propagates : IsPropagator c.push.new.self c.undo_until.new.self c.cut.new.self =
     rw c.in_ok-push.ensures.items (c.in_ok-cut.ensures.propagator _ _ (lower-undone _ _ _ c.undo_until.ensures) longer) in
     consistent-given c.args.self.now _ c.args.literals.now _ _ _ c.requires.consistent
     c.requires.below end c.in_ok-push.ensures.items c.in_ok-push-2.ensures.items c.in_ok-push-3.ensures.items refl
@@ -45,8 +45,8 @@ attach-requires-clause-below c = c.requires.below
 pub attach-requires-clause-lists : goal.attach-requires-clause-lists
 attach-requires-clause-lists c = c.requires.consistent.propagator.lists
 
-pub invariant_of-self-in-Break-branch-2 : goal.invariant_of-self-in-Break-branch-2
-invariant_of-self-in-Break-branch-2 c = record { in_lists = in_lists-kept _ _ _ _ c.requires.consistent.propagator c.attach.ensures.kept }
+pub invariant_of-self : goal.invariant_of-self
+invariant_of-self c = record { in_lists = in_lists-kept _ _ _ _ c.requires.consistent.propagator c.attach.ensures.kept }
 
 pub invariant_of-self-in-Break-branch-3 : goal.invariant_of-self-in-Break-branch-3
 invariant_of-self-in-Break-branch-3 c =

@@ -23,10 +23,10 @@ clauses-preserved c =
       consistent = step.consistent;
       same = same-trans _ _ _ before.same step.same;
       count = omega (arith, step.count, before.count);
-      loaded = λ given numbers more loaded is. clauses-next _ _ _ _ numbers _ c.clauses-test.true c.clause.ensures step.loaded
+      loaded = λ given numbers more loaded is. clauses-next _ _ _ _ numbers _ (omega (arith, c.clauses-test.true, c.len-number-end.ensures)) c.clause.ensures step.loaded
           (before.loaded given numbers more loaded is);
     }
 
 pub returns-clause-loaded : goal.returns-clause-loaded
-returns-clause-loaded c = λ given numbers more loaded is. clauses-end _ _ numbers _ c.clauses-test.false
+returns-clause-loaded c = λ given numbers more loaded is. clauses-end _ _ numbers _ (omega (arith, c.clauses-test.false, c.len-number-end.ensures))
     (c.clauses.invariant.loaded given numbers more loaded is)

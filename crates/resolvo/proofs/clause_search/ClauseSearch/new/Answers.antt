@@ -11,7 +11,7 @@ returns-clause-consistent c = record {
   places = search rules;
   count = search rules;
   kept = search rules;
-  propagator = rw c.new.ensures.items (c.empty-2.ensures c.empty.result c.empty.ensures.size);
+  propagator = rw c.new.ensures (c.empty-2.ensures c.empty.result c.empty.ensures.size);
   turn = search rules;
-  queued = rw c.new-3.ensures.items (c.new-6.ensures c.empty.result c.new.result.items);
+  queued = rw c.new-3.ensures.items (c.new-6.ensures c.empty.result c.new.result);
 }

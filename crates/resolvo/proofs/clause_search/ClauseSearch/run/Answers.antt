@@ -9,30 +9,27 @@ returns-in-None-clause-outcome g c = λ given numbers before requirements are.
     let found = c.conflicts.self in
     let it = c.conflicts.invariant.0 in
     let loaded = c.conflicts.invariant.1.loaded given numbers before in
-    let table = c.as_slice.ensures.value in
-    let wanted = c.as_slice-in-conflicts.ensures.value in
-    let settled = rw (c.in-None.is, table) at c.in_ok-descend.ensures.settled in
-    let met = rw (c.in-None.is, table, wanted) at c.in_ok-descend.ensures.met in
-    let justified = rw table at c.in_ok-descend.ensures.justified in
-    let chosen = rw (table, wanted) at c.in_ok-descend.ensures.chosen in
+    let wanted = c.as_slice.ensures.value in
+    let settled = rw c.in-None.is at c.in_ok-descend.ensures.settled in
+    let met = rw (c.in-None.is, wanted) at c.in_ok-descend.ensures.met in
+    let justified = c.in_ok-descend.ensures.justified in
+    let chosen = rw wanted at c.in_ok-descend.ensures.chosen in
     finished_for given found.table found.sources.items found.places.items found.requirements.items requirements numbers c.descend.new.trail are it.derived
     justified chosen loaded.clauses loaded.requirements loaded.inside settled met
 
 pub returns-in-None-clause-consistent : goal.returns-in-None-clause-consistent
 returns-in-None-clause-consistent g c =
-    let table = c.as_slice.ensures.value in
-    let wanted = c.as_slice-in-conflicts.ensures.value in
-    consistent-descended c.conflicts.self _ _ _ _ c.conflicts.invariant.0 c.in_ok-descend.ensures.size (rw table at c.in_ok-descend.ensures.justified)
-    (rw (table, wanted) at c.in_ok-descend.ensures.chosen) c.in_ok-descend.ensures.kept (rw table at c.in_ok-descend.ensures.propagator)
-    (rw (table, wanted) at c.in_ok-descend.ensures.queued)
+    let wanted = c.as_slice.ensures.value in
+    consistent-descended c.conflicts.self _ _ _ _ c.conflicts.invariant.0 c.in_ok-descend.ensures.size c.in_ok-descend.ensures.justified
+    (rw wanted at c.in_ok-descend.ensures.chosen) c.in_ok-descend.ensures.kept c.in_ok-descend.ensures.propagator
+    (rw wanted at c.in_ok-descend.ensures.queued)
 
 pub learn-requires-clause-consistent : goal.learn-requires-clause-consistent
 learn-requires-clause-consistent g c =
-    let table = c.as_slice.ensures.value in
-    let wanted = c.as_slice-in-conflicts.ensures.value in
-    consistent-descended c.conflicts.self _ _ _ _ c.conflicts.invariant.0 c.in_ok-descend.ensures.size (rw table at c.in_ok-descend.ensures.justified)
-    (rw (table, wanted) at c.in_ok-descend.ensures.chosen) c.in_ok-descend.ensures.kept (rw table at c.in_ok-descend.ensures.propagator)
-    (rw (table, wanted) at c.in_ok-descend.ensures.queued)
+    let wanted = c.as_slice.ensures.value in
+    consistent-descended c.conflicts.self _ _ _ _ c.conflicts.invariant.0 c.in_ok-descend.ensures.size c.in_ok-descend.ensures.justified
+    (rw wanted at c.in_ok-descend.ensures.chosen) c.in_ok-descend.ensures.kept c.in_ok-descend.ensures.propagator
+    (rw wanted at c.in_ok-descend.ensures.queued)
 
 pub returns-in-None-clause-turn : goal.returns-in-None-clause-turn
 returns-in-None-clause-turn g c =
@@ -77,11 +74,7 @@ conflicts-preserved g c =
 
 pub invariant_of-self : goal.invariant_of-self
 invariant_of-self g c =
-    let table = c.as_slice.ensures.value in
-    record {
-      in_lists = ∣ in_lists _ _
-          (owned-either c.descend.result _ _ _ (rw table at c.descend.ensures.propagator) (rw table at c.descend.ensures.refused)) ∣₁;
-    }
+    record { in_lists = ∣ in_lists _ _ (owned-either c.descend.result _ _ _ c.descend.ensures.propagator c.descend.ensures.refused) ∣₁ }
 
 pub returns-in-None-clause-variables : goal.returns-in-None-clause-variables
 returns-in-None-clause-variables g c = c.in_ok-descend.ensures.size ∙ c.conflicts.invariant.1.variables
@@ -104,22 +97,22 @@ pub returns-in-Some-2-clause-refusal : goal.returns-in-Some-2-clause-refusal
 returns-in-Some-2-clause-refusal g c = tt
 
 pub descend-requires-clause-below : goal.descend-requires-clause-below
-descend-requires-clause-below g c = rw c.as_slice.ensures.value c.conflicts.invariant.0.below
+descend-requires-clause-below g c = c.conflicts.invariant.0.below
 
 pub descend-requires-clause-propagator : goal.descend-requires-clause-propagator
-descend-requires-clause-propagator g c = rw c.as_slice.ensures.value c.conflicts.invariant.0.propagator
+descend-requires-clause-propagator g c = c.conflicts.invariant.0.propagator
 
 pub descend-requires-clause-justified : goal.descend-requires-clause-justified
-descend-requires-clause-justified g c = rw c.as_slice.ensures.value c.conflicts.invariant.0.justified
+descend-requires-clause-justified g c = c.conflicts.invariant.0.justified
 
 pub descend-requires-clause-inside : goal.descend-requires-clause-inside
-descend-requires-clause-inside g c = rw (c.as_slice.ensures.value, c.as_slice-in-conflicts.ensures.value) c.conflicts.invariant.0.inside
+descend-requires-clause-inside g c = rw c.as_slice.ensures.value c.conflicts.invariant.0.inside
 
 pub descend-requires-clause-chosen : goal.descend-requires-clause-chosen
-descend-requires-clause-chosen g c = rw (c.as_slice.ensures.value, c.as_slice-in-conflicts.ensures.value) c.conflicts.invariant.0.chosen
+descend-requires-clause-chosen g c = rw c.as_slice.ensures.value c.conflicts.invariant.0.chosen
 
 pub descend-requires-clause-queued : goal.descend-requires-clause-queued
-descend-requires-clause-queued g c = rw (c.as_slice.ensures.value, c.as_slice-in-conflicts.ensures.value) c.conflicts.invariant.0.queued
+descend-requires-clause-queued g c = rw c.as_slice.ensures.value c.conflicts.invariant.0.queued
 
 pub learn-requires-clause-conflict : goal.learn-requires-clause-conflict
-learn-requires-clause-conflict g c = rw (c.in-Some.is, c.as_slice.ensures.value) at c.in_ok-descend.ensures.conflict
+learn-requires-clause-conflict g c = rw c.in-Some.is at c.in_ok-descend.ensures.conflict

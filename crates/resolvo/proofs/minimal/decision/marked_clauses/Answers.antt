@@ -8,7 +8,7 @@ use Rattle.resolvo.proofs.minimal.decision.marked_clauses.Goals as goal
 
 -- src/minimal/decision.rt:84:5
 pub clauses-init : goal.clauses-init
-clauses-init c = rw (c.new.ensures.items, c.new-2.ensures.items, c.new-3.ensures.items) (no_clauses c.args.marks.now)
+clauses-init c = rw (c.new.ensures, c.new-2.ensures.items, c.new-3.ensures.items) (no_clauses c.args.marks.now)
 
 -- src/minimal/decision.rt:84:5
 pub clauses-preserved : goal.clauses-preserved
