@@ -1,5 +1,5 @@
 -- Clauses whose literals lie one behind another in one list.
-use Rattle.std.specs.Prelude.{◌≡◌, ℕ, zero, suc, ◌≤◌, List, [], ◌∷◌, length, slice_range}
+use Rattle.std.specs.Prelude.{◌≡◌, ℕ, zero, suc, ◌≤◌, List, [], ◌∷◌, slice_range}
 use Rattle.resolver_clause_store.specs.declared.literals.Literal.{Literal}
 
 -- the parts of the list between neighbouring places, from the start on

@@ -1,7 +1,6 @@
 -- What the end of a search over clauses means.
-use Rattle.std.specs.Prelude.{◌≡◌, ◌⊎◌, ◌++◌, ◌∷◌, ◌<◌, ℕ, Bool, true, false, Some, None, List, length, Vec, All, Any, Contains}
+use Rattle.std.specs.Prelude.{◌≡◌, ◌⊎◌, ◌++◌, ◌∷◌, ◌<◌, ℕ, Bool, true, false, Some, None, List, length, All, Any, Contains}
 use Rattle.std.specs.Bool.{beq}
-use Rattle.std.specs.declared.alloc.Global.{Global}
 use Rattle.resolver_clause_store.specs.declared.literals.Literal.{Literal}
 use Rattle.resolver_clause_store.specs.declared.clauses.RequirementClause.{RequirementClause}
 use Rattle.resolver_clause_store.specs.declared.trail.Reason.TheVariants.{Assumed}

@@ -1,6 +1,6 @@
 -- The rules that a core's clauses state are true and refuted.
 use Rattle.resolver_encoding.specs.Truth.{HasLawfulSolvables}
-use Rattle.std.proofs.Common.{get_or, ◌≡◌, ℕ, List, [], Bool, true, refl, sym, subst, Contains, All, Vec, Global}
+use Rattle.std.proofs.Common.{get_or, ◌≡◌, ℕ, List, [], Bool, true, refl, sym, subst, Contains, All}
 use Rattle.std.specs.Prelude.{Option}
 use Rattle.std.proofs.lemmas.List.Elements.{All-contains, Contains-get_or, All-map}
 use Rattle.std.proofs.lemmas.Map.Views.{Contains-from_any}

@@ -1,11 +1,11 @@
 -- Steps of an encoding: one after another, or one more clause, solvable, package or helper.
 use Rattle.std.proofs.Common.{Bool, true, false}
 use Rattle.std.proofs.Common.{◌≡◌, ℕ, ◌+◌, ◌<◌, map, List, [], ◌∷◌, ◌++◌, length, length-append, refl, sym, ap, ◌∙◌, subst, ⊎_elim, inl, inr, arith}
-use Rattle.std.proofs.Common.{append_assoc, append-nil, Contains, Vec, Global, ◌⊎◌}
+use Rattle.std.proofs.Common.{append_assoc, append-nil, Contains, ◌⊎◌}
 use Rattle.std.specs.Prelude.{Option, Some, ⊤, slice_get}
 use Rattle.std.specs.List.{AllZip}
 use Rattle.std.proofs.lemmas.List.Elements.{All-push, Contains-append_left, Contains-push, Contains-push_cases}
-use Rattle.std.proofs.lemmas.Option.{slice_get-get_or, slice_get_within}
+use Rattle.std.proofs.lemmas.Option.{slice_get_within}
 use Rattle.resolver_clause_store.specs.Formula.{clause_at}
 use Rattle.resolver_clause_store.specs.Lists.{IsWithin}
 use Rattle.resolver_clause_store.specs.Universe.{Universe, Demands, unknown}

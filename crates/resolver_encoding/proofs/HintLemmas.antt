@@ -1,6 +1,6 @@
 -- Candidates that are read early.
 use Rattle.std.proofs.Common.{◌≡◌, ℕ, ◌+◌, ◌<◌, ◌≤◌, Bool, true, false, length, length-append, List, [], ◌∷◌, ◌++◌, refl, sym, ap, ◌∙◌, subst, ⊎_elim, inl, inr}
-use Rattle.std.proofs.Common.{arith, Contains, Vec, Global, get_or}
+use Rattle.std.proofs.Common.{arith, Contains, get_or}
 use Rattle.std.specs.Prelude.{◌||◌, None, Option, Some, cond, map, slice_get}
 use Rattle.std.specs.Option.{option_map, option_map_or, option_to_list}
 use Rattle.std.proofs.lemmas.Bool.{cases_lt}

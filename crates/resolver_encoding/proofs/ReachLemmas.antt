@@ -1,7 +1,6 @@
 -- How far reading goes: the demands of near solvables, in a set of near ones, are near, too.
 use Rattle.std.proofs.Common.{◌≡◌, ◌⊎◌, ◌<◌, true, false, List, [], ◌∷◌, ◌++◌, arith, refl, sym, ap, ◌∙◌, subst, ⊎_elim, inl, inr, length, map, get_or}
-use Rattle.std.proofs.Common.{Contains, All, Vec, Global}
-use Rattle.std.specs.Option.{option_map_or}
+use Rattle.std.proofs.Common.{Contains, All}
 use Rattle.std.proofs.lemmas.Bool.{true≢false}
 use Rattle.std.proofs.lemmas.Option.{get_or_from_slice_get, slice_get-get_or, slice_get_within}
 use Rattle.std.proofs.lemmas.List.Elements.{All-contains, Contains-append_cases, Contains-get_or}

@@ -1,6 +1,5 @@
 -- Solvables that the chosen set leaves no room for.
-use Rattle.std.specs.Prelude.{◌≡◌, ℕ, Bool, true, false, Contains, List, Some, Vec, slice_get}
-use Rattle.std.specs.declared.alloc.Global.{Global}
+use Rattle.std.specs.Prelude.{◌≡◌, ℕ, Bool, true, false, Contains, List, Some, slice_get}
 use Rattle.resolver_clause_store.specs.Formula.{Satisfies}
 use Rattle.resolver_clause_store.specs.declared.Literal.{Literal}
 use Rattle.resolver_clause_store.specs.declared.Origin.{Origin}

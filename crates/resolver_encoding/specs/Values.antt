@@ -1,8 +1,7 @@
 -- Clauses as lists of literals, compared with their kinds.
-use Rattle.std.specs.Prelude.{◌≡◌, ℕ, Bool, false, List, Some, Contains, Vec, length, map, slice_get, slice_index_or, ⊤}
+use Rattle.std.specs.Prelude.{◌≡◌, ℕ, Bool, false, List, Some, Contains, length, map, slice_get, slice_index_or, ⊤}
 use Rattle.std.specs.List.{AllZip}
 use Rattle.std.specs.Option.{option_map_or}
-use Rattle.std.specs.declared.alloc.Global.{Global}
 use Rattle.resolver_clause_store.specs.Formula.{clause_at}
 use Rattle.resolver_clause_store.specs.Universe.{Universe}
 use Rattle.resolver_clause_store.specs.declared.Literal.{Literal}

@@ -1,7 +1,6 @@
 //! What clauses mean for sets of solvables.
 
-ghost use Rattle.std.specs.Prelude.{All, Bool, Contains, List, Vec, length, map, ℕ, ◌<◌, ◌≡◌, ◌≤◌, []};
-ghost use Rattle.std.specs.declared.alloc.Global.{Global};
+ghost use Rattle.std.specs.Prelude.{All, Bool, Contains, List, length, map, ℕ, ◌<◌, ◌≡◌, ◌≤◌, []};
 ghost use Rattle.resolver_clause_store.specs.FirstChoice.{TakesFirstChoices};
 ghost use Rattle.resolver_clause_store.specs.Formula.{MakesTrue, Satisfies};
 ghost use Rattle.resolver_clause_store.specs.Lists.{HasNoRepeats};

@@ -3,7 +3,7 @@
 ghost use Rattle.std.specs.Prelude.{◌≡◌, ◌<◌, ◌≤◌, ◌^◌, ◌⊎◌, [], ◌∷◌, ◌++◌, ℕ, All, IfErr, List, OnErr, OnOk, length, map};
 ghost use Rattle.resolver_clause_store.specs.Laws.{IsIdentity};
 ghost use Rattle.resolver_clause_store.specs.Universe.{Universe};
-ghost use Rattle.resolver_clause_store.specs.Variables.{IsBounded, IsFull, limit_in, origins_in};
+ghost use Rattle.resolver_clause_store.specs.Variables.{IsBounded, IsFull};
 ghost use Rattle.resolver_encoding.specs.Atoms.{IsMentioned, atoms_of, wanted};
 ghost use Rattle.resolver_encoding.specs.Encodings.{Grows, numbers_with};
 ghost use Rattle.resolver_encoding.specs.Led.{AddsSuch};

@@ -1,9 +1,7 @@
 -- Marked clauses that contradict each other.
 use Rattle.std.proofs.Common.{◌≡◌, ℕ, ◌+◌, ◌<◌, ◌≤◌, List, [], length, set, Bool, true, false, Some, None, arith, sym, ap, ◌∙◌, subst, ⊎_elim}
 use Rattle.std.proofs.Common.{get_or-set_same, get_or-set_other, length-set}
-use Rattle.std.specs.Prelude.{Vec}
 use Rattle.std.specs.List.{All}
-use Rattle.std.specs.declared.alloc.Global.{Global}
 use Rattle.std.proofs.lemmas.Bool.{cases_Bool, cases_eq, both_ways, false≢true}
 use Rattle.std.proofs.lemmas.List.Elements.{All-contains}
 use Rattle.resolver_clause_store.specs.declared.Literal.{Literal}

@@ -1,6 +1,6 @@
 -- The turns of soft requirements.
 use Rattle.std.proofs.Common.{◌≡◌, ℕ, ◌<◌, ◌≤◌, ◌⊎◌, List, [], rules, true, false, length, take, arith, inl, inr}
-use Rattle.std.proofs.Common.{refl, sym, ap, ◌∙◌, subst, ⊎_elim, All, Contains, get_or, Some, Vec, Global}
+use Rattle.std.proofs.Common.{refl, sym, ap, ◌∙◌, subst, ⊎_elim, All, Contains, get_or, Some}
 use Rattle.std.specs.Prelude.{map}
 use Rattle.std.specs.Option.{option_map, option_map_or}
 use Rattle.resolver_clause_store.specs.FirstChoice.{TakesFirstChoices}

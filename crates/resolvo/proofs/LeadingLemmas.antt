@@ -1,6 +1,6 @@
 -- The origins that the problem leads to, within a turn and from one turn to the next, also after a refused call.
 use Rattle.std.proofs.Common.{◌≡◌, ◌∙◌, ◌⊎◌, ℕ, ◌≤◌, List, [], ◌∷◌, ◌++◌, length, take, drop, refl, sym, subst, true, All, Contains, Option, Some}
-use Rattle.std.proofs.Common.{None, Vec, Global}
+use Rattle.std.proofs.Common.{None}
 use Rattle.std.specs.Iterator.{Drains, Yields}
 use Rattle.std.specs.List.{flat_map}
 use Rattle.std.proofs.iter.Next.{Yields-more}

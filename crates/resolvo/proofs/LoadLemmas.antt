@@ -18,7 +18,7 @@ use Rattle.resolver_clause_store.specs.declared.Trail.{Trail}
 use Rattle.resolver_clause_store.specs.Formula.{AreBelow, IsBelow, clause_at}
 use Rattle.resolver_clause_store.specs.Outcomes.{IsChosen, IsFinished, IsMet, IsPropagated}
 use Rattle.resolver_clause_store.specs.TrailView.{IsGrown, IsUndone, KeepsPlaces, length_of, slot_of, variable_count}
-use Rattle.resolver_clause_store.proofs.FormulaLemmas.{clause_at-get_or, clause_at-last, clause_at-push}
+use Rattle.resolver_clause_store.proofs.FormulaLemmas.{clause_at-last, clause_at-push}
 use Rattle.resolver_clause_store.proofs.KeptLemmas.{keeps_all, keeps_grown, keeps_through, keeps_trans, keeps_undone}
 use Rattle.resolver_clause_store.proofs.TrailLemmas.{Keeps, forcing-kept}
 use Rattle.resolvo.specs.declared.contradiction.Source.{Source}
@@ -288,7 +288,8 @@ consistent-given old new clause number place level it below end table sources pl
     }
 
 pub loaded-clause : (old new : ClauseSearch) (given : List (List Literal)) (numbers : List ℕ) (clause : List Literal) (number place : ℕ) →
-    IsConsistent old → number ≡ length old.places.items → place ≡ length old.table → new.table ≡ old.table ++ clause ∷ [] → new.sources.items ≡ old.sources.items ++ Given number ∷ [] → new.places.items ≡ old.places.items ++ place ∷ [] →
+    IsConsistent old → number ≡ length old.places.items → place ≡ length old.table → new.table ≡ old.table ++ clause ∷ [] →
+    new.sources.items ≡ old.sources.items ++ Given number ∷ [] → new.places.items ≡ old.places.items ++ place ∷ [] →
     new.requirements.items ≡ old.requirements.items → IsLoaded given numbers old → IsLoaded (given ++ clause ∷ []) numbers new
 loaded-clause old new given numbers clause number place it first end table sources places requirements loaded = record {
   clauses = rw (table, sources, places, first, end)
@@ -356,7 +357,8 @@ clause-next clauses n literals within is = take_more clauses n [] within ∙ ap 
 
 pub clauses-next : (old new : ClauseSearch) (clauses : List (List Literal)) (literals : List Literal) (numbers : List ℕ) (n : ℕ) → n < length clauses →
     literals ≡ clause_at clauses n →
-    ((given : List (List Literal)) (ns : List ℕ) → IsLoaded given ns old → IsLoaded (given ++ literals ∷ []) ns new) → IsLoaded (take n clauses) numbers old → IsLoaded (take (n + 1) clauses) numbers new
+    ((given : List (List Literal)) (ns : List ℕ) → IsLoaded given ns old → IsLoaded (given ++ literals ∷ []) ns new) →
+    IsLoaded (take n clauses) numbers old → IsLoaded (take (n + 1) clauses) numbers new
 clauses-next old new clauses literals numbers n within here step loaded =
     let Loaded : List (List Literal) → Type 0 = λ cs. IsLoaded cs numbers new in
     subst Loaded (sym (clause-next clauses n literals within here)) (step (take n clauses) numbers loaded)
@@ -364,7 +366,8 @@ clauses-next old new clauses literals numbers n within here step loaded =
 -- the invariant of propagation while one clause after another is attached
 pub propagator-next : (clauses : List (List Literal)) (literals : List Literal) (trail : Trail) (old new : Propagator) (n : ℕ) → n < length clauses →
     literals ≡ clause_at clauses n →
-    ((table : List (List Literal)) → IsPropagator table trail old → IsPropagator (table ++ literals ∷ []) trail new) → IsPropagator (take n clauses) trail old → IsPropagator (take (n + 1) clauses) trail new
+    ((table : List (List Literal)) → IsPropagator table trail old → IsPropagator (table ++ literals ∷ []) trail new) →
+    IsPropagator (take n clauses) trail old → IsPropagator (take (n + 1) clauses) trail new
 propagator-next clauses literals trail old new n within here step it =
     let Keeps : List (List Literal) → Type 0 = λ cs. IsPropagator cs trail new in
     subst Keeps (sym (clause-next clauses n literals within here)) (step (take n clauses) it)

@@ -1,6 +1,6 @@
 -- The clauses of the marked rules with one more clause, and the marks of a core with one more number.
 use Rattle.std.proofs.Common.{◌≡◌, ◌≢◌, ℕ, ◌+◌, ◌<◌, ◌≤◌, List, [], ◌∷◌, ◌++◌, length, get_or, set, take, replicate, arith, refl, sym, ap, ◌∙◌}
-use Rattle.std.proofs.Common.{subst, length-append, length-set, get_or-set_same, get_or-set_other, Bool, true, false, Contains, All, ⊎_elim, Vec, Global}
+use Rattle.std.proofs.Common.{subst, length-append, length-set, get_or-set_same, get_or-set_other, Bool, true, false, Contains, All, ⊎_elim}
 use Rattle.std.specs.List.{slice_index_or}
 use Rattle.std.proofs.Math.Seq.{get_or-append_seam}
 use Rattle.std.proofs.lemmas.Bool.{cases_eq, cases_lt, false≢true}
@@ -97,7 +97,8 @@ module _ (marks : List Bool) (from : List RuleClause) (clauses : List (List Lite
           (All-weaker (λ (c : RuleClause). IsMarked marks c → IsThere clauses numbers c) (λ (c : RuleClause).
           IsMarked marks c → IsThere now_clauses more c) still from so.all)
           (All-cons (λ (c : RuleClause). IsMarked marks c → IsThere now_clauses more c) clause [] (λ m.
-          record { number = length clauses; inside = omega (arith, count); literals = clause_at-last clauses clause.literals.items; listed = listed }) (All-nil _));
+          record { number = length clauses; inside = omega (arith, count); literals = clause_at-last clauses clause.literals.items; listed = listed })
+          (All-nil _));
       inside = All-weaker (λ number. number < length clauses + 1) (λ number. number < length now_clauses) (λ n below. omega (arith, count, below)) more inside;
     }
 

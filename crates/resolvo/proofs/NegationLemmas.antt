@@ -1,7 +1,6 @@
 -- The literals that negate the marked variables.
 use Rattle.std.proofs.Common.{ℕ, List, Bool, ⊎_elim}
-use Rattle.std.specs.Prelude.{Vec, not}
-use Rattle.std.specs.declared.alloc.Global.{Global}
+use Rattle.std.specs.Prelude.{not}
 use Rattle.std.proofs.lemmas.Bool.{cases_Bool}
 use Rattle.resolver_clause_store.specs.declared.Literal.{Literal}
 use Rattle.resolver_clause_store.specs.declared.Slot.{Slot}

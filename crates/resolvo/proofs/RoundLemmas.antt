@@ -1,6 +1,6 @@
 -- The invariants before each round of searching and reading, and after it.
 use Rattle.std.proofs.Common.{◌≡◌, ℕ, ◌+◌, ◌<◌, ◌≤◌, List, [], true, ◌++◌, length, length-append, get_or, take, append-nil, arith, refl, sym, ap, ◌∙◌, subst}
-use Rattle.std.proofs.Common.{⊎_elim, Contains, All, Vec, Global}
+use Rattle.std.proofs.Common.{⊎_elim, Contains, All}
 use Rattle.std.specs.Prelude.{map}
 use Rattle.std.specs.Option.{option_map}
 use Rattle.std.proofs.Math.Seq.{take-append_seam}

@@ -1,6 +1,6 @@
 -- The decision of a search over the clauses of the marked rules.
 use Rattle.std.proofs.Common.{◌≡◌, ℕ, zero, suc, ◌<◌, ◌≤◌, ◌⊎◌, inl, inr, List, [], ◌∷◌, length, get_or, arith, refl, sym, ◌∙◌, subst, Bool, true}
-use Rattle.std.proofs.Common.{false, Contains, All, Any, ⊎_elim, Vec, Global, Option, Some, None}
+use Rattle.std.proofs.Common.{false, Contains, All, Any, ⊎_elim, Option, Some, None}
 use Rattle.std.specs.Bool.{beq}
 use Rattle.std.specs.List.{slice_index_or}
 use Rattle.std.specs.Option.{option_map, option_map_or}

@@ -1,9 +1,7 @@
 -- A clause that watches two literals of its own is in the lists of both.
 use Rattle.std.proofs.Common.{◌≡◌, ℕ, ◌<◌, ◌≤◌, List, [], ◌∷◌, ◌++◌, length, Option, Some, None, Result, Ok, Err, OnErr, OnOk, arith, inl, inr, refl, sym, ap}
 use Rattle.std.proofs.Common.{◌∙◌, subst, ⊎_elim, length-append}
-use Rattle.std.specs.Prelude.{Vec}
 use Rattle.std.specs.Option.{MatchOption}
-use Rattle.std.specs.declared.alloc.Global.{Global}
 use Rattle.std.proofs.lemmas.Bool.{cases_lt}
 use Rattle.std.proofs.lemmas.List.{get_or_push}
 use Rattle.resolver_clause_store.specs.declared.Literal.{Literal}

@@ -1,8 +1,7 @@
 -- Attaching clauses and cutting the trail: the effect on the state of propagation.
-use Rattle.std.specs.Prelude.{◌≡◌, ◌≢◌, ℕ, ◌<◌, ◌≤◌, ◌++◌, ◌∷◌, false, Option, Some, None, List, [], length, Vec, All, Contains}
+use Rattle.std.specs.Prelude.{◌≡◌, ◌≢◌, ℕ, ◌<◌, ◌≤◌, ◌++◌, ◌∷◌, false, Option, Some, None, List, [], length, All, Contains}
 use Rattle.std.specs.Prelude.{slice_get, slice_index_or}
 use Rattle.std.specs.Bool.{beq}
-use Rattle.std.specs.declared.alloc.Global.{Global}
 use Rattle.resolver_clause_store.specs.declared.Literal.{Literal}
 use Rattle.resolver_clause_store.specs.declared.Slot.{Slot}
 use Rattle.resolver_clause_store.specs.declared.Trail.{Trail}

@@ -1,6 +1,5 @@
 -- A search over clauses, and its results.
-use Rattle.std.specs.Prelude.{◌≡◌, ℕ, ◌+◌, ◌<◌, ◌≤◌, Some, List, length, map, slice_index, Vec, All}
-use Rattle.std.specs.declared.alloc.Global.{Global}
+use Rattle.std.specs.Prelude.{◌≡◌, ℕ, ◌+◌, ◌<◌, ◌≤◌, Some, List, length, map, slice_index, All}
 use Rattle.resolver_clause_store.specs.declared.Literal.{Literal}
 use Rattle.resolver_clause_store.specs.declared.RequirementClause.{RequirementClause}
 use Rattle.resolver_clause_store.specs.declared.StoredRequirement.{StoredRequirement}

@@ -1,7 +1,6 @@
 -- Rounds of searching and reading.
-use Rattle.std.specs.Prelude.{◌≡◌, ℕ, ◌+◌, ◌-◌, ◌<◌, ◌≤◌, ◌⊎◌, Bool, Some, true, false, List, [], ◌∷◌, ◌++◌, Contains, None, Vec, length, take}
+use Rattle.std.specs.Prelude.{◌≡◌, ℕ, ◌+◌, ◌-◌, ◌<◌, ◌≤◌, ◌⊎◌, Bool, Some, true, false, List, [], ◌∷◌, ◌++◌, Contains, None, length, take}
 use Rattle.std.specs.List.{flat_map}
-use Rattle.std.specs.declared.alloc.Global.{Global}
 use Rattle.resolver_clause_store.specs.FirstChoice.{TakesFirstChoices}
 use Rattle.resolver_clause_store.specs.Outcomes.{IsCore}
 use Rattle.resolver_clause_store.specs.Formula.{Satisfies}

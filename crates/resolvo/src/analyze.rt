@@ -2,7 +2,6 @@
 
 ghost use Rattle.std.specs.Prelude.{◌≡◌, ◌≢◌, ◌⊎◌, ◌+◌, ◌<◌, ◌≤◌, length, All, Any, IfOk, IfSome, MatchBool, OnOk, Some, ℕ, false, not, slice_set, true};
 ghost use Rattle.resolver_clause_store.specs.Formula.{AreBelow, IsBelow, clause_at};
-ghost use Rattle.resolver_clause_store.specs.Outcomes.{IsFalsified};
 ghost use Rattle.resolver_clause_store.specs.TrailView.{length_of, place_of, slot_of, variable_at, variable_count};
 ghost use Rattle.resolvo.specs.Propagation.{IsConflict, IsJustified};
 ghost use Rattle.resolver_clause_store.specs.declared.Slot.{Slot};

@@ -2,7 +2,6 @@
 
 ghost use Rattle.std.specs.Prelude.{[], ◌++◌, ◌<◌, ◌≤◌, ◌≡◌, ◌∷◌, ℕ, All, Bool, IfErr, IfOk, IfSome, List, OnOk, Vec, length};
 ghost use Rattle.std.specs.declared.alloc.Global.{Global};
-ghost use Rattle.resolver_clause_store.specs.Formula.{AreBelow};
 ghost use Rattle.resolver_clause_store.specs.TrailView.{variable_count};
 ghost use Rattle.resolver_clause_store.specs.declared.Literal.{Literal};
 ghost use Rattle.resolvo.specs.ClauseSearches.{IsConsistent, IsLoaded, IsRootTurn, numbers_of, trail_of};

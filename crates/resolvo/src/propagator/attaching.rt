@@ -1,15 +1,15 @@
 //! Attaching clauses to their watches, and clauses that become pending again.
 
-ghost use Rattle.std.specs.Prelude.{◌≡◌, ◌≢◌, ◌⊎◌, ℕ, ◌+◌, ◌*◌, ◌<◌, ◌≤◌, ◌++◌, ◌∷◌, [], All, Contains, IfNone, IfOk, IfSome, List, MatchBool, MatchOption};
-ghost use Rattle.std.specs.Prelude.{None, OnOk, Some, Vec, length, slice_index_or, true, get_or};
+ghost use Rattle.std.specs.Prelude.{◌≡◌, ◌≢◌, ◌⊎◌, ℕ, ◌+◌, ◌*◌, ◌<◌, ◌≤◌, ◌++◌, ◌∷◌, [], All, IfNone, IfOk, IfSome, List, MatchBool, MatchOption};
+ghost use Rattle.std.specs.Prelude.{None, OnOk, Some, Vec, length, true};
 ghost use Rattle.std.specs.declared.alloc.Global.{Global};
 ghost use Rattle.resolver_clause_store.specs.Formula.{AreBelow, IsBelow, clause_at};
 ghost use Rattle.resolver_clause_store.specs.Outcomes.{IsSatisfied};
-ghost use Rattle.resolver_clause_store.specs.TrailView.{IsCut, IsGrown, length_of, open_count, variable_count};
+ghost use Rattle.resolver_clause_store.specs.TrailView.{IsCut, IsGrown, length_of, variable_count};
 ghost use Rattle.resolver_clause_store.specs.declared.Literal.{Literal};
 ghost use Rattle.resolver_clause_store.specs.declared.Trail.{Trail};
 ghost use Rattle.resolvo.specs.Attaching.{AreAlike, AreApart, EndsWith, Forces, IsAlike, IsHigh, IsHighPair, IsLower, IsNotBefore, IsOther, Recalls};
-ghost use Rattle.resolvo.specs.Propagation.{Extends, IsConflict, IsJustified};
+ghost use Rattle.resolvo.specs.Propagation.{IsConflict, IsJustified};
 ghost use Rattle.resolver_clause_store.specs.Settled.{IsOpen};
 ghost use Rattle.resolvo.specs.Propagators.{IsConstant, IsPropagator, attached_of, late_of, pending_of};
 ghost use Rattle.resolvo.specs.WatchedClauses.{OwnsPair};

@@ -1,7 +1,6 @@
 //! Cutting the trail back to before an assumption.
 
-ghost use Rattle.std.specs.Prelude.{◌≡◌, ◌<◌, ◌≤◌, ℕ, List, OnOk, Vec, true};
-ghost use Rattle.std.specs.declared.alloc.Global.{Global};
+ghost use Rattle.std.specs.Prelude.{◌≡◌, ◌<◌, ◌≤◌, ℕ, List, OnOk, true};
 ghost use Rattle.resolver_clause_store.specs.TrailView.{IsCut, length_of};
 ghost use Rattle.resolver_clause_store.specs.declared.Literal.{Literal};
 ghost use Rattle.resolver_clause_store.specs.declared.Trail.{Trail};

@@ -1,4 +1,4 @@
-use Rattle.std.proofs.Common.{sym, ap, ◌∙◌, arith, length}
+use Rattle.std.proofs.Common.{ap, ◌∙◌}
 use Rattle.std.specs.Prelude.{slice_range}
 use Rattle.resolver_clause_store.specs.Clauses.{start_of}
 use Rattle.resolver_clause_store.proofs.ClauseLists.{part-inside, part-of, part-order, within-ends}
@@ -15,7 +15,8 @@ part-requires-clause-in_order c = part-order _ _ _ c.args.number _ _ _ c.clauses
     (c.first_place.ensures ∙ ap (λ ends. start_of 0 ends c.args.number) c.deref-2.ensures.value) c.clauses.invariant
 
 pub part-requires-clause-inside : goal.part-requires-clause-inside
-part-requires-clause-inside c = rw c.deref.ensures.value (part-inside _ _ _ c.args.number 0 _ _ c.clauses.view_is c.requires c.index.ensures c.clauses.invariant)
+part-requires-clause-inside c = rw c.deref.ensures.value
+    (part-inside _ _ _ c.args.number 0 _ _ c.clauses.view_is c.requires c.index.ensures c.clauses.invariant)
 
 pub returns : goal.returns
 returns c = c.part.ensures ∙ ap (λ list. slice_range list c.first_place.result c.index.result.now) c.deref.ensures.value ∙

@@ -108,32 +108,39 @@ invariant_of-self-in-Break-branch-2 c = record { in_lists = in_lists-kept _ _ _ 
 
 pub invariant_of-self-in-Break-branch-3 : goal.invariant_of-self-in-Break-branch-3
 invariant_of-self-in-Break-branch-3 c =
-    record { in_lists = in_lists-equal _ _ _ _ c.in_err-push.ensures.unchanged refl (in_lists-kept _ _ _ _ c.requires.consistent.propagator c.attach.ensures.kept) }
+    record {
+      in_lists = in_lists-equal _ _ _ _ c.in_err-push.ensures.unchanged refl
+          (in_lists-kept _ _ _ _ c.requires.consistent.propagator c.attach.ensures.kept);
+    }
 
 pub invariant_of-self-in-Break-branch-4 : goal.invariant_of-self-in-Break-branch-4
 invariant_of-self-in-Break-branch-4 c =
     record {
       in_lists = in_lists-equal _ _ _ _ c.in_ok-push.ensures.items refl
-          (in_lists-added _ c.deref-3.result.now _ _ _ c.requires.consistent.propagator c.attach.ensures.kept (rw (c.deref-2.ensures.value, ← c.deref-3.ensures.value) at c.in_ok-attach.ensures.own));
+          (in_lists-added _ c.deref-3.result.now _ _ _ c.requires.consistent.propagator c.attach.ensures.kept
+          (rw (c.deref-2.ensures.value, ← c.deref-3.ensures.value) at c.in_ok-attach.ensures.own));
     }
 
 pub invariant_of-self-in-Break-branch-5 : goal.invariant_of-self-in-Break-branch-5
 invariant_of-self-in-Break-branch-5 c =
     record {
       in_lists = in_lists-equal _ _ _ _ c.in_ok-push.ensures.items refl
-          (in_lists-added _ c.deref-3.result.now _ _ _ c.requires.consistent.propagator c.attach.ensures.kept (rw (c.deref-2.ensures.value, ← c.deref-3.ensures.value) at c.in_ok-attach.ensures.own));
+          (in_lists-added _ c.deref-3.result.now _ _ _ c.requires.consistent.propagator c.attach.ensures.kept
+          (rw (c.deref-2.ensures.value, ← c.deref-3.ensures.value) at c.in_ok-attach.ensures.own));
     }
 
 pub invariant_of-self-in-Break-branch-6 : goal.invariant_of-self-in-Break-branch-6
 invariant_of-self-in-Break-branch-6 c =
     record {
       in_lists = in_lists-equal _ _ _ _ c.in_ok-push.ensures.items c.cut.ensures.watches
-          (in_lists-added _ c.deref-3.result.now _ _ _ c.requires.consistent.propagator c.attach.ensures.kept (rw (c.deref-2.ensures.value, ← c.deref-3.ensures.value) at c.in_ok-attach.ensures.own));
+          (in_lists-added _ c.deref-3.result.now _ _ _ c.requires.consistent.propagator c.attach.ensures.kept
+          (rw (c.deref-2.ensures.value, ← c.deref-3.ensures.value) at c.in_ok-attach.ensures.own));
     }
 
 pub invariant_of-self-2 : goal.invariant_of-self-2
 invariant_of-self-2 c =
     record {
       in_lists = in_lists-equal _ _ _ _ c.in_ok-push.ensures.items c.cut.ensures.watches
-          (in_lists-added _ c.deref-3.result.now _ _ _ c.requires.consistent.propagator c.attach.ensures.kept (rw (c.deref-2.ensures.value, ← c.deref-3.ensures.value) at c.in_ok-attach.ensures.own));
+          (in_lists-added _ c.deref-3.result.now _ _ _ c.requires.consistent.propagator c.attach.ensures.kept
+          (rw (c.deref-2.ensures.value, ← c.deref-3.ensures.value) at c.in_ok-attach.ensures.own));
     }

@@ -1,5 +1,5 @@
-use Rattle.std.proofs.Common.{rules, refl, ap, sym, subst, ◌∙◌, ◌≡◌, length, List, min, ℕ}
-use Rattle.resolver_clause_store.specs.TrailView.{IsUndone, length_of, variable_count}
+use Rattle.std.proofs.Common.{rules, refl, ap, subst, ◌∙◌, ◌≡◌, length, min, ℕ}
+use Rattle.resolver_clause_store.specs.TrailView.{IsUndone, length_of}
 use Rattle.resolver_clause_store.proofs.KeptLemmas.{keeps_undone}
 use Rattle.resolvo.specs.Propagators.{IsPropagator}
 use Rattle.resolvo.proofs.AttachingLemmas.{lower-undone}
@@ -50,7 +50,10 @@ invariant_of-self c = record { in_lists = in_lists-kept _ _ _ _ c.requires.consi
 
 pub invariant_of-self-in-Break-branch-3 : goal.invariant_of-self-in-Break-branch-3
 invariant_of-self-in-Break-branch-3 c =
-    record { in_lists = in_lists-equal _ _ _ _ c.in_err-push.ensures.unchanged refl (in_lists-kept _ _ _ _ c.requires.consistent.propagator c.attach.ensures.kept) }
+    record {
+      in_lists = in_lists-equal _ _ _ _ c.in_err-push.ensures.unchanged refl
+          (in_lists-kept _ _ _ _ c.requires.consistent.propagator c.attach.ensures.kept);
+    }
 
 pub invariant_of-self-in-Break-branch-4 : goal.invariant_of-self-in-Break-branch-4
 invariant_of-self-in-Break-branch-4 c =

@@ -23,7 +23,8 @@ clauses-preserved c =
       consistent = step.consistent;
       same = same-trans _ _ _ before.same step.same;
       count = omega (arith, step.count, before.count);
-      loaded = λ given numbers more loaded is. clauses-next _ _ _ _ numbers _ (omega (arith, c.clauses-test.true, c.len-number-end.ensures)) c.clause.ensures step.loaded
+      loaded = λ given numbers more loaded is. clauses-next _ _ _ _ numbers _ (omega (arith, c.clauses-test.true, c.len-number-end.ensures))
+          c.clause.ensures step.loaded
           (before.loaded given numbers more loaded is);
     }
 

@@ -1,6 +1,4 @@
 use Rattle.std.proofs.Common.{◌≡◌, ◌++◌, ℕ, List, take, length}
-use Rattle.std.specs.Prelude.{Vec}
-use Rattle.std.specs.declared.alloc.Global.{Global}
 use Rattle.resolver_clause_store.specs.declared.Literal.{Literal}
 use Rattle.resolvo.specs.ClauseSearches.{IsConsistent, IsLoaded, IsSameSearch}
 use Rattle.resolvo.proofs.clause_search.ClauseSearch.load_clauses.Given as goal

@@ -38,7 +38,8 @@ clauses-preserved c =
     record {
       size = before.size;
       justified = before.justified;
-      propagator = propagator-next _ _ _ _ _ _ (omega (arith, c.clauses-test.true, c.len-number-end.ensures)) c.clause.ensures c.in_ok-attach.ensures.propagator before.propagator;
+      propagator = propagator-next _ _ _ _ _ _ (omega (arith, c.clauses-test.true, c.len-number-end.ensures))
+          c.clause.ensures c.in_ok-attach.ensures.propagator before.propagator;
     }
 
 pub returns-clause-propagator : goal.returns-clause-propagator
