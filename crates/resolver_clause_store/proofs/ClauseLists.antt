@@ -3,7 +3,7 @@ use Rattle.std.proofs.Common.{◌≡◌, ℕ, zero, suc, ◌+◌, ◌-◌, ◌<�
 use Rattle.std.proofs.Common.{◌∙◌, take, drop, length-append, subst}
 use Rattle.std.specs.Prelude.{slice_range}
 use Rattle.std.proofs.Math.Seq.{drop-append_seam}
-use Rattle.std.proofs.lemmas.List.{drop-append-le, length-drop, take-append-le, take_all}
+use Rattle.std.proofs.lemmas.List.{drop-append-le, get_or_read, length-drop, take-append-le, take_all}
 use Rattle.resolver_clause_store.specs.declared.literals.Literal.{Literal}
 use Rattle.resolver_clause_store.specs.Clauses.{AreEnds, between, start_of}
 use Rattle.resolver_clause_store.specs.Formula.{clause_at}
@@ -77,15 +77,10 @@ pub within-ends : (ends : List ℕ) (literals : List Literal) (clauses : List (L
     number < length clauses → number < length ends
 within-ends ends literals clauses number are within = omega (arith, within, ap length are, between-length 0 ends literals)
 
-any-default : (ends : List ℕ) (number d : ℕ) → number < length ends → get_or ends number d ≡ get_or ends number 0
-any-default [] number d within = absurd (omega (arith, within))
-any-default (end ∷ ends) zero d within = refl
-any-default (end ∷ ends) (suc number) d within = any-default ends number d (omega (arith, within))
-
-module _ (ends : List ℕ) (literals : List Literal) (clauses : List (List Literal)) (number start end d : ℕ) (are : between 0 ends literals ≡ clauses)
-    (within : number < length clauses) (ends_at : end ≡ get_or ends number d) where
+module _ (ends : List ℕ) (literals : List Literal) (clauses : List (List Literal)) (number start end : ℕ) (are : between 0 ends literals ≡ clauses)
+    (within : number < length clauses) (ends_at : end ≡ get_or ends number end) where
   end_is : end ≡ get_or ends number 0
-  end_is = ends_at ∙ any-default ends number d (within-ends ends literals clauses number are within)
+  end_is = get_or_read ends number end (within-ends ends literals clauses number are within) ends_at 0
 
   pub part-order : start ≡ start_of 0 ends number → AreEnds 0 ends (length literals) → start ≤ end
   part-order begins ascend =
