@@ -13,6 +13,7 @@ use resolver_clause_store::{By, ConditionId, ConditionalRequirement, Requirement
 use resolver_report::{ConflictGraph, ConflictNode, Rule, find};
 use std::alloc::AllocError;
 use std::cell::Cell;
+use std::mem::drop;
 use std::test::Fail;
 
 type Outcome = Result<Vec<u32>, UnsolvableOrCancelled<TestProvider>>;
@@ -356,7 +357,9 @@ fn holds(alloc: Global, stated: &Stated<'_>, steps: &[Step<'_>]) -> bool {
     let mut provider = provider_of_nothing(alloc, stated.endless);
     let has_room = state(&mut provider, stated).is_ok();
     let mut solver = Solver::new(alloc, provider);
-    has_room & goes_through(&mut solver, stated, steps)
+    let held = has_room & goes_through(&mut solver, stated, steps);
+    drop(solver);
+    held
 }
 
 /// Returns whether steps succeed with a solver over a provider of these requirements and constraints.
