@@ -70,10 +70,13 @@ fn solve_both(
     let mut solver = Solver::new(alloc, provider);
     let outcome = solver.solve(first);
     let first = ending_of(&outcome);
+    drop(outcome);
     let exempt = set_of(solver.exempt_solvables());
     let clauses = solver.clause_count();
     let outcome = solver.solve(second);
     let second = ending_of(&outcome);
+    drop(outcome);
+    drop(solver);
     Twice {
         first,
         exempt,

@@ -36,7 +36,10 @@ fn exempts_in(alloc: Global, request: Request, wanted: &[SolvableId]) -> bool {
         .soft_list(request.soft_requirements);
     let mut solver = Solver::new(alloc, request.catalog);
     let outcome = solver.solve(problem);
-    outcome.is_ok() & (solver.exempt_solvables() == wanted)
+    let is_right = outcome.is_ok() & (solver.exempt_solvables() == wanted);
+    drop(outcome);
+    drop(solver);
+    is_right
 }
 
 /// Returns whether an input has an answer with exactly these exempt solvables, in this order.

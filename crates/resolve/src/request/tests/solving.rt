@@ -115,12 +115,14 @@ fn solve_request(alloc: Global, request: Request, soft: SoftParts) -> Solved {
         .soft_requirements(soft.first.into_iter());
     let mut solver = Solver::new(alloc, request.catalog);
     let outcome = solver.solve(problem);
-    Solved {
+    let solved = Solved {
         outcome,
         clauses: solver.clause_count(),
         deferred: solver.deferred_requirements_count(),
         exempt: set_of(solver.exempt_solvables()),
-    }
+    };
+    drop(solver);
+    solved
 }
 
 pub fn solve(alloc: Global, asked: Asked<'_>) -> Result<Solved, Fail> {
