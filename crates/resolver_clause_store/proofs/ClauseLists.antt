@@ -5,26 +5,17 @@ use Rattle.std.specs.Prelude.{slice_range}
 use Rattle.std.proofs.Math.Seq.{drop-append_seam}
 use Rattle.std.proofs.lemmas.List.{drop-append-le, get_or_read, length-drop, take-append-le, take_all}
 use Rattle.resolver_clause_store.specs.declared.literals.Literal.{Literal}
-use Rattle.resolver_clause_store.specs.Clauses.{AreEnds, between, start_of}
+use Rattle.resolver_clause_store.specs.Clauses.{AreEnds, between}
 use Rattle.resolver_clause_store.specs.Formula.{clause_at}
 
 pub between-length : (start : ℕ) (ends : List ℕ) (literals : List Literal) → length (between start ends literals) ≡ length ends
 between-length start [] literals = refl
 between-length start (end ∷ ends) literals = ap suc (between-length end ends literals)
 
-pub start_of-first : (start : ℕ) (ends : List ℕ) → start_of start ends 0 ≡ start
-start_of-first start [] = refl
-start_of-first start (end ∷ ends) = refl
-
-start_of-next : (start : ℕ) (ends : List ℕ) (number : ℕ) → number < length ends → start_of start ends (suc number) ≡ get_or ends number 0
-start_of-next start [] number within = absurd (omega arith)
-start_of-next start (end ∷ ends) zero within = start_of-first end ends
-start_of-next start (end ∷ ends) (suc number) within = start_of-next end ends number (omega arith)
-
-pub start_of-later : (start : ℕ) (ends : List ℕ) (number : ℕ) → 0 < number → number < length ends → start_of start ends number ≡ get_or ends (number - 1) 0
-start_of-later start ends zero later within = absurd (omega arith)
-start_of-later start ends (suc number) later within =
-    start_of-next start ends number (omega (arith, within)) ∙ ap (λ n. get_or ends n 0) (omega arith)
+-- a part begins where the part before it ends
+pub begins-later : (ends : List ℕ) (number : ℕ) → 0 < number → get_or (0 ∷ ends) number 0 ≡ get_or ends (number - 1) 0
+begins-later ends zero later = absurd (omega (arith, later))
+begins-later ends (suc number) later = ap (λ n. get_or ends n 0) (omega arith)
 
 -- the ends ascend
 ends-above : (start : ℕ) (ends : List ℕ) (last : ℕ) → AreEnds start ends last → start ≤ last
@@ -37,13 +28,13 @@ ends-inside start (end ∷ ends) last zero are within = ends-above end ends last
 ends-inside start (end ∷ ends) last (suc number) are within = ends-inside end ends last number are.1 (omega arith)
 
 pub ends-ascend : (start : ℕ) (ends : List ℕ) (last number : ℕ) → AreEnds start ends last → number < length ends →
-    start_of start ends number ≤ get_or ends number 0
+    get_or (start ∷ ends) number 0 ≤ get_or ends number 0
 ends-ascend start [] last number are within = absurd (omega arith)
 ends-ascend start (end ∷ ends) last zero are within = are.0
 ends-ascend start (end ∷ ends) last (suc number) are within = ends-ascend end ends last number are.1 (omega arith)
 
 pub between-at : (start : ℕ) (ends : List ℕ) (literals : List Literal) (number : ℕ) → number < length ends →
-    clause_at (between start ends literals) number ≡ slice_range literals (start_of start ends number) (get_or ends number 0)
+    clause_at (between start ends literals) number ≡ slice_range literals (get_or (start ∷ ends) number 0) (get_or ends number 0)
 between-at start [] literals number within = absurd (omega arith)
 between-at start (end ∷ ends) literals zero within = refl
 between-at start (end ∷ ends) literals (suc number) within = between-at end ends literals number (omega arith)
@@ -82,15 +73,15 @@ module _ (ends : List ℕ) (literals : List Literal) (clauses : List (List Liter
   end_is : end ≡ get_or ends number 0
   end_is = get_or_read ends number end (within-ends ends literals clauses number are within) ends_at 0
 
-  pub part-order : start ≡ start_of 0 ends number → AreEnds 0 ends (length literals) → start ≤ end
+  pub part-order : start ≡ get_or (0 ∷ ends) number 0 → AreEnds 0 ends (length literals) → start ≤ end
   part-order begins ascend =
       omega (arith, begins, end_is, ends-ascend 0 ends (length literals) number ascend (within-ends ends literals clauses number are within))
 
   pub part-inside : AreEnds 0 ends (length literals) → end ≤ length literals
   part-inside ascend = omega (arith, end_is, ends-inside 0 ends (length literals) number ascend (within-ends ends literals clauses number are within))
 
-  pub part-of : start ≡ start_of 0 ends number → slice_range literals start end ≡ clause_at clauses number
-  part-of begins = ap (λ n. slice_range literals n end) begins ∙ ap (slice_range literals (start_of 0 ends number)) end_is ∙
+  pub part-of : start ≡ get_or (0 ∷ ends) number 0 → slice_range literals start end ≡ clause_at clauses number
+  part-of begins = ap (λ n. slice_range literals n end) begins ∙ ap (slice_range literals (get_or (0 ∷ ends) number 0)) end_is ∙
       sym (between-at 0 ends literals number (within-ends ends literals clauses number are within)) ∙ ap (λ list. clause_at list number) are
 
 module _ (old new : List ℕ) (literals more longer : List Literal) (last : ℕ) (are : AreEnds 0 old (length literals)) (grown : longer ≡ literals ++ more)

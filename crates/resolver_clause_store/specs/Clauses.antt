@@ -1,5 +1,5 @@
 -- Clauses whose literals lie one behind another in one list.
-use Rattle.std.specs.Prelude.{◌≡◌, ℕ, zero, suc, ◌≤◌, List, [], ◌∷◌, slice_range}
+use Rattle.std.specs.Prelude.{◌≡◌, ℕ, ◌≤◌, List, [], ◌∷◌, slice_range}
 use Rattle.resolver_clause_store.specs.declared.literals.Literal.{Literal}
 
 -- the parts of the list between neighbouring places, from the start on
@@ -11,9 +11,3 @@ between start (end ∷ ends) literals = slice_range literals start end ∷ betwe
 abbrev pub AreEnds : ℕ → List ℕ → ℕ → Type 0
 AreEnds start [] last = start ≡ last
 AreEnds start (end ∷ ends) last = (start ≤ end) × AreEnds end ends last
-
--- the place where the part with this number begins
-abbrev pub start_of : ℕ → List ℕ → ℕ → ℕ
-start_of start [] number = start
-start_of start (end ∷ ends) zero = start
-start_of start (end ∷ ends) (suc number) = start_of end ends number

@@ -1,9 +1,8 @@
 //! Clauses by number, and requirement clauses.
 
-ghost use Rattle.std.specs.Prelude.{◌<◌, ◌≡◌, ◌≤◌, ◌∷◌, ◌++◌, ℕ, [], Box, OnErr, OnOk, Vec, length, slice_range};
+ghost use Rattle.std.specs.Prelude.{◌<◌, ◌≡◌, ◌≤◌, ◌∷◌, ◌++◌, ℕ, [], Box, OnErr, OnOk, Vec, length, slice_index_or, slice_range};
 ghost use Rattle.std.specs.Option.{option_map_or};
 ghost use Rattle.std.specs.declared.alloc.Global.{Global};
-ghost use Rattle.resolver_clause_store.specs.Clauses.{start_of};
 ghost use Rattle.resolver_clause_store.specs.Formula.{clause_at};
 
 use crate::literals::Literal;
@@ -70,7 +69,7 @@ impl Model for Clauses {
 /// Returns the place of a clause's first literal.
 fn first_place(ends: &[u32], number: usize) -> usize
     requires { number < length ends.now }
-    ensures { result ≡ start_of 0 ends.now number }
+    ensures { result ≡ slice_index_or (0 ∷ ends.now) number 0 }
 {
     if number == 0 {
         return 0;
@@ -116,6 +115,8 @@ impl Clauses {
     }
 
     /// Appends a clause with these literals. An error changes nothing.
+    ///
+    /// If all clauses together had 2^32 literals or more, the call is refused as for lack of memory.
     pub fn push(&mut self, literals: &[Literal]) -> Result<(), AllocError>
         ensures items { OnOk result (self.new ≡ self.old ++ literals.now ∷ []) }
         ensures unchanged { OnErr result (self.new ≡ self.old) }

@@ -1,6 +1,5 @@
-use Rattle.std.proofs.Common.{ap, ◌∙◌}
+use Rattle.std.proofs.Common.{ap, ◌∙◌, ◌∷◌, get_or}
 use Rattle.std.specs.Prelude.{slice_range}
-use Rattle.resolver_clause_store.specs.Clauses.{start_of}
 use Rattle.resolver_clause_store.proofs.ClauseLists.{part-inside, part-of, part-order, within-ends}
 use Rattle.resolver_clause_store.proofs.clauses.clause.Goals as goal
 
@@ -12,7 +11,7 @@ index-requires c = rw c.clauses.inside.ends.ok.0 (within-ends _ _ _ _ c.clauses.
 
 pub part-requires-clause-in_order : goal.part-requires-clause-in_order
 part-requires-clause-in_order c = part-order _ _ _ c.args.number _ _ c.clauses.view_is c.requires c.index.ensures
-    (c.first_place.ensures ∙ ap (λ ends. start_of 0 ends c.args.number) c.deref-2.ensures.value) c.clauses.invariant
+    (c.first_place.ensures ∙ ap (λ ends. get_or (0 ∷ ends) c.args.number 0) c.deref-2.ensures.value) c.clauses.invariant
 
 pub part-requires-clause-inside : goal.part-requires-clause-inside
 part-requires-clause-inside c = rw c.deref.ensures.value
@@ -21,4 +20,4 @@ part-requires-clause-inside c = rw c.deref.ensures.value
 pub returns : goal.returns
 returns c = c.part.ensures ∙ ap (λ list. slice_range list c.first_place.result c.index.result.now) c.deref.ensures.value ∙
     part-of _ _ _ c.args.number _ _ c.clauses.view_is c.requires c.index.ensures
-    (c.first_place.ensures ∙ ap (λ ends. start_of 0 ends c.args.number) c.deref-2.ensures.value)
+    (c.first_place.ensures ∙ ap (λ ends. get_or (0 ∷ ends) c.args.number 0) c.deref-2.ensures.value)
