@@ -17,7 +17,7 @@ use Rattle.std.proofs.lemmas.List.{get_or-take, get_or_past, length-take-le}
 use Rattle.resolver_clause_store.specs.declared.literals.Literal.{Literal}
 use Rattle.resolver_clause_store.specs.Formula.{clause_at}
 use Rattle.resolver_clause_store.specs.declared.watches.Watch.{Watch}
-use Rattle.resolver_clause_store.specs.declared.watches.WatchedPair.{WatchedPair}
+use Rattle.resolver_clause_store.specs.declared.pairs.WatchedPair.{WatchedPair}
 use Rattle.resolver_clause_store.specs.Watches.{HasBlockers, IsPair, IsWatched, IsWatching, MovesWatch, PutsList, SameClauses, entry_count, is_literal}
 use Rattle.resolver_clause_store.specs.Watches.{is_watched, list_at, list_number, number_at, pair_at, pair_count, replaced, same, stands_in, unwatched}
 use Rattle.resolver_clause_store.proofs.BoolLemmas.{beq-itself, beq-true}

@@ -22,7 +22,9 @@ pub mod Variables
 pub mod Outcomes
 pub mod Settled
 pub mod Watches
+pub mod WatchedPairs
 pub mod WatchesView
+pub mod UnionEnds
 pub mod Decisions
 pub mod Queues
 pub mod Owners

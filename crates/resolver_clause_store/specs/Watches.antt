@@ -7,7 +7,7 @@ use Rattle.std.specs.declared.alloc.Global.{Global}
 use Rattle.resolver_clause_store.specs.declared.literals.Literal.{Literal}
 use Rattle.resolver_clause_store.specs.Formula.{clause_at}
 use Rattle.resolver_clause_store.specs.declared.watches.Watch.{Watch}
-use Rattle.resolver_clause_store.specs.declared.watches.WatchedPair.{WatchedPair}
+use Rattle.resolver_clause_store.specs.declared.pairs.WatchedPair.{WatchedPair}
 
 -- the number of a literal's list
 abbrev pub list_number : Literal → ℕ

@@ -3,7 +3,7 @@ use Rattle.std.specs.Prelude.{◌<◌, List, length, Vec}
 use Rattle.std.specs.declared.alloc.Global.{Global}
 use Rattle.resolver_clause_store.specs.declared.literals.Literal.{Literal}
 use Rattle.resolver_clause_store.specs.declared.watches.Watch.{Watch}
-use Rattle.resolver_clause_store.specs.declared.watches.WatchedPair.{WatchedPair}
+use Rattle.resolver_clause_store.specs.declared.pairs.WatchedPair.{WatchedPair}
 use Rattle.resolver_clause_store.specs.declared.watches.Watches.{Watches}
 use Rattle.resolver_clause_store.specs.Watches.{list_number}
 
@@ -12,7 +12,7 @@ abbrev pub lists_of : Watches → List (Vec Watch Global)
 lists_of watches = watches.lists.items
 
 abbrev pub pairs_of : Watches → List WatchedPair
-pairs_of watches = watches.pairs.items
+pairs_of watches = watches.pairs
 
 -- there is a list for the literal
 abbrev pub HasList : Watches → Literal → Type 0

@@ -1,8 +1,6 @@
 //! Clauses by number, and requirement clauses.
 
-ghost use Rattle.std.specs.Prelude.{◌<◌, ◌≡◌, ◌≤◌, ◌∷◌, ◌++◌, ℕ, [], Box, OnErr, OnOk, Vec, length, slice_index_or, slice_range};
-ghost use Rattle.std.specs.Option.{option_map_or};
-ghost use Rattle.std.specs.declared.alloc.Global.{Global};
+ghost use Rattle.std.specs.Prelude.{◌<◌, ◌≡◌, ◌≤◌, ◌∷◌, ◌++◌, [], OnErr, OnOk, length, slice_index_or, slice_range};
 ghost use Rattle.resolver_clause_store.specs.Formula.{clause_at};
 
 use crate::literals::Literal;
@@ -12,27 +10,14 @@ use std::marker::Model;
 
 /// A clause that states a requirement: the negations of the literals that it depends on, followed by the candidates in
 /// the order in which they are tried.
-#[derive(Drop)]
+#[derive(Clone, Copy)]
 pub struct RequirementClause {
     /// The clause's number.
     pub number: u32,
     /// Whether the requirement is one of the root.
     pub of_root: bool,
-    /// For each version set of a union, the place in the clause after its candidates. `None` for a single version set,
-    /// whose candidates end with the clause.
-    pub ends: Option<Box<Vec<usize>>>,
-}
-
-impl RequirementClause {
-    /// Returns the places after the candidates of each version set of a union, or none for a single version set.
-    pub fn ends(&self) -> &[usize]
-        ensures { result.now ≡ option_map_or (λ (ends : Box (Vec ℕ Global) Global). ends.value.items) self.now.ends [] }
-    {
-        match &self.ends {
-            Some(ends) => ends.as_slice(),
-            None => &[],
-        }
-    }
+    /// Whether the requirement is a union of version sets.
+    pub is_union: bool,
 }
 
 /// A requirement clause, as a search stores it.

@@ -15,9 +15,10 @@ use crate::owner::Owner;
 use crate::scores::{Activity, Scores};
 use crate::standing::{Standing, standing_of};
 use crate::trail::Trail;
+use crate::union_ends::UnionEnds;
 use std::alloc::{AllocError, Global};
 use std::cmp::Reverse;
-use std::collections::{BinaryHeap, HashMap};
+use std::collections::BinaryHeap;
 
 /// The rank of a requirement among those whose packages have the same score.
 ///
@@ -30,8 +31,8 @@ pub struct Rank {
     requirement: u32,
     /// The package of that version set, if it is known.
     owner: Owner,
-    /// The number of times that the requirement had been ranked before.
-    edition: u64,
+    /// The number of times that the requirement had been ranked before, counted round 2^32.
+    edition: u32,
 }
 
 /// A rank, and the score of its package.
@@ -71,7 +72,7 @@ fn first_of(one: Option<Scored>, other: Option<Scored>) -> Option<Scored> {
 /// What is known of a requirement: its place among the active ones, if it is active, and its latest rank.
 #[derive(Clone, Copy)]
 pub struct Entry {
-    edition: u64,
+    edition: u32,
     place: u32,
     is_changed: bool,
     /// Whether the requirement is a union.
@@ -91,7 +92,7 @@ pub struct Ranks {
     learnt: u64,
     entries: Vec<Entry>,
     /// For each requirement that is a union, the places in its clause after the candidates of each version set.
-    ends: HashMap<u32, Vec<usize>>,
+    ends: UnionEnds,
     /// The requirements that have a candidate of a package, by the package's number.
     asking: Lists,
     /// The packages whose requirements have to be ranked again.
@@ -113,7 +114,7 @@ impl Ranks {
             scores: Scores::new(alloc, activity),
             learnt: 0,
             entries: Vec::new(alloc),
-            ends: HashMap::new(alloc),
+            ends: UnionEnds::new(alloc),
             asking: Lists::new(alloc),
             touched: Vec::new(alloc),
             is_touched: Vec::new(alloc),
@@ -164,7 +165,7 @@ impl Ranks {
             return Ok(());
         }
         let copy = ends.to_vec(*self.entries.allocator())?;
-        self.ends.insert(requirement, copy)?;
+        self.ends.note(requirement, copy)?;
         Ok(())
     }
 
@@ -173,10 +174,7 @@ impl Ranks {
         if !self.is_union(requirement) {
             return &[];
         }
-        match self.ends.get(&requirement) {
-            Some(ends) => ends.as_slice(),
-            None => &[],
-        }
+        self.ends.places_of(requirement)
     }
 
     /// Returns whether a requirement is a union.

@@ -8,6 +8,7 @@ ghost use Rattle.resolver_clause_store.specs.Watches.{IsWatched, PutsList, is_wa
 
 use crate::literals::Literal;
 use crate::numbers::narrow;
+use crate::pairs::{WatchedPair, WatchedPairs};
 use std::alloc::{AllocError, Global};
 
 /// A clause in the list of a literal that it watches.
@@ -17,13 +18,6 @@ pub struct Watch {
     pub number: u32,
     /// A literal of the clause. While it is true, the clause need not be visited.
     pub blocker: Literal,
-}
-
-/// The two literals that a clause watches, or none.
-#[derive(Clone, Copy, PartialEq, Eq)]
-pub struct WatchedPair {
-    pub first: Option<Literal>,
-    pub second: Option<Literal>,
 }
 
 /// Returns the number of a literal's list.
@@ -118,8 +112,8 @@ fn set_at(lists: &mut Vec<Vec<Watch>>, list: usize, place: usize, blocker: Liter
 #[derive(Drop)]
 pub struct Watches {
     lists: Vec<Vec<Watch>>,
-    pairs: Vec<WatchedPair>,
-    ghost watched: { IsWatched lists.items pairs.items },
+    pairs: WatchedPairs,
+    ghost watched: { IsWatched lists.items pairs },
 }
 
 impl Watches {
@@ -136,7 +130,7 @@ impl Watches {
     {
         Watches {
             lists: Vec::new(alloc),
-            pairs: Vec::new(alloc),
+            pairs: WatchedPairs::new(alloc),
         }
     }
 
@@ -166,7 +160,7 @@ impl Watches {
         requires { number < length (pairs_of self.now) }
         ensures { result ≡ pair_at (pairs_of self.now) number }
     {
-        self.pairs[number]
+        self.pairs.at(number)
     }
 
     /// Returns the number of clauses that watch a literal.
@@ -206,7 +200,7 @@ impl Watches {
     {
         let watch = Watch { number, blocker };
         push_at(&mut self.lists, list_number(literal), watch)?;
-        self.pairs[number as usize] = pair;
+        self.pairs.set(number as usize, pair);
         Ok(())
     }
 
@@ -315,7 +309,8 @@ impl Watches {
         push_at(&mut self.lists, list_number(copied(&to)), watch)?;
         take_at(&mut self.lists, list_number(copied(&from)), place);
         let index = number as usize;
-        self.pairs[index] = replaced(self.pairs[index], from, to);
+        let pair = replaced(self.pairs.at(index), from, to);
+        self.pairs.set(index, pair);
         Ok(())
     }
 }

@@ -3,6 +3,7 @@ use Rattle.std.specs.Prelude.{◌≡◌, map}
 use Rattle.std.specs.Option.{option_map}
 use Rattle.resolver_clause_store.specs.Variables.{IsBounded as AreBounded, limit_in, origins_in}
 use Rattle.resolver_clause_store.specs.declared.RequirementClause.{RequirementClause}
+use Rattle.resolver_clause_store.specs.declared.UnionEnds.{UnionEnds}
 use Rattle.resolver_encoding.specs.Encodings.{Notes}
 use Rattle.resolver_encoding.specs.ReadState.{Deferred}
 use Rattle.resolver_encoding.specs.Tables.{Table}
@@ -42,6 +43,10 @@ notes_in e = record {
   variable_limit = limit_in e.table.variables;
   clause_limit = e.table.clause_limit;
 }
+
+-- where the candidates of each version set of a union end
+abbrev pub union_ends_in : {N S : Type 0} → Encoding N S → UnionEnds
+union_ends_in e = e.table.union_ends
 
 -- the number of variables is within its limit
 abbrev pub IsBounded : {N S : Type 0} → Encoding N S → Type 0

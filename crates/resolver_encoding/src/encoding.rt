@@ -26,7 +26,7 @@ use crate::groups::Groups;
 use crate::table::ClauseTable;
 use indexmap::IndexSet;
 use resolver_clause_store::{
-    ClauseKind, Clauses, Exhausted, Requirement, RequirementClause, Variables, VersionSetId,
+    ClauseKind, Clauses, Exhausted, Requirement, RequirementClause, UnionEnds, Variables, VersionSetId,
 };
 use std::alloc::Global;
 use std::hash::Hash;
@@ -51,7 +51,7 @@ pub struct Encoding<N: Copy + Eq + Hash + Drop, S: Copy + Eq + Hash + Drop> {
 }
 
 impl<N: Copy + Eq + Hash + Drop, S: Copy + Eq + Hash + Drop> Encoding<N, S> {
-    ghost use Rattle.resolver_encoding.specs.Notes.{IsBounded, KeepsRoom, notes_in};
+    ghost use Rattle.resolver_encoding.specs.Notes.{IsBounded, KeepsRoom, notes_in, union_ends_in};
 
     /// Returns an encoding that has read nothing, with limits on the numbers of its variables and clauses.
     pub fn new(alloc: Global, variable_limit: usize, clause_limit: usize) -> Self
@@ -138,6 +138,14 @@ impl<N: Copy + Eq + Hash + Drop, S: Copy + Eq + Hash + Drop> Encoding<N, S> {
         ensures { map (λ r. r.number) result.now ≡ (notes_in self.now).requirements }
     {
         self.table.requirements()
+    }
+
+    /// Returns the places where the candidates of each version set end, for the unions among the requirement clauses, by
+    /// the numbers of the clauses.
+    pub fn union_ends(&self) -> &UnionEnds
+        ensures { result.now ≡ union_ends_in self.now }
+    {
+        self.table.union_ends()
     }
 
     /// Returns the number of clauses.

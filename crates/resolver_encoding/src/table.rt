@@ -16,9 +16,9 @@ use crate::literals::{
     count_of, depends_on, first_of, push_candidates, push_front, push_helpers, second_of,
 };
 use resolver_clause_store::{
-    By, ClauseKind, Clauses, Exhausted, Literal, RequirementClause, Variables, narrow,
+    By, ClauseKind, Clauses, Exhausted, Literal, RequirementClause, UnionEnds, Variables, narrow,
 };
-use std::alloc::{AllocError, Global};
+use std::alloc::Global;
 use std::hash::Hash;
 use std::mem::replace;
 
@@ -32,6 +32,8 @@ pub(crate) struct ClauseTable<N: Copy + Eq + Hash + Drop, S: Copy + Eq + Hash + 
     kinds: Vec<ClauseKind<N, S>>,
     literals: Clauses,
     requirements: Vec<RequirementClause>,
+    /// For the unions among the requirement clauses, by the numbers of the clauses.
+    union_ends: UnionEnds,
     clause_limit: usize,
     /// Memory for the literals of the next clause. Its items mean nothing.
     spare: Vec<Literal>,
@@ -41,7 +43,7 @@ pub(crate) struct ClauseTable<N: Copy + Eq + Hash + Drop, S: Copy + Eq + Hash + 
 fn listing_of<N, S>(
     kind: &ClauseKind<N, S>,
     number: u32,
-    ends: Option<Box<Vec<usize>>>,
+    is_union: bool,
 ) -> Option<RequirementClause>
     ensures { (numbers : List ℕ) → numbers_with kind.now number numbers ≡ with_number numbers result }
 {
@@ -49,24 +51,15 @@ fn listing_of<N, S>(
         ClauseKind::Requires { parent, .. } => Some(RequirementClause {
             number,
             of_root: matches!(parent, By::Root),
-            ends,
+            is_union,
         }),
         ClauseKind::GateRequires { .. } => Some(RequirementClause {
             number,
             of_root: false,
-            ends,
+            is_union,
         }),
         _ => None,
     }
-}
-
-/// Boxes the places where the candidates of each version set of a union end, or returns `None` if there are none.
-fn boxed(alloc: Global, ends: Vec<usize>) -> Result<Option<Box<Vec<usize>>>, AllocError> {
-    if ends.is_empty() {
-        return Ok(None);
-    }
-    let ends = Box::new(alloc, ends)?;
-    Ok(Some(ends))
 }
 
 impl<N: Copy + Eq + Hash + Drop, S: Copy + Eq + Hash + Drop> ClauseTable<N, S> {
@@ -89,6 +82,7 @@ impl<N: Copy + Eq + Hash + Drop, S: Copy + Eq + Hash + Drop> ClauseTable<N, S> {
             kinds: Vec::new(alloc),
             literals: Clauses::new(alloc),
             requirements: Vec::new(alloc),
+            union_ends: UnionEnds::new(alloc),
             clause_limit,
             spare: Vec::new(alloc),
         }
@@ -209,14 +203,17 @@ impl<N: Copy + Eq + Hash + Drop, S: Copy + Eq + Hash + Drop> ClauseTable<N, S> {
         ensures memory { IfErr result (λ e. e ≡ Exhausted.Memory) }
     {
         let number = narrow(self.kinds.len())?;
-        let asking = listing_of(&kind, number, boxed(self.alloc, ends)?);
-        match asking {
+        let is_union = !ends.is_empty();
+        if is_union {
+            self.union_ends.note(number, ends)?;
+        }
+        match listing_of(&kind, number, is_union) {
             None => {
                 self.put_literals(kind, literals)?;
                 Ok(())
             }
-            Some(asking) => {
-                self.requirements.push(asking)?;
+            Some(clause) => {
+                self.requirements.push(clause)?;
                 match self.put_literals(kind, literals) {
                     Ok(()) => Ok(()),
                     Err(_) => {
@@ -271,5 +268,13 @@ impl<N: Copy + Eq + Hash + Drop, S: Copy + Eq + Hash + Drop> ClauseTable<N, S> {
         ensures { map (λ r. r.number) result.now ≡ (table_in self.now).requirements }
     {
         &self.requirements
+    }
+
+    /// Returns the places where the candidates of each version set end, for the unions among the requirement clauses, by
+    /// the numbers of the clauses.
+    pub(crate) fn union_ends(&self) -> &UnionEnds
+        ensures { result.now ≡ self.now.union_ends }
+    {
+        &self.union_ends
     }
 }

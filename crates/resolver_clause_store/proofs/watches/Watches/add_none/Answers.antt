@@ -2,7 +2,7 @@ use Rattle.resolver_clause_store.proofs.WatchListLemmas.{kept-push, kept-same}
 use Rattle.resolver_clause_store.proofs.watches.Watches.add_none.Goals as goal
 
 pub returns-in_err-push-clause-kept : goal.returns-in_err-push-clause-kept
-returns-in_err-push-clause-kept c = kept-same _ _ c.in_err-push.ensures.items
+returns-in_err-push-clause-kept c = kept-same _ _ c.in_err-push.ensures.unchanged
 
 pub returns-clause-kept : goal.returns-clause-kept
-returns-clause-kept c = kept-push _ _ _ c.in_ok-push.ensures.items
+returns-clause-kept c = kept-push _ _ _ c.in_ok-push.ensures.pairs
