@@ -21,7 +21,7 @@ use Rattle.resolver_clause_store.proofs.TrailLemmas.{false-before, false_before-
 use Rattle.resolver_clause_store.specs.declared.Choice.{Choice}
 use Rattle.resolvo.specs.ClauseSearches.{Grows}
 use Rattle.resolver_clause_store.specs.Decisions.{IsChoice}
-use Rattle.resolvo.specs.declared.contradiction.Source.{Source}
+use Rattle.resolvo.specs.Sources.{Source}
 use Rattle.resolvo.specs.Derivations.{AreGiven, IsDerived, causes_at, causes_of, given_at, number_of}
 use Rattle.resolvo.specs.Propagation.{AreChosen, IsDecidedFor, IsJustified, IsUnit}
 use Rattle.resolvo.specs.Resolvents.{IsAsserting, IsDrawn, IsFalseAt, level_in}

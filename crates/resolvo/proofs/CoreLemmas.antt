@@ -7,7 +7,7 @@ use Rattle.std.proofs.lemmas.List.Elements.{All-contains}
 use Rattle.resolver_clause_store.specs.declared.Literal.{Literal}
 use Rattle.resolver_clause_store.specs.Formula.{clause_at, clause_true, FollowsFrom}
 use Rattle.resolver_clause_store.specs.Outcomes.{IsCore}
-use Rattle.resolvo.specs.declared.contradiction.Source.{Source}
+use Rattle.resolvo.specs.Sources.{Source}
 use Rattle.resolvo.specs.Resolvents.{is_marked}
 use Rattle.resolvo.specs.Derivations.{AddsMarked, AreGiven, causes_at, given_at, IsDerived, ListsMarked, MarksNumbers, MarkedRefute, Replaces, Stands}
 use Rattle.resolvo.proofs.SourceLemmas.{given_within, some_or_none}

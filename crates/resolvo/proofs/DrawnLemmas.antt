@@ -17,7 +17,7 @@ use Rattle.resolver_clause_store.specs.TrailView.{literal_value, slot_of}
 use Rattle.resolver_clause_store.proofs.FormulaLemmas.{beq-false, clause_at-get_or}
 use Rattle.resolver_clause_store.proofs.TrailLemmas.{value-false}
 use Rattle.resolvo.specs.declared.clause_search.ClauseSearch.{ClauseSearch}
-use Rattle.resolvo.specs.declared.contradiction.Source.{Source}
+use Rattle.resolvo.specs.Sources.{Source}
 use Rattle.resolvo.specs.ClauseSearches.{IsConsistent, IsLoaded}
 use Rattle.resolvo.specs.Derivations.{AreGiven, IsDerived, given_at}
 use Rattle.resolvo.specs.Propagation.{IsJustified}
@@ -135,7 +135,7 @@ pub values_drawn : (it : ClauseSearch) (given : List (List Literal)) (numbers : 
     Contains clause (record { variable = variable; positive = slot.value })
 values_drawn it given numbers holds loaded variable slot at other =
     let table = it.table in
-    let drawn = table_drawn given table it.sources.items holds.derived loaded.clauses.are in
+    let drawn = table_drawn given table it.sources holds.derived loaded.clauses.are in
     let literal : Literal = record { variable = variable; positive = slot.value } in
     ⊎_elim
     (λ (w : (n : ℕ) × (slot.reason ≡ Decided n)).

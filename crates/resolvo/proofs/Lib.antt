@@ -4,6 +4,7 @@ pub mod VisitLemmas
 pub mod AttachingLemmas
 pub mod WatchedLemmas
 pub mod ReturningLemmas
+pub mod StoredSourceLemmas
 pub mod SourceLemmas
 pub mod MarkLemmas
 pub mod ResolutionLemmas

@@ -21,8 +21,8 @@ use Rattle.resolver_clause_store.specs.TrailView.{IsGrown, IsUndone, KeepsPlaces
 use Rattle.resolver_clause_store.proofs.FormulaLemmas.{clause_at-last, clause_at-push}
 use Rattle.resolver_clause_store.proofs.KeptLemmas.{keeps_all, keeps_grown, keeps_through, keeps_trans, keeps_undone}
 use Rattle.resolver_clause_store.proofs.TrailLemmas.{Keeps, forcing-kept}
-use Rattle.resolvo.specs.declared.contradiction.Source.{Source}
-use Rattle.resolvo.specs.declared.contradiction.Source.TheVariants.{Given}
+use Rattle.resolvo.specs.Sources.{Source}
+use Rattle.resolvo.specs.Sources.{given_as}
 use Rattle.resolvo.specs.declared.clause_search.ClauseSearch.{ClauseSearch}
 use Rattle.resolvo.specs.ClauseSearches.{AreLoaded, IsConsistent, IsLoaded, IsSameProblem, IsSameSearch, KeepsFirst, numbers_of, place_of, stored_places}
 use Rattle.resolvo.specs.Derivations.{IsDerived, given_at, number_of}
@@ -79,22 +79,22 @@ loaded-learnt given table sources places clause source size learnt loaded = reco
 -- one more given clause
 placed-push : (given table : List (List Literal)) (sources : List Source) (places : List ℕ) → length sources ≡ length table →
     AreLoaded given table sources places → (n : ℕ) → n < length given + 1 →
-    given_at (sources ++ Given (length places) ∷ []) (place_of (places ++ length table ∷ []) n) ≡ Some n
+    given_at (sources ++ given_as (length places) ∷ []) (place_of (places ++ length table ∷ []) n) ≡ Some n
 placed-push given table sources places size loaded n less = ⊎_elim
     (λ (early : n < length given).
     let at = loaded.placed n early in
     let same : place_of (places ++ length table ∷ []) n ≡ place_of places n =
     get_or-append places (length table ∷ []) 0 n (omega (arith, early, loaded.count)) in
-    ap (λ p. given_at (sources ++ Given (length places) ∷ []) p) same ∙ given_at-push sources _ _ (given_within sources _ n at) ∙ at)
+    ap (λ p. given_at (sources ++ given_as (length places) ∷ []) p) same ∙ given_at-push sources _ _ (given_within sources _ n at) ∙ at)
     (λ (late : length given ≤ n).
     let here : n ≡ length places = omega (arith, late, loaded.count) in
     let same : place_of (places ++ length table ∷ []) n ≡ length sources = get_or_push places (length table) 0 n (sym here) ∙ sym size in
-    ap (λ p. given_at (sources ++ Given (length places) ∷ []) p) same ∙ given_at-last sources _ ∙ ap Some (sym here))
+    ap (λ p. given_at (sources ++ given_as (length places) ∷ []) p) same ∙ given_at-last sources _ ∙ ap Some (sym here))
     (cases_lt n (length given))
 
 pub loaded-given : (given table : List (List Literal)) (sources : List Source) (places : List ℕ) (clause : List Literal) →
     length sources ≡ length table → AreLoaded given table sources places →
-    AreLoaded (given ++ clause ∷ []) (table ++ clause ∷ []) (sources ++ Given (length places) ∷ []) (places ++ length table ∷ [])
+    AreLoaded (given ++ clause ∷ []) (table ++ clause ∷ []) (sources ++ given_as (length places) ∷ []) (places ++ length table ∷ [])
 loaded-given given table sources places clause size loaded =
     let long : length (given ++ clause ∷ []) ≡ length given + 1 = length-append given (clause ∷ []) in
     record {
@@ -104,7 +104,7 @@ loaded-given given table sources places clause size loaded =
         within = λ p n is. ⊎_elim
             (λ (w : (p < length sources) × (given_at sources p ≡ Some n)). omega (arith, loaded.are.within p n w.1, long))
             (λ (w : (p ≡ length sources) × (Some (length places) ≡ Some n)). omega (arith, same_Some _ _ w.1, loaded.count, long))
-            (given_at-cases sources (Given (length places)) p n is);
+            (given_at-cases sources (given_as (length places)) p n is);
         same = λ p n is. ⊎_elim
             (λ (w : (p < length sources) × (given_at sources p ≡ Some n)).
             clause_at-push table clause p (omega (arith, w.0, size)) ∙ loaded.are.same p n w.1 ∙
@@ -113,7 +113,7 @@ loaded-given given table sources places clause size loaded =
             let number : length given ≡ n = sym loaded.count ∙ same_Some _ _ w.1 in
             ap (λ q. clause_at (table ++ clause ∷ []) q) (w.0 ∙ size) ∙ clause_at-last table clause ∙ sym (clause_at-last given clause) ∙
             ap (λ m. clause_at (given ++ clause ∷ []) m) number)
-            (given_at-cases sources (Given (length places)) p n is);
+            (given_at-cases sources (given_as (length places)) p n is);
       };
     }
 
@@ -260,7 +260,7 @@ same-undone old new level it undone high learnt kept base held = record {
 -- a search with a given clause after the others
 pub consistent-given : (old new : ClauseSearch) (clause : List Literal) (number place level : ℕ) → IsConsistent old →
     IsBelow (variable_count old.trail) clause → place ≡ length old.table → new.table ≡ old.table ++ clause ∷ [] →
-    new.sources.items ≡ old.sources.items ++ Given number ∷ [] → new.places.items ≡ old.places.items ++ place ∷ [] →
+    new.sources ≡ old.sources ++ given_as number ∷ [] → new.places.items ≡ old.places.items ++ place ∷ [] →
     new.requirements.items ≡ old.requirements.items → IsUndone old.trail new.trail level → old.base ≤ level → new.learnt ≡ old.learnt →
     new.kept ≡ min old.kept (length_of new.trail) → new.base ≡ old.base → new.held ≡ old.held → IsPropagator new.table new.trail new.propagator →
     IsQueued new.queue new.trail old.table old.requirements.items → IsConsistent new
@@ -269,7 +269,7 @@ consistent-given old new clause number place level it below end table sources pl
     let longer : length (old.table ++ clause ∷ []) ≡ length old.table + 1 = length-append old.table (clause ∷ []) in
     record {
       below = rw (table, undone.size) (below-push _ old.table clause it.below below);
-      derived = rw (table, sources) (derived-push old.table old.sources.items clause (Given number) it.derived
+      derived = rw (table, sources) (derived-push old.table old.sources clause (given_as number) it.derived
           (All-nil (λ n. n < length old.table)) (λ none. absurd (none-some number (sym none))) (λ none. absurd (none-some number (sym none))));
       justified = rw table (justified-grows old.table (old.table ++ clause ∷ []) new.trail grows
           (justified-undone old.table old.trail new.trail level it.justified undone));
@@ -289,11 +289,11 @@ consistent-given old new clause number place level it below end table sources pl
 
 pub loaded-clause : (old new : ClauseSearch) (given : List (List Literal)) (numbers : List ℕ) (clause : List Literal) (number place : ℕ) →
     IsConsistent old → number ≡ length old.places.items → place ≡ length old.table → new.table ≡ old.table ++ clause ∷ [] →
-    new.sources.items ≡ old.sources.items ++ Given number ∷ [] → new.places.items ≡ old.places.items ++ place ∷ [] →
+    new.sources ≡ old.sources ++ given_as number ∷ [] → new.places.items ≡ old.places.items ++ place ∷ [] →
     new.requirements.items ≡ old.requirements.items → IsLoaded given numbers old → IsLoaded (given ++ clause ∷ []) numbers new
 loaded-clause old new given numbers clause number place it first end table sources places requirements loaded = record {
   clauses = rw (table, sources, places, first, end)
-      (loaded-given given old.table old.sources.items old.places.items clause it.derived.count loaded.clauses);
+      (loaded-given given old.table old.sources old.places.items clause it.derived.count loaded.clauses);
   requirements = rw (requirements, places)
       (loaded.requirements ∙ sym (places-push old.places.items numbers place (length given) (sym loaded.clauses.count) loaded.inside));
   inside = λ k d b. omega (arith, loaded.inside k d b, length-append given (clause ∷ []));
@@ -305,7 +305,7 @@ read-place places number place inside read = get_or_read places number place ins
 
 pub loaded-requirement : (old new : ClauseSearch) (given : List (List Literal)) (numbers : List ℕ) (requirement : StoredRequirement) (number : ℕ) →
     number < length old.places.items → requirement.number ≡ place_of old.places.items number → new.table ≡ old.table →
-    new.sources.items ≡ old.sources.items → new.places.items ≡ old.places.items → new.requirements.items ≡ old.requirements.items ++ requirement ∷ [] →
+    new.sources ≡ old.sources → new.places.items ≡ old.places.items → new.requirements.items ≡ old.requirements.items ++ requirement ∷ [] →
     IsLoaded given numbers old → IsLoaded given (numbers ++ number ∷ []) new
 loaded-requirement old new given numbers requirement number inside here table sources places requirements loaded = record {
   clauses = rw (table, sources, places) loaded.clauses;

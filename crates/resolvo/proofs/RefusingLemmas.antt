@@ -64,7 +64,7 @@ module _ (it : ClauseSearch) (given : List (List Literal)) (numbers : List ℕ) 
       let Forcing : Literal → Type 0 = λ other. (other ≡ literal) ⊎ IsFalseBefore (trail_of it) slot.place other in
       let True : Literal → Type 0 = λ l. literal_true values l ≡ true in
       let w = list_any-witness (literal_true values) clause
-      (implied given it.table it.sources.items number consistent.derived loaded.clauses.are
+      (implied given it.table it.sources number consistent.derived loaded.clauses.are
       (consistent.justified.within variable slot number at reason) values holds) in
       ⊎_elim
       (λ (e : w.0 ≡ literal). beq-true (values variable) slot.value (subst True e w.2))

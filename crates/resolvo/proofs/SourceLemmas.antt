@@ -6,7 +6,7 @@ use Rattle.std.proofs.Math.ListN.{get_or-append}
 use Rattle.std.proofs.Math.Seq.{get_or-append_seam}
 use Rattle.std.proofs.lemmas.Bool.{cases_lt}
 use Rattle.std.proofs.lemmas.Option.{none-some, slice_get-get_or, slice_get_past}
-use Rattle.resolvo.specs.declared.contradiction.Source.{Source}
+use Rattle.resolvo.specs.Sources.{Source}
 use Rattle.resolvo.specs.Derivations.{causes_at, causes_of, given_at, number_of}
 
 pub some_or_none : (o : Option ℕ) → ((n : ℕ) × (o ≡ Some n)) ⊎ (o ≡ None)

@@ -19,7 +19,7 @@ use Rattle.resolver_clause_store.proofs.SlotLemmas.{level-last, none-from}
 use Rattle.resolver_clause_store.proofs.TrailLemmas.{Keeps, gains-cases, keeps-gains, value-false}
 use Rattle.resolvo.specs.declared.analyze.Learnt.{Learnt}
 use Rattle.resolvo.specs.declared.clause_search.ClauseSearch.{ClauseSearch}
-use Rattle.resolvo.specs.declared.contradiction.Source.{Source}
+use Rattle.resolvo.specs.Sources.{Source}
 use Rattle.resolvo.specs.ClauseSearches.{IsConsistent, IsLoaded, IsRefused, IsTurn, KeepsFirst, KeepsTurn}
 use Rattle.resolvo.specs.Derivations.{AreGiven, IsDerived}
 use Rattle.resolvo.specs.Propagators.{IsPropagator}
@@ -278,7 +278,7 @@ refused it given numbers learnt holds loaded is low =
     record {
       turn = omega (arith, a.above, top);
       clause = learnt.literals.items;
-      implied = implied-learnt given it.table it.sources.items learnt.causes.items learnt.literals.items holds.derived loaded.clauses.are is.within
+      implied = implied-learnt given it.table it.sources learnt.causes.items learnt.literals.items holds.derived loaded.clauses.are is.within
           is.follows;
       low = λ k d below.
           let v = value-false _ _ (is.falsified k d below) in

@@ -12,7 +12,7 @@ use Rattle.resolver_clause_store.specs.TrailView.{Gains, IsUndone, KeepsPlaces, 
 use Rattle.resolvo.specs.declared.clause_search.ClauseSearch.{ClauseSearch}
 use Rattle.resolvo.specs.declared.clause_search.Outcome.{Outcome}
 use Rattle.resolvo.specs.declared.clause_search.Outcome.TheVariants.{Finished, Contradiction, Refused}
-use Rattle.resolvo.specs.declared.contradiction.Source.{Source}
+use Rattle.resolvo.specs.Sources.{Source}
 use Rattle.resolvo.specs.Propagation.{AreChosen, AssumesNone, IsJustified}
 use Rattle.resolvo.specs.Propagators.{IsPropagator}
 use Rattle.resolvo.specs.Derivations.{AreGiven, IsDerived, given_at}
@@ -64,7 +64,7 @@ pub record AreLoaded (given table : List (List Literal)) (sources : List Source)
 -- The search was given these clauses, of which those with these numbers are requirement clauses. It decides exactly
 -- those, by their places.
 pub record IsLoaded (given : List (List Literal)) (numbers : List ℕ) (it : ClauseSearch) : Type 0 where
-  pub clauses : AreLoaded given it.table it.sources.items it.places.items
+  pub clauses : AreLoaded given it.table it.sources it.places.items
   pub requirements : stored_places it.requirements.items ≡ map (place_of it.places.items) numbers
   pub inside : All (λ number. number < length given) numbers
 
@@ -79,7 +79,7 @@ pub record IsTurn (trail : Trail) (base held kept : ℕ) : Type 0 where
 -- the invariant of the search
 pub record IsConsistent (it : ClauseSearch) : Type 0 where
   pub below : AreBelow (variable_count it.trail) it.table
-  pub derived : IsDerived it.table it.sources.items
+  pub derived : IsDerived it.table it.sources
   pub justified : IsJustified it.table it.trail
   pub chosen : AreChosen it.table it.requirements.items it.trail
   pub inside : All (λ (requirement : StoredRequirement). requirement.number < length it.table) it.requirements.items

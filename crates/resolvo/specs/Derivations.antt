@@ -3,19 +3,19 @@ use Rattle.std.specs.Prelude.{◌≡◌, ◌≢◌, ℕ, ◌<◌, ◌≤◌, Boo
 use Rattle.std.specs.Option.{option_map_or}
 use Rattle.resolver_clause_store.specs.declared.Literal.{Literal}
 use Rattle.resolver_clause_store.specs.Formula.{clause_at, clause_true, FollowsFrom}
-use Rattle.resolvo.specs.declared.contradiction.Source.{Source}
-use Rattle.resolvo.specs.declared.contradiction.Source.TheVariants.{Given, Learnt}
+use Rattle.resolvo.specs.Sources.{Source}
+use Rattle.resolvo.specs.Sources.{given_as, learnt_from}
 use Rattle.resolvo.specs.Resolvents.{IsDrawn, is_marked}
 
 -- the number of the given clause, if it is one
 abbrev pub number_of : Source → Option ℕ
-number_of (Given number) = Some number
-number_of (Learnt causes) = None
+number_of (given_as number) = Some number
+number_of (learnt_from causes) = None
 
 -- the causes of a learnt clause
 abbrev pub causes_of : Source → List ℕ
-causes_of (Given number) = []
-causes_of (Learnt causes) = causes.value.items
+causes_of (given_as number) = []
+causes_of (learnt_from causes) = causes
 
 -- the number of the given clause at this place of the table, or `None` if the clause there is learnt
 abbrev pub given_at : List Source → ℕ → Option ℕ

@@ -14,6 +14,7 @@ pub mod Attaching
 pub mod Returning
 pub mod WatchedClauses
 pub mod Resolvents
+pub mod Sources
 pub mod Derivations
 pub mod ClauseSearches
 pub mod RoundStates

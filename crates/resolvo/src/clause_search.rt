@@ -1,13 +1,14 @@
 //! A search over clauses: it decides and propagates, learns from conflicts, and backtracks.
 
 ghost use Rattle.std.specs.Prelude.{◌<◌, ◌≡◌, ◌≤◌, ◌+◌, ◌++◌, ◌∷◌, ◌⊎◌, ◌-◌, [], ℕ, All, IfErr, IfNone, IfOk, IfSome, List, None, OnErr, OnOk, Vec, length};
-ghost use Rattle.std.specs.Prelude.{max};
+ghost use Rattle.std.specs.Prelude.{max, if◌then◌else◌};
 ghost use Rattle.std.specs.declared.alloc.Global.{Global};
 ghost use Rattle.resolver_clause_store.specs.Formula.{AreBelow, IsBelow, clause_at};
 ghost use Rattle.resolver_clause_store.specs.Interruptions.{IsInterruption};
 ghost use Rattle.resolver_clause_store.specs.Outcomes.{IsFalsified, IsMet};
 ghost use Rattle.resolver_clause_store.specs.TrailView.{Gains, IsCut, IsUndone, KeepsPlaces, length_of, level_of, open_count, slot_of, variable_at};
 ghost use Rattle.resolver_clause_store.specs.TrailView.{variable_count};
+ghost use Rattle.resolver_clause_store.specs.UnionEnds.{ends_in};
 ghost use Rattle.resolver_clause_store.specs.declared.Exhausted.TheVariants.{Ids, Memory};
 ghost use Rattle.resolver_clause_store.specs.declared.Literal.{Literal};
 ghost use Rattle.resolver_clause_store.specs.declared.Reason.TheVariants.{Assumed};
@@ -26,11 +27,12 @@ ghost use Rattle.resolvo.specs.Resolvents.{IsLearnt, level_in};
 
 use crate::analyze::{Analysis, BlankMarks, Learnt, analyze, asserted_level};
 use crate::clause_state::{State, examine};
-use crate::contradiction::{Source, core};
+use crate::contradiction::core;
 use crate::propagator::{Propagator, apply_all_pending, begins_level, propagate};
+use crate::sources::Sources;
 use resolver_clause_store::{
     Activity, Choice, Clauses, DecideQueue, DependencyProvider, Exhausted, Interrupted, Literal,
-    Owner, RequirementClause, StoredRequirement, Trail, check_cancel, clause, narrow,
+    Owner, RequirementClause, StoredRequirement, Trail, UnionEnds, check_cancel, clause, narrow,
 };
 use std::alloc::{AllocError, Global};
 
@@ -56,7 +58,7 @@ pub struct ClauseSearch {
     trail: Trail,
     propagator: Propagator,
     table: Clauses,
-    sources: Vec<Source>,
+    sources: Sources,
     requirements: Vec<StoredRequirement>,
     /// The place of each given clause, by its number.
     places: Vec<u32>,
@@ -155,6 +157,16 @@ fn level_for(trail: &Trail, literals: &[Literal], base: usize) -> usize
     }
 }
 
+/// Returns the places in a requirement's clause after the candidates of each version set, none if it is no union.
+pub fn ends_of<'x>(requirement: &RequirementClause, union_ends: &'x UnionEnds) -> &'x [usize]
+    ensures { result.now ≡ (if requirement.now.is_union then ends_in union_ends.now requirement.now.number else []) }
+{
+    if requirement.is_union {
+        return union_ends.places_of(requirement.number);
+    }
+    &[]
+}
+
 impl ClauseSearch {
     ghost use Rattle.resolvo.specs.ClauseSearches.{IsConsistent, IsBacktrack, IsLoaded, IsRootTurn};
     ghost use Rattle.resolvo.specs.ClauseSearches.{IsSameProblem, IsSameSearch, SetsNone, StaysBookmarked, KeepsLoaded};
@@ -173,7 +185,7 @@ impl ClauseSearch {
             trail: Trail::empty(alloc),
             propagator: Propagator::empty(alloc),
             table: Clauses::new(alloc),
-            sources: Vec::new(alloc),
+            sources: Sources::new(alloc),
             requirements: Vec::new(alloc),
             places: Vec::new(alloc),
             learnt: 0,
@@ -314,7 +326,7 @@ impl ClauseSearch {
         let level = level_for(&self.trail, literals, self.base);
         self.propagator.attach(&self.trail, literals)?;
         self.table.push(literals)?;
-        self.sources.push(Source::Given(number))?;
+        self.sources.push_given(number)?;
         self.places.push(place)?;
         self.trail.undo_until(level);
         self.propagator.cut(&self.trail)?;
@@ -341,7 +353,11 @@ impl ClauseSearch {
     }
 
     /// Appends a requirement.
-    fn load_requirement(&mut self, requirement: &RequirementClause) -> Result<(), AllocError>
+    fn load_requirement(
+        &mut self,
+        requirement: &RequirementClause,
+        union_ends: &UnionEnds,
+    ) -> Result<(), AllocError>
         requires consistent { IsConsistent self.old }
         requires inside { requirement.now.number < length self.old.places.items }
         ensures consistent { OnOk result (IsConsistent self.new) }
@@ -355,7 +371,7 @@ impl ClauseSearch {
         self.queue.add(
             self.requirements.len(),
             clause(&self.table, place as usize),
-            requirement.ends(),
+            ends_of(requirement, union_ends),
         )?;
         self.requirements.push(StoredRequirement {
             number: place,
@@ -365,7 +381,11 @@ impl ClauseSearch {
     }
 
     /// Loads the requirements after those that are loaded.
-    fn load_requirements(&mut self, requirements: &[RequirementClause]) -> Result<(), AllocError>
+    fn load_requirements(
+        &mut self,
+        requirements: &[RequirementClause],
+        union_ends: &UnionEnds,
+    ) -> Result<(), AllocError>
         requires consistent { IsConsistent self.old }
         requires inside { All (λ (requirement : RequirementClause). requirement.number < length self.old.places.items) requirements.now }
         ensures consistent { OnOk result (IsConsistent self.new) }
@@ -374,20 +394,22 @@ impl ClauseSearch {
         ensures same { OnOk result (IsSameSearch self.old self.new) }
     {
         'requirements: for index in self.requirements.len()..requirements.len() {
-            self.load_requirement(&requirements[index])?;
+            self.load_requirement(&requirements[index], union_ends)?;
         }
         Ok(())
     }
 
     /// Loads the new part of these lists, which only grow.
     ///
-    /// The requirement clauses are among the given ones. The owner of a variable is its package's number, if the
-    /// variable stands for a solvable.
+    /// The requirement clauses are among the given ones. `union_ends` has the places where the candidates of each version
+    /// set end, for the unions among them, by the numbers of the clauses. The owner of a variable is its package's
+    /// number, if the variable stands for a solvable.
     pub fn load(
         &mut self,
         variables: usize,
         clauses: &Clauses,
         requirements: &[RequirementClause],
+        union_ends: &UnionEnds,
         owners: &[Owner],
     ) -> Result<(), Exhausted>
         requires consistent { IsConsistent self.old }
@@ -410,7 +432,7 @@ impl ClauseSearch {
         self.propagator.grow(variables)?;
         self.queue.learn_owners(owners)?;
         self.load_clauses(clauses)?;
-        self.load_requirements(requirements)?;
+        self.load_requirements(requirements, union_ends)?;
         Ok(())
     }
 
@@ -435,12 +457,10 @@ impl ClauseSearch {
             backtrack_level,
         } = learnt;
         let number = self.table.len();
-        let alloc = *self.sources.allocator();
         self.queue.learn(&literals)?;
         self.propagator.attach(&self.trail, &literals)?;
         self.table.push(&literals)?;
-        let source = Source::Learnt(Box::new(alloc, causes)?);
-        self.sources.push(source)?;
+        self.sources.push_learnt(causes)?;
         self.learnt += 1;
         let back = backtrack_level.max(self.base);
         self.trail.undo_until(back);
@@ -502,12 +522,7 @@ impl ClauseSearch {
     {
         match analyze(alloc, &mut self.marks, &self.table, &self.trail, number)? {
             Analysis::Contradiction(causes) => {
-                let numbers = core(
-                    alloc,
-                    &self.table,
-                    self.sources.as_slice(),
-                    causes.as_slice(),
-                )?;
+                let numbers = core(alloc, &self.table, &self.sources, causes.as_slice())?;
                 Ok(Some(Outcome::Contradiction(numbers)))
             }
             Analysis::Clause(learnt) => {

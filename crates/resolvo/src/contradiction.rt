@@ -8,17 +8,9 @@ ghost use Rattle.resolver_clause_store.specs.Outcomes.{IsCore};
 ghost use Rattle.resolvo.specs.Derivations.{AddsMarked, AreGiven, IsDerived, ListsMarked, MarksNumbers, Replaces, Stands, causes_at, given_at};
 ghost use Rattle.resolvo.specs.Resolvents.{is_marked};
 
+use crate::sources::Sources;
 use resolver_clause_store::Clauses;
 use std::alloc::{AllocError, Global};
-
-/// The origin of a clause in the table.
-#[derive(Drop)]
-pub enum Source {
-    /// It is the given clause with this number.
-    Given(usize),
-    /// It follows from the clauses at these places of the table.
-    Learnt(Box<Vec<usize>>),
-}
 
 /// Returns `count` marks, none of them set.
 pub fn unmarked(alloc: Global, count: usize) -> Result<Vec<bool>, AllocError>
@@ -39,36 +31,25 @@ pub fn mark_numbers(marks: &mut Vec<bool>, numbers: &[usize])
 }
 
 /// Replaces a learnt clause by its causes: unmarks it and marks them.
-pub fn replace(sources: &[Source], marks: &mut Vec<bool>, place: usize)
+pub fn replace(sources: &Sources, marks: &mut Vec<bool>, place: usize)
     requires inside { place < length sources.now }
     requires size { length marks.old.items ≡ length sources.now }
     requires earlier { All (λ cause. cause < place) (causes_at sources.now place) }
     ensures { Replaces marks.old.items marks.new.items sources.now place }
 {
-    match &sources[place] {
-        Source::Given(_) => (),
-        Source::Learnt(causes) => {
+    match sources.number_at(place) {
+        Some(_) => (),
+        None => {
             marks[place] = false;
-            mark_numbers(marks, causes.as_slice());
+            mark_numbers(marks, sources.causes_at(place));
         }
-    }
-}
-
-/// Returns the number of the given clause at a place of the table, or `None` if the clause there is learnt.
-pub fn number_at(sources: &[Source], place: usize) -> Option<usize>
-    requires { place < length sources.now }
-    ensures { result ≡ given_at sources.now place }
-{
-    match &sources[place] {
-        Source::Given(number) => Some(*number),
-        Source::Learnt(_) => None,
     }
 }
 
 /// Appends the number of the given clause at a place, if the place is marked and has one.
 pub fn add_marked(
     numbers: &mut Vec<usize>,
-    sources: &[Source],
+    sources: &Sources,
     marks: &[bool],
     place: usize,
 ) -> Result<(), AllocError>
@@ -79,7 +60,7 @@ pub fn add_marked(
     if !marks[place] {
         return Ok(());
     }
-    match number_at(sources, place) {
+    match sources.number_at(place) {
         Some(number) => {
             numbers.push(number)?;
             Ok(())
@@ -89,7 +70,7 @@ pub fn add_marked(
 }
 
 /// Returns the numbers of the given clauses at marked places.
-pub fn marked(alloc: Global, sources: &[Source], marks: &[bool]) -> Result<Vec<usize>, AllocError>
+pub fn marked(alloc: Global, sources: &Sources, marks: &[bool]) -> Result<Vec<usize>, AllocError>
     requires { length marks.now ≡ length sources.now }
     ensures stand { IfOk result (λ numbers. All (Stands sources.now) numbers.items) }
     ensures each { IfOk result (λ numbers. ListsMarked sources.now marks.now numbers.items (length sources.now)) }
@@ -105,7 +86,7 @@ pub fn marked(alloc: Global, sources: &[Source], marks: &[bool]) -> Result<Vec<u
 pub fn core(
     alloc: Global,
     table: &Clauses,
-    sources: &[Source],
+    sources: &Sources,
     start: &[usize],
 ) -> Result<Vec<usize>, AllocError>
     requires derived { IsDerived table.now sources.now }

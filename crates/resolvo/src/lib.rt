@@ -16,6 +16,7 @@ mod rounds;
 #[cfg(test)]
 mod scanning;
 mod solver;
+mod sources;
 #[cfg(test)]
 mod store_tests;
 #[cfg(test)]

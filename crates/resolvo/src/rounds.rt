@@ -166,6 +166,7 @@ impl<N: Copy + Eq + Hash + Drop, S: Copy + Eq + Hash + Drop> Rounds<N, S> {
             known.len(),
             self.encoding.literals(),
             self.encoding.requirements(),
+            self.encoding.union_ends(),
             self.owners.as_slice(),
         )?;
         Ok(())

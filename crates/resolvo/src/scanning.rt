@@ -5,8 +5,9 @@ ghost use Rattle.resolver_clause_store.specs.Formula.{AreBelow, IsBelow};
 ghost use Rattle.resolver_clause_store.specs.TrailView.{variable_count};
 ghost use Rattle.resolver_clause_store.specs.declared.RequirementClause.{RequirementClause as RequirementClauseOf};
 
+use crate::clause_search::ends_of;
 use crate::clause_state::{State, examine};
-use resolver_clause_store::{Clauses, Literal, RequirementClause, Trail, clause};
+use resolver_clause_store::{Clauses, Literal, RequirementClause, Trail, UnionEnds, clause};
 use std::alloc::AllocError;
 
 /// The effect of a scan.
@@ -129,13 +130,15 @@ fn candidate_of(
     trail: &Trail,
     table: &Clauses,
     requirement: &RequirementClause,
+    union_ends: &UnionEnds,
 ) -> Option<Candidate>
     requires below { AreBelow (variable_count trail.now) table.now }
     requires inside { requirement.now.number < length table.now }
 {
     let literals = clause(table, requirement.number as usize);
     let place = first_open(trail, literals)?;
-    let end = requirement.ends().iter().copied().find(|end| place < *end);
+    let ends = ends_of(requirement, union_ends);
+    let end = ends.iter().copied().find(|end| place < *end);
     Some(Candidate {
         number: requirement.number as usize,
         place,
@@ -163,13 +166,14 @@ pub fn decide(
     trail: &Trail,
     table: &Clauses,
     requirements: &[RequirementClause],
+    union_ends: &UnionEnds,
 ) -> Option<(usize, usize)>
     requires below { AreBelow (variable_count trail.now) table.now }
     requires inside { All (λ (requirement : RequirementClauseOf). requirement.number < length table.now) requirements.now }
 {
     let mut first = None;
     for requirement in requirements {
-        first = first_of(first, candidate_of(trail, table, requirement));
+        first = first_of(first, candidate_of(trail, table, requirement, union_ends));
     }
     let found = first?;
     Some((found.number, found.place))

@@ -72,39 +72,51 @@ fn table_of(alloc: Global, clauses: &[&[i32]]) -> Result<Clauses, AllocError> {
 /// A requirement: the number of its clause, whether it is one of the root, and the places where its version sets end.
 type Required<'x> = (usize, bool, &'x [usize]);
 
-fn requirement_of(
-    alloc: Global,
-    number: usize,
-    of_root: bool,
-    places: &[usize],
-) -> Result<RequirementClause, AllocError> {
-    let mut ends = None;
-    if !places.is_empty() {
-        ends = Some(Box::new(alloc, Vec::from_slice(alloc, places)?)?);
-    }
-    Ok(RequirementClause {
-        number: narrow(number)?,
-        of_root,
-        ends,
-    })
+/// Requirement clauses, and where the version sets of the unions among them end.
+#[derive(Drop)]
+struct Requirements {
+    clauses: Vec<RequirementClause>,
+    union_ends: UnionEnds,
 }
 
-fn requirements_of(
-    alloc: Global,
-    given: &[Required<'_>],
-) -> Result<Vec<RequirementClause>, AllocError> {
-    let mut requirements = Vec::new(alloc);
+impl Requirements {
+    fn new(alloc: Global) -> Requirements {
+        Requirements {
+            clauses: Vec::new(alloc),
+            union_ends: UnionEnds::new(alloc),
+        }
+    }
+
+    /// Appends the requirement of a clause, whose version sets end at these places.
+    fn add(&mut self, number: usize, of_root: bool, places: &[usize]) -> Result<(), AllocError> {
+        let number = narrow(number)?;
+        let is_union = !places.is_empty();
+        if is_union {
+            let alloc = *self.clauses.allocator();
+            self.union_ends.note(number, places.to_vec(alloc)?)?;
+        }
+        self.clauses.push(RequirementClause {
+            number,
+            of_root,
+            is_union,
+        })?;
+        Ok(())
+    }
+}
+
+fn requirements_of(alloc: Global, given: &[Required<'_>]) -> Result<Requirements, AllocError> {
+    let mut requirements = Requirements::new(alloc);
     for (number, of_root, places) in given {
-        requirements.push(requirement_of(alloc, *number, *of_root, places)?)?;
+        requirements.add(*number, *of_root, places)?;
     }
     Ok(requirements)
 }
 
 /// Returns this many clauses as requirements of the root.
-fn all_required(alloc: Global, count: usize) -> Result<Vec<RequirementClause>, AllocError> {
-    let mut requirements = Vec::new(alloc);
+fn all_required(alloc: Global, count: usize) -> Result<Requirements, AllocError> {
+    let mut requirements = Requirements::new(alloc);
     for number in 0..count {
-        requirements.push(requirement_of(alloc, number, true, &[])?)?;
+        requirements.add(number, true, &[])?;
     }
     Ok(requirements)
 }
@@ -116,15 +128,20 @@ type Decision = Option<(usize, usize)>;
 fn first_by_scanning(
     alloc: Global,
     table: &Clauses,
-    requirements: &[RequirementClause],
+    requirements: &Requirements,
 ) -> Result<Decision, AllocError> {
     let mut trail = Trail::new(alloc, 16)?;
-    if !are_below(table, 16) || !are_inside(requirements, table.len()) {
+    if !are_below(table, 16) || !are_inside(&requirements.clauses, table.len()) {
         return Ok(None);
     }
     match scan(&mut trail, table)? {
         Some(_) => Ok(None),
-        None => Ok(decide(&trail, table, requirements)),
+        None => Ok(decide(
+            &trail,
+            table,
+            &requirements.clauses,
+            &requirements.union_ends,
+        )),
     }
 }
 
@@ -144,7 +161,7 @@ fn provider_of_nothing(alloc: Global) -> TestProvider {
 fn load_given(
     search: &mut ClauseSearch,
     clauses: &Clauses,
-    requirements: &[RequirementClause],
+    requirements: &Requirements,
     variables: usize,
     owners: &[Owner],
 ) -> bool
@@ -154,13 +171,19 @@ fn load_given(
     if !are_below(clauses, variables) {
         return false;
     }
-    if !are_inside(requirements, clauses.len()) {
+    if !are_inside(&requirements.clauses, clauses.len()) {
         return false;
     }
     if variables < search.trail().variable_count() {
         return false;
     }
-    let loaded = search.load(variables, clauses, requirements, owners);
+    let loaded = search.load(
+        variables,
+        clauses,
+        &requirements.clauses,
+        &requirements.union_ends,
+        owners,
+    );
     loaded.is_ok()
 }
 
@@ -175,7 +198,7 @@ fn load_all(
     ensures { IfOk result (λ loaded. IsTrue loaded → IsConsistent search.new) }
 {
     let requirements = all_required(alloc, clauses.len())?;
-    let loaded = load_given(search, clauses, requirements.as_slice(), variables, &[]);
+    let loaded = load_given(search, clauses, &requirements, variables, &[]);
     Ok(loaded)
 }
 
@@ -397,7 +420,7 @@ fn first_by_searching(
     search: &mut ClauseSearch,
     provider: &TestProvider,
     table: &Clauses,
-    requirements: &[RequirementClause],
+    requirements: &Requirements,
 ) -> Decision
     requires { IsConsistent search.old }
 {
@@ -524,7 +547,7 @@ enum Task<'x> {
     /// Ids run out under limits for learnt clauses and for all, with this many learnt by then.
     Limit((usize, usize), usize),
     /// With these requirements, this is the first decision.
-    First(&'x [RequirementClause], (usize, usize)),
+    First(&'x Requirements, (usize, usize)),
     /// The first four clauses have values, for which this many clauses are learnt. These clauses of all contradict each
     /// other.
     Core(usize, &'x [usize]),
@@ -644,7 +667,7 @@ fn the_limits_stand(rt: HostRuntime) -> Result<(), Fail> {
 fn is_first<'x>(
     alloc: Global,
     table: &'x Clauses,
-    requirements: &'x [RequirementClause],
+    requirements: &'x Requirements,
     wanted: (usize, usize),
 ) -> Result<bool, AllocError> {
     let scanned = first_by_scanning(alloc, table, requirements)?;
@@ -661,7 +684,7 @@ fn decides(
 ) -> Result<bool, AllocError> {
     let table = table_of(alloc, clauses)?;
     let requirements = requirements_of(alloc, required)?;
-    is_first(alloc, &table, requirements.as_slice(), wanted)
+    is_first(alloc, &table, &requirements, wanted)
 }
 
 #[test]

@@ -16,7 +16,7 @@ use crate::test_provider::TestProvider;
 use indexmap::IndexSet;
 use resolver_clause_store::{
     Cache, ConditionId, ConditionalRequirement, DependencyProvider, Exhausted, Interner,
-    Interrupted, Origin, Requirement, RequirementClause, Variable, Variables, VersionSetId, append,
+    Interrupted, Origin, Requirement, Variable, Variables, VersionSetId, append,
     clause, has, is_among,
 };
 use resolver_encoding::{Encoding, Progress};
@@ -498,7 +498,7 @@ fn is_there_then(encoding: &Encoding<u32, u32>, case: &Case<'_>) -> bool {
         None => true,
     };
     let asked = match case.asked {
-        Some(asked) => are_requirements(encoding.requirements(), asked),
+        Some(asked) => are_requirements(encoding, asked),
         None => true,
     };
     let clauses = match case.clauses {
@@ -624,7 +624,8 @@ fn a_third_solvable_brings_a_digit(rt: HostRuntime) -> Result<(), Fail> {
 
 /// Returns whether the requirements have these clauses, are of the root or not, and have this many ends of version sets
 /// each.
-fn are_requirements(found: &[RequirementClause], wanted: &[(usize, bool, usize)]) -> bool {
+fn are_requirements(encoding: &Encoding<u32, u32>, wanted: &[(usize, bool, usize)]) -> bool {
+    let found = encoding.requirements();
     if found.len() != wanted.len() {
         return false;
     }
@@ -632,7 +633,8 @@ fn are_requirements(found: &[RequirementClause], wanted: &[(usize, bool, usize)]
         if clause.number as usize != *number || clause.of_root != *of_root {
             return false;
         }
-        if clause.ends().len() != *ends {
+        let noted = encoding.union_ends().places_of(clause.number);
+        if clause.is_union != (*ends != 0) || noted.len() != *ends {
             return false;
         }
     }

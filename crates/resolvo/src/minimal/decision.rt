@@ -13,7 +13,8 @@ use super::no_packages::NoPackages;
 use super::rule_clauses::{RuleClause, RuleClauses};
 use crate::clause_search::{ClauseSearch, Outcome};
 use resolver_clause_store::{
-    Activity, Clauses, Exhausted, Interrupted, Literal, RequirementClause, Rule, Trail, Variable,
+    Activity, Clauses, Exhausted, Interrupted, Literal, RequirementClause, Rule, Trail, UnionEnds,
+    Variable,
     narrow,
 };
 use std::alloc::{AllocError, Global};
@@ -36,6 +37,8 @@ pub struct MarkedClauses {
     pub places: Vec<usize>,
     /// The clauses whose candidates are to be tried.
     pub requirements: Vec<RequirementClause>,
+    /// None of these is a union, so there are no ends.
+    pub union_ends: UnionEnds,
 }
 
 /// Appends a clause number to the clauses whose candidates are to be tried.
@@ -48,7 +51,7 @@ fn add_requirement(
     requirements.push(RequirementClause {
         number: narrow(number)?,
         of_root: false,
-        ends: None,
+        is_union: false,
     })?;
     Ok(())
 }
@@ -100,6 +103,7 @@ pub fn marked_clauses(
         clauses: Clauses::new(alloc),
         places: Vec::new(alloc),
         requirements: Vec::new(alloc),
+        union_ends: UnionEnds::new(alloc),
     };
     'clauses: for index in 0..clauses.len() {
         add_marked(&mut marked, &clauses[index], marks)?;
@@ -193,7 +197,13 @@ fn decide_by<N, S>(
     ensures verdict { IfOk result (λ answer. IfSome answer (VerdictIs rules.now marks.now)) }
     ensures memory { IfErr result (λ e. e ≡ Exhausted.Memory) }
 {
-    search.load(form.variables, &marked.clauses, &marked.requirements, &[])?;
+    search.load(
+        form.variables,
+        &marked.clauses,
+        &marked.requirements,
+        &marked.union_ends,
+        &[],
+    )?;
     match search_on(alloc, search, learnt_limit)? {
         Outcome::Finished => {
             let values = values_of(alloc, search.trail(), form.variables)?;

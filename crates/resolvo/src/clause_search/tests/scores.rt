@@ -2,11 +2,11 @@
 
 ghost use Rattle.resolvo.specs.ClauseSearches.{IsConsistent};
 
-use super::{finishes, load_given, provider_of_nothing, requirement_of, slot_of};
+use super::{Requirements, finishes, load_given, provider_of_nothing, slot_of};
 use crate::clause_search::ClauseSearch;
 use crate::test_provider::TestProvider;
 use resolver_clause_store::{
-    Activity, Clauses, Literal, Owner, RequirementClause, Scores, Variable, clause,
+    Activity, Clauses, Literal, Owner, Scores, Variable, clause,
 };
 use std::alloc::{AllocError, Global};
 use std::test::Fail;
@@ -41,7 +41,7 @@ struct Seen {
 struct Given {
     alloc: Global,
     table: Clauses,
-    requirements: Vec<RequirementClause>,
+    requirements: Requirements,
     owners: Vec<Owner>,
     /// The number of the next variable.
     next: u32,
@@ -52,7 +52,7 @@ impl Given {
         Given {
             alloc,
             table: Clauses::new(alloc),
-            requirements: Vec::new(alloc),
+            requirements: Requirements::new(alloc),
             owners: Vec::new(alloc),
             next: 0,
         }
@@ -76,8 +76,7 @@ impl Given {
     /// Adds the clause of a requirement.
     fn add_requirement(&mut self, clause: Vec<Literal>, of_root: bool) -> Result<(), AllocError> {
         let number = self.table.len();
-        let requirement = requirement_of(self.alloc, number, of_root, &[clause.len()])?;
-        self.requirements.push(requirement)?;
+        self.requirements.add(number, of_root, &[clause.len()])?;
         self.table.push(&clause)?;
         Ok(())
     }

@@ -34,14 +34,13 @@ returns-clause-consistent c =
     let learnt_queue = c.in_ok-learn.ensures c.args.self.now.trail table c.args.self.now.requirements.items it.queued in
     let left = queued-left c.learn.new.self c.cut-2.new.self c.args.self.now.trail middle table c.args.self.now.requirements.items c.len-left.result
     (length_of middle) c.cut-2.ensures (keeps_undone c.args.self.now.trail middle c.max-back.result c.undo_until.ensures) c.len-left.ensures learnt_queue in
-    let boxed = c.in_ok-new.ensures.ok in
     let long : length longer ≡ length table + 1 = length-append table (clause ∷ []) in
     let justified = justified-grows table longer c.undo_until.new.self grows (justified-undone _ _ _ _ it.justified c.undo_until.ensures) in
     let chosen = chosen-grows table longer _ c.undo_until.new.self grows it.inside (chosen-undone _ _ _ _ _ it.chosen c.undo_until.ensures) in
     record {
       below = rw (items, size) (below-push _ table _ it.below (false-below c.args.self.now.trail _ learnt.falsified));
-      derived = rw (items, c.in_ok-push-2.ensures.items)
-          (derived-push table _ _ _ it.derived (rw boxed learnt.within) (λ none. rw boxed learnt.follows) (λ none. rw boxed learnt.drawn));
+      derived = rw (items, c.in_ok-push_learnt.ensures.added)
+          (derived-push table _ _ _ it.derived learnt.within (λ none. learnt.follows) (λ none. learnt.drawn));
       justified = rw items (justified-gains longer _ _ _ _ _ justified c.in_ok-force.ensures.ok free (rw here (simp length-append (omega arith)))
           (rw last learnt.asserting.contains) (rw last unit));
       chosen = rw items (chosen-extends longer _ _ _ chosen (extends-gains _ _ _ _ _ c.in_ok-force.ensures.ok free));
@@ -70,8 +69,8 @@ returns-clause-same c =
     let count : c.min-self.result ≡ min old.kept (length_of middle) = c.min-self.ensures ∙ ap (min old.kept) c.len-left.ensures in
     record {
       loaded = λ given numbers loaded. record {
-        clauses = rw (c.in_ok-push.ensures.items, c.deref-3.ensures.value, c.in_ok-push-2.ensures.items)
-            (loaded-learnt given old.table old.sources.items old.places.items c.args.learnt.literals.items _ it.derived.count refl loaded.clauses);
+        clauses = rw (c.in_ok-push.ensures.items, c.deref-3.ensures.value, c.in_ok-push_learnt.ensures.added)
+            (loaded-learnt given old.table old.sources old.places.items c.args.learnt.literals.items _ it.derived.count refl loaded.clauses);
         requirements = loaded.requirements;
         inside = loaded.inside;
       };
@@ -123,14 +122,6 @@ invariant_of-self-in-Break-branch-4 c =
 
 pub invariant_of-self-in-Break-branch-5 : goal.invariant_of-self-in-Break-branch-5
 invariant_of-self-in-Break-branch-5 c =
-    record {
-      in_lists = in_lists-equal _ _ _ _ c.in_ok-push.ensures.items refl
-          (in_lists-added _ c.deref-3.result.now _ _ _ c.requires.consistent.propagator c.attach.ensures.kept
-          (rw (c.deref-2.ensures.value, ← c.deref-3.ensures.value) at c.in_ok-attach.ensures.own));
-    }
-
-pub invariant_of-self-in-Break-branch-6 : goal.invariant_of-self-in-Break-branch-6
-invariant_of-self-in-Break-branch-6 c =
     record {
       in_lists = in_lists-equal _ _ _ _ c.in_ok-push.ensures.items c.cut.ensures.watches
           (in_lists-added _ c.deref-3.result.now _ _ _ c.requires.consistent.propagator c.attach.ensures.kept

@@ -16,7 +16,7 @@ returns-clause-consistent c =
     let propagates : IsPropagator c.push.new.self c.undo_until.new.self c.cut.new.self =
     rw c.in_ok-push.ensures.items (c.in_ok-cut.ensures.propagator _ _ (lower-undone _ _ _ c.undo_until.ensures) longer) in
     consistent-given c.args.self.now _ c.args.literals.now _ _ _ c.requires.consistent
-    c.requires.below end c.in_ok-push.ensures.items c.in_ok-push-2.ensures.items c.in_ok-push-3.ensures.items refl
+    c.requires.below end c.in_ok-push.ensures.items c.in_ok-push_given.ensures c.in_ok-push-2.ensures.items refl
     c.undo_until.ensures c.level_for-level.ensures.low refl (c.min-self.ensures ∙ ap (min c.args.self.now.kept) c.len-left.ensures) refl refl propagates
     (queued-left c.args.self.now.queue c.cut-2.new.self c.args.self.now.trail c.undo_until.new.self c.args.self.now.table
     c.args.self.now.requirements.items c.len-left.result (length_of c.undo_until.new.self) c.cut-2.ensures
@@ -28,7 +28,7 @@ returns-clause-loaded c = λ given numbers loaded.
     let first : c.len-number.result ≡ length c.args.self.now.places.items = search rules in
     let end : c.in_ok-place.place ≡ length c.args.self.now.table = search rules in
     loaded-clause c.args.self.now _ given numbers c.args.literals.now _ _ c.requires.consistent first end
-    c.in_ok-push.ensures.items c.in_ok-push-2.ensures.items c.in_ok-push-3.ensures.items refl loaded
+    c.in_ok-push.ensures.items c.in_ok-push_given.ensures c.in_ok-push-2.ensures.items refl loaded
 
 pub returns-clause-same : goal.returns-clause-same
 returns-clause-same c = same-undone c.args.self.now _ _ c.requires.consistent c.undo_until.ensures c.level_for-level.ensures.low refl

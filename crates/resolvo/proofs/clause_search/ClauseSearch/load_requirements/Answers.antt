@@ -1,4 +1,5 @@
-use Rattle.std.proofs.Common.{arith, rules, refl, ap, sym, subst, ◌∙◌, ◌≡◌, ◌<◌, length}
+use Rattle.std.proofs.Common.{arith, rules, refl, ap, sym, ◌∙◌, ◌≡◌, false, length, get_or}
+use Rattle.std.proofs.lemmas.List.{get_or_default}
 use Rattle.resolver_clause_store.specs.declared.RequirementClause.{RequirementClause}
 use Rattle.resolvo.proofs.LoadLemmas.{requirements-begin, requirements-end, requirements-next, same-none, same-trans}
 use Rattle.resolvo.proofs.clause_search.ClauseSearch.load_requirements.Goals as goal
@@ -16,22 +17,23 @@ requirements-init c =
 
 pub load_requirement-requires-clause-inside : goal.load_requirement-requires-clause-inside
 load_requirement-requires-clause-inside c =
-    let r = c.index-requirements-index.result in
+    let none : RequirementClause = record { number = 0; of_root = false; is_union = false } in
     let same : length c.requirements.self.places.items ≡ length c.args.self.now.places.items = ap length c.requirements.invariant.places in
-    let Inside : RequirementClause → Type 0 = λ q. q.number < length c.args.self.now.places.items in
-    let inside = subst Inside (sym c.index-requirements-index.is) (c.requires.inside c.requirements.index r c.requirements-test.true) in
-    rw same inside
+    rw same (c.requires.inside c.requirements.index none c.requirements-test.true)
 
 pub requirements-preserved : goal.requirements-preserved
 requirements-preserved c =
     let step = c.in_ok-load_requirement.ensures in
     let before = c.requirements.invariant in
+    let none : RequirementClause = record { number = 0; of_root = false; is_union = false } in
+    let here = get_or_default c.args.requirements.now c.requirements.index none (get_or c.args.requirements.now c.requirements.index none)
+    c.requirements-test.true in
     record {
       consistent = step.consistent;
       same = same-trans _ _ _ before.same step.same;
       places = step.places ∙ before.places;
       count = omega (arith, step.count, before.count);
-      loaded = λ given numbers more loaded is. requirements-next _ _ given _ _ _ c.requirements-test.true c.index-requirements-index.is step.loaded
+      loaded = λ given numbers more loaded is. requirements-next _ _ given _ _ _ c.requirements-test.true here step.loaded
           (before.loaded given numbers more loaded is);
     }
 

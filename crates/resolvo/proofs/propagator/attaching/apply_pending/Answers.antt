@@ -47,7 +47,8 @@ returns-in_ok-pass-in-Unit-clause-step c =
     (rw c.clause.ensures at c.in-Unit.ensures.1) (rw c.clause.ensures at c.in-Unit.ensures.2)
 
 pub returns-in_ok-pass-in-Satisfied-clause-propagator : goal.returns-in_ok-pass-in-Satisfied-clause-propagator
-returns-in_ok-pass-in-Satisfied-clause-propagator c = grind (arith, common_steps)
+returns-in_ok-pass-in-Satisfied-clause-propagator c =
+    c.in_ok-pass-in-Satisfied.ensures.propagator c.args.table.now (rw c.clause.ensures at c.in-Satisfied.ensures) c.requires.propagator
 
 pub returns-in_ok-pass-in-Satisfied-clause-step : goal.returns-in_ok-pass-in-Satisfied-clause-step
 returns-in_ok-pass-in-Satisfied-clause-step c = grind (arith, common_steps)
