@@ -7,3 +7,4 @@ pub mod ConditionLemmas
 pub mod WordLemmas
 pub mod TableLemmas
 pub mod VersionLemmas
+pub mod FirstChoiceExamples

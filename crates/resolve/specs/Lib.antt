@@ -14,3 +14,5 @@ pub mod Statements
 pub mod Postfix
 pub mod Faults
 pub mod Outcomes
+pub mod TestTexts
+pub mod NotingProvider

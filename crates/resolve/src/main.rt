@@ -5,9 +5,13 @@ mod catalog;
 mod condition;
 mod ids;
 mod lines;
+#[cfg(test)]
+mod report_tests;
 mod request;
 mod run;
 mod statement;
+#[cfg(test)]
+mod store_tests;
 mod words;
 
 pub use run::{fault_text, run};

@@ -34,6 +34,5 @@ pub mod MessageParts
 pub mod Picks
 pub mod Indents
 pub mod ConflictTexts
-pub mod TestTexts
 pub mod PendingTexts
 pub mod Searching

@@ -157,6 +157,3 @@ impl Indenter {
         Ok(())
     }
 }
-
-#[cfg(test)]
-mod tests;

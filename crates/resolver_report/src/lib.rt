@@ -19,8 +19,6 @@ mod reached;
 mod rule_graph;
 mod runs;
 mod simplify;
-#[cfg(test)]
-mod test_rules;
 mod texts;
 mod tree;
 mod verdict;

@@ -225,6 +225,3 @@ pub fn marks_are_least_closed<S>()
     ensures installable { (g : ConflictShape S) → IsLeastClosed (length g.shape.nodes) (can_be_installed_by g) (installable_in g) }
     ensures missing { (g : ConflictShape S) → IsLeastClosed (length g.shape.nodes) (must_be_missing_by g) (missing_in g) }
 {}
-
-#[cfg(test)]
-mod tests;

@@ -270,6 +270,3 @@ impl<'i, I: Interner> fmt::Display for DisplayUnsat<'i, I> {
         f.write_str(text.as_str())
     }
 }
-
-#[cfg(test)]
-mod tests;

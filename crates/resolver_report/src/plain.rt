@@ -355,6 +355,3 @@ pub fn find<N: Eq, S: Copy + Eq + Drop>(
         Ok(None)
     }
 }
-
-#[cfg(test)]
-mod tests;

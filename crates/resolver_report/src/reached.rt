@@ -132,6 +132,3 @@ pub fn keep_reached<N: Drop, S: Copy + Eq + Hash + Drop>(
     retain_about(&mut kept, &set);
     Ok(kept)
 }
-
-#[cfg(test)]
-mod tests;

@@ -369,6 +369,3 @@ pub fn graph_of<N: Copy + Eq + Hash + Drop, S: Copy + Eq + Hash + Drop>(
         unresolved_node: None,
     })
 }
-
-#[cfg(test)]
-mod tests;

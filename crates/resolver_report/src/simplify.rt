@@ -131,6 +131,3 @@ impl<S: Copy + Eq + Hash + Drop> ConflictGraph<S> {
         Ok(groups)
     }
 }
-
-#[cfg(test)]
-mod tests;

@@ -24,7 +24,6 @@ pub mod SoftLemmas
 pub mod SoftTurnLemmas
 pub mod LeadingLemmas
 pub mod OutcomeLemmas
-pub mod FirstChoiceExamples
 pub mod ReadInTurnLemmas
 pub mod SameLemmas
 pub mod MinimalLemmas

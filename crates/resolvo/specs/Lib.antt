@@ -4,7 +4,6 @@ pub mod Answers
 pub mod Explanations
 pub mod Refusals
 pub mod Solvers
-pub mod NotingProvider
 pub mod TestProvider
 pub mod ChainProvider
 pub mod Propagation

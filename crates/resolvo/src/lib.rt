@@ -18,8 +18,6 @@ mod scanning;
 mod solver;
 mod sources;
 #[cfg(test)]
-mod store_tests;
-#[cfg(test)]
 mod test_provider;
 
 pub use conflict::Conflict;

@@ -2,10 +2,13 @@
 //!
 //! The tests own nothing: what they call makes the rules and the graph, and says whether it is the wanted one.
 
-use super::*;
-use crate::graph::{ConflictCause, ConflictEdge, Graph, Incoming, Outgoing};
-use crate::test_rules::{Row, graph_of_rows, instance_of, required};
-use resolver_clause_store::{By, Requirement, StringId, VersionSetId};
+use super::rules::{Row, graph_of_rows, instance_of, required};
+use resolver_clause_store::{By, Exhausted, Requirement, StringId, VersionSetId};
+use resolver_report::{
+    ConflictCause, ConflictEdge, ConflictGraph, ConflictNode, Edge, Graph, Incoming, NodeId,
+    Outgoing,
+};
+use std::alloc::Global;
 use std::test::Fail;
 
 const WANTED: Requirement = Requirement::Single(VersionSetId(0));

@@ -1,8 +1,7 @@
 //! Rules as the tests write them.
 
-use crate::graph::ConflictGraph;
-use crate::rule_graph::graph_of;
 use resolver_clause_store::{By, Exhausted, Requirement, Rule, StringId, VersionSetId};
+use resolver_report::{ConflictGraph, graph_of};
 use std::alloc::{AllocError, Global};
 
 /// A rule that owns nothing.

@@ -4,7 +4,7 @@
 //! k.
 
 ghost use Rattle.std.specs.Prelude.{◌≡◌, refl};
-ghost use Rattle.resolvo.specs.NotingProvider.{
+ghost use Rattle.resolve.specs.NotingProvider.{
   numbers_are_values,
   takes,
   test_ids_lawful,

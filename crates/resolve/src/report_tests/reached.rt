@@ -2,8 +2,10 @@
 //!
 //! The tests own nothing: what they call makes the rules, and says whether the wanted ones are left.
 
-use super::*;
-use crate::test_rules::{Row, constrained, excluded, instance_of, required, rules_of};
+use super::rules::{Row, constrained, excluded, instance_of, required, rules_of};
+use resolver_clause_store::{By, Exhausted, Rule};
+use resolver_report::keep_reached;
+use std::alloc::Global;
 
 fn kept_of(alloc: Global, rows: &[Row<'_>]) -> Result<Vec<Rule<u32, u32>>, Exhausted> {
     let rules = rules_of(alloc, rows)?;

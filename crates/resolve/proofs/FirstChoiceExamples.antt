@@ -6,7 +6,7 @@ use Rattle.std.proofs.lemmas.List.Elements.{All-contains, All-cons, All-nil}
 use Rattle.resolver_clause_store.specs.Candidates.{first_choice, requirement_candidates}
 use Rattle.resolver_clause_store.specs.FirstChoice.{IsFirst, IsFirstNext, IsPromised}
 use Rattle.resolver_clause_store.specs.Lists.{Meets}
-use Rattle.resolvo.specs.NotingProvider.{test_universe}
+use Rattle.resolve.specs.NotingProvider.{test_universe}
 use Rattle.resolver_clause_store.specs.Universe.{Demands}
 use Rattle.resolver_clause_store.specs.Valid.{Constrains, IsExcluded, IsKnown, IsLockedOut, IsValid, Requires, demands_of}
 use Rattle.resolver_clause_store.specs.declared.ConditionalRequirement.{ConditionalRequirement}

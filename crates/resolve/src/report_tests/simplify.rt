@@ -9,11 +9,14 @@ ghost use Rattle.std.proofs.lemmas.Bool.{eqb-true, eq-eqb};
 ghost use Rattle.resolver_clause_store.specs.Universe.{known, hint_none};
 ghost use Rattle.resolver_clause_store.specs.declared.Condition.TheVariants.{Requirement as Matched};
 
-use super::*;
-use crate::test_rules::{Row, graph_of_rows, required_in};
+use super::rules::{Row, graph_of_rows, required_in};
 use resolver_clause_store::{
-    By, Condition, ConditionId, StringId, VersionSetId, VersionSetUnionId,
+    By, Condition, ConditionId, Exhausted, Interner, StringId, VersionSetId, VersionSetUnionId,
 };
+use resolver_report::MergedConflictNode;
+use std::alloc::Global;
+use std::collections::HashMap;
+use std::rc::Rc;
 use std::test::Fail;
 
 /// Solvable 10 n + k is version k of package n. Package 1 is "a", the others are "b".

@@ -2,8 +2,10 @@
 //!
 //! The tests own nothing: what they call makes the rules, searches, and says whether it found what is wanted.
 
-use super::*;
-use crate::test_rules::{Row, constrained, excluded, instance_of, required, rules_of};
+use super::rules::{Row, constrained, excluded, instance_of, required, rules_of};
+use resolver_clause_store::{By, Exhausted};
+use resolver_report::find;
+use std::alloc::Global;
 
 fn found(alloc: Global, rows: &[Row<'_>]) -> Result<Option<Vec<u32>>, Exhausted> {
     let rules = rules_of(alloc, rows)?;

@@ -1,6 +1,6 @@
 use Rattle.std.proofs.Common.{◌≡◌, take, not, filter, cond}
-use Rattle.resolvo.specs.NotingProvider.{takes}
-use Rattle.resolvo.proofs.store_tests.noting_provider.NotingProviderDependencyProvider.filter_candidates.Given as goal
+use Rattle.resolve.specs.NotingProvider.{takes}
+use Rattle.resolve.proofs.store_tests.noting_provider.NotingProviderDependencyProvider.filter_candidates.Given as goal
 
 abbrev pub invariant-loop-solvable : goal.invariant-loop-solvable
 invariant-loop-solvable l = l.kept.items ≡ cond l.inverse (filter (λ s. not (takes l.version_set s)) (take l.solvable-index l.candidates))

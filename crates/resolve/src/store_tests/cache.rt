@@ -1,7 +1,7 @@
 //! The calls of a cache to the provider, and its answers.
 
 ghost use Rattle.resolver_clause_store.specs.Caches.{IsTrueCache};
-ghost use Rattle.resolvo.specs.NotingProvider.{test_universe};
+ghost use Rattle.resolve.specs.NotingProvider.{test_universe};
 
 use crate::store_tests::noting_provider::NotingProvider;
 use resolver_clause_store::{
