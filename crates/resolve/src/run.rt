@@ -23,13 +23,6 @@ use std::{io, mem};
 /// The number of clauses that a search for a conflict with a shorter message may learn.
 const LEARNT_LIMIT: usize = 100;
 
-/// What each solvable in a learnt clause adds to the score of its package. Scores are rounded down, so a smaller number
-/// would be forgotten sooner: this one lasts some 400 learnt clauses, and 1,000,000 lasts 230.
-const ACTIVITY_ADD: u64 = 10_000_000_000;
-
-/// How many millionths of each score are left after a learnt clause.
-const ACTIVITY_DECAY: u64 = 950_000;
-
 /// A size of blocks, in bytes, that the C library's allocator always takes from its heap.
 const SMALL_BLOCK: usize = 4096;
 
@@ -248,10 +241,7 @@ fn solve_request(alloc: Global, request: Request) -> Result<Outcome, Fault>
         .requirements(request.requirements)
         .constraints(request.constraints)
         .soft_list(request.soft_requirements);
-    let mut solver = Solver::new(alloc, request.catalog).with_activity_params(
-        ACTIVITY_ADD,
-        ACTIVITY_DECAY,
-    );
+    let mut solver = Solver::new(alloc, request.catalog);
     let answered = solver.solve(problem);
     let outcome = outcome_of(alloc, &solver, &answered);
     drop(answered);
