@@ -26,7 +26,8 @@ use crate::groups::Groups;
 use crate::table::ClauseTable;
 use indexmap::IndexSet;
 use resolver_clause_store::{
-    ClauseKind, Clauses, Exhausted, Requirement, RequirementClause, UnionEnds, Variables, VersionSetId,
+    ClauseKind, Clauses, Exhausted, Requirement, RequirementClause, UnionEnds, Variables,
+    VersionSetId,
 };
 use std::alloc::Global;
 use std::hash::Hash;

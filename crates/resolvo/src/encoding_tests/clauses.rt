@@ -16,8 +16,8 @@ use crate::test_provider::TestProvider;
 use indexmap::IndexSet;
 use resolver_clause_store::{
     Cache, ConditionId, ConditionalRequirement, DependencyProvider, Exhausted, Interner,
-    Interrupted, Origin, Requirement, Variable, Variables, VersionSetId, append,
-    clause, has, is_among,
+    Interrupted, Origin, Requirement, Variable, Variables, VersionSetId, append, clause, has,
+    is_among,
 };
 use resolver_encoding::{Encoding, Progress};
 use std::alloc::Global;

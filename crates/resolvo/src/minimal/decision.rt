@@ -14,8 +14,7 @@ use super::rule_clauses::{RuleClause, RuleClauses};
 use crate::clause_search::{ClauseSearch, Outcome};
 use resolver_clause_store::{
     Activity, Clauses, Exhausted, Interrupted, Literal, RequirementClause, Rule, Trail, UnionEnds,
-    Variable,
-    narrow,
+    Variable, narrow,
 };
 use std::alloc::{AllocError, Global};
 use std::mem::drop;

@@ -5,9 +5,7 @@ ghost use Rattle.resolvo.specs.ClauseSearches.{IsConsistent};
 use super::{Requirements, finishes, load_given, provider_of_nothing, slot_of};
 use crate::clause_search::ClauseSearch;
 use crate::test_provider::TestProvider;
-use resolver_clause_store::{
-    Activity, Clauses, Literal, Owner, Scores, Variable, clause,
-};
+use resolver_clause_store::{Activity, Clauses, Literal, Owner, Scores, Variable, clause};
 use std::alloc::{AllocError, Global};
 use std::test::Fail;
 

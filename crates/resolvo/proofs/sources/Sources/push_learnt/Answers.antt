@@ -7,4 +7,4 @@ pub returns-clause-added : goal.returns-clause-added
 returns-clause-added c =
     let list : c.in_ok-list.list ≡ length c.self.inside.causes.items = c.in_ok-list.ensures ∙ c.len.ensures ∙ c.self.inside.causes.ok.0 in
     rw (c.in_ok-push.ensures.items, c.in_ok-push-2.ensures.items, list)
-        (pushed-learnt _ _ _ c.self.invariant ∙ ap (λ before. before ++ learnt_from c.args.causes.items ∷ []) c.self.view_is)
+    (pushed-learnt _ _ _ c.self.invariant ∙ ap (λ before. before ++ learnt_from c.args.causes.items ∷ []) c.self.view_is)
