@@ -186,7 +186,7 @@ impl<N: Copy + Eq + Hash + Drop, S: Copy + Eq + Hash + Drop> ClauseTable<N, S> {
         Ok(ends)
     }
 
-    /// Appends a clause with its literals. An error changes nothing.
+    /// Appends a clause with its literals. An error leaves the clauses as they were.
     fn put(
         &mut self,
         kind: ClauseKind<N, S>,

@@ -1,5 +1,5 @@
 -- How sources are stored.
-use Rattle.std.proofs.Common.{◌≡◌, ℕ, suc, ◌+◌, ◌<◌, ◌≤◌, List, [], ◌∷◌, ◌++◌, length, map, arith, refl, sym, ap, ◌∙◌, Vec}
+use Rattle.std.proofs.Common.{◌≡◌, ℕ, suc, List, [], ◌∷◌, ◌++◌, length, map, arith, refl, ap, ◌∙◌, Vec}
 use Rattle.std.specs.List.{All}
 use Rattle.std.specs.Option.{option_map_or}
 use Rattle.std.specs.declared.alloc.Global.{Global}
@@ -7,7 +7,7 @@ use Rattle.std.proofs.lemmas.List.{map-append}
 use Rattle.resolver_clause_store.proofs.ListLemmas.{slice_get-append_left, slice_get-last}
 use Rattle.resolvo.specs.declared.sources.StoredSource.{StoredSource}
 use Rattle.resolvo.specs.declared.sources.StoredSource.TheVariants.{Given, Learnt}
-use Rattle.resolvo.specs.Sources.{HasCauses, Source, given_as, learnt_from, source_in}
+use Rattle.resolvo.specs.Sources.{HasCauses, learnt_from, source_in}
 
 -- a stored source says the same once there are more causes
 kept-source : (causes more : List (Vec ℕ Global)) (one : StoredSource) → HasCauses (length causes) one → source_in (causes ++ more) one ≡ source_in causes one

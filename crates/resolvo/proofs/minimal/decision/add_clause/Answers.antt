@@ -1,4 +1,4 @@
-use Rattle.std.proofs.Common.{rules, ◌∙◌}
+use Rattle.std.proofs.Common.{rules}
 use Rattle.resolvo.specs.ClauseSearches.{numbers_of}
 use Rattle.resolvo.proofs.MarkedLemmas.{added_requirement, added_plain}
 use Rattle.resolvo.proofs.minimal.decision.add_clause.Goals as goal
